@@ -11,6 +11,7 @@ function (digests.py), a letter for each of its mutants in order, and the path o
     l   refused, but not decided: the search or the check stopped at a limit
     s   proved, because it gives the same answer; a comment above the function gives the reason:
         // Same answer (2 → 3, len → 0): the reason.
+    o   proved, because the contract leaves the answer open: // Left open (text → ""): the reason.
     -   it does not compile
     .   waiting: not tried yet
 
@@ -106,10 +107,14 @@ class Function:
         old, letters = committed or (None, "")
         self.is_new = digest != old or len(letters) != len(mutants)
         self.known = "." * len(mutants) if self.is_new else letters
-        self.letters = list(self.known)
         comment = survivors.comment_of(item, original)
-        self.comments = comment.count(survivors.WORDS)
+        self.comments = len(survivors.WORDS.findall(comment))
         self.listed, self.faults = survivors.listed(comment, [it.name for it in mutants])
+        self.letters = [self.letter(mutant, it) for mutant, it in zip(mutants, self.known)]
+
+    def letter(self, mutant, letter):
+        """The letter of a verdict; a comment says in which way a mutant is proved."""
+        return self.listed.get(mutant.name, letter) if letter == "s" else letter
 
     def line(self):
         return f"{self.digest} {''.join(self.letters)} {self.item.path}"
@@ -207,7 +212,7 @@ class Crate:
                     self.waiting[mutant] = words
                     continue
                 one = self.functions[mutant.item.path]
-                one.letters[one.mutants.index(mutant)] = LETTERS[kind]
+                one.letters[one.mutants.index(mutant)] = one.letter(mutant, LETTERS[kind])
 
     def write(self):
         with self.lock:
@@ -221,7 +226,7 @@ class Crate:
         for it in self.functions.values():
             counts[it.item.file] += it.comments
         for file, text in mutate.files_of(self.folder):
-            if text.count(survivors.WORDS) != counts[file]:
+            if len(survivors.WORDS.findall(text)) != counts[file]:
                 yield f"{file}: a comment lists mutants where there are none"
 
     def faults(self, is_gate):
@@ -230,7 +235,7 @@ class Crate:
         for path, it in self.functions.items():
             faults += [f"{path}: {fault}" for fault in it.faults]
             for mutant, letter, old in zip(it.mutants, it.letters, it.known):
-                if fault := fault_of(letter, mutant.name in it.listed):
+                if fault := fault_of(letter, it.listed.get(mutant.name)):
                     found = reports if is_gate and old == "." and not it.is_new else faults
                     found.append(f"{path}: {fault}: {mutant.name}")
         edited = {it for edit in edit_files.edits_of(self.folder) for it in edit.refused}
@@ -243,11 +248,11 @@ class Crate:
         return [[f"{self.name} {it}" for it in both] for both in (faults, reports)]
 
 
-def fault_of(letter, is_listed):
-    """What is wrong with the verdict on a mutant, if anything."""
-    if letter == "s" and not is_listed:
+def fault_of(letter, listed):
+    """What is wrong with the verdict on a mutant, if anything, given the letter in a comment."""
+    if letter in "so" and letter != listed:
         return "it is proved, and no comment says why"
-    return "a comment lists it, and it is not proved" if letter in "rfl-" and is_listed else None
+    return "a comment lists it, and it is not proved" if letter in "rfl-" and listed else None
 
 
 def lay_out(crate, copy, planted):
@@ -433,7 +438,8 @@ def report(crates, seconds):
                 for letter, mutant in zip(it.letters, it.mutants)
             )
     words = "{r} refused, {f} only for their form, {l} not decided, {s} give the same answer"
-    letters = {it: kinds[it] for it in "rfls"}
+    words += ", {o} give another one that the contract leaves open"
+    letters = {it: kinds[it] for it in "rflso"}
     print(f"mutants: {words.format(**letters)}; {seconds:.0f} s of processor time in this run")
     left = +waiting
     print(f"waiting: {left.total()} in {len(left)} of {len(waiting)} functions", flush=True)

@@ -1,10 +1,13 @@
-"""The comments that list mutants which give the same answer, with the reason:
+"""The comments that list proved mutants, with the reason: they give the same answer, or another one
+that the contract leaves open.
 
     // Same answer (2 → 3, len → 0): the reason.
+    // Left open (text → ""): the reason.
 """
 import re
 
-WORDS = "Same answer ("
+LETTERS = {"Same answer (": "s", "Left open (": "o"}
+WORDS = re.compile("|".join(map(re.escape, LETTERS)))
 ABOVE = re.compile(r"(?:^[ \t]*(?://|#\[)[^\n]*\n)*\Z", re.MULTILINE)
 LINE = re.compile(r"^[ \t]*//(?!/) ?(.*)$", re.MULTILINE)
 
@@ -15,9 +18,9 @@ def comment_of(item, text):
 
 
 def listed(words, names):
-    """Which of the named mutants a comment lists, and what is wrong with the comment."""
-    found, faults = set(), []
-    for start in re.finditer(re.escape(WORDS), words):
+    """The named mutants that a comment lists, with their letters, and what is wrong with it."""
+    found, faults = {}, []
+    for start in WORDS.finditer(words):
         at, is_last = start.end(), False
         while not is_last:
             fit = [it for it in names if re.match(r", |\): \S", words[at + len(it) :])]
@@ -25,7 +28,8 @@ def listed(words, names):
             if not fit:
                 faults.append(f"its comment lists no mutant at: {words[at : at + 60]}")
                 break
-            found.add(name := max(fit, key=len))
+            name = max(fit, key=len)
+            found[name] = LETTERS[start[0]]
             is_last = words[at + len(name)] == ")"
             at += len(name) + 2
     return found, faults

@@ -141,7 +141,9 @@ def test_comments_list_mutants(crate):
 
     item, *_ = [it for it in items.items_of(crate) if it.path == "next"]
     names, comment = mutants_of(crate)["next"], survivors.comment_of(item, SOURCE)
-    assert survivors.listed(comment, names) == ({"== → !="}, [])
+    assert survivors.listed(comment, names) == ({"== → !=": "s"}, [])
+    left_open = comment.replace("Same answer", "Left open")
+    assert survivors.listed(left_open, names) == ({"== → !=": "o"}, [])
     assert len(survivors.listed(comment.replace("==", "9"), names)[1]) == 1
     item, *_ = [it for it in items.items_of(crate) if it.path == "twice"]
     assert survivors.comment_of(item, SOURCE) == ""

@@ -51,7 +51,7 @@ pub use Rattle.cn_find.specs.Rule
 pub use Rattle.cn_find.specs.Runs
 pub use Rattle.cn_find.specs.Spans
 pub use Rattle.cn_judge.specs.Reason
-pub use Rattle.cn_calls.specs.ErrorText as PrintErrorText
+pub use Rattle.cn_calls.specs.PrintErrorText
 pub use Rattle.cn_calls.specs.Prints
 pub use Rattle.cn_calls.specs.Writes
 pub use Rattle.cn_quantity.specs.Answer as QuantityAnswer
@@ -67,7 +67,7 @@ pub use Rattle.cn_quantity.specs.Trimmed as QuantityTrimmed
 pub use Rattle.cn_quantity.specs.Units as QuantityUnits
 pub use Rattle.cn_quantity.specs.Whole as QuantityWhole
 pub use Rattle.cn_calls.specs.Answer
-pub use Rattle.cn_calls.specs.ErrorText as ReadErrorText
+pub use Rattle.cn_calls.specs.ReadErrorText
 pub use Rattle.cn_replace.specs.InFigures
 pub use Rattle.cn_replace.specs.Replaced
 pub use Rattle.cn_replace.specs.Sinks

@@ -1,16 +1,18 @@
 -- For each law with premises, values that meet all of them.
-use Rattle.std.proofs.Common.{◌≡◌, ℕ, ◌-◌, ◌^◌, false, negsuc, List, ◌++◌, codes, encode_utf8_all, inl, replicate, refl, arith}
+use Rattle.std.proofs.Common.{◌≡◌, ℕ, ◌-◌, ◌^◌, false, pos, negsuc, List, ◌++◌, codes, encode_utf8_all, Some, IsSome, inl, replicate, slice_get, refl, arith}
 use Rattle.std.specs.Char.{encode_utf8}
 use Rattle.std.specs.Fmt.{digits}
 use Rattle.cn_core.specs.Characters.{digit_char, minus_char, unit_char}
-use Rattle.cn_quantity.specs.Trimmed.{decimals_over}
+use Rattle.cn_quantity.specs.declared.quantity.QuantityForm.TheVariants.{Percent}
+use Rattle.cn_quantity.specs.Trimmed.{decimals_of, decimals_over}
 use Rattle.cn_c.specs.declared.quantity.Quantity.{Quantity}
 use Rattle.cn_c.specs.Amounts.{IsAmountPrinted}
-use Rattle.cn_c.specs.Codes.{has_flag, CN_ANY, CN_BRACKETED_SIGN, CN_DIGITS, CN_DONE, CN_TEN_THOUSAND}
+use Rattle.cn_c.specs.Codes.{has_flag, named_ways, CN_ANY, CN_BRACKETED_SIGN, CN_DIGITS, CN_DONE, CN_TEN_THOUSAND}
 use Rattle.cn_c.specs.Dates.{IsDatePrinted}
 use Rattle.cn_c.specs.Halves.{AreHalves}
 use Rattle.cn_c.specs.Prints.{IsPrinted}
-use Rattle.cn_c.specs.QuantityPrints.{IsQuantityPrinted}
+use Rattle.cn_c.specs.Quantities.{method_of, quantity_of}
+use Rattle.cn_c.specs.QuantityPrints.{IsFiguresPrinted, IsQuantityPrinted}
 use Rattle.cn_c.specs.SignedAmounts.{IsSignedPrinted}
 
 -- this many bytes, each 0: the buffer before a call, and the part of it that the call does not
@@ -73,6 +75,41 @@ unfolding decimals_over encode_utf8 digit_char unit_char
 printed_quantities_read_back-either = (
   (omega arith, omega arith),
   (omega arith, omega arith),
+  (refl, refl, refl),
+)
+
+-- 1250 over 10000, as a percentage
+abbrev percentage : Quantity
+percentage = record {
+  numerator = record { low = 1250; high = 0 };
+  denominator = record { low = 10000; high = 0 };
+  form = 2;
+  char_index = 0;
+  byte_index = 0;
+}
+
+printed_figures_read_back-utf8 : AreHalves percentage.numerator × AreHalves percentage.denominator
+    × IsFiguresPrinted percentage (room 8) CN_DONE (codes "12.5%" ++ room 3) 5
+unfolding decimals_over digits
+printed_figures_read_back-utf8 = (
+  (omega arith, omega arith),
+  (omega arith, omega arith),
+  (refl, refl, refl),
+)
+
+printed_figures_read_back-read : AreHalves percentage.numerator × AreHalves percentage.denominator
+    × (quantity_of percentage
+    ≡ Some (record { numerator = pos 1250; denominator = 10000; form = Percent }))
+    × IsSome (decimals_of (record { numerator = pos 1250; denominator = 10000; form = Percent }))
+    × IsSome (method_of (slice_get named_ways CN_TEN_THOUSAND))
+    × IsFiguresPrinted percentage (room 8) CN_DONE (codes "12.5%" ++ room 3) 5
+unfolding decimals_over digits
+printed_figures_read_back-read = (
+  (omega arith, omega arith),
+  (omega arith, omega arith),
+  refl,
+  refl,
+  refl,
   (refl, refl, refl),
 )
 

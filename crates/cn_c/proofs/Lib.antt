@@ -1,6 +1,7 @@
 pub mod AmountReadBack
 pub mod DateReadBack
 pub mod EitherBack
+pub mod FiguresReadBack
 pub mod Filling
 mod LawExamples
 pub mod QuantityReadBack

@@ -1,5 +1,5 @@
--- What is printed for a quantity is read back as the same numerator and denominator.
-use Rattle.std.proofs.Common.{◌≡◌, ℕ, ◌^◌, ◌<◌, ◌==◌, pos, int_lt, nat_lt, Bool, true, false, MatchBool, List, take, Option, Some, None, Ok, if◌then◌else◌, refl, sym, ap, subst, ◌∙◌, option_map, arith}
+-- What is printed for a quantity is read back as the same numerator and denominator, in its form.
+use Rattle.std.proofs.Common.{◌≡◌, ℕ, ◌^◌, ◌<◌, ◌==◌, pos, int_lt, nat_lt, Bool, true, false, MatchBool, List, take, Option, Some, None, Ok, if◌then◌else◌, refl, sym, ap, subst, option_map, arith}
 use Rattle.std.proofs.lemmas.Bool.Decides.{nat_tests}
 use Rattle.std.proofs.lemmas.Int.{ints}
 use Rattle.std.proofs.lemmas.Str.{is_utf8-from_IsUtf8}
@@ -26,7 +26,7 @@ use Rattle.cn_c.specs.declared.quantity.Quantity.{Quantity}
 use Rattle.cn_c.specs.Codes.{CN_DONE, CN_TOO_LARGE, CN_TOO_SMALL}
 use Rattle.cn_c.specs.Halves.{AreHalves, bits_of, number_of}
 use Rattle.cn_c.specs.Prints.{PutsNothing, PutsIfItFits}
-use Rattle.cn_c.specs.Quantities.{IsQuantityReadAs, TellsQuantity, method_of}
+use Rattle.cn_c.specs.Quantities.{IsQuantityReadAs, IsTold, TellsQuantity, form_code, method_of}
 use Rattle.cn_c.specs.QuantityPrints.{PutsQuantity, IsQuantityPrintedAs}
 use Rattle.cn_c.proofs.ReadBack.{put-text, utf8-scalars}
 
@@ -36,23 +36,34 @@ IsBack quantity method bytes =
     IsUtf8 bytes × ((status : ℕ) (told : Quantity)
     → IsQuantityReadAs (Some method) bytes status told
     → (status ≡ CN_DONE) × (number_of true told.numerator ≡ quantity.numerator)
-    × (number_of false told.denominator ≡ pos quantity.denominator))
+    × (number_of false told.denominator ≡ pos quantity.denominator)
+    × (Some (form_code (form_read_back quantity)) ≡ Some told.form))
+
+-- the result of reading a text that is read as a quantity is that quantity
+pub read-told : (read : ExactQuantity) (method : ChineseCountMethod) (bytes : List ℕ)
+    → IsUtf8 bytes → quantity_answer method bytes ≡ Ok read
+    → (status : ℕ) (told : Quantity) → IsQuantityReadAs (Some method) bytes status told
+    → (status ≡ CN_DONE) × IsTold read told
+read-told read method bytes utf8 is status told tells =
+    let t : TellsQuantity bytes (quantity_answer method bytes) status told =
+    rw (is_utf8-from_IsUtf8 bytes utf8) at tells in
+    subst (λ answer. TellsQuantity bytes answer status told) is t
 
 -- a text that is read as a quantity with the same numerator and denominator
-read-back : (quantity read : ExactQuantity) (method : ChineseCountMethod) (bytes : List ℕ)
-    → IsUtf8 bytes → quantity_answer method bytes ≡ Ok read
-    → read.numerator ≡ quantity.numerator → read.denominator ≡ quantity.denominator
+read-back : (quantity : ExactQuantity) (method : ChineseCountMethod) (bytes : List ℕ)
+    → IsUtf8 bytes
+    → quantity_answer method bytes ≡ Ok (record {
+      numerator = quantity.numerator;
+      denominator = quantity.denominator;
+      form = form_read_back quantity;
+    })
     → IsBack quantity method bytes
-read-back quantity read method bytes utf8 is above below = (utf8, shown) where
-  shown : (status : ℕ) (told : Quantity) → IsQuantityReadAs (Some method) bytes status told
-      → (status ≡ CN_DONE) × (number_of true told.numerator ≡ quantity.numerator)
-      × (number_of false told.denominator ≡ pos quantity.denominator)
-  shown status told tells =
-      let t : TellsQuantity bytes (quantity_answer method bytes) status told =
-      rw (is_utf8-from_IsUtf8 bytes utf8) at tells in
-      let ok : TellsQuantity bytes (Ok read) status told =
-      subst (λ answer. TellsQuantity bytes answer status told) is t in
-      (ok.0, cc, ok.1.denominator ∙ ap pos below)
+read-back quantity method bytes utf8 is = (
+  utf8,
+  λ status told tells.
+      let ok = read-told _ method bytes utf8 is status told tells in
+      (ok.0, ok.1.numerator, ok.1.denominator, ap Some (sym ok.1.form)),
+)
 
 not-done : (below : Bool) → CN_DONE ≡ (if below then CN_TOO_SMALL else CN_TOO_LARGE) → ⊥
 not-done true e = omega (arith, e)
@@ -85,9 +96,9 @@ exact-back quantity write read script case old new len held fits reads put =
           → PutsIfItFits bytes old CN_DONE new len → IsBack quantity read (take len new)
       text above written put =
           subst (IsBack quantity read) (sym (put-text bytes old new len put))
-          (read-back quantity _ read bytes
+          (read-back quantity read bytes
           (utf8-scalars _ (numerals-text script case write quantity held above fits written).scalars)
-          (reads above written) refl refl)
+          (reads above written))
 
       by : (b : Bool) → is_written_by write quantity ≡ b → 0 < quantity.denominator
           → MatchBool b (PutsIfItFits bytes old CN_DONE new len)
@@ -137,7 +148,8 @@ either-back quantity Simple case old new len held fits put =
       by false e put = own-back quantity TenThousand Simple case old new len held fits put
 
 -- two halves are a number that 128 bits hold
-halves-held : (number : Number) → AreHalves number → holds (signed_kind 128) (number_of true number) ≡ true
+pub halves-held : (number : Number) → AreHalves number
+    → holds (signed_kind 128) (number_of true number) ≡ true
 halves-held number are = grind (arith, ints, are.0, are.1)
 
 pub quantity-back : (numerator denominator : Number) (form : Option QuantityForm)
@@ -153,7 +165,12 @@ pub quantity-back : (numerator denominator : Number) (form : Option QuantityForm
     → IsUtf8 (take len new) × ((status : ℕ) (told : Quantity)
     → IsQuantityReadAs (method_of way) (take len new) status told
     → (status ≡ CN_DONE) × (number_of true told.numerator ≡ number_of true numerator)
-    × (number_of false told.denominator ≡ number_of false denominator))
+    × (number_of false told.denominator ≡ number_of false denominator)
+    × (option_map (λ exact. form_code (form_read_back exact)) (option_map (λ form. record {
+      numerator = number_of true numerator;
+      denominator = bits_of denominator;
+      form = form;
+    }) form) ≡ Some told.form))
 quantity-back numerator denominator None way script case old new len above below printed =
     absurd (omega (arith, printed.0))
 quantity-back numerator denominator (Some form) way None case old new len above below printed =

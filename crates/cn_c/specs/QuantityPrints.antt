@@ -1,11 +1,13 @@
 -- What the calls that print quantities write and return.
 use Rattle.std.specs.Prelude.{ℕ, ◌==◌, pos, int_lt, List, Option, Some, None, MatchOption, slice_get, if◌then◌else◌}
 use Rattle.std.specs.Bool.{MatchBool}
+use Rattle.std.specs.Option.{option_map}
 use Rattle.chinese_number.specs.declared.ChineseCase.{ChineseCase}
 use Rattle.chinese_number.specs.declared.ChineseCountMethod.{ChineseCountMethod}
 use Rattle.chinese_number.specs.declared.ChineseVariant.{ChineseVariant}
 use Rattle.cn_quantity_text.specs.Figures.{figures_text}
 use Rattle.cn_quantity_text.specs.Numerals.{greatest_spelled, is_written_by}
+use Rattle.cn_quantity_text.specs.ReadBack.{form_read_back}
 use Rattle.cn_quantity_text.specs.Writes.{numeral_bytes}
 use Rattle.cn_dynamic.specs.declared.Way.TheVariants.{Units}
 use Rattle.cn_dynamic.specs.Either.{written_method}
@@ -15,7 +17,7 @@ use Rattle.cn_c.specs.declared.codes.NamedWay.TheVariants.{By, Either}
 use Rattle.cn_c.specs.declared.quantity.Quantity.{Quantity}
 use Rattle.cn_c.specs.Codes.{cases, named_ways, scripts, CN_NOT_A_QUANTITY, CN_TOO_LARGE, CN_TOO_SMALL, CN_UNKNOWN}
 use Rattle.cn_c.specs.Prints.{PutsNothing, PutsIfItFits}
-use Rattle.cn_c.specs.Quantities.{quantity_of}
+use Rattle.cn_c.specs.Quantities.{form_code, quantity_of}
 
 -- the result of printing a quantity by a method: its text, or the status that says why there is
 -- none
@@ -63,3 +65,8 @@ IsFiguresPrintedAs quantity old status new len = PutsNothing CN_UNKNOWN old stat
 abbrev pub IsFiguresPrinted : Quantity → List ℕ → ℕ → List ℕ → ℕ → Type 0
 IsFiguresPrinted quantity old status new len =
     IsFiguresPrintedAs (quantity_of quantity) old status new len
+
+-- the code of the form in which a printed quantity is read back, if its own code names a form
+abbrev pub form_code_read_back : Quantity → Option ℕ
+form_code_read_back quantity =
+    option_map (λ exact. form_code (form_read_back exact)) (quantity_of quantity)

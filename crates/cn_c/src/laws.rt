@@ -1,13 +1,15 @@
 // What users can count on, as the contract of a function that does nothing.
-ghost use Rattle.std.specs.Prelude.{◌≡◌, ℕ, ℤ, true, false, List, take};
+ghost use Rattle.std.specs.Prelude.{◌≡◌, ℕ, ℤ, true, false, IsSome, List, take, Some, slice_get};
 ghost use Rattle.std.specs.Str.{IsUtf8};
+ghost use Rattle.cn_quantity.specs.declared.quantity.Quantity.{Quantity as ExactQuantity};
+ghost use Rattle.cn_quantity.specs.Trimmed.{decimals_of, trimmed};
 ghost use Rattle.cn_c.specs.Amounts.{IsAmountPrinted, IsAmountRead};
-ghost use Rattle.cn_c.specs.Codes.{has_flag, CN_ANY, CN_BRACKETED_SIGN, CN_DIGITS, CN_DONE, CN_TEN_THOUSAND};
+ghost use Rattle.cn_c.specs.Codes.{has_flag, named_ways, CN_ANY, CN_BRACKETED_SIGN, CN_DIGITS, CN_DONE, CN_TEN_THOUSAND};
 ghost use Rattle.cn_c.specs.Dates.{IsDatePrinted, IsDateRead};
 ghost use Rattle.cn_c.specs.Halves.{AreHalves, number_of};
 ghost use Rattle.cn_c.specs.Prints.{IsPrinted};
-ghost use Rattle.cn_c.specs.Quantities.{IsQuantityRead};
-ghost use Rattle.cn_c.specs.QuantityPrints.{IsQuantityPrinted};
+ghost use Rattle.cn_c.specs.Quantities.{IsQuantityRead, IsTold, method_of, quantity_of};
+ghost use Rattle.cn_c.specs.QuantityPrints.{IsFiguresPrinted, IsQuantityPrinted, form_code_read_back};
 ghost use Rattle.cn_c.specs.Reads.{ReadsBack};
 ghost use Rattle.cn_c.specs.SignedAmounts.{IsSignedPrinted, IsSignedRead, IsTypedSignedRead, signed_told};
 ghost use Rattle.cn_c.specs.declared.amount.Amount.{Amount};
@@ -43,8 +45,9 @@ pub fn printed_numbers_read_back_either_way()
 {}
 
 /// What `chinese_quantity_print` writes is UTF-8, and `chinese_quantity_read` reads it by the same
-/// method as the same numerator and denominator. What it writes either way is read by
-/// `TenThousand`.
+/// method as the same numerator and denominator. Its form is the same too, except that a quantity
+/// written as a fraction, because its denominator is not one of its form, is read as a fraction, or
+/// as a percentage over 100. What it writes either way is read by `TenThousand`.
 ///
 /// For quantities that cross from one language to another.
 pub fn printed_quantities_read_back()
@@ -55,7 +58,8 @@ pub fn printed_quantities_read_back()
         × ((status : ℕ) (told : Quantity) → IsQuantityRead (take len new) method status told
         → (status ≡ CN_DONE)
         × (number_of true told.numerator ≡ number_of true quantity.numerator)
-        × (number_of false told.denominator ≡ number_of false quantity.denominator)) }
+        × (number_of false told.denominator ≡ number_of false quantity.denominator)
+        × (form_code_read_back quantity ≡ Some told.form)) }
     ensures either { (quantity : Quantity) (script case : ℕ) (old new : List ℕ) (len : ℕ)
         → AreHalves quantity.numerator → AreHalves quantity.denominator
         → IsQuantityPrinted quantity CN_ANY script case old CN_DONE new len
@@ -64,7 +68,29 @@ pub fn printed_quantities_read_back()
         → IsQuantityRead (take len new) CN_TEN_THOUSAND status told
         → (status ≡ CN_DONE)
         × (number_of true told.numerator ≡ number_of true quantity.numerator)
-        × (number_of false told.denominator ≡ number_of false quantity.denominator)) }
+        × (number_of false told.denominator ≡ number_of false quantity.denominator)
+        × (form_code_read_back quantity ≡ Some told.form)) }
+{}
+
+/// What `chinese_quantity_figures` writes is UTF-8. If it has no fraction bar,
+/// `chinese_quantity_read` reads it, by each method, as exactly the quantity that is written, which
+/// has no zeros at the end of its decimals.
+///
+/// For quantities that are stored as figures: 1250/10000 as a percentage is 12.5%, which is read as
+/// 125/1000, a percentage.
+pub fn printed_figures_read_back()
+    ensures utf8 { (quantity : Quantity) (old new : List ℕ) (len : ℕ)
+        → AreHalves quantity.numerator → AreHalves quantity.denominator
+        → IsFiguresPrinted quantity old CN_DONE new len
+        → IsUtf8 (take len new) }
+    ensures read { (quantity : Quantity) (exact : ExactQuantity) (method : ℕ) (old new : List ℕ)
+        (len : ℕ)
+        → AreHalves quantity.numerator → AreHalves quantity.denominator
+        → quantity_of quantity ≡ Some exact → IsSome (decimals_of exact)
+        → IsSome (method_of (slice_get named_ways method))
+        → IsFiguresPrinted quantity old CN_DONE new len
+        → (status : ℕ) (told : Quantity) → IsQuantityRead (take len new) method status told
+        → (status ≡ CN_DONE) × IsTold (trimmed exact) told }
 {}
 
 /// What `chinese_amount_print` writes, in each form, is UTF-8, and `chinese_amount_read` reads it

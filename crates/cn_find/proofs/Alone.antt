@@ -133,8 +133,7 @@ near-clings c others e = rw e
 near-links : (c far : ℕ) (others : List ℕ) → is_link c ≡ true
     → (clings far || is_some (rank_of far)) ≡ true → goes_on (c ∷ far ∷ others) ≡ true
 near-links c far others link leads =
-    ap (λ b. clings c || (b && (clings far || is_some (rank_of far)))) link
-    ∙ ap (λ b. clings c || b) leads ∙ or-true (clings c)
+    rw (link, leads) (or-true (clings c))
 
 from-last : (before front : List ℕ) (c : ℕ) → before ≡ front ++ c ∷ []
     → goes_on (c ∷ reverse front) ≡ true → goes_on (reverse before) ≡ true

@@ -36,13 +36,10 @@ pub passed_more : (text rest others : List ℕ) (c : ℕ) → Passed text rest �
     → IsUtf8 others → chars rest ≡ c ∷ chars others → is_of_amount c ≡ true → Passed text others
 passed_more text rest others c p utf8 utf8_others e is_of = record {
   front = p.front ++ c ∷ [];
-  parts = p.parts
-      ∙ ap (λ l. encode_utf8_all p.front ++ l) (one-more rest others c utf8 utf8_others e)
-      ∙ sym (append_assoc (encode_utf8_all p.front) (encode_utf8_all (c ∷ [])) others)
-      ∙ ap (λ l. l ++ others) (sym (encodes-append p.front (c ∷ [])));
-  amount = p.amount ∙ ap (λ l. p.front ++ amount_of l) e
-      ∙ ap (λ l. p.front ++ l) taken
-      ∙ sym (append_assoc p.front (c ∷ []) (amount_of (chars others)));
+  parts = rw (p.parts, one-more rest others c utf8 utf8_others e, encodes-append p.front (c ∷ []))
+      (sym (append_assoc (encode_utf8_all p.front) (encode_utf8_all (c ∷ [])) others));
+  amount = rw (p.amount, e, taken)
+      (sym (append_assoc p.front (c ∷ []) (amount_of (chars others))));
 } where
   taken : amount_of (c ∷ chars others) ≡ c ∷ amount_of (chars others)
   taken = rw is_of refl
@@ -107,9 +104,8 @@ back_more text rest front c p utf8 utf8_front e is_of = record {
   spelled = ap scalars more
       ∙ both (scalar c) (scalars (reverse p.passed))
       (last-scalar (chars front) c (ap scalars (sym characters) ∙ scalars-chars rest utf8)) p.spelled;
-  amount = p.amount ∙ ap (λ l. p.passed ++ amount_of l) e
-      ∙ ap (λ l. p.passed ++ l) taken
-      ∙ sym (append_assoc p.passed (c ∷ []) (amount_of (in_front front)));
+  amount = rw (p.amount, e, taken)
+      (sym (append_assoc p.passed (c ∷ []) (amount_of (in_front front))));
 } where
   characters : chars rest ≡ chars front ++ c ∷ []
   characters = turned rest front c e

@@ -1,18 +1,20 @@
 -- The characters that belong to expressions but not to numbers.
-use Rattle.std.proofs.Common.{◌≡◌, ℕ, Bool, true, false, not, ◌&&◌, ◌||◌, if◌then◌else◌, List, [], ◌∷◌, ◌++◌, reverse, chars, codes, encode_utf8_all, refl, sym, ap, ◌∙◌, Option, Some, None, is_some}
+use Rattle.std.proofs.Common.{◌≡◌, ℕ, Bool, true, false, not, ◌&&◌, ◌||◌, List, [], ◌∷◌, ◌++◌, chars, codes, refl, sym, ap, ◌∙◌, Option, Some, None, is_some, append-nil}
 use Rattle.std.specs.Char.{char_set_contains, is_ascii_digit}
 use Rattle.std.specs.List.{list_all}
 use Rattle.std.proofs.lemmas.Bool.{not-true}
+use Rattle.std.proofs.lemmas.List.{map-id}
 use Rattle.std.proofs.Math.Bool.{and-false, and-true, or-false}
 use Rattle.cn_core.proofs.Fronts.{and-left, and-right}
 use Rattle.cn_core.specs.Characters.{digit_of, rank_of}
 use Rattle.cn_core.specs.FigureCharacters.{is_figure, is_wide_figure}
 use Rattle.cn_core.specs.Mark.{mark_from, mark_of, other}
 use Rattle.cn_find.specs.declared.wanted.Wanted.{Wanted}
-use Rattle.cn_find.specs.Belongs.{belongs, is_chinese_digit, is_parted}
+use Rattle.cn_find.specs.Belongs.{belongs, is_parted}
 use Rattle.cn_find.specs.Expressions.{expression_rule, is_extra, is_item, is_kilo, is_numeric, is_other_word, is_tens, is_weight, is_word_digit, joins, parts_expressions}
-use Rattle.cn_find.specs.Rule.{number_rule, is_joined}
-use Rattle.cn_find.specs.Spans.{run_of, after_run, span_at, begun_at, spans_after, expressions, spans}
+use Rattle.cn_find.specs.Rule.{number_rule}
+use Rattle.cn_find.specs.Spans.{expressions, spans}
+use Rattle.cn_find.proofs.Parting.{Agreement, all-alike}
 use Rattle.cn_find.proofs.Unwanted.{outside}
 
 -- if an alternative is false, so are both of its parts
@@ -100,28 +102,23 @@ pub unmarked : (wanted : Wanted) (front : List ℕ) (c : ℕ) (after : List ℕ)
     ≡ (is_tens c || is_wide_figure c)
 unfolding is_numeric
 unmarked wanted front c after e =
-    ap (λ b. is_numeric wanted c after && not b) (unmarked-word wanted front c after e)
-    ∙ and-true (is_numeric wanted c after)
-    ∙ ap (λ b. b || (is_tens c || is_wide_figure c)) (unmarked-belongs wanted c after e)
+    rw (unmarked-word wanted front c after e, unmarked-belongs wanted c after e)
+    (and-true (is_tens c || is_wide_figure c))
 
 pub usual-numeric : (wanted : Wanted) (c : ℕ) (after : List ℕ) → is_extra c ≡ false
     → is_numeric wanted c after ≡ belongs wanted c after
 unfolding is_numeric
 usual-numeric wanted c after e =
-    let u = IsUsual-of c e in
-    ap (λ b. belongs wanted c after || (b || is_wide_figure c)) u.tens
-    ∙ ap (λ b. belongs wanted c after || b) u.wide ∙ or-false (belongs wanted c after)
+    let u = IsUsual-of c e in rw (u.tens, u.wide) (or-false (belongs wanted c after))
 
 -- such a character belongs to an expression exactly if it belongs to a number
 pub usual_belongs : (wanted : Wanted) (front : List ℕ) (c : ℕ) (after : List ℕ)
     → is_extra c ≡ false
     → (expression_rule wanted).belongs front c after ≡ belongs wanted c after
 usual_belongs wanted front c after e =
-    ap (λ b. (is_numeric wanted c after && not b) || joins wanted front c after)
-    (usual-word wanted front c after e)
-    ∙ ap (λ b. (is_numeric wanted c after && true) || b) (usual-joins wanted front c after e)
-    ∙ or-false (is_numeric wanted c after && true) ∙ and-true (is_numeric wanted c after)
-    ∙ usual-numeric wanted c after e
+    rw (usual-word wanted front c after e, usual-joins wanted front c after e)
+    (or-false (is_numeric wanted c after && true) ∙ and-true (is_numeric wanted c after)
+    ∙ usual-numeric wanted c after e)
 
 -- in a text without such characters and without figures the expressions are the numbers
 abbrev is_usual : ℕ → Bool
@@ -149,9 +146,7 @@ usual-apart c next e f = rw (
 
 usual-met : (c next : ℕ) → is_usual c ≡ true → is_usual next ≡ true → is_parted c next ≡ false
 usual-met c next e f =
-    ap (λ b. (b && is_chinese_digit next) || (is_chinese_digit c && is_ascii_digit next))
-    (usual-ascii c e)
-    ∙ ap (λ b. is_chinese_digit c && b) (usual-ascii next f) ∙ and-false (is_chinese_digit c)
+    rw (usual-ascii c e, usual-ascii next f) (and-false (is_some (digit_of c) && true))
 
 usual-parts : (c next : ℕ) → is_usual c ≡ true → is_usual next ≡ true
     → parts_expressions c next ≡ is_parted c next
@@ -166,72 +161,26 @@ first-usual c cs all = and-left (is_usual c) _ all
 others-usual : (c : ℕ) (cs : List ℕ) → is_usual_text (c ∷ cs) ≡ true → is_usual_text cs ≡ true
 others-usual c cs all = and-right (is_usual c) _ all
 
-usual-joined : (wanted : Wanted) (front : List ℕ) (c : ℕ) (after : List ℕ)
-    → is_usual_text (c ∷ after) ≡ true
-    → is_joined (expression_rule wanted) front c after ≡ is_joined (number_rule wanted) front c after
-usual-joined wanted front c [] all = refl
-usual-joined wanted front c (next ∷ after) all =
-    let e = first-usual c (next ∷ after) all in
-    let f = first-usual next after (others-usual c (next ∷ after) all) in
-    ap (λ b. b && ((expression_rule wanted).belongs (c ∷ front) next after
-    && not (parts_expressions c next)))
-    (usual_belongs wanted front c (next ∷ after) (usual-extra c e))
-    ∙ ap (λ b. belongs wanted c (next ∷ after) && (b && not (parts_expressions c next)))
-    (usual_belongs wanted (c ∷ front) next after (usual-extra next f))
-    ∙ ap (λ b. belongs wanted c (next ∷ after) && (belongs wanted next after && not b))
-    (usual-parts c next e f)
-
-usual-run : (wanted : Wanted) (front cs : List ℕ) → is_usual_text cs ≡ true
-    → run_of (expression_rule wanted) front cs ≡ run_of (number_rule wanted) front cs
-usual-run wanted front [] all = refl
-usual-run wanted front (c ∷ after) all =
-    ap (λ b. c ∷ (if b then run_of (expression_rule wanted) (c ∷ front) after else []))
-    (usual-joined wanted front c after all)
-    ∙ ap (λ l. c ∷ (if is_joined (number_rule wanted) front c after then l else []))
-    (usual-run wanted (c ∷ front) after (others-usual c after all))
-
-usual-after : (wanted : Wanted) (front cs : List ℕ) → is_usual_text cs ≡ true
-    → after_run (expression_rule wanted) front cs ≡ after_run (number_rule wanted) front cs
-usual-after wanted front [] all = refl
-usual-after wanted front (c ∷ after) all =
-    ap (λ b. if b then after_run (expression_rule wanted) (c ∷ front) after else after)
-    (usual-joined wanted front c after all)
-    ∙ ap (λ l. if is_joined (number_rule wanted) front c after then l else after)
-    (usual-after wanted (c ∷ front) after (others-usual c after all))
-
-usual-begun : (wanted : Wanted) (joined : Bool) (front : List ℕ) (c : ℕ) (after : List ℕ)
-    → is_usual_text (c ∷ after) ≡ true
-    → begun_at (expression_rule wanted) joined front c after
-    ≡ begun_at (number_rule wanted) joined front c after
-usual-begun wanted joined front c after all =
-    ap (λ b. if not joined && b then span_at (expression_rule wanted) front (c ∷ after) ∷ [] else [])
-    (usual_belongs wanted front c after (usual-extra c (first-usual c after all)))
-    ∙ ap (λ l. if not joined && belongs wanted c after then record {
-      before = encode_utf8_all (reverse front);
-      text = encode_utf8_all l;
-      after = encode_utf8_all (after_run (expression_rule wanted) front (c ∷ after));
-    } ∷ [] else []) (usual-run wanted front (c ∷ after) all)
-    ∙ ap (λ l. if not joined && belongs wanted c after then record {
-      before = encode_utf8_all (reverse front);
-      text = encode_utf8_all (run_of (number_rule wanted) front (c ∷ after));
-      after = encode_utf8_all l;
-    } ∷ [] else []) (usual-after wanted front (c ∷ after) all)
-
-usual-spans : (wanted : Wanted) (joined : Bool) (front cs : List ℕ) → is_usual_text cs ≡ true
-    → spans_after (expression_rule wanted) joined front cs
-    ≡ spans_after (number_rule wanted) joined front cs
-usual-spans wanted joined front [] all = refl
-usual-spans wanted joined front (c ∷ after) all =
-    ap (λ l. l ++ spans_after (expression_rule wanted)
-    (is_joined (expression_rule wanted) front c after) (c ∷ front) after)
-    (usual-begun wanted joined front c after all)
-    ∙ ap (λ b. begun_at (number_rule wanted) joined front c after
-    ++ spans_after (expression_rule wanted) b (c ∷ front) after)
-    (usual-joined wanted front c after all)
-    ∙ ap (λ l. begun_at (number_rule wanted) joined front c after ++ l)
-    (usual-spans wanted (is_joined (number_rule wanted) front c after) (c ∷ front) after
-    (others-usual c after all))
+abbrev usual : Wanted → Agreement []
+usual wanted = record {
+  here = expression_rule wanted;
+  there = number_rule wanted;
+  Near = λ f g. f ≡ g;
+  Such = λ cs. is_usual_text cs ≡ true;
+  change = λ span. span;
+  nearer = λ f g d near. ap (λ l. d ∷ l) near;
+  others = others-usual;
+  belongs = λ f g d xs near all.
+      usual_belongs wanted f d (xs ++ []) (usual-extra d (first-usual d xs all))
+      ∙ ap (belongs wanted d) (append-nil xs);
+  parts = λ d x xs all. usual-parts d x (first-usual d (x ∷ xs) all)
+      (first-usual x xs (others-usual d (x ∷ xs) all));
+  ends = λ f d. refl;
+  changed = λ f g run after near.
+      rw (near, append-nil after);
+}
 
 pub numbers-alone : (wanted : Wanted) (bytes : List ℕ) → is_usual_text (chars bytes) ≡ true
     → expressions wanted bytes ≡ spans wanted bytes
-numbers-alone wanted bytes all = usual-spans wanted false [] (chars bytes) all
+numbers-alone wanted bytes all = all-alike (usual wanted) false [] [] (chars bytes) refl all
+    ∙ map-id (spans wanted bytes)

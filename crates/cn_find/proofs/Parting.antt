@@ -10,7 +10,7 @@ use Rattle.cn_find.specs.declared.wanted.Wanted.{Wanted}
 use Rattle.cn_find.specs.Parting.{with_text_before, with_text_after}
 use Rattle.cn_find.specs.Rule.{Rule, number_rule, is_joined}
 use Rattle.cn_find.specs.Spans.{Span, run_of, after_run, span_at, begun_at, spans_after, spans_by, spans}
-use Rattle.cn_find.proofs.RunLaws.{whole}
+use Rattle.cn_find.proofs.RunLaws.{placed, whole}
 use Rattle.cn_find.proofs.Runs.{first-span, front-onto, next-character, not-joined}
 
 -- the rule lets the character belong to nothing, and treats it like the end of the text for its
@@ -22,66 +22,57 @@ pub record Parts (rule : Rule) (c : ℕ) : Type 0 where
   pub begins : (front left : List ℕ) (d : ℕ) (after : List ℕ)
       → rule.belongs (front ++ c ∷ left) d after ≡ rule.belongs front d after
 
-joined-same : (rule : Rule) (c : ℕ) → Parts rule c → (front : List ℕ) (d : ℕ) (right xs : List ℕ)
-    → is_joined rule front d (xs ++ c ∷ right) ≡ is_joined rule front d xs
-joined-same rule c p front d right [] =
-    ap (λ b. rule.belongs front d (c ∷ right) && (b && not (rule.is_parted d c)))
-    (p.outside (d ∷ front) right)
-    ∙ and-false (rule.belongs front d (c ∷ right))
-joined-same rule c p front d right (x ∷ xs) =
-    ap (λ b. b && (rule.belongs (d ∷ front) x (xs ++ c ∷ right) && not (rule.is_parted d x)))
-    (p.ends front d (x ∷ xs) right)
-    ∙ ap (λ b. rule.belongs front d (x ∷ xs) && (b && not (rule.is_parted d x)))
-    (p.ends (d ∷ front) x xs right)
+-- `here`, in a text with `tail` after it, does what `there` does in the text without it, if the
+-- characters before are near those before it there, and those of the text are such characters
+pub record Agreement (tail : List ℕ) : Type 1 where
+  pub here : Rule
+  pub there : Rule
+  pub Near : List ℕ → List ℕ → Type 0
+  pub Such : List ℕ → Type 0
+  pub change : Span → Span
+  pub nearer : (f g : List ℕ) (d : ℕ) → Near f g → Near (d ∷ f) (d ∷ g)
+  pub others : (d : ℕ) (xs : List ℕ) → Such (d ∷ xs) → Such xs
+  pub belongs : (f g : List ℕ) (d : ℕ) (xs : List ℕ) → Near f g → Such (d ∷ xs)
+      → here.belongs f d (xs ++ tail) ≡ there.belongs g d xs
+  pub parts : (d x : ℕ) (xs : List ℕ) → Such (d ∷ x ∷ xs)
+      → here.is_parted d x ≡ there.is_parted d x
+  pub ends : (f : List ℕ) (d : ℕ) → is_joined here f d tail ≡ false
+  pub changed : (f g run after : List ℕ) → Near f g
+      → placed f run (after ++ tail) ≡ change (placed g run after)
 
-run-same : (rule : Rule) (c : ℕ) → Parts rule c → (front : List ℕ) (d : ℕ) (right xs : List ℕ)
-    → run_of rule front (d ∷ xs ++ c ∷ right) ≡ run_of rule front (d ∷ xs)
-run-same rule c p front d right [] =
-    ap (λ b. d ∷ (if b then run_of rule (d ∷ front) (c ∷ right) else []))
-    (joined-same rule c p front d right [])
-run-same rule c p front d right (x ∷ xs) =
-    ap (λ b. d ∷ (if b then run_of rule (d ∷ front) (x ∷ xs ++ c ∷ right) else []))
-    (joined-same rule c p front d right (x ∷ xs))
-    ∙ ap (λ l. d ∷ (if is_joined rule front d (x ∷ xs) then l else []))
-    (run-same rule c p (d ∷ front) x right xs)
+joined-alike : {tail : List ℕ} (a : Agreement tail) (f g : List ℕ) (d : ℕ) (xs : List ℕ)
+    → a.Near f g → a.Such (d ∷ xs)
+    → is_joined a.here f d (xs ++ tail) ≡ is_joined a.there g d xs
+joined-alike a f g d [] near such = a.ends f d
+joined-alike {tail} a f g d (x ∷ xs) near such =
+    rw (
+      a.belongs f g d (x ∷ xs) near such,
+      a.belongs (d ∷ f) (d ∷ g) x xs (a.nearer f g d near) (a.others d (x ∷ xs) such),
+      a.parts d x xs such,
+    )
 
-after-same : (rule : Rule) (c : ℕ) → Parts rule c → (front : List ℕ) (d : ℕ) (right xs : List ℕ)
-    → after_run rule front (d ∷ xs ++ c ∷ right) ≡ after_run rule front (d ∷ xs) ++ c ∷ right
-after-same rule c p front d right [] =
-    ap (λ b. if b then after_run rule (d ∷ front) (c ∷ right) else c ∷ right)
-    (joined-same rule c p front d right [])
-after-same rule c p front d right (x ∷ xs) =
-    ap (λ b. if b then after_run rule (d ∷ front) (x ∷ xs ++ c ∷ right) else x ∷ xs ++ c ∷ right)
-    (joined-same rule c p front d right (x ∷ xs))
-    ∙ by (is_joined rule front d (x ∷ xs)) (after-same rule c p (d ∷ front) x right xs) where
+run-alike : {tail : List ℕ} (a : Agreement tail) (f g : List ℕ) (d : ℕ) (xs : List ℕ)
+    → a.Near f g → a.Such (d ∷ xs)
+    → run_of a.here f (d ∷ xs ++ tail) ≡ run_of a.there g (d ∷ xs)
+run-alike a f g d [] near such = rw (a.ends f d)
+run-alike a f g d (x ∷ xs) near such = rw (
+  joined-alike a f g d (x ∷ xs) near such,
+  run-alike a (d ∷ f) (d ∷ g) x xs (a.nearer f g d near) (a.others d (x ∷ xs) such),
+)
+
+after-alike : {tail : List ℕ} (a : Agreement tail) (f g : List ℕ) (d : ℕ) (xs : List ℕ)
+    → a.Near f g → a.Such (d ∷ xs)
+    → after_run a.here f (d ∷ xs ++ tail) ≡ after_run a.there g (d ∷ xs) ++ tail
+after-alike a f g d [] near such = rw (a.ends f d)
+after-alike {tail} a f g d (x ∷ xs) near such =
+    rw (joined-alike a f g d (x ∷ xs) near such) (by (is_joined a.there g d (x ∷ xs))
+    (after-alike a (d ∷ f) (d ∷ g) x xs (a.nearer f g d near) (a.others d (x ∷ xs) such))) where
       by : (b : Bool)
-          → after_run rule (d ∷ front) (x ∷ xs ++ c ∷ right)
-          ≡ after_run rule (d ∷ front) (x ∷ xs) ++ c ∷ right
-          → (if b then after_run rule (d ∷ front) (x ∷ xs ++ c ∷ right) else x ∷ xs ++ c ∷ right)
-          ≡ (if b then after_run rule (d ∷ front) (x ∷ xs) else x ∷ xs) ++ c ∷ right
+          → after_run a.here (d ∷ f) (x ∷ xs ++ tail) ≡ after_run a.there (d ∷ g) (x ∷ xs) ++ tail
+          → (if b then after_run a.here (d ∷ f) (x ∷ xs ++ tail) else x ∷ xs ++ tail)
+          ≡ (if b then after_run a.there (d ∷ g) (x ∷ xs) else x ∷ xs) ++ tail
       by true same = same
       by false same = refl
-
--- the run that begins at a character before it is the same, with more text after it
-span-same : (rule : Rule) (c : ℕ) → Parts rule c → (front : List ℕ) (d : ℕ) (right xs : List ℕ)
-    → span_at rule front (d ∷ xs ++ c ∷ right)
-    ≡ with_text_after (encode_utf8_all (c ∷ right)) (span_at rule front (d ∷ xs))
-span-same rule c p front d right xs =
-    ap (λ l. record {
-      before = encode_utf8_all (reverse front);
-      text = encode_utf8_all l;
-      after = encode_utf8_all (after_run rule front (d ∷ xs ++ c ∷ right));
-    }) (run-same rule c p front d right xs)
-    ∙ ap (λ l. record {
-      before = encode_utf8_all (reverse front);
-      text = encode_utf8_all (run_of rule front (d ∷ xs));
-      after = encode_utf8_all l;
-    }) (after-same rule c p front d right xs)
-    ∙ ap (λ l. record {
-      before = encode_utf8_all (reverse front);
-      text = encode_utf8_all (run_of rule front (d ∷ xs));
-      after = l;
-    }) (encodes-append (after_run rule front (d ∷ xs)) (c ∷ right))
 
 abbrev begun_if : Bool → Span → List Span
 begun_if b span = if b then span ∷ [] else []
@@ -91,135 +82,114 @@ begun-map : (change : Span → Span) (b : Bool) (span : Span)
 begun-map change true span = refl
 begun-map change false span = refl
 
-begun-same : (rule : Rule) (c : ℕ) → Parts rule c
-    → (joined : Bool) (front : List ℕ) (d : ℕ) (right xs : List ℕ)
-    → begun_at rule joined front d (xs ++ c ∷ right)
-    ≡ map (with_text_after (encode_utf8_all (c ∷ right))) (begun_at rule joined front d xs)
-begun-same rule c p joined front d right xs =
-    ap (λ b. begun_if (not joined && b) (span_at rule front (d ∷ xs ++ c ∷ right)))
-    (p.ends front d xs right)
-    ∙ ap (λ s. begun_if (not joined && rule.belongs front d xs) s)
-    (span-same rule c p front d right xs)
-    ∙ begun-map (with_text_after (encode_utf8_all (c ∷ right)))
-    (not joined && rule.belongs front d xs) (span_at rule front (d ∷ xs))
+begun-alike : {tail : List ℕ} (a : Agreement tail) (joined : Bool) (f g : List ℕ) (d : ℕ)
+    (xs : List ℕ) → a.Near f g → a.Such (d ∷ xs)
+    → begun_at a.here joined f d (xs ++ tail) ≡ map a.change (begun_at a.there joined g d xs)
+begun-alike {tail} a joined f g d xs near such =
+    ap (λ b. begun_if (not joined && b) (span_at a.here f (d ∷ xs ++ tail)))
+    (a.belongs f g d xs near such)
+    ∙ ap (begun_if begins) (ap (λ l. placed f l (after_run a.here f (d ∷ xs ++ tail)))
+    (run-alike a f g d xs near such)
+    ∙ ap (placed f (run_of a.there g (d ∷ xs))) (after-alike a f g d xs near such)
+    ∙ a.changed f g (run_of a.there g (d ∷ xs)) (after_run a.there g (d ∷ xs)) near)
+    ∙ begun-map a.change begins (span_at a.there g (d ∷ xs)) where
+      begins : Bool
+      begins = not joined && a.there.belongs g d xs
 
-none-begun : (rule : Rule) (c : ℕ) → Parts rule c → (joined : Bool) (front right : List ℕ)
-    → begun_at rule joined front c right ≡ []
-none-begun rule c p joined front right =
-    ap (λ b. begun_if (not joined && b) (span_at rule front (c ∷ right))) (p.outside front right)
-    ∙ ap (λ b. begun_if b (span_at rule front (c ∷ right))) (and-false (not joined))
-
-parted : (rule : Rule) (c : ℕ) → Parts rule c → (joined : Bool) (front right xs : List ℕ)
-    → spans_after rule joined front (xs ++ c ∷ right)
-    ≡ map (with_text_after (encode_utf8_all (c ∷ right))) (spans_after rule joined front xs)
-    ++ spans_after rule false (c ∷ reverse_aux xs front) right
-parted rule c p joined front right [] =
-    ap (λ l. l ++ spans_after rule (is_joined rule front c right) (c ∷ front) right)
-    (none-begun rule c p joined front right)
-    ∙ ap (λ b. spans_after rule b (c ∷ front) right)
-    (not-joined rule front c right (p.outside front right))
-parted rule c p joined front right (d ∷ xs) =
-    ap (λ l. l ++ spans_after rule (is_joined rule front d (xs ++ c ∷ right)) (d ∷ front)
-    (xs ++ c ∷ right)) (begun-same rule c p joined front d right xs)
-    ∙ ap (λ b. begun ++ spans_after rule b (d ∷ front) (xs ++ c ∷ right))
-    (joined-same rule c p front d right xs)
-    ∙ ap (λ l. begun ++ l) (parted rule c p (is_joined rule front d xs) (d ∷ front) right xs)
-    ∙ sym (append_assoc begun others behind)
-    ∙ ap (λ l. l ++ behind) (sym (map-append more (begun_at rule joined front d xs)
-    (spans_after rule (is_joined rule front d xs) (d ∷ front) xs))) where
-      more : Span → Span
-      more = with_text_after (encode_utf8_all (c ∷ right))
-
+-- so the runs of the text are the same, and those of the tail come after them
+spans-alike : {tail : List ℕ} (a : Agreement tail) (joined : Bool) (f g xs : List ℕ)
+    → a.Near f g → a.Such xs
+    → (b : Bool) × (spans_after a.here joined f (xs ++ tail)
+    ≡ map a.change (spans_after a.there joined g xs)
+    ++ spans_after a.here b (reverse_aux xs f) tail)
+spans-alike a joined f g [] near such = (joined, refl)
+spans-alike {tail} a joined f g (d ∷ xs) near such =
+    let rest = spans-alike a (is_joined a.there g d xs) (d ∷ f) (d ∷ g) xs (a.nearer f g d near)
+    (a.others d xs such) in
+    let behind = spans_after a.here rest.0 (reverse_aux xs (d ∷ f)) tail in (
+      rest.0,
+      rw (
+        begun-alike a joined f g d xs near such,
+        joined-alike a f g d xs near such,
+        rest.1,
+        map-append a.change begun others,
+      ) (sym (append_assoc (map a.change begun) (map a.change others) behind)),
+    ) where
       begun : List Span
-      begun = map (with_text_after (encode_utf8_all (c ∷ right))) (begun_at rule joined front d xs)
+      begun = begun_at a.there joined g d xs
 
       others : List Span
-      others = map (with_text_after (encode_utf8_all (c ∷ right)))
-          (spans_after rule (is_joined rule front d xs) (d ∷ front) xs)
+      others = spans_after a.there (is_joined a.there g d xs) (d ∷ g) xs
 
-      behind : List Span
-      behind = spans_after rule false (c ∷ reverse_aux (d ∷ xs) front) right
+pub all-alike : (a : Agreement []) (joined : Bool) (f g xs : List ℕ) → a.Near f g → a.Such xs
+    → spans_after a.here joined f xs ≡ map a.change (spans_after a.there joined g xs)
+all-alike a joined f g xs near such =
+    ap (spans_after a.here joined f) (sym (append-nil xs))
+    ∙ (spans-alike a joined f g xs near such).1
+    ∙ append-nil (map a.change (spans_after a.there joined g xs))
 
--- the characters `more` before any others make no difference to the rule
-abbrev IsUnseen : Rule → List ℕ → Type 0
-IsUnseen rule more = (front : List ℕ) (d : ℕ) (after : List ℕ)
-    → rule.belongs (front ++ more) d after ≡ rule.belongs front d after
+-- the runs before the character are the same without it
+abbrev before : (rule : Rule) (c : ℕ) → Parts rule c → (right : List ℕ) → Agreement (c ∷ right)
+before rule c p right = record {
+  here = rule;
+  there = rule;
+  Near = λ f g. f ≡ g;
+  Such = λ xs. Unit {0};
+  change = with_text_after (encode_utf8_all (c ∷ right));
+  nearer = λ f g d near. ap (λ l. d ∷ l) near;
+  others = λ d xs such. tt;
+  belongs = λ f g d xs near such. p.ends f d xs right ∙ ap (λ l. rule.belongs l d xs) near;
+  parts = λ d x xs such. refl;
+  ends = λ f d. rw (p.outside (d ∷ f) right, and-false (rule.belongs f d (c ∷ right)));
+  changed = λ f g run after near.
+      rw (near, encodes-append after (c ∷ right));
+}
 
-joined-behind : (rule : Rule) (more : List ℕ) → IsUnseen rule more
-    → (front : List ℕ) (d : ℕ) (xs : List ℕ)
-    → is_joined rule (front ++ more) d xs ≡ is_joined rule front d xs
-joined-behind rule more same front d [] = refl
-joined-behind rule more same front d (x ∷ xs) =
-    ap (λ b. b && (rule.belongs (d ∷ front ++ more) x xs && not (rule.is_parted d x)))
-    (same front d (x ∷ xs))
-    ∙ ap (λ b. rule.belongs front d (x ∷ xs) && (b && not (rule.is_parted d x)))
-    (same (d ∷ front) x xs)
+parted : (rule : Rule) (c : ℕ) → Parts rule c → (right xs : List ℕ)
+    → spans_after rule false [] (xs ++ c ∷ right)
+    ≡ map (with_text_after (encode_utf8_all (c ∷ right))) (spans_after rule false [] xs)
+    ++ spans_after rule false (c ∷ reverse xs) right
+parted rule c p right xs =
+    let r = spans-alike (before rule c p right) false [] [] xs refl tt in
+    r.1 ∙ ap (λ l. map (with_text_after (encode_utf8_all (c ∷ right)))
+    (spans_after rule false [] xs) ++ l) (passed r.0) where
+      passed : (b : Bool) → spans_after rule b (reverse xs) (c ∷ right)
+          ≡ spans_after rule false (c ∷ reverse xs) right
+      passed b =
+          rw (
+            p.outside (reverse xs) right,
+            and-false (not b),
+            not-joined rule (reverse xs) c right (p.outside (reverse xs) right),
+          )
 
-run-behind : (rule : Rule) (more : List ℕ) → IsUnseen rule more → (front xs : List ℕ)
-    → run_of rule (front ++ more) xs ≡ run_of rule front xs
-run-behind rule more same front [] = refl
-run-behind rule more same front (d ∷ xs) =
-    ap (λ b. d ∷ (if b then run_of rule (d ∷ front ++ more) xs else []))
-    (joined-behind rule more same front d xs)
-    ∙ ap (λ l. d ∷ (if is_joined rule front d xs then l else []))
-    (run-behind rule more same (d ∷ front) xs)
-
-after-behind : (rule : Rule) (more : List ℕ) → IsUnseen rule more → (front xs : List ℕ)
-    → after_run rule (front ++ more) xs ≡ after_run rule front xs
-after-behind rule more same front [] = refl
-after-behind rule more same front (d ∷ xs) =
-    ap (λ b. if b then after_run rule (d ∷ front ++ more) xs else xs)
-    (joined-behind rule more same front d xs)
-    ∙ ap (λ l. if is_joined rule front d xs then l else xs)
-    (after-behind rule more same (d ∷ front) xs)
-
-span-behind : (rule : Rule) (more : List ℕ) → IsUnseen rule more → (front xs : List ℕ)
-    → span_at rule (front ++ more) xs
-    ≡ with_text_before (encode_utf8_all (reverse more)) (span_at rule front xs)
-span-behind rule more same front xs =
-    ap (λ l. record {
-      before = l;
-      text = encode_utf8_all (run_of rule (front ++ more) xs);
-      after = encode_utf8_all (after_run rule (front ++ more) xs);
-    }) (ap encode_utf8_all (reverse-append front more)
-    ∙ encodes-append (reverse more) (reverse front))
-    ∙ ap (λ l. record {
-      before = encode_utf8_all (reverse more) ++ encode_utf8_all (reverse front);
-      text = encode_utf8_all l;
-      after = encode_utf8_all (after_run rule (front ++ more) xs);
-    }) (run-behind rule more same front xs)
-    ∙ ap (λ l. record {
-      before = encode_utf8_all (reverse more) ++ encode_utf8_all (reverse front);
-      text = encode_utf8_all (run_of rule front xs);
-      after = encode_utf8_all l;
-    }) (after-behind rule more same front xs)
-
--- so the runs after them are those of the text after them
-shifted : (rule : Rule) (more : List ℕ) → IsUnseen rule more → (joined : Bool) (front cs : List ℕ)
-    → spans_after rule joined (front ++ more) cs
-    ≡ map (with_text_before (encode_utf8_all (reverse more))) (spans_after rule joined front cs)
-shifted rule more same joined front [] = refl
-shifted rule more same joined front (c ∷ ahead) =
-    ap (λ l. l ++ spans_after rule (is_joined rule (front ++ more) c ahead) (c ∷ front ++ more)
-    ahead) begun
-    ∙ ap (λ b. map (with_text_before at) (begun_at rule joined front c ahead)
-    ++ spans_after rule b (c ∷ front ++ more) ahead) (joined-behind rule more same front c ahead)
-    ∙ ap (λ l. map (with_text_before at) (begun_at rule joined front c ahead) ++ l)
-    (shifted rule more same (is_joined rule front c ahead) (c ∷ front) ahead)
-    ∙ sym (map-append (with_text_before at) (begun_at rule joined front c ahead)
-    (spans_after rule (is_joined rule front c ahead) (c ∷ front) ahead)) where
-      at : List ℕ
-      at = encode_utf8_all (reverse more)
-
-      begun : begun_at rule joined (front ++ more) c ahead
-          ≡ map (with_text_before at) (begun_at rule joined front c ahead)
-      begun =
-          ap (λ b. begun_if (not joined && b) (span_at rule (front ++ more) (c ∷ ahead)))
-          (same front c ahead)
-          ∙ ap (λ s. begun_if (not joined && rule.belongs front c ahead) s)
-          (span-behind rule more same front (c ∷ ahead))
-          ∙ begun-map (with_text_before at) (not joined && rule.belongs front c ahead)
-          (span_at rule front (c ∷ ahead))
+-- if the characters `more` before any others make no difference to the rule, the runs after them are
+-- those of the text after them
+shifted : (rule : Rule) (more : List ℕ)
+    → ((front : List ℕ) (d : ℕ) (after : List ℕ)
+    → rule.belongs (front ++ more) d after ≡ rule.belongs front d after) → (cs : List ℕ)
+    → spans_after rule false more cs
+    ≡ map (with_text_before (encode_utf8_all (reverse more))) (spans_after rule false [] cs)
+shifted rule more same cs = all-alike after_more false more [] cs refl tt where
+  after_more : Agreement []
+  after_more = record {
+    here = rule;
+    there = rule;
+    Near = λ f g. f ≡ g ++ more;
+    Such = λ xs. Unit {0};
+    change = with_text_before (encode_utf8_all (reverse more));
+    nearer = λ f g d near. ap (λ l. d ∷ l) near;
+    others = λ d xs such. tt;
+    belongs = λ f g d xs near such. rw (near, append-nil xs) (same g d xs);
+    parts = λ d x xs such. refl;
+    ends = λ f d. refl;
+    changed = λ f g run after near.
+        rw (
+          near,
+          append-nil after,
+          reverse-append g more,
+          encodes-append (reverse more) (reverse g),
+        );
+  }
 
 -- the runs of a text are those before the character and those after it
 pub parts-text : (rule : Rule) (c : ℕ) → Parts rule c → (left right : List ℕ)
@@ -227,30 +197,28 @@ pub parts-text : (rule : Rule) (c : ℕ) → Parts rule c → (left right : List
     → spans_by rule (left ++ (encode_utf8 c ++ right))
     ≡ map (with_text_after (encode_utf8 c ++ right)) (spans_by rule left)
     ++ map (with_text_before (left ++ encode_utf8 c)) (spans_by rule right)
-parts-text rule c p left right first second =
-    ap (spans_after rule false []) (chars-append left (encode_utf8 c ++ right) first
-    ∙ ap (λ l. chars left ++ l) behind)
-    ∙ parted rule c p false [] (chars right) (chars left)
-    ∙ ap (λ l. map (with_text_after (encode_utf8 c ++ l)) (spans_by rule left)
-    ++ spans_after rule false (c ∷ reverse (chars left)) (chars right)) ended
-    ∙ ap (λ l. map (with_text_after (encode_utf8 c ++ right)) (spans_by rule left) ++ l)
-    (shifted rule (c ∷ reverse (chars left)) (λ front. p.begins front (reverse (chars left))) false
-    [] (chars right))
-    ∙ ap (λ l. map (with_text_after (encode_utf8 c ++ right)) (spans_by rule left)
-    ++ map (with_text_before l) (spans_by rule right)) in_front where
-      behind : chars (encode_utf8 c ++ right) ≡ c ∷ chars right
-      behind = chars_past_char (encode_utf8 c ++ right) right c second refl
+parts-text rule c p left right first second = rw (
+  chars-append left (encode_utf8 c ++ right) first,
+  behind,
+  parted rule c p (chars right) (chars left),
+  ended,
+  shifted rule (c ∷ reverse (chars left)) (λ front. p.begins front (reverse (chars left)))
+      (chars right),
+  in_front,
+) where
+  behind : chars (encode_utf8 c ++ right) ≡ c ∷ chars right
+  behind = chars_past_char (encode_utf8 c ++ right) right c second refl
 
-      ended : encode_utf8_all (chars right) ≡ right
-      ended = encodes-chars right (IsUtf8-past_char (encode_utf8 c ++ right) right c second refl)
+  ended : encode_utf8_all (chars right) ≡ right
+  ended = encodes-chars right (IsUtf8-past_char (encode_utf8 c ++ right) right c second refl)
 
-      in_front : encode_utf8_all (reverse (c ∷ reverse (chars left))) ≡ left ++ encode_utf8 c
-      in_front =
-          ap encode_utf8_all (reverse_onto (reverse (chars left)) c []
-          ∙ ap (λ l. l ++ c ∷ []) (reverse-reverse (chars left)))
-          ∙ encodes-append (chars left) (c ∷ [])
-          ∙ ap (λ l. encode_utf8_all (chars left) ++ l) (append-nil (encode_utf8 c))
-          ∙ ap (λ l. l ++ encode_utf8 c) (encodes-chars left first)
+  in_front : encode_utf8_all (reverse (c ∷ reverse (chars left))) ≡ left ++ encode_utf8 c
+  in_front =
+      ap encode_utf8_all (reverse_onto (reverse (chars left)) c []
+      ∙ ap (λ l. l ++ c ∷ []) (reverse-reverse (chars left)))
+      ∙ encodes-append (chars left) (c ∷ [])
+      ∙ ap (λ l. encode_utf8_all (chars left) ++ l) (append-nil (encode_utf8 c))
+      ∙ ap (λ l. l ++ encode_utf8 c) (encodes-chars left first)
 
 -- the first of these runs ends after `passed`, and the others are those that are found from there
 -- on
@@ -317,7 +285,7 @@ pub searches-go_on : (wanted : Wanted) (bytes : List ℕ) (first : Span) (rest :
     → spans wanted bytes ≡ first ∷ rest → IsUtf8 first.after
     → rest ≡ map (with_text_before (first.before ++ first.text)) (spans wanted first.after)
 searches-go_on wanted bytes first rest e ended =
-    r.rest_is ∙ shifted rule (reverse r.passed) (λ front d after. refl) false [] r.behind
+    r.rest_is ∙ shifted rule (reverse r.passed) (λ front d after. refl) r.behind
     ∙ ap (λ l. map (with_text_before l) (spans_after rule false [] r.behind)) r.before_is
     ∙ ap (λ l. map (with_text_before (first.before ++ first.text)) (spans_after rule false [] l))
     (chars_from_encodes r.behind first.after ended (sym r.after_is)) where

@@ -30,6 +30,14 @@ record IsRunAfter (rule : Rule) (joined : Bool) (front text : List ℕ) (span : 
   text_is : span.text ≡ encode_utf8_all run
   after_is : span.after ≡ encode_utf8_all right
 
+-- a span of these characters
+abbrev pub placed : List ℕ → List ℕ → List ℕ → Span
+placed front run after = record {
+  before = encode_utf8_all (reverse front);
+  text = encode_utf8_all run;
+  after = encode_utf8_all after;
+}
+
 -- the runs that are found from a character on, of which the first may begin there
 abbrev spans_here : Rule → Bool → List ℕ → ℕ → List ℕ → List Span
 spans_here rule true front c after =
@@ -221,11 +229,8 @@ complete-from : (rule : Rule) (joined : Bool) (front left run right : List ℕ) 
     → all_joined rule (reverse_aux left front) run right ≡ true
     → last_joined rule joined front left (run ++ right) ≡ false
     → last_joined rule false (reverse_aux left front) run right ≡ false
-    → span ≡ record {
-      before = encode_utf8_all (reverse (reverse_aux left front));
-      text = encode_utf8_all run;
-      after = encode_utf8_all right;
-    } → Contains (spans_after rule joined front (left ++ (run ++ right))) span
+    → span ≡ placed (reverse_aux left front) run right
+    → Contains (spans_after rule joined front (left ++ (run ++ right))) span
 complete-from rule joined front [] [] right span some each all before after same =
     absurd (some refl)
 complete-from rule joined front [] (c ∷ run) right span some each all before after same =
@@ -236,16 +241,9 @@ complete-from rule joined front [] (c ∷ run) right span some each all before a
 
       first : span_at rule front (c ∷ run ++ right) ≡ span
       first =
-          ap (λ l. record {
-            before = encode_utf8_all (reverse front);
-            text = encode_utf8_all l;
-            after = encode_utf8_all (after_run rule front (c ∷ run ++ right));
-          }) (run-ends rule false front c run right all after)
-          ∙ ap (λ l. record {
-            before = encode_utf8_all (reverse front);
-            text = encode_utf8_all (c ∷ run);
-            after = encode_utf8_all l;
-          }) (after-run-ends rule false front c run right all after)
+          ap (λ l. placed front l (after_run rule front (c ∷ run ++ right)))
+          (run-ends rule false front c run right all after)
+          ∙ ap (placed front (c ∷ run)) (after-run-ends rule false front c run right all after)
           ∙ sym same
 complete-from rule joined front (c ∷ left) run right span some each all before after same =
     subst (λ l. Contains l span) (sym (here rule _ joined front c (left ++ (run ++ right)) refl))
@@ -284,24 +282,8 @@ pub run-is_found : (rule : Rule) (bytes : List ℕ) (span : Span)
 run-is_found rule bytes span r =
     rw r.parts (complete-from rule false [] r.left r.run r.right span r.some r.each r.within
     r.apart_before r.apart_after same) where
-      same : span ≡ record {
-        before = encode_utf8_all (reverse (reverse r.left));
-        text = encode_utf8_all r.run;
-        after = encode_utf8_all r.right;
-      }
-      same =
-          ap (λ l. record { before = l; text = span.text; after = span.after })
-          (r.before_is ∙ ap encode_utf8_all (sym (reverse-reverse r.left)))
-          ∙ ap (λ l. record {
-            before = encode_utf8_all (reverse (reverse r.left));
-            text = l;
-            after = span.after;
-          }) r.text_is
-          ∙ ap (λ l. record {
-            before = encode_utf8_all (reverse (reverse r.left));
-            text = encode_utf8_all r.run;
-            after = l;
-          }) r.after_is
+      same : span ≡ placed (reverse r.left) r.run r.right
+      same = rw (r.before_is, r.text_is, r.after_is, reverse-reverse r.left)
 
 -- the numbers of a text are exactly its runs
 pub span-is_run : (wanted : Wanted) (bytes : List ℕ) (span : Span)

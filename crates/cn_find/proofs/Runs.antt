@@ -1,5 +1,5 @@
 -- Steps over the characters of a text and of a run, and over a whole run.
-use Rattle.std.proofs.Common.{◌≡◌, ◌⊎◌, inl, inr, ℕ, ◌-◌, Bool, true, false, not, ◌&&◌, if◌then◌else◌, List, [], ◌∷◌, ◌++◌, length, take, reverse, chars, encode_utf8, encode_utf8_all, IsUtf8, refl, sym, ap, ◌∙◌, subst, arith, append_assoc, append-nil, length-append}
+use Rattle.std.proofs.Common.{◌≡◌, ◌⊎◌, inl, inr, ℕ, ◌-◌, Bool, true, false, not, ◌&&◌, List, [], ◌∷◌, ◌++◌, length, take, reverse, chars, encode_utf8, encode_utf8_all, IsUtf8, refl, sym, ap, ◌∙◌, subst, arith, append_assoc, append-nil, length-append}
 use mathlib.Core.List.{reverse_aux}
 use Rattle.std.proofs.Math.Bool.{and-false}
 use Rattle.std.proofs.Math.Seq.{take-append_seam}
@@ -12,7 +12,7 @@ use Rattle.cn_core.proofs.Fronts.{and-left, both}
 use Rattle.cn_find.specs.Private.{EndsRun}
 use Rattle.cn_find.specs.Rule.{Rule, is_joined}
 use Rattle.cn_find.specs.Runs.{first_belongs}
-use Rattle.cn_find.specs.Spans.{Span, run_of, after_run, span_at, spans_after, spans_by, text_before, in_front, left_by}
+use Rattle.cn_find.specs.Spans.{run_of, after_run, span_at, spans_after, spans_by, text_before, in_front, left_by}
 
 -- from the second character of a run on, the runs that are found are those after it
 past-run : (rule : Rule) (front cs : List ℕ)
@@ -192,19 +192,10 @@ Gathered-more rule whole before ahead rest behind last next g front here ended p
     record {
       passed = g.passed ++ last ∷ [];
       front = last ∷ g.front;
-      parts =
-          g.parts ∙ ap (λ l. g.passed ++ last ∷ l) parts
-          ∙ sym (append_assoc g.passed (last ∷ []) (next ∷ chars behind));
-      run =
-          g.run ∙ ap (λ l. g.passed ++ run_of rule g.front (last ∷ l)) parts
-          ∙ ap (λ b. g.passed ++ last ∷ (if b then run_of rule (last ∷ g.front)
-          (next ∷ chars behind) else [])) joined
-          ∙ sym (append_assoc g.passed (last ∷ [])
-          (run_of rule (last ∷ g.front) (next ∷ chars behind)));
-      after =
-          g.after ∙ ap (λ l. after_run rule g.front (last ∷ l)) parts
-          ∙ ap (λ b. if b then after_run rule (last ∷ g.front) (next ∷ chars behind)
-          else next ∷ chars behind) joined;
+      parts = rw (g.parts, parts) (sym (append_assoc g.passed (last ∷ []) (next ∷ chars behind)));
+      run = rw (g.run, parts, joined) (sym (append_assoc g.passed (last ∷ [])
+          (run_of rule (last ∷ g.front) (next ∷ chars behind))));
+      after = rw (g.after, parts, joined);
       belongs = next_belongs;
       at = step.front ∙ ap (λ l. next ∷ l) g.at;
       ends = step.ends;
@@ -232,13 +223,10 @@ ended-by rule whole before ahead rest last g apart here behind = record {
       ∙ encodes-append (g.passed ++ last ∷ []) (chars rest)
       ∙ ap (λ l. encode_utf8_all (g.passed ++ last ∷ []) ++ l) (encodes-chars rest behind)
       ∙ ap (λ l. encode_utf8_all l ++ rest) (sym run);
-  after =
-      g.after ∙ ap (λ b. if b then after_run rule (last ∷ g.front) (chars rest)
-      else chars rest) apart;
+  after = rw (g.after, apart);
 } where
   run : run_of rule (in_front before) (chars ahead) ≡ g.passed ++ last ∷ []
-  run = g.run ∙ ap (λ b. g.passed ++ last ∷ (if b then run_of rule (last ∷ g.front) (chars rest)
-      else [])) apart
+  run = rw (g.run, apart)
 
 pub EndsRun-at : (rule : Rule) (whole before ahead rest behind : List ℕ) (last next : ℕ)
     → Gathered rule whole before ahead rest last → chars rest ≡ next ∷ chars behind
@@ -288,24 +276,7 @@ IsNext-found rule whole rest before ahead text after s here at utf8 run_ends cut
   parts =
       s.same ∙ ap (λ l. spans_after rule false (in_front l) (chars ahead)) (sym at)
       ∙ first-span rule front (chars ahead) begins
-      ∙ ap (λ l. record {
-        before = l;
-        text = encode_utf8_all (run_of rule front (chars ahead));
-        after = encode_utf8_all (after_run rule front (chars ahead));
-      } ∷ others) same_before
-      ∙ ap (λ l. record {
-        before = before;
-        text = l;
-        after = encode_utf8_all (after_run rule front (chars ahead));
-      } ∷ others) (sym run)
-      ∙ ap (λ l. record { before = before; text = text; after = encode_utf8_all l }
-      ∷ spans_after rule false (reverse_aux (run_of rule front (chars ahead)) front) l)
-      e.after
-      ∙ ap (λ l. record { before = before; text = text; after = l }
-      ∷ spans_after rule false (reverse_aux (run_of rule front (chars ahead)) front) (chars after))
-      (encodes-chars after ended)
-      ∙ ap (λ l. record { before = before; text = text; after = after }
-      ∷ spans_after rule false l (chars after)) at_end;
+      ∙ rw (same_before, sym run, e.after, encodes-chars after ended, at_end);
   ends = IsEnd-at whole (before ++ text) after at_after;
 } where
   front : List ℕ
@@ -316,10 +287,6 @@ IsNext-found rule whole rest before ahead text after s here at utf8 run_ends cut
 
   run : text ≡ encode_utf8_all (run_of rule front (chars ahead))
   run = cut ∙ seam-front ahead (encode_utf8_all (run_of rule front (chars ahead))) after e.bytes
-
-  others : List Span
-  others = spans_after rule false (reverse_aux (run_of rule front (chars ahead)) front)
-      (after_run rule front (chars ahead))
 
   same_before : encode_utf8_all (reverse front) ≡ before
   same_before = ap encode_utf8_all (reverse-reverse (chars before))

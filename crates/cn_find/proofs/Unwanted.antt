@@ -1,5 +1,5 @@
 -- The characters that part a text into numbers.
-use Rattle.std.proofs.Common.{◌≡◌, ℕ, Bool, true, false, not, ◌&&◌, ◌||◌, ◌==◌, List, [], ◌∷◌, ◌++◌, codes, arith, refl, sym, ap, ◌∙◌}
+use Rattle.std.proofs.Common.{◌≡◌, ℕ, Bool, true, false, ◌||◌, ◌==◌, List, [], ◌∷◌, ◌++◌, codes, arith, refl, sym, ap, ◌∙◌}
 use Rattle.std.specs.Char.{char_set_contains}
 use Rattle.std.specs.List.{list_all}
 use Rattle.std.proofs.lemmas.Bool.Decides.{nat_tests}
@@ -7,7 +7,7 @@ use Rattle.std.proofs.Math.Bool.{and-false}
 use Rattle.cn_core.specs.Mark.{mark_of}
 use Rattle.cn_core.proofs.Fronts.{and-left, and-right}
 use Rattle.cn_find.specs.declared.wanted.Wanted.{Wanted}
-use Rattle.cn_find.specs.Belongs.{begins_measure, belongs, counts_next, is_ge, is_great, is_mega, is_numeral, is_wanted, is_zhao}
+use Rattle.cn_find.specs.Belongs.{begins_measure, belongs, counts_next, is_great, is_numeral, is_wanted}
 use Rattle.cn_find.specs.Parting.{is_of_measure}
 use Rattle.cn_find.specs.Rule.{number_rule}
 use Rattle.cn_find.proofs.Parting.{Parts}
@@ -77,25 +77,20 @@ unwanted wanted c after e = rw e.unwanted
 numeral-same : (wanted : Wanted) (d c : ℕ) (right xs : List ℕ) → IsUnseen wanted c
     → is_numeral wanted d (xs ++ c ∷ right) ≡ is_numeral wanted d xs
 numeral-same wanted d c right xs e =
-    ap (λ b. is_wanted wanted d && not (is_zhao (mark_of d) && b))
-    (measure-same wanted c right xs e)
+    rw (measure-same wanted c right xs e)
 
 counts-same : (wanted : Wanted) (c : ℕ) (right xs : List ℕ) → IsUnseen wanted c
     → counts_next wanted (xs ++ c ∷ right) ≡ counts_next wanted xs
 counts-same wanted c right [] e =
-    ap (λ b. is_great (mark_of c) && (b && not (is_mega c right))) e.unwanted
-    ∙ and-false (is_great (mark_of c))
+    rw e.unwanted (and-false (is_great (mark_of c)))
 counts-same wanted c right (x ∷ xs) e =
-    ap (λ b. is_great (mark_of x) && b) (numeral-same wanted x c right xs e)
+    rw (numeral-same wanted x c right xs e)
 
 pub belongs-same : (wanted : Wanted) (d c : ℕ) (right xs : List ℕ) → IsUnseen wanted c
     → belongs wanted d (xs ++ c ∷ right) ≡ belongs wanted d xs
 unfolding belongs
 belongs-same wanted d c right xs e =
-    ap (λ b. b && (not (is_ge (mark_of d)) || counts_next wanted (xs ++ c ∷ right)))
-    (numeral-same wanted d c right xs e)
-    ∙ ap (λ b. is_numeral wanted d xs && (not (is_ge (mark_of d)) || b))
-    (counts-same wanted c right xs e)
+    rw (numeral-same wanted d c right xs e, counts-same wanted c right xs e)
 
 pub unwanted-parts : (wanted : Wanted) (c : ℕ) → is_wanted wanted c ≡ false
     → is_of_measure c ≡ false → Parts (number_rule wanted) c

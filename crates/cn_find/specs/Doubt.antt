@@ -7,7 +7,7 @@ use Rattle.std.specs.Option.{option_map_or}
 use Rattle.cn_core.specs.Characters.{digit_of}
 use Rattle.cn_find.specs.declared.doubt.Doubt.{Doubt}
 use Rattle.cn_find.specs.declared.doubt.Doubt.TheVariants.{Word, Digits, Term, Part, Time, Range}
-use Rattle.cn_find.specs.Belongs.{begins_with, is_chinese_digit}
+use Rattle.cn_find.specs.Belongs.{begins_with, first_then, is_chinese_digit}
 use Rattle.cn_find.specs.Ranges.{is_end_of_range}
 use Rattle.cn_find.specs.Words.{begins_with_two, is_of_word}
 
@@ -59,9 +59,9 @@ has_point (c ∷ text) = char_set_contains (codes "点點") c || has_point text
 
 -- the characters begin with 届, a Chinese digit and 中, as in 十一届三中全会
 abbrev pub begins_plenum : List ℕ → Bool
-begins_plenum (c ∷ d ∷ after) =
-    char_set_contains (codes "届屆") c && (is_chinese_digit d && begins_with (codes "中") after)
-begins_plenum after = false
+begins_plenum after =
+    first_then (char_set_contains (codes "届屆"))
+    (first_then is_chinese_digit (begins_with (codes "中"))) after
 
 -- the text is part of a term, as in 负二项, 两点三划线, 十六进制 and 十一届三中
 abbrev pub is_term : List ℕ → List ℕ → Bool
@@ -96,23 +96,19 @@ is_hour text = false
 
 -- the text, given last character first, is an hour and 点
 abbrev pub ends_hour : List ℕ → Bool
-ends_hour [] = false
-ends_hour (c ∷ text) = char_set_contains (codes "点點") c && is_hour text
+ends_hour text = first_then (char_set_contains (codes "点點")) is_hour text
 
 -- the text, given last character first, is an hour, 点 and 零
 abbrev pub ends_zero_minutes : List ℕ → Bool
-ends_zero_minutes [] = false
-ends_zero_minutes (c ∷ text) = char_set_contains (codes "零〇") c && ends_hour text
+ends_zero_minutes text = first_then (char_set_contains (codes "零〇")) ends_hour text
 
 -- the text, given last character first, is an hour, 点, perhaps 零, and a digit from 1 to 9
 abbrev pub is_clock : List ℕ → Bool
-is_clock [] = false
-is_clock (c ∷ text) = counts c && (ends_hour text || ends_zero_minutes text)
+is_clock text = first_then counts (λ before. ends_hour before || ends_zero_minutes before) text
 
 -- the text, given last character first, is an hour, 点, 零, and a digit from 1 to 9
 abbrev pub is_clock_with_zero : List ℕ → Bool
-is_clock_with_zero [] = false
-is_clock_with_zero (c ∷ text) = counts c && ends_zero_minutes text
+is_clock_with_zero text = first_then counts ends_zero_minutes text
 
 -- a part of a day, such as 上午 or 早上, is directly before the text
 abbrev pub ends_part_of_day : List ℕ → Bool

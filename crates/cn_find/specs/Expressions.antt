@@ -5,9 +5,9 @@ use Rattle.std.specs.Prelude.{ℕ, zero, suc, nat_le, Bool, false, not, ◌&&◌
 use Rattle.std.specs.Char.{char_set_contains, is_ascii_alphabetic}
 use Rattle.cn_core.specs.Characters.{digit_of}
 use Rattle.cn_core.specs.FigureCharacters.{is_comma, is_currency, is_figure, is_figure_minus, is_figure_point, is_share_sign, is_wide_figure, tens_of}
-use Rattle.cn_core.specs.Mark.{Mark, unit, mark_of}
+use Rattle.cn_core.specs.Mark.{Mark, mark_of}
 use Rattle.cn_find.specs.declared.wanted.Wanted.{Wanted}
-use Rattle.cn_find.specs.Belongs.{begins_with, belongs, is_chinese_digit, is_ge, is_wanted}
+use Rattle.cn_find.specs.Belongs.{begins_with, belongs, first_is, first_then, is_chinese_digit, is_ge, is_unit_from, is_wanted}
 use Rattle.cn_find.specs.Flags.{is_any_digit}
 use Rattle.cn_find.specs.Rule.{Rule}
 
@@ -26,19 +26,7 @@ begins_numeral wanted (c ∷ after) = is_numeric wanted c after
 
 -- the nearest character in `front` is a numeral character, as if nothing followed it
 abbrev pub ends_numeral : Wanted → List ℕ → Bool
-ends_numeral wanted [] = false
-ends_numeral wanted (c ∷ front) = is_numeric wanted c []
-
--- the nearest character in `front` is a numeral character, as if nothing followed it, and is not a
--- figure
-abbrev pub ends_words : Wanted → List ℕ → Bool
-ends_words wanted [] = false
-ends_words wanted (c ∷ front) = not (is_figure c) && is_numeric wanted c []
-
--- the first character in the list is a figure; in `front` that is the nearest one
-abbrev pub begins_figure : List ℕ → Bool
-begins_figure [] = false
-begins_figure (c ∷ others) = is_figure c
+ends_numeral wanted front = first_is (λ c. is_numeric wanted c []) front
 
 -- the characters begin with one of 分刻十点, which make a time of 点 and the digit before them, as
 -- in 九点五分
@@ -47,23 +35,17 @@ begins_time after = begins_with (codes "分刻十点點") after
 
 -- the characters begin with a digit of any kind and then one of those
 abbrev pub begins_minutes : List ℕ → Bool
-begins_minutes [] = false
-begins_minutes (c ∷ after) = is_any_digit c && begins_time after
+begins_minutes after = first_then is_any_digit begins_time after
 
 -- the character makes a word with a 一 before it, as 起 does
 unfoldable pub follows_one : ℕ → Bool
 follows_one c = char_set_contains (codes "定直起样樣些下切滴线線") c
 
--- the characters begin with such a character
-abbrev pub ends_word : List ℕ → Bool
-ends_word [] = false
-ends_word (c ∷ after) = follows_one c
-
 -- the digit after 点 begins a time, as 零 in 三点零五分, or a word, as 一 in 三点一起走
 unfoldable pub begins_word : ℕ → List ℕ → Bool
 begins_word c after =
     begins_time after || (char_set_contains (codes "零〇") c && begins_minutes after)
-    || (char_set_contains (codes "一") c && ends_word after)
+    || (char_set_contains (codes "一") c && first_is follows_one after)
 
 -- the characters begin with a wanted Chinese digit that begins neither a time nor a word
 abbrev pub begins_decimals : Wanted → List ℕ → Bool
@@ -73,19 +55,16 @@ begins_decimals wanted (c ∷ after) =
 
 -- the mark is a unit from 百 up
 abbrev pub is_multiplier : Mark → Bool
-is_multiplier (unit rank) = nat_le 2 rank
-is_multiplier mark = false
+is_multiplier mark = is_unit_from 2 mark
 
 -- the mark is a unit from 十 up
 abbrev pub is_power : Mark → Bool
-is_power (unit rank) = nat_le 1 rank
-is_power mark = false
+is_power mark = is_unit_from 1 mark
 
 -- the characters begin with a wanted unit that is 個 or a unit from 百 up
 abbrev pub begins_counted : Wanted → List ℕ → Bool
-begins_counted wanted [] = false
-begins_counted wanted (c ∷ after) =
-    is_wanted wanted c && (is_multiplier (mark_of c) || is_ge (mark_of c))
+begins_counted wanted after =
+    first_is (λ c. is_wanted wanted c && (is_multiplier (mark_of c) || is_ge (mark_of c))) after
 
 -- 两 as a weight: it is directly after a numeral character and does not count a unit
 unfoldable pub is_weight : Wanted → List ℕ → ℕ → List ℕ → Bool
@@ -97,15 +76,10 @@ is_weight wanted front c after =
 unfoldable pub is_han : ℕ → Bool
 is_han c = nat_le 19968 c && nat_le c 40959
 
--- the characters begin with a Han character
-abbrev pub begins_han : List ℕ → Bool
-begins_han [] = false
-begins_han (c ∷ after) = is_han c
-
 -- the characters begin with 万, and a Han character follows unless `may` is true
 abbrev pub begins_wan : Bool → List ℕ → Bool
-begins_wan may [] = false
-begins_wan may (c ∷ after) = char_set_contains (codes "万萬") c && (may || begins_han after)
+begins_wan may after =
+    first_then (char_set_contains (codes "万萬")) (λ others. may || first_is is_han others) after
 
 -- 個 before a word that begins with 万, as in 一個萬用字元: a Han character follows 万, or no
 -- numeral character is before 個
@@ -115,8 +89,7 @@ is_item wanted front c after =
 
 -- the nearest character in `front` is a wanted unit from 十 up
 abbrev pub ends_power : Wanted → List ℕ → Bool
-ends_power wanted [] = false
-ends_power wanted (c ∷ front) = is_wanted wanted c && is_power (mark_of c)
+ends_power wanted front = first_is (λ c. is_wanted wanted c && is_power (mark_of c)) front
 
 -- the nearest characters in `front` are digits of any kind, and a point is before them
 abbrev pub ends_decimals : List ℕ → Bool
@@ -140,29 +113,23 @@ is_other_word wanted front c after =
 
 -- the characters begin with three figures, and those after them pass the test `passes`
 abbrev pub three_figures : (List ℕ → Bool) → List ℕ → Bool
-three_figures passes (c ∷ d ∷ e ∷ others) =
-    (is_figure c && is_figure d) && (is_figure e && passes others)
-three_figures passes others = false
+three_figures passes text =
+    first_then is_figure (first_then is_figure (first_then is_figure passes)) text
 
 -- the characters begin with three figures and no fourth
 abbrev pub begins_group : List ℕ → Bool
-begins_group after = three_figures (λ others. not (begins_figure others)) after
-
--- the nearest character in `front` is a comma
-abbrev pub ends_comma : List ℕ → Bool
-ends_comma [] = false
-ends_comma (c ∷ front) = is_comma c
+begins_group after = three_figures (λ others. not (first_is is_figure others)) after
 
 -- the nearest characters in `front` are three figures, and a comma is before them
 abbrev pub ends_group : List ℕ → Bool
-ends_group front = three_figures ends_comma front
+ends_group front = three_figures (first_is is_comma) front
 
 -- a figure after these characters begins a number: it is not 0, and no figure, comma or point is
 -- directly before it
 unfoldable pub begins_number : ℕ → List ℕ → Bool
 begins_number c front =
     not (char_set_contains (codes "0０") c)
-    && (not (begins_figure front) && not (begins_with (codes ",.．") front))
+    && not (first_is (λ d. is_figure d || char_set_contains (codes ",.．") d) front)
 
 -- the nearest characters in `front` are figures, at most `most` of them, and the first of these in
 -- the text begins a number
@@ -192,15 +159,13 @@ begins_signed wanted (c ∷ after) =
 -- the characters begin with 之 and then with the start of a numerator: a numeral character, or a
 -- minus sign and one
 abbrev pub begins_numerator : Wanted → List ℕ → Bool
-begins_numerator wanted [] = false
-begins_numerator wanted (c ∷ after) =
-    char_set_contains (codes "之") c && begins_signed wanted after
+begins_numerator wanted after =
+    first_then (char_set_contains (codes "之")) (begins_signed wanted) after
 
 -- the characters begin with 分 and then with 之 and the start of a numerator
 abbrev pub begins_bar : Wanted → List ℕ → Bool
-begins_bar wanted [] = false
-begins_bar wanted (c ∷ after) =
-    char_set_contains (codes "分") c && begins_numerator wanted after
+begins_bar wanted after =
+    first_then (char_set_contains (codes "分")) (begins_numerator wanted) after
 
 -- the characters begin with numeral characters, then 分之 and the start of a numerator
 abbrev pub begins_fraction : Wanted → List ℕ → Bool
@@ -210,9 +175,8 @@ begins_fraction wanted (c ∷ after) =
 
 -- the nearest character in `front` is 零, and no numeral character is before it
 abbrev pub ends_zero : Wanted → List ℕ → Bool
-ends_zero wanted [] = false
-ends_zero wanted (c ∷ front) =
-    char_set_contains (codes "零") c && not (ends_numeral wanted front)
+ends_zero wanted front =
+    first_then (char_set_contains (codes "零")) (λ others. not (ends_numeral wanted others)) front
 
 -- the characters after 一 make a temperature of it, as 度 does in 零下一度, and not a word, as 步
 -- does in 归零下一步
@@ -230,23 +194,16 @@ begins_below_zero wanted (c ∷ after) =
 
 -- the nearest character in `front` is 分, and a numeral character is before it
 abbrev pub ends_denominator : Wanted → List ℕ → Bool
-ends_denominator wanted [] = false
-ends_denominator wanted (c ∷ front) =
-    char_set_contains (codes "分") c && ends_numeral wanted front
+ends_denominator wanted front =
+    first_then (char_set_contains (codes "分")) (ends_numeral wanted) front
 
 -- the nearest character in `front` is a blank, and a figure is before it
 abbrev pub ends_spaced : List ℕ → Bool
-ends_spaced [] = false
-ends_spaced (c ∷ front) = char_set_contains (codes " ") c && begins_figure front
+ends_spaced front = first_then (char_set_contains (codes " ")) (first_is is_figure) front
 
 -- the character makes a word with a 负 after it, as 抱 does
 unfoldable pub precedes_minus : ℕ → Bool
 precedes_minus c = char_set_contains (codes "正非背揹肩担擔抱胜勝辜欺自不") c
-
--- the nearest character in `front` is such a character
-abbrev pub ends_verb : List ℕ → Bool
-ends_verb [] = false
-ends_verb (c ∷ front) = precedes_minus c
 
 -- after this character `-` is not a sign: it is a letter, a percent sign, a bracket, a point, `_`,
 -- a slash or a minus sign
@@ -254,41 +211,31 @@ unfoldable pub binds_minus : ℕ → Bool
 binds_minus c =
     is_ascii_alphabetic c || char_set_contains (codes "%％‰)]}_.．/\\-−－") c
 
--- the nearest character in `front` is such a character
-abbrev pub ends_bound : List ℕ → Bool
-ends_bound [] = false
-ends_bound (c ∷ front) = binds_minus c
-
 -- the characters begin with a figure, or with a currency sign and a figure
 abbrev pub begins_sum : List ℕ → Bool
-begins_sum [] = false
-begins_sum (c ∷ after) = is_figure c || (is_currency c && begins_figure after)
+begins_sum after = first_is is_figure after || first_then is_currency (first_is is_figure) after
 
 -- `-` can be a sign after these characters
 abbrev pub may_precede_minus : Wanted → List ℕ → Bool
-may_precede_minus wanted front = not (ends_numeral wanted front) && not (ends_bound front)
+may_precede_minus wanted front = not (ends_numeral wanted front) && not (first_is binds_minus front)
 
 -- the nearest character in `front` is a minus sign of figures, and it can be a sign there
 abbrev pub ends_minus : Wanted → List ℕ → Bool
-ends_minus wanted [] = false
-ends_minus wanted (c ∷ front) = is_figure_minus c && may_precede_minus wanted front
-
--- the characters begin with a full-width figure
-abbrev pub begins_wide : List ℕ → Bool
-begins_wide [] = false
-begins_wide (c ∷ others) = is_wide_figure c
+ends_minus wanted front = first_then is_figure_minus (may_precede_minus wanted) front
 
 -- the character belongs to an expression because of the characters around it
 unfoldable pub joins : Wanted → List ℕ → ℕ → List ℕ → Bool
 joins wanted front c after =
     (char_set_contains (codes "点點") c
-    && (ends_words wanted front && begins_decimals wanted after))
-    || (is_figure_point c && (begins_figure front && begins_figure after))
+    && (not (first_is is_figure front) && (ends_numeral wanted front
+    && begins_decimals wanted after)))
+    || (is_figure_point c && (first_is is_figure front && first_is is_figure after))
     || (char_set_contains (codes ",") c && parts_groups front after)
     || (char_set_contains (codes "，") c
-    && (parts_groups front after && (begins_wide front && begins_wide after)))
+    && (parts_groups front after && (first_is is_wide_figure front
+    && first_is is_wide_figure after)))
     || (char_set_contains (codes " ") c
-    && (begins_figure front && begins_multiplier wanted after))
+    && (first_is is_figure front && begins_multiplier wanted after))
     || (char_set_contains (codes "分") c
     && (ends_numeral wanted front && begins_numerator wanted after))
     || (char_set_contains (codes "之") c
@@ -300,9 +247,9 @@ joins wanted front c after =
     && (ends_zero wanted front && begins_below_zero wanted after))
     || (char_set_contains (codes "负負") c
     && (begins_numeral wanted after && (not (ends_numeral wanted front)
-    && not (ends_verb front))))
+    && not (first_is precedes_minus front))))
     || (is_figure_minus c && (begins_sum after && may_precede_minus wanted front))
-    || (is_currency c && (begins_figure after && ends_minus wanted front))
+    || (is_currency c && (first_is is_figure after && ends_minus wanted front))
 
 -- the character is one that expressions treat differently from numbers
 unfoldable pub is_extra : ℕ → Bool

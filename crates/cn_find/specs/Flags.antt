@@ -3,7 +3,7 @@ use Rattle.std.specs.Prelude.{ℕ, ◌+◌, nat_le, Bool, false, not, ◌&&◌, 
 use Rattle.std.specs.Char.{char_set_contains, is_ascii_alphanumeric}
 use Rattle.cn_core.specs.Characters.{digit_of, rank_of}
 use Rattle.cn_core.specs.FigureCharacters.{is_figure, is_wide_figure}
-use Rattle.cn_find.specs.Belongs.{begins_with, is_chinese_digit}
+use Rattle.cn_find.specs.Belongs.{begins_with, first_is, is_chinese_digit}
 
 -- the character clings to a number that it touches: it is an ASCII letter, a digit of any kind, or
 -- one of these others
@@ -18,8 +18,7 @@ is_link c = char_set_contains (codes ".,-点點") c
 
 -- the characters begin with one to which a link can lead: one that clings, or a unit
 abbrev pub begins_linked : List ℕ → Bool
-begins_linked [] = false
-begins_linked (c ∷ others) = clings c || is_some (rank_of c)
+begins_linked text = first_is (λ c. clings c || is_some (rank_of c)) text
 
 -- a number continues with these characters, of which the nearest to it is the first
 abbrev pub goes_on : List ℕ → Bool
@@ -32,8 +31,7 @@ stands_alone before after = not (goes_on (reverse before)) && not (goes_on after
 
 -- the characters begin with a unit
 abbrev pub begins_with_unit : List ℕ → Bool
-begins_with_unit [] = false
-begins_with_unit (c ∷ others) = is_some (rank_of c)
+begins_with_unit text = first_is (λ c. is_some (rank_of c)) text
 
 -- two neighbouring digits
 pub record Pair : Type 0 where

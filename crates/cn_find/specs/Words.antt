@@ -1,7 +1,7 @@
 -- Words that begin or end with a number but do not mean it.
 use Rattle.std.specs.Prelude.{ℕ, Bool, true, false, ◌&&◌, ◌||◌, ◌==◌, List, [], ◌∷◌, codes}
 use Rattle.std.specs.Char.{char_set_contains}
-use Rattle.cn_find.specs.Belongs.{begins_with}
+use Rattle.cn_find.specs.Belongs.{begins_with, first_then}
 
 -- the text consists of exactly these characters
 abbrev pub is_exactly : List ℕ → List ℕ → Bool
@@ -11,9 +11,8 @@ is_exactly these text = false
 
 -- the characters begin with one of the first set and then one of the second set
 abbrev pub begins_with_two : List ℕ → List ℕ → List ℕ → Bool
-begins_with_two first second [] = false
-begins_with_two first second (c ∷ others) =
-    char_set_contains first c && begins_with second others
+begins_with_two first second text =
+    first_then (char_set_contains first) (begins_with second) text
 
 -- the number and the text after it begin with one of these: 十二指肠, 十二生肖, 十二月党; 十八般,
 -- 十八大, 十八罗汉, 十八层地狱; 十九大, 二十大; 十一假期, 十一长假, 十一黄金周

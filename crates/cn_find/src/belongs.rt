@@ -3,7 +3,7 @@ ghost use Rattle.std.specs.Prelude.{◌≡◌, ◌&&◌, ℕ, nat_le, true, char
 ghost use Rattle.cn_core.specs.Characters.{rank};
 ghost use Rattle.cn_core.specs.Mark.{mark_of};
 ghost use Rattle.cn_judge.specs.Marked.{marked, unit_mark};
-ghost use Rattle.cn_find.specs.Belongs.{begins_measure, belongs, counts_next, is_chinese_digit, is_great, is_mega, is_parted, is_upper, is_wanted, is_wanted_mark};
+ghost use Rattle.cn_find.specs.Belongs.{begins_measure, belongs, counts_next, is_chinese_digit, is_mega, is_parted, is_unit_from, is_upper, is_wanted, is_wanted_mark};
 
 use crate::Wanted;
 use cn_core::{Unit, digit_of, split_first_char};
@@ -37,8 +37,8 @@ fn is_upper(c: char) -> bool
     )
 }
 
-/// Whether `unit` is at most `greatest`, by their ranks.
-pub fn is_up_to(greatest: Unit, unit: Unit) -> bool
+// Whether `unit` is at most `greatest`, by their ranks.
+fn is_up_to(greatest: Unit, unit: Unit) -> bool
     ensures { result ≡ nat_le (rank unit) (rank greatest) }
 {
     greatest >= unit
@@ -54,11 +54,12 @@ fn is_wanted_mark(greatest: Unit, mark: Mark) -> bool
     }
 }
 
-fn is_great(mark: Mark) -> bool
-    ensures { result ≡ is_great (marked mark) }
+/// Whether a mark is a unit from `least` up.
+pub fn is_unit_from(least: Unit, mark: Mark) -> bool
+    ensures { result ≡ is_unit_from (rank least) (marked mark) }
 {
     match mark {
-        Mark::Unit(unit) => is_up_to(unit, Unit::Wan),
+        Mark::Unit(unit) => is_up_to(unit, least),
         _ => false,
     }
 }
@@ -113,10 +114,9 @@ fn is_mega(c: char, mark: Mark, after: &str) -> bool
 fn counts_next(wanted: Wanted, text: &str) -> bool
     ensures { result ≡ counts_next wanted (chars text.now) }
 {
-    let Some((c, mark, after)) = split_first_mark(text) else {
-        return false;
-    };
-    is_great(mark) && is_wanted(wanted, c, mark) && !is_mega(c, mark, after)
+    split_first_mark(text).is_some_and(|(c, mark, after)| {
+        is_unit_from(Unit::Wan, mark) && is_wanted(wanted, c, mark) && !is_mega(c, mark, after)
+    })
 }
 
 // Whether a wanted unit belongs to a number, given the text after it.

@@ -198,37 +198,27 @@ fn is_hour(text: &str) -> bool
 fn ends_hour(text: &str) -> bool
     ensures { result ≡ ends_hour (in_front text.now) }
 {
-    match split_nearest(text) {
-        Some((c, before)) => matches!(c, '点' | '點') && is_hour(before),
-        None => false,
-    }
+    split_nearest(text).is_some_and(|(c, before)| matches!(c, '点' | '點') && is_hour(before))
 }
 
 fn ends_zero_minutes(text: &str) -> bool
     ensures { result ≡ ends_zero_minutes (in_front text.now) }
 {
-    match split_nearest(text) {
-        Some((c, before)) => matches!(c, '零' | '〇') && ends_hour(before),
-        None => false,
-    }
+    split_nearest(text).is_some_and(|(c, before)| matches!(c, '零' | '〇') && ends_hour(before))
 }
 
 fn is_clock(text: &str) -> bool
     ensures { result ≡ is_clock (in_front text.now) }
 {
-    match split_nearest(text) {
-        Some((c, before)) => counts(c) && (ends_hour(before) || ends_zero_minutes(before)),
-        None => false,
-    }
+    split_nearest(text).is_some_and(|(c, before)| {
+        counts(c) && (ends_hour(before) || ends_zero_minutes(before))
+    })
 }
 
 fn is_clock_with_zero(text: &str) -> bool
     ensures { result ≡ is_clock_with_zero (in_front text.now) }
 {
-    match split_nearest(text) {
-        Some((c, before)) => counts(c) && ends_zero_minutes(before),
-        None => false,
-    }
+    split_nearest(text).is_some_and(|(c, before)| counts(c) && ends_zero_minutes(before))
 }
 
 fn ends_part_of_day(before: &str) -> bool

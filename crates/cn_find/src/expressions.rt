@@ -1,15 +1,15 @@
 // Whether a character of a text belongs to an expression.
-ghost use Rattle.std.specs.Prelude.{◌≡◌, ◌<◌, ◌||◌, ◌∷◌, [], codes, chars, length, IfSome, MatchOption, ◌&&◌, not};
+ghost use Rattle.std.specs.Prelude.{◌≡◌, ℕ, Bool, ◌<◌, ◌||◌, ◌∷◌, [], codes, chars, length, IfSome, MatchOption, ◌&&◌, not};
 ghost use Rattle.std.specs.Char.{char_set_contains};
 ghost use Rattle.cn_core.specs.FigureCharacters.{is_figure, is_wide_figure};
 ghost use Rattle.cn_core.specs.Mark.{mark_of};
 ghost use Rattle.cn_judge.specs.Marked.{marked};
-ghost use Rattle.cn_find.specs.Belongs.{begins_with, is_ge};
-ghost use Rattle.cn_find.specs.Expressions.{begins_bar, begins_below_zero, begins_counted, begins_decimals, begins_degrees, begins_figure, begins_fraction, begins_group, begins_han, begins_minutes, begins_multiplier, begins_number, begins_numeral, begins_numerator, begins_signed, begins_sum, begins_time, begins_wan, begins_wide, begins_word, binds_minus, ends_bound, ends_comma, ends_decimals, ends_denominator, ends_group, ends_head, ends_minus, ends_numeral, ends_power, ends_spaced, ends_verb, ends_word, ends_words, ends_zero, expression_rule, follows_one, is_extra, is_han, is_item, is_kilo, is_multiplier, is_numeric, is_other_word, is_power, is_tens, is_weight, is_word_digit, joins, may_precede_minus, parts_expressions, parts_groups, precedes_minus};
+ghost use Rattle.cn_find.specs.Belongs.{first_is, is_ge};
+ghost use Rattle.cn_find.specs.Expressions.{begins_bar, begins_below_zero, begins_counted, begins_decimals, begins_degrees, begins_fraction, begins_group, begins_minutes, begins_multiplier, begins_number, begins_numeral, begins_numerator, begins_signed, begins_sum, begins_time, begins_wan, begins_word, binds_minus, ends_decimals, ends_denominator, ends_group, ends_head, ends_minus, ends_numeral, ends_power, ends_spaced, ends_zero, expression_rule, follows_one, is_extra, is_han, is_item, is_kilo, is_multiplier, is_numeric, is_other_word, is_power, is_tens, is_weight, is_word_digit, joins, may_precede_minus, parts_expressions, parts_groups, precedes_minus};
 ghost use Rattle.cn_find.specs.Spans.{in_front};
 
 use crate::Wanted;
-use crate::belongs::{belongs, is_chinese_digit, is_up_to, is_wanted};
+use crate::belongs::{belongs, is_chinese_digit, is_unit_from, is_wanted};
 use cn_core::{
     Unit, digit_of, is_comma, is_currency, is_figure, is_figure_minus, is_share_sign,
     is_wide_figure, split_first_char,
@@ -25,6 +25,30 @@ pub fn split_nearest(before: &str) -> Option<(char, &str)>
     ensures shorter { IfSome result (λ r. length r.1.now < length before.now) }
 {
     split_last_char(before)
+}
+
+/// Whether the first character of a text passes a test.
+pub fn first_is<F: FnOnce(char) -> bool>(text: &str, test: F) -> bool
+    requires { F.IsAlwaysCallable test }
+    ensures { (is : ℕ → Bool) → ((c : ℕ) (r : Bool) → F.post test c r → r ≡ is c)
+        → result ≡ first_is is (chars text.now) }
+{
+    match split_first_char(text) {
+        Some((c, _)) => test(c),
+        None => false,
+    }
+}
+
+/// Whether the last character of a text passes a test.
+pub fn last_is<F: FnOnce(char) -> bool>(text: &str, test: F) -> bool
+    requires { F.IsAlwaysCallable test }
+    ensures { (is : ℕ → Bool) → ((c : ℕ) (r : Bool) → F.post test c r → r ≡ is c)
+        → result ≡ first_is is (in_front text.now) }
+{
+    match split_nearest(text) {
+        Some((c, _)) => test(c),
+        None => false,
+    }
 }
 
 /// Whether a character is 廿 or 卅, which stand for 20 and 30.
@@ -54,10 +78,7 @@ fn is_numeric(wanted: Wanted, c: char, mark: Mark, after: &str) -> bool
 fn begins_numeral(wanted: Wanted, after: &str) -> bool
     ensures { result ≡ begins_numeral wanted (chars after.now) }
 {
-    match split_first_mark(after) {
-        Some((c, mark, others)) => is_numeric(wanted, c, mark, others),
-        None => false,
-    }
+    split_first_mark(after).is_some_and(|(c, mark, others)| is_numeric(wanted, c, mark, others))
 }
 
 // Whether a character is a numeral character if nothing follows it.
@@ -70,75 +91,42 @@ fn is_numeric_alone(wanted: Wanted, c: char) -> bool
 fn ends_numeral(wanted: Wanted, before: &str) -> bool
     ensures { result ≡ ends_numeral wanted (in_front before.now) }
 {
-    match split_nearest(before) {
-        Some((c, _)) => is_numeric_alone(wanted, c),
-        None => false,
-    }
+    last_is(before, |c| is_numeric_alone(wanted, c))
 }
 
-fn ends_words(wanted: Wanted, before: &str) -> bool
-    ensures { result ≡ ends_words wanted (in_front before.now) }
-{
-    match split_nearest(before) {
-        Some((c, _)) => !is_figure(c) && is_numeric_alone(wanted, c),
-        None => false,
-    }
-}
-
+// The tests of other crates are called in closures: one that is passed by its name gets no proof.
 fn begins_figure(after: &str) -> bool
-    ensures { result ≡ begins_figure (chars after.now) }
+    ensures { result ≡ first_is is_figure (chars after.now) }
 {
-    match split_first_char(after) {
-        Some((c, _)) => is_figure(c),
-        None => false,
-    }
+    first_is(after, |c| is_figure(c))
 }
 
 fn ends_figure(before: &str) -> bool
-    ensures { result ≡ begins_figure (in_front before.now) }
+    ensures { result ≡ first_is is_figure (in_front before.now) }
 {
-    match split_nearest(before) {
-        Some((c, _)) => is_figure(c),
-        None => false,
-    }
+    last_is(before, |c| is_figure(c))
 }
 
-// Whether the text begins with a full-width figure.
-fn begins_wide(after: &str) -> bool
-    ensures { result ≡ begins_wide (chars after.now) }
+// Whether a full-width figure is on each side.
+fn is_between_wide(before: &str, after: &str) -> bool
+    ensures { result ≡ (first_is is_wide_figure (in_front before.now)
+        && first_is is_wide_figure (chars after.now)) }
 {
-    match split_first_char(after) {
-        Some((c, _)) => is_wide_figure(c),
-        None => false,
-    }
-}
-
-// Whether the text ends with a full-width figure.
-fn ends_wide(before: &str) -> bool
-    ensures { result ≡ begins_wide (in_front before.now) }
-{
-    match split_nearest(before) {
-        Some((c, _)) => is_wide_figure(c),
-        None => false,
-    }
+    last_is(before, |c| is_wide_figure(c)) && first_is(after, |c| is_wide_figure(c))
 }
 
 fn begins_time(after: &str) -> bool
     ensures { result ≡ begins_time (chars after.now) }
 {
-    match split_first_char(after) {
-        Some((c, _)) => matches!(c, '分' | '刻' | '十' | '点' | '點'),
-        None => false,
-    }
+    first_is(after, |c| matches!(c, '分' | '刻' | '十' | '点' | '點'))
 }
 
 fn begins_minutes(after: &str) -> bool
     ensures { result ≡ begins_minutes (chars after.now) }
 {
-    match split_first_char(after) {
-        Some((c, others)) => { (digit_of(c).is_some() || is_wide_figure(c)) && begins_time(others) }
-        None => false,
-    }
+    split_first_char(after).is_some_and(|(c, others)| {
+        (digit_of(c).is_some() || is_wide_figure(c)) && begins_time(others)
+    })
 }
 
 // Whether a character makes a word with a 一 before it.
@@ -152,15 +140,6 @@ fn follows_one(c: char) -> bool
     )
 }
 
-fn ends_word(after: &str) -> bool
-    ensures { result ≡ ends_word (chars after.now) }
-{
-    match split_first_char(after) {
-        Some((c, _)) => follows_one(c),
-        None => false,
-    }
-}
-
 // Whether a digit after 点 begins a time or a word.
 #[tactic(auto, unfolding(crate::specs::Expressions::begins_word))]
 fn begins_word(c: char, after: &str) -> bool
@@ -171,7 +150,7 @@ fn begins_word(c: char, after: &str) -> bool
     }
     match c {
         '零' | '〇' => begins_minutes(after),
-        '一' => ends_word(after),
+        '一' => first_is(after, follows_one),
         _ => false,
     }
 }
@@ -179,12 +158,9 @@ fn begins_word(c: char, after: &str) -> bool
 fn begins_decimals(wanted: Wanted, after: &str) -> bool
     ensures { result ≡ begins_decimals wanted (chars after.now) }
 {
-    match split_first_mark(after) {
-        Some((c, mark, others)) => {
-            is_chinese_digit(c) && is_wanted(wanted, c, mark) && !begins_word(c, others)
-        }
-        None => false,
-    }
+    split_first_mark(after).is_some_and(|(c, mark, others)| {
+        is_chinese_digit(c) && is_wanted(wanted, c, mark) && !begins_word(c, others)
+    })
 }
 
 // Whether the text begins with three figures and no fourth.
@@ -203,15 +179,6 @@ fn begins_group(after: &str) -> bool
     is_figure(c) && is_figure(d) && is_figure(e) && !begins_figure(after)
 }
 
-fn ends_comma(before: &str) -> bool
-    ensures { result ≡ ends_comma (in_front before.now) }
-{
-    match split_nearest(before) {
-        Some((c, _)) => is_comma(c),
-        None => false,
-    }
-}
-
 // Whether the text ends with a comma and three figures.
 fn ends_group(before: &str) -> bool
     ensures { result ≡ ends_group (in_front before.now) }
@@ -225,16 +192,7 @@ fn ends_group(before: &str) -> bool
     let Some((e, before)) = split_nearest(before) else {
         return false;
     };
-    is_figure(c) && is_figure(d) && is_figure(e) && ends_comma(before)
-}
-
-fn ends_mark(before: &str) -> bool
-    ensures { result ≡ begins_with (codes ",.．") (in_front before.now) }
-{
-    match split_nearest(before) {
-        Some((c, _)) => matches!(c, ',' | '.' | '．'),
-        None => false,
-    }
+    is_figure(c) && is_figure(d) && is_figure(e) && last_is(before, |c| is_comma(c))
 }
 
 // Whether a figure directly after this text begins a number.
@@ -242,7 +200,7 @@ fn ends_mark(before: &str) -> bool
 fn begins_number(c: char, before: &str) -> bool
     ensures { result ≡ begins_number c (in_front before.now) }
 {
-    !matches!(c, '0' | '０') && !ends_figure(before) && !ends_mark(before)
+    !matches!(c, '0' | '０') && !last_is(before, |d| is_figure(d) || matches!(d, ',' | '.' | '．'))
 }
 
 // Whether the text ends with at most `most` figures, the first of which begins a number.
@@ -266,60 +224,33 @@ fn parts_groups(before: &str, after: &str) -> bool
     (ends_head(3, before) || ends_group(before)) && begins_group(after)
 }
 
-fn is_multiplier(mark: Mark) -> bool
-    ensures { result ≡ is_multiplier (marked mark) }
-{
-    match mark {
-        Mark::Unit(unit) => is_up_to(unit, Unit::Bai),
-        _ => false,
-    }
-}
-
 fn begins_multiplier(wanted: Wanted, after: &str) -> bool
     ensures { result ≡ begins_multiplier wanted (chars after.now) }
 {
-    match split_first_mark(after) {
-        Some((c, mark, others)) => {
-            (is_multiplier(mark) && belongs(wanted, c, mark, others)) || is_share_sign(c)
-        }
-        None => false,
-    }
-}
-
-// Whether a character is a minus sign of numerals or of figures.
-fn is_minus(c: char) -> bool
-    ensures { result ≡ char_set_contains (codes "负負-−－") c }
-{
-    matches!(c, '负' | '負' | '-' | '−' | '－')
+    split_first_mark(after).is_some_and(|(c, mark, others)| {
+        (is_unit_from(Unit::Bai, mark) && belongs(wanted, c, mark, others)) || is_share_sign(c)
+    })
 }
 
 fn begins_signed(wanted: Wanted, after: &str) -> bool
     ensures { result ≡ begins_signed wanted (chars after.now) }
 {
-    match split_first_mark(after) {
-        Some((c, mark, others)) => {
-            is_numeric(wanted, c, mark, others) || (is_minus(c) && begins_numeral(wanted, others))
-        }
-        None => false,
-    }
+    split_first_mark(after).is_some_and(|(c, mark, others)| {
+        is_numeric(wanted, c, mark, others)
+            || (matches!(c, '负' | '負' | '-' | '−' | '－') && begins_numeral(wanted, others))
+    })
 }
 
 fn begins_numerator(wanted: Wanted, after: &str) -> bool
     ensures { result ≡ begins_numerator wanted (chars after.now) }
 {
-    match split_first_char(after) {
-        Some((c, others)) => c == '之' && begins_signed(wanted, others),
-        None => false,
-    }
+    split_first_char(after).is_some_and(|(c, others)| c == '之' && begins_signed(wanted, others))
 }
 
 fn begins_bar(wanted: Wanted, after: &str) -> bool
     ensures { result ≡ begins_bar wanted (chars after.now) }
 {
-    match split_first_char(after) {
-        Some((c, others)) => c == '分' && begins_numerator(wanted, others),
-        None => false,
-    }
+    split_first_char(after).is_some_and(|(c, others)| c == '分' && begins_numerator(wanted, others))
 }
 
 fn begins_fraction(wanted: Wanted, after: &str) -> bool
@@ -341,52 +272,35 @@ fn begins_fraction(wanted: Wanted, after: &str) -> bool
 fn ends_zero(wanted: Wanted, before: &str) -> bool
     ensures { result ≡ ends_zero wanted (in_front before.now) }
 {
-    match split_nearest(before) {
-        Some((c, front)) => c == '零' && !ends_numeral(wanted, front),
-        None => false,
-    }
+    split_nearest(before).is_some_and(|(c, front)| c == '零' && !ends_numeral(wanted, front))
 }
 
 fn begins_degrees(wanted: Wanted, after: &str) -> bool
     ensures { result ≡ begins_degrees wanted (chars after.now) }
 {
-    if begins_numeral(wanted, after) {
-        return true;
-    }
-    match split_first_char(after) {
-        Some((c, _)) => matches!(c, '度' | '点' | '點' | '摄' | '攝' | '℃'),
-        None => false,
-    }
+    begins_numeral(wanted, after)
+        || first_is(after, |c| matches!(c, '度' | '点' | '點' | '摄' | '攝' | '℃'))
 }
 
 fn begins_below_zero(wanted: Wanted, after: &str) -> bool
     ensures { result ≡ begins_below_zero wanted (chars after.now) }
 {
-    match split_first_mark(after) {
-        Some((c, mark, others)) => {
-            (is_figure(c) || (is_wanted(wanted, c, mark) && (digit_of(c).is_some() || c == '十')))
-                && (c != '一' || begins_degrees(wanted, others))
-        }
-        None => false,
-    }
+    split_first_mark(after).is_some_and(|(c, mark, others)| {
+        (is_figure(c) || (is_wanted(wanted, c, mark) && (digit_of(c).is_some() || c == '十')))
+            && (c != '一' || begins_degrees(wanted, others))
+    })
 }
 
 fn ends_denominator(wanted: Wanted, before: &str) -> bool
     ensures { result ≡ ends_denominator wanted (in_front before.now) }
 {
-    match split_nearest(before) {
-        Some((c, front)) => c == '分' && ends_numeral(wanted, front),
-        None => false,
-    }
+    split_nearest(before).is_some_and(|(c, front)| c == '分' && ends_numeral(wanted, front))
 }
 
 fn ends_spaced(before: &str) -> bool
     ensures { result ≡ ends_spaced (in_front before.now) }
 {
-    match split_nearest(before) {
-        Some((c, front)) => c == ' ' && ends_figure(front),
-        None => false,
-    }
+    split_nearest(before).is_some_and(|(c, front)| c == ' ' && ends_figure(front))
 }
 
 // Whether a character makes a word with a 负 after it.
@@ -400,15 +314,6 @@ fn precedes_minus(c: char) -> bool
     )
 }
 
-fn ends_verb(before: &str) -> bool
-    ensures { result ≡ ends_verb (in_front before.now) }
-{
-    match split_nearest(before) {
-        Some((c, _)) => precedes_minus(c),
-        None => false,
-    }
-}
-
 #[tactic(auto, unfolding(crate::specs::Expressions::binds_minus))]
 fn binds_minus(c: char) -> bool
     ensures { result ≡ binds_minus c }
@@ -420,37 +325,26 @@ fn binds_minus(c: char) -> bool
         )
 }
 
-fn ends_bound(before: &str) -> bool
-    ensures { result ≡ ends_bound (in_front before.now) }
-{
-    match split_nearest(before) {
-        Some((c, _)) => binds_minus(c),
-        None => false,
-    }
-}
-
 fn begins_sum(after: &str) -> bool
     ensures { result ≡ begins_sum (chars after.now) }
 {
-    match split_first_char(after) {
-        Some((c, others)) => is_figure(c) || (is_currency(c) && begins_figure(others)),
-        None => false,
-    }
+    split_first_char(after).is_some_and(|(c, others)| {
+        is_figure(c) || (is_currency(c) && begins_figure(others))
+    })
 }
 
 fn may_precede_minus(wanted: Wanted, before: &str) -> bool
     ensures { result ≡ may_precede_minus wanted (in_front before.now) }
 {
-    !ends_numeral(wanted, before) && !ends_bound(before)
+    !ends_numeral(wanted, before) && !last_is(before, binds_minus)
 }
 
 fn ends_minus(wanted: Wanted, before: &str) -> bool
     ensures { result ≡ ends_minus wanted (in_front before.now) }
 {
-    match split_nearest(before) {
-        Some((c, front)) => is_figure_minus(c) && may_precede_minus(wanted, front),
-        None => false,
-    }
+    split_nearest(before).is_some_and(|(c, front)| {
+        is_figure_minus(c) && may_precede_minus(wanted, front)
+    })
 }
 
 // Whether a character belongs to an expression because of the text around it.
@@ -459,10 +353,12 @@ fn joins(wanted: Wanted, before: &str, c: char, after: &str) -> bool
     ensures { result ≡ joins wanted (in_front before.now) c (chars after.now) }
 {
     match c {
-        '点' | '點' => ends_words(wanted, before) && begins_decimals(wanted, after),
+        '点' | '點' => {
+            !ends_figure(before) && ends_numeral(wanted, before) && begins_decimals(wanted, after)
+        }
         '.' | '．' => ends_figure(before) && begins_figure(after),
         ',' => parts_groups(before, after),
-        '，' => parts_groups(before, after) && ends_wide(before) && begins_wide(after),
+        '，' => parts_groups(before, after) && is_between_wide(before, after),
         ' ' => ends_figure(before) && begins_multiplier(wanted, after),
         '分' => ends_numeral(wanted, before) && begins_numerator(wanted, after),
         '之' => ends_denominator(wanted, before) && begins_signed(wanted, after),
@@ -470,7 +366,9 @@ fn joins(wanted: Wanted, before: &str, c: char, after: &str) -> bool
         '又' => ends_numeral(wanted, before) && begins_fraction(wanted, after),
         '下' => ends_zero(wanted, before) && begins_below_zero(wanted, after),
         '负' | '負' => {
-            begins_numeral(wanted, after) && !ends_numeral(wanted, before) && !ends_verb(before)
+            begins_numeral(wanted, after)
+                && !ends_numeral(wanted, before)
+                && !last_is(before, precedes_minus)
         }
         '-' | '−' | '－' => begins_sum(after) && may_precede_minus(wanted, before),
         '¥' | '￥' => begins_figure(after) && ends_minus(wanted, before),
@@ -478,26 +376,13 @@ fn joins(wanted: Wanted, before: &str, c: char, after: &str) -> bool
     }
 }
 
-/// Whether a mark is a unit from 十 up.
-pub fn is_power(mark: Mark) -> bool
-    ensures { result ≡ is_power (marked mark) }
-{
-    match mark {
-        Mark::Unit(unit) => is_up_to(unit, Unit::Shi),
-        _ => false,
-    }
-}
-
 fn begins_counted(wanted: Wanted, after: &str) -> bool
     ensures { result ≡ begins_counted wanted (chars after.now) }
 {
-    match split_first_mark(after) {
-        Some((c, mark, _)) => {
-            is_wanted(wanted, c, mark)
-                && (is_multiplier(mark) || matches!(mark, Mark::Unit(Unit::Ge)))
-        }
-        None => false,
-    }
+    split_first_mark(after).is_some_and(|(c, mark, _)| {
+        is_wanted(wanted, c, mark)
+            && (is_unit_from(Unit::Bai, mark) || matches!(mark, Mark::Unit(Unit::Ge)))
+    })
 }
 
 #[tactic(auto, unfolding(crate::specs::Expressions::is_weight))]
@@ -514,22 +399,12 @@ fn is_han(c: char) -> bool
     matches!(c, '\u{4e00}'..='\u{9fff}')
 }
 
-fn begins_han(after: &str) -> bool
-    ensures { result ≡ begins_han (chars after.now) }
-{
-    match split_first_char(after) {
-        Some((c, _)) => is_han(c),
-        None => false,
-    }
-}
-
 fn begins_wan(may: bool, after: &str) -> bool
     ensures { result ≡ begins_wan may (chars after.now) }
 {
-    match split_first_char(after) {
-        Some((c, others)) => matches!(c, '万' | '萬') && (may || begins_han(others)),
-        None => false,
-    }
+    split_first_char(after).is_some_and(|(c, others)| {
+        matches!(c, '万' | '萬') && (may || first_is(others, is_han))
+    })
 }
 
 #[tactic(auto, unfolding(crate::specs::Expressions::is_item))]
@@ -542,22 +417,10 @@ fn is_item(wanted: Wanted, before: &str, c: char, after: &str) -> bool
 fn ends_power(wanted: Wanted, before: &str) -> bool
     ensures { result ≡ ends_power wanted (in_front before.now) }
 {
-    match split_nearest(before) {
-        Some((c, _)) => {
-            let mark = mark_of(c);
-            is_wanted(wanted, c, mark) && is_power(mark)
-        }
-        None => false,
-    }
-}
-
-fn ends_point(before: &str) -> bool
-    ensures { result ≡ begins_with (codes "点點.．") (in_front before.now) }
-{
-    match split_nearest(before) {
-        Some((c, _)) => matches!(c, '点' | '點' | '.' | '．'),
-        None => false,
-    }
+    last_is(before, |c| {
+        let mark = mark_of(c);
+        is_wanted(wanted, c, mark) && is_unit_from(Unit::Shi, mark)
+    })
 }
 
 fn ends_decimals(before: &str) -> bool
@@ -568,7 +431,7 @@ fn ends_decimals(before: &str) -> bool
         if digit_of(c).is_none() && !is_wide_figure(c) {
             return false;
         }
-        if ends_point(front) {
+        if last_is(front, |d| matches!(d, '点' | '點' | '.' | '．')) {
             return true;
         }
         rest = front;
@@ -576,21 +439,14 @@ fn ends_decimals(before: &str) -> bool
     false
 }
 
-fn begins_kilo_measure(after: &str) -> bool
-    ensures { result ≡ begins_with (codes "瓦克米卡赫伏安焦帕") (chars after.now) }
-{
-    match split_first_char(after) {
-        Some((c, _)) => { matches!(c, '瓦' | '克' | '米' | '卡' | '赫' | '伏' | '安' | '焦' | '帕') }
-        None => false,
-    }
-}
-
 #[tactic(auto, unfolding(crate::specs::Expressions::is_kilo))]
 fn is_kilo(wanted: Wanted, before: &str, c: char, after: &str) -> bool
     ensures { result ≡ is_kilo wanted (in_front before.now) c (chars after.now) }
 {
     matches!(c, '千' | '仟')
-        && begins_kilo_measure(after)
+        && first_is(after, |d| {
+            matches!(d, '瓦' | '克' | '米' | '卡' | '赫' | '伏' | '安' | '焦' | '帕')
+        })
         && (ends_power(wanted, before) || ends_decimals(before))
 }
 

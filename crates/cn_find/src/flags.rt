@@ -12,6 +12,7 @@ ghost use Rattle.cn_find.specs.Private.{does_cling, does_link, estimates_last, e
 ghost use Rattle.cn_find.specs.Flags.{are_near, begins_estimate, begins_linked, begins_with_unit, clings, goes_on, is_about, is_any_digit, is_estimate, is_link, is_one_character, is_one_estimate, pairs, stands_alone};
 
 use crate::belongs::is_chinese_digit;
+use crate::expressions::first_is;
 use cn_core::{digit_of, is_figure, is_wide_figure, split_first_char};
 use cn_judge::{Mark, mark_of, split_end_mark, split_first_known, split_first_mark};
 
@@ -127,10 +128,7 @@ const NOTHING: Side = Side {
 fn ends_linked(before: &str) -> bool
     ensures { result ≡ begins_linked (reverse (chars before.now)) }
 {
-    match split_end_mark(before) {
-        Some((far, mark, _)) => is_linked(far, mark),
-        None => false,
-    }
+    split_end_mark(before).is_some_and(|(far, mark, _)| is_linked(far, mark))
 }
 
 // Whether a link directly before this text leads into it.
@@ -139,10 +137,7 @@ fn ends_linked(before: &str) -> bool
 fn begins_linked(after: &str) -> bool
     ensures { result ≡ begins_linked (chars after.now) }
 {
-    match split_first_mark(after) {
-        Some((far, mark, _)) => is_linked(far, mark),
-        None => false,
-    }
+    split_first_mark(after).is_some_and(|(far, mark, _)| is_linked(far, mark))
 }
 
 // What the text before a number says about it. A 几 or 数 at its end makes a number approximate
@@ -164,25 +159,12 @@ fn look_before(before: &str) -> Side
         };
     }
     let (goes_on, estimates) = match neighbour_of(near) {
-        Neighbour::Unrelated => (false, false),
+        Neighbour::Unrelated | Neighbour::EstimatesLast | Neighbour::Quite => (false, false),
         Neighbour::Clings => (true, false),
         Neighbour::Links => (ends_linked(others), false),
-        Neighbour::EstimatesNext => (false, true),
-        Neighbour::Quite => (false, false),
-        Neighbour::EstimatesLast => (false, false),
-        Neighbour::Estimates => (false, true),
+        Neighbour::EstimatesNext | Neighbour::Estimates => (false, true),
     };
     Side { goes_on, estimates }
-}
-
-// Whether the text begins with 几 or 幾.
-fn begins_few(text: &str) -> bool
-    ensures { result ≡ begins_with (codes "几幾") (chars text.now) }
-{
-    match split_first_char(text) {
-        Some((c, _)) => matches!(c, '几' | '幾'),
-        None => false,
-    }
 }
 
 // What the text after a number says about it. A 几, 多 or another such character at its start makes
@@ -202,13 +184,11 @@ fn look_after(after: &str) -> Side
         };
     }
     let (goes_on, estimates) = match neighbour_of(near) {
-        Neighbour::Unrelated => (false, false),
+        Neighbour::Unrelated | Neighbour::EstimatesNext => (false, false),
         Neighbour::Clings => (true, false),
         Neighbour::Links => (begins_linked(others), false),
-        Neighbour::EstimatesNext => (false, false),
-        Neighbour::Quite => (false, begins_few(others)),
-        Neighbour::EstimatesLast => (false, true),
-        Neighbour::Estimates => (false, true),
+        Neighbour::Quite => (false, first_is(others, |c| matches!(c, '几' | '幾'))),
+        Neighbour::EstimatesLast | Neighbour::Estimates => (false, true),
     };
     Side { goes_on, estimates }
 }
@@ -232,10 +212,7 @@ pub fn stands_alone(before: &str, after: &str) -> bool
 fn begins_with_unit(text: &str) -> bool
     ensures { result ≡ begins_with_unit (chars text.now) }
 {
-    match split_first_mark(text) {
-        Some((_, mark, _)) => is_unit(mark),
-        None => false,
-    }
+    split_first_mark(text).is_some_and(|(_, mark, _)| is_unit(mark))
 }
 
 /// Whether every character of the text is a digit, as in 二零二五. Full-width digits do not count
@@ -325,10 +302,7 @@ fn is_estimate(pair: DigitPair<'_>) -> bool
 fn has_one_estimate(text: &str) -> bool
     ensures { result ≡ is_one_estimate (pairs (chars text.now)) }
 {
-    match first_pair(text) {
-        Some(pair) => is_estimate(pair) && first_pair(pair.rest).is_none(),
-        None => false,
-    }
+    first_pair(text).is_some_and(|pair| is_estimate(pair) && first_pair(pair.rest).is_none())
 }
 
 // Whether a number is approximate because of the texts around it or by itself.
@@ -431,10 +405,7 @@ fn only_mark(text: &str) -> Option<(Mark, bool)>
 pub fn is_one_character(text: &str) -> bool
     ensures { result ≡ is_one_character (chars text.now) }
 {
-    match only_mark(text) {
-        Some((_, is_no_figure)) => is_no_figure,
-        None => false,
-    }
+    only_mark(text).is_some_and(|(_, is_no_figure)| is_no_figure)
 }
 
 /// All flags of a number.

@@ -10,9 +10,9 @@ ghost use Rattle.cn_quantity.specs.Reading.{quantity_answer};
 ghost use Rattle.cn_find.specs.Ranges.{amount_of, are_ends, counts_both, do_share, is_at_most, is_below_mark, is_end_of_range, is_first_end, ends_below, is_next, is_of_amount, is_one_percent, is_percent_form, is_range_link, is_second_end, precedes, shares, whole_part};
 ghost use Rattle.cn_find.specs.Spans.{in_front};
 
-use crate::belongs::is_chinese_digit;
-use crate::expressions::{is_power, is_tens, split_nearest};
-use cn_core::{ChineseCountMethod, digit_of, is_wide_figure, split_first_char};
+use crate::belongs::{is_chinese_digit, is_unit_from};
+use crate::expressions::{is_tens, split_nearest};
+use cn_core::{ChineseCountMethod, Unit, digit_of, is_wide_figure, split_first_char};
 use cn_judge::{ChineseToNumberError, Mark, mark_of};
 use cn_quantity::{Quantity, QuantityForm, chinese_to_quantity};
 
@@ -24,7 +24,7 @@ fn is_of_amount(c: char) -> bool
     digit_of(c).is_some()
         || is_wide_figure(c)
         || is_tens(c)
-        || is_power(mark_of(c))
+        || is_unit_from(Unit::Shi, mark_of(c))
         || matches!(c, '点' | '點' | '.' | '．' | '分' | '之' | '%' | '％')
 }
 
@@ -97,10 +97,7 @@ fn is_below_mark(low: Mark, high: Mark) -> bool
 fn ends_below(mark: Mark, text: &str) -> bool
     ensures { (c : ℕ) → marked mark ≡ mark_of c → result ≡ ends_below c (in_front text.now) }
 {
-    match split_nearest(text) {
-        Some((d, _)) => is_below_mark(mark_of(d), mark),
-        None => true,
-    }
+    split_nearest(text).is_none_or(|(d, _)| is_below_mark(mark_of(d), mark))
 }
 
 // The quantity of a text by the standard method, `TenThousand`.
@@ -129,7 +126,9 @@ fn counts_both(quantity: Quantity, low: &str, high: &str) -> bool
         return false;
     };
     let mark = mark_of(c);
-    is_power(mark) && ends_below(mark, low) && is_at_most(quantity, by_standard(head))
+    is_unit_from(Unit::Shi, mark)
+        && ends_below(mark, low)
+        && is_at_most(quantity, by_standard(head))
 }
 
 fn is_one_percent(a: Quantity, b: Quantity) -> bool
@@ -142,10 +141,7 @@ fn is_one_percent(a: Quantity, b: Quantity) -> bool
 fn has_two(text: &str) -> bool
     ensures { result ≡ nat_le 2 (length (chars text.now)) }
 {
-    match split_first_char(text) {
-        Some((_, others)) => split_first_char(others).is_some(),
-        None => false,
-    }
+    split_first_char(text).is_some_and(|(_, others)| split_first_char(others).is_some())
 }
 
 fn shares(low: &str, high: &str) -> bool
@@ -200,19 +196,15 @@ fn may_part(c: char) -> bool
 fn is_first_end(text: &str, after: &str) -> bool
     ensures { result ≡ is_first_end text.now (chars after.now) }
 {
-    let Some((c, others)) = split_first_char(after) else {
-        return false;
-    };
-    may_part(c) && are_ends(c, text, first_amount(others))
+    split_first_char(after).is_some_and(|(c, others)| may_part(c)
+        && are_ends(c, text, first_amount(others)))
 }
 
 fn is_second_end(text: &str, before: &str) -> bool
     ensures { result ≡ is_second_end text.now (in_front before.now) }
 {
-    let Some((c, front)) = split_nearest(before) else {
-        return false;
-    };
-    may_part(c) && are_ends(c, last_amount(front), text)
+    split_nearest(before).is_some_and(|(c, front)| may_part(c)
+        && are_ends(c, last_amount(front), text))
 }
 
 /// Whether the text between these texts is one end of a range whose ends share a unit or 百分之, as

@@ -6,7 +6,7 @@ ghost use Rattle.cn_find.specs.Spans.{in_front};
 ghost use Rattle.cn_find.specs.Private.{may_begin_word};
 ghost use Rattle.cn_find.specs.Words.{begins_with_two, begins_word, ends_word, is_exactly, is_named_group, is_of_word, is_saying, is_saying_of_tens, is_title, is_word_by_itself};
 
-use crate::expressions::split_nearest;
+use crate::expressions::{first_is, last_is, split_nearest};
 use cn_core::split_first_char;
 
 // Whether a character is one of a set.
@@ -23,40 +23,30 @@ fn is_one_of(set: &[char], c: char) -> bool
 pub fn begins_with(set: &[char], text: &str) -> bool
     ensures { result ≡ begins_with set.now (chars text.now) }
 {
-    match split_first_char(text) {
-        Some((c, _)) => is_one_of(set, c),
-        None => false,
-    }
+    first_is(text, |c| is_one_of(set, c))
 }
 
 /// Whether the text ends with a character of the set.
 pub fn ends_with(set: &[char], before: &str) -> bool
     ensures { result ≡ begins_with set.now (in_front before.now) }
 {
-    match split_nearest(before) {
-        Some((c, _)) => is_one_of(set, c),
-        None => false,
-    }
+    last_is(before, |c| is_one_of(set, c))
 }
 
 /// Whether the text begins with a character of the first set and one of the second.
 pub fn begins_with_two(first: &[char], second: &[char], text: &str) -> bool
     ensures { result ≡ begins_with_two first.now second.now (chars text.now) }
 {
-    match split_first_char(text) {
-        Some((c, others)) => begins_with(second, others) && is_one_of(first, c),
-        None => false,
-    }
+    split_first_char(text).is_some_and(|(c, others)| {
+        begins_with(second, others) && is_one_of(first, c)
+    })
 }
 
 /// Whether the last character is one of the first set, and the one before it one of the second set.
 pub fn ends_with_two(first: &[char], second: &[char], before: &str) -> bool
     ensures { result ≡ begins_with_two first.now second.now (in_front before.now) }
 {
-    match split_nearest(before) {
-        Some((c, front)) => is_one_of(first, c) && ends_with(second, front),
-        None => false,
-    }
+    split_nearest(before).is_some_and(|(c, front)| is_one_of(first, c) && ends_with(second, front))
 }
 
 // Whether the text consists of exactly these characters.

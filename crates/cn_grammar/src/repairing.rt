@@ -169,6 +169,7 @@ fn first_working<G: Listed>(
 ///    that no form has, unless it may change the value. A digit is never deleted.
 /// 8. The fault is replaced by the only character with which a form can go on, unless it carries a
 ///    value or the other is a digit.
+// Left open (text → "" #2): which changes are tried is in no definition, but in rows.
 pub fn find_repair<G: Listed>(text: &str) -> Option<Hint>
     ensures { IfSome result (IsRepair G.is_form (chars text.now)) }
 {

@@ -467,19 +467,33 @@ IsAscii-sign : (negative : Bool) → IsAscii (if negative then codes "-" else []
 IsAscii-sign true = IsAscii-one (slice_index (codes "-") 0) (omega arith)
 IsAscii-sign false = IsAscii-nil
 
-IsAscii-figures : (q : Quantity) (decimals : ℕ) → nat_abs q.numerator < 2 ^ 128
-    → decimals_of_quantity q ≡ Some decimals → IsAscii (figures_of q)
-IsAscii-figures q decimals small is =
+IsAscii-unsigned : (q : Quantity) (decimals : Option ℕ) → nat_abs q.numerator < 2 ^ 128
+    → q.denominator < 2 ^ 128
+    → IsAscii (option_map_or
+    (λ decimals. figures_with decimals (nat_abs q.numerator) ++ percent_sign q.form) decimals
+    (decimal (nat_abs q.numerator) ++ (codes "/" ++ decimal q.denominator)))
+IsAscii-unsigned q (Some decimals) small fits =
     let number = nat_abs q.numerator in
     let whole : number / 10 ^ decimals < 10 ^ 64 =
     omega (arith, small, div-le_self number (10 ^ decimals)) in
-    IsAscii-append (if int_lt q.numerator (pos 0) then codes "-" else []) (unsigned_figures q)
-    (IsAscii-sign (int_lt q.numerator (pos 0)))
-    (rw is (IsAscii-append (figures_with decimals number) (percent_sign q.form)
+    IsAscii-append (figures_with decimals number) (percent_sign q.form)
     (IsAscii-append (decimal (number / 10 ^ decimals))
     (behind_point (slice_index (codes ".") 0) figure_char decimals number)
     (IsAscii-decimal_wide (number / 10 ^ decimals) whole) (IsAscii-behind decimals number))
-    (IsAscii-percent q.form)))
+    (IsAscii-percent q.form)
+IsAscii-unsigned q None small fits =
+    IsAscii-append (decimal (nat_abs q.numerator)) (codes "/" ++ decimal q.denominator)
+    (IsAscii-decimal_wide (nat_abs q.numerator) (omega (arith, small)))
+    (IsAscii-append (codes "/") (decimal q.denominator)
+    (IsAscii-one (slice_index (codes "/") 0) (omega arith))
+    (IsAscii-decimal_wide q.denominator (omega (arith, fits))))
+
+pub IsAscii-figures : (q : Quantity) → holds (signed_kind 128) q.numerator ≡ true
+    → q.denominator < 2 ^ 128 → IsAscii (figures_of q)
+IsAscii-figures q held fits =
+    IsAscii-append (if int_lt q.numerator (pos 0) then codes "-" else []) (unsigned_figures q)
+    (IsAscii-sign (int_lt q.numerator (pos 0)))
+    (IsAscii-unsigned q (decimals_of_quantity q) (magnitude-fits q.numerator held) fits)
 
 pub figures-read : (method : ChineseCountMethod) (q : Quantity) (decimals : ℕ)
     → holds (signed_kind 128) q.numerator ≡ true → q.denominator < 2 ^ 128
@@ -487,5 +501,5 @@ pub figures-read : (method : ChineseCountMethod) (q : Quantity) (decimals : ℕ)
     → quantity_answer method (figures_of q) ≡ Ok q
 figures-read method q decimals held fits is =
     ap (quantity_answer method) (sym (encodes-IsAscii (figures_of q)
-    (IsAscii-figures q decimals (magnitude-fits q.numerator held) is)))
+    (IsAscii-figures q held fits)))
     ∙ figures-encoded method q decimals held fits is

@@ -6,6 +6,7 @@ pub mod Cuts
 pub mod DecimalTexts
 pub mod DigitTexts
 mod Examples
+pub mod FiguresBack
 pub mod FiguresRead
 pub mod FractionTexts
 pub mod KnownFigures

@@ -9,7 +9,7 @@ use Rattle.cn_core.specs.FigureCharacters.{is_figure, is_wide_figure, tens_of}
 use Rattle.cn_core.proofs.Fronts.{both}
 use Rattle.cn_find.specs.declared.doubt.Doubt.{Doubt}
 use Rattle.cn_find.specs.declared.doubt.Doubt.TheVariants.{Word, Digits, Term, Part, Time, Range}
-use Rattle.cn_find.specs.Doubt.{begins_plenum, is_doubtful_list, is_part, is_term, is_time}
+use Rattle.cn_find.specs.Doubt.{is_doubtful_list, is_part, is_term, is_time}
 use Rattle.cn_find.specs.Expressions.{binds_minus, is_extra, is_han, is_tens}
 use Rattle.cn_find.specs.Flags.{begins_estimate}
 use Rattle.cn_find.specs.Spans.{Span}
@@ -66,15 +66,10 @@ doubt-by front text after is_end =
 
 -- such a character, and any others further away
 module _ (c : ℕ) (u : IsUnseen c) (more : List ℕ) where
-  no-plenum : (more : List ℕ) → begins_plenum (c ∷ more) ≡ false
-  unfolding is_named is_noticed is_han
-  no-plenum [] = refl
-  no-plenum (d ∷ more) = simp (u.other)
-
   doubt-after : (front text : List ℕ) (is_end : Bool) (xs : List ℕ)
       → doubt-by front text (xs ++ c ∷ more) is_end ≡ doubt-by front text xs is_end
   unfolding is_named is_noticed is_han digit_of
-  doubt-after front text is_end [] = simp (u.other, no-plenum)
+  doubt-after front text is_end [] = simp (u.other)
   doubt-after front text is_end (x ∷ []) = simp (u.other, and-false)
   doubt-after front text is_end (x ∷ y ∷ []) = simp (u.other, and-false)
   doubt-after front text is_end (x ∷ y ∷ z ∷ xs) = refl

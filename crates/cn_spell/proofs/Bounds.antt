@@ -11,7 +11,7 @@ use Rattle.cn_core.proofs.Lengths.{length-spelling}
 use Rattle.cn_spell.specs.Prints.{most_bytes}
 use Rattle.cn_spell.specs.Working.Units.{powers_within}
 use Rattle.cn_spell.proofs.Signs.{length-signed, sign-one}
-use Rattle.cn_spell.proofs.Walks.{powers-fit, few-of}
+use Rattle.cn_spell.proofs.SpelledMarks.{below_square}
 
 -- the number has few enough digits for the method's units
 pub fits : (method : ChineseCountMethod) (number : ℤ) → is_printable method number ≡ true
@@ -34,7 +34,7 @@ pub marks-fit : (method : ChineseCountMethod) (number : ℤ) → is_printable me
 marks-fit method number printable small =
     let less = fits method number printable small in
     let marks = length-spelling method (nat_abs number) (powers_within method) (some-powers method)
-    less (few-of method (nat_abs number) (powers_within method) less (powers-fit method)) in
+    less (below_square method number small printable) in
     omega (arith, marks, bytes method) where
       bytes : (method : ChineseCountMethod) → 6 * powers_within method ≤ most_bytes method
       bytes Low = omega arith

@@ -1,88 +1,49 @@
 -- Digits whose powers have units of their own, from the lowest up.
 use Rattle.std.proofs.Common.{◌≡◌, ℕ, zero, suc, ◌+◌, ◌*◌, ◌/◌, ◌%◌, ◌^◌, ◌<◌, ◌≤◌, max, Bool, true, false, ◌==◌, ◌&&◌, nat_le, nat_lt, List, [], ◌∷◌, ◌++◌, refl, sym, ap, ap₂, ◌∙◌, arith, append_assoc, append-nil, if◌then◌else◌}
+use Rattle.std.proofs.lemmas.Bool.{agree_below, agree_below_at, and_parts, eqb-true}
 use Rattle.std.proofs.lemmas.Bool.Decides.{nat_tests}
 use Rattle.std.proofs.Math.Decide.{dec_lt}
 use Rattle.std.proofs.Math.Nat.{mul-le-mul_right, mod-eq_of_lt}
 use Rattle.std.proofs.Math.Bool.{and-false}
 use Rattle.cn_core.specs.declared.method.ChineseCountMethod.{ChineseCountMethod}
-use Rattle.cn_core.specs.declared.method.ChineseCountMethod.TheVariants.{Low, TenThousand, Middle, High}
+use Rattle.cn_core.specs.declared.method.ChineseCountMethod.TheVariants.{Low}
 use Rattle.cn_core.specs.Mark.{Mark, digit, unit}
 use Rattle.cn_core.proofs.Cuts.{part}
 use Rattle.cn_spell.specs.Working.Sections.{kept, digit_marks, section_marks}
-use Rattle.cn_spell.specs.Working.Units.{powers_within, rank_at, start_of, units_over, units_behind}
-use Rattle.cn_spell.proofs.Walks.{Fills}
-use Rattle.cn_spell.proofs.Tops.{at, lower-split, lower-less, part-same, filled_of, Filled, part-more, part-none, behind-zero}
+use Rattle.cn_spell.specs.Working.Units.{widths_of, powers_within, rank_at, units_behind}
+use Rattle.cn_spell.proofs.Walks.{Fills, is_spaced, lower-split, lower-less, behind-head, behind-zero}
+use Rattle.cn_spell.proofs.Tops.{at, part-same, filled_of, Filled, part-digit, part-none}
 
 -- 零 before the lower marks, if the next power is empty
 abbrev pub gap_marks : ℕ → ℕ → List Mark
 gap_marks filled power = kept (nat_lt 0 filled && nat_lt filled power) (digit 0)
 
-over-one : (method : ChineseCountMethod) (power filled : ℕ) → 0 < power → filled ≤ power
-    → units_over method power filled (max filled 1) (1 ∷ [])
-    ≡ unit (rank_at method power) ∷ gap_marks filled power
-over-one method power filled some under =
-    let start : start_of 1 power ≡ power = omega arith in
-    let reach : nat_le (max filled 1) power ≡ true = grind (arith, nat_tests) in
-    let flag : (max filled 1 == filled) ≡ nat_lt 0 filled = elim (dec_lt 0 filled) [
-      | yes p ↦
-          let a : (max filled 1 == filled) ≡ true = let e : max filled 1 ≡ filled =
-          omega (arith, p) in grind (arith, nat_tests, e) in
-          let b : nat_lt 0 filled ≡ true = grind (arith, nat_tests, p) in
-          a ∙ sym b
-      | no p ↦ let z : filled ≡ 0 = omega (arith, p) in rw z refl
-    ] in
-    rw (start, reach, flag) refl
+-- each power below this one has its own unit: any power under `Low`, else the lowest four
+abbrev pub own_limit : ChineseCountMethod → ℕ
+own_limit Low = 16
+own_limit method = 4
 
--- no group of more powers begins at one of the lowest powers
-over-skip : (method : ChineseCountMethod) (power filled width next : ℕ) (widths : List ℕ)
-    → power < width
-    → units_over method power filled (max filled 1) (width ∷ next ∷ widths)
-    ≡ units_over method power filled (max filled 1) (next ∷ widths)
-over-skip method power filled width next widths inside =
-    let low : power % width ≡ power = mod-eq_of_lt inside in
-    let start : start_of width power ≡ 0 = omega (arith, low) in
-    let test : nat_le (max filled 1) 0 ≡ false = grind (arith, nat_tests) in
-    rw (start, test) refl
+-- the unit of the power has the same rank, and no wider group begins above 0 and below the power
+abbrev is_own : ChineseCountMethod → ℕ → Bool
+is_own method power =
+    rank_at method power == power && is_spaced power power 0 (widths_of method)
 
--- the power has its own unit: each power under `Low`, and the lowest four under any method
-abbrev pub IsOwn : ChineseCountMethod → ℕ → Type 0
-IsOwn Low power = power < 16
-IsOwn method power = power < 4
+all_own : (method : ChineseCountMethod)
+    → agree_below (is_own method) (λ n. true) (own_limit method) ≡ true
+all_own Low = refl
+all_own method = refl
 
-own-ten_thousand : (power : ℕ) → 0 < power → power < 4 → rank_at TenThousand power ≡ power
-own-ten_thousand power some four =
-    let low : power % 4 ≡ power = mod-eq_of_lt four in
-    let test : (power == 0) ≡ false = grind (arith, nat_tests, some) in
-    rw (low, test) refl
-
-own-middle : (power : ℕ) → 0 < power → power < 4 → rank_at Middle power ≡ power
-own-middle power some four =
-    let low : power % 4 ≡ power = mod-eq_of_lt four in
-    let test : (power == 0) ≡ false = grind (arith, nat_tests, some) in
-    rw (low, test) refl
-
-own-high : (power : ℕ) → 0 < power → power < 4 → rank_at High power ≡ power
-own-high power some four =
-    let low : power % 4 ≡ power = mod-eq_of_lt four in
-    let test : (power == 0) ≡ false = grind (arith, nat_tests, some) in
-    rw (low, test) refl
-
-pub behind-own : (method : ChineseCountMethod) (power filled : ℕ) → IsOwn method power → 0 < power
-    → filled ≤ power → units_behind method power filled ≡ unit power ∷ gap_marks filled power
-behind-own Low power filled own some under = over-one Low power filled some under
-behind-own TenThousand power filled own some under =
-    over-skip TenThousand power filled 4 1 [] own ∙ over-one TenThousand power filled some under
-    ∙ ap (λ rank. unit rank ∷ gap_marks filled power) (own-ten_thousand power some own)
-behind-own Middle power filled own some under =
-    over-skip Middle power filled 8 4 (1 ∷ []) (omega (arith, own))
-    ∙ over-skip Middle power filled 4 1 [] own ∙ over-one Middle power filled some under
-    ∙ ap (λ rank. unit rank ∷ gap_marks filled power) (own-middle power some own)
-behind-own High power filled own some under =
-    over-skip High power filled 32 16 (8 ∷ 4 ∷ 1 ∷ []) (omega (arith, own))
-    ∙ over-skip High power filled 16 8 (4 ∷ 1 ∷ []) (omega (arith, own))
-    ∙ over-skip High power filled 8 4 (1 ∷ []) (omega (arith, own))
-    ∙ over-skip High power filled 4 1 [] own ∙ over-one High power filled some under
-    ∙ ap (λ rank. unit rank ∷ gap_marks filled power) (own-high power some own)
+pub behind-own : (method : ChineseCountMethod) (power filled : ℕ) → power < own_limit method
+    → 0 < power → filled ≤ power
+    → units_behind method power filled ≡ unit power ∷ gap_marks filled power
+behind-own method power filled own some under =
+    let tests = and_parts (rank_at method power == power) _
+    (agree_below_at (is_own method) (λ n. true) (own_limit method) power (all_own method) own) in
+    let head = behind-head power method power filled tests.1 some under in
+    let flag : (max filled 1 == filled && nat_lt filled power)
+    ≡ (nat_lt 0 filled && nat_lt filled power) = grind (arith, nat_tests) in
+    head.1 ∙ ap₂ (λ rank marks. unit rank ∷ marks) (eqb-true _ _ tests.0)
+    (head.2 (omega arith) ∙ ap (λ b. kept b (digit 0)) flag)
 
 -- the digit below a power
 abbrev pub below_of : ℕ → ℕ → ℕ
@@ -104,21 +65,21 @@ so_far method number power = gap_marks (filled_of number power) power
 
 -- a digit that is not 0
 pub some-digit : (method : ChineseCountMethod) (number power filled : ℕ) (is_gap : Bool)
-    → power < powers_within method → IsOwn method power → 0 < at number power → filled ≤ power
+    → power < powers_within method → power < own_limit method → 0 < at number power → filled ≤ power
     → Fills filled (number % 10 ^ power)
     → part method (number % 10 ^ suc power) ≡ digit_marks power (at number power) is_gap
     ++ (gap_marks filled power ++ part method (number % 10 ^ power))
 some-digit method number zero filled is_gap within own pos under fills =
     let t : nat_lt 0 (at number 0) ≡ true = grind (arith, nat_tests, pos) in
     let z : filled ≡ 0 = omega (arith, under) in
-    rw (z, t) (part-more method number 0 0 within pos (rw z at fills)
+    rw (z, t) (part-digit method number 0 0 within pos (omega arith) (rw z at fills)
     ∙ ap (λ marks. digit (at number 0) ∷ (marks ++ part method (number % 10 ^ 0)))
     (behind-zero method))
 some-digit method number (suc power) filled is_gap within own pos under fills =
     let t : nat_lt 0 (at number (suc power)) ≡ true = grind (arith, nat_tests, pos) in
     let high : nat_lt 0 (suc power) ≡ true = grind (arith, nat_tests) in
     let step : suc power + 1 ≡ suc (suc power) = omega arith in
-    rw (t, high) (rw step at (part-more method number (suc power) filled within pos fills)
+    rw (t, high) (rw step at (part-digit method number (suc power) filled within pos under fills)
     ∙ ap (λ marks. digit (at number (suc power))
     ∷ (marks ++ part method (number % 10 ^ suc power))) (behind-own method (suc power) filled own
     (omega arith) under))
@@ -152,7 +113,7 @@ power-zero power value false rest z = rw z refl
 
 -- each power adds its digit and unit, or 零
 pub step : (method : ChineseCountMethod) (number power : ℕ) → power < powers_within method
-    → IsOwn method power
+    → power < own_limit method
     → so_far method number (suc power) ≡ digit_marks power (at number power)
     (nat_lt 0 (below_of number power)) ++ so_far method number power
 step method number power within own = by (dec_lt 0 (at number power)) where
@@ -195,7 +156,7 @@ reaches-power : (number power : ℕ) → number < 10 ^ suc power → 0 < at numb
 reaches-power number power less pos =
     let next : power + 1 ≡ suc power = omega arith in
     let split : number % 10 ^ suc power ≡ at number power * 10 ^ power + number % 10 ^ power =
-    rw next at (lower-split number power) in
+    rw next at (lower-split 1 number power) in
     let whole : number % 10 ^ suc power ≡ number = mod-eq_of_lt less in
     let one : 1 * 10 ^ power ≤ at number power * 10 ^ power = mul-le-mul_right (10 ^ power) pos in
     omega (arith, split, whole, one)
@@ -205,13 +166,13 @@ stays-below : (number power : ℕ) → number < 10 ^ suc power → at number pow
 stays-below number power less none =
     let next : power + 1 ≡ suc power = omega arith in
     let split : number % 10 ^ suc power ≡ at number power * 10 ^ power + number % 10 ^ power =
-    rw next at (lower-split number power) in
+    rw next at (lower-split 1 number power) in
     let whole : number % 10 ^ suc power ≡ number = mod-eq_of_lt less in
     let zero : at number power * 10 ^ power ≡ 0 = rw none (omega arith) in
     omega (arith, split, whole, zero, lower-less number power)
 
 step-in : (method : ChineseCountMethod) (number power : ℕ) → power < powers_within method
-    → IsOwn method power
+    → power < own_limit method
     → so_far_in method number (suc power)
     ≡ digit_marks power (at number power)
     (nat_lt 0 (below_of number power) && nat_le (10 ^ suc power) number)
@@ -249,11 +210,9 @@ step-in method number power within own =
           ∙ sym (power-zero power (at number power) false (part method (number % 10 ^ power)) z))
 
 own-lowest : (method : ChineseCountMethod) (power : ℕ) → power < 4
-    → IsOwn method power × (power < powers_within method)
+    → (power < own_limit method) × (power < powers_within method)
 own-lowest Low power four = (omega (arith, four), omega (arith, four))
-own-lowest TenThousand power four = (four, omega (arith, four))
-own-lowest Middle power four = (four, omega (arith, four))
-own-lowest High power four = (four, omega (arith, four))
+own-lowest method power four = (four, omega (arith, four))
 
 -- the spelling of a section, under any method
 pub section-is : (method : ChineseCountMethod) (section : ℕ) → section < 10 ^ 4

@@ -11,7 +11,8 @@ use Rattle.cn_core.specs.Spelling.{spelling, short_spelling, spelling_within}
 use Rattle.cn_core.proofs.Cuts.{part, part-some}
 use Rattle.cn_core.proofs.Sums.{spelled-digit}
 use Rattle.cn_spell.specs.Working.Sections.{kept, digit_marks, top_marks}
-use Rattle.cn_spell.proofs.Tops.{at, filled_of, Filled, lower-less, part-none}
+use Rattle.cn_spell.proofs.Walks.{lower-less}
+use Rattle.cn_spell.proofs.Tops.{at, filled_of, Filled, part-none}
 use Rattle.cn_spell.proofs.Single.{so_far, step, below_of, some-digit}
 
 -- the highest digit of a number

@@ -1,434 +1,327 @@
--- The units after a digit, and the spelling that they make.
-use Rattle.std.proofs.Common.{◌≡◌, ℕ, zero, suc, ◌+◌, ◌-◌, ◌*◌, ◌/◌, ◌%◌, ◌^◌, ◌<◌, ◌≤◌, max, Bool, true, false, inl, inr, ◌==◌, ◌&&◌, ◌||◌, nat_le, nat_lt, List, [], ◌∷◌, ◌++◌, refl, sym, ap, subst, ◌∙◌, arith, append_assoc, append-nil, if◌then◌else◌}
-use Rattle.std.proofs.lemmas.Bool.{cases_Bool}
+-- The units that are written between a digit or a section and the lower digits of its number.
+-- `step` is the number of digits that are added together: 1 for a digit, 4 for a section.
+use Rattle.std.proofs.Common.{◌≡◌, ℕ, suc, ◌+◌, ◌-◌, ◌*◌, ◌/◌, ◌%◌, ◌^◌, ◌<◌, ◌≤◌, max, Bool, true, false, inl, inr, ◌==◌, ◌&&◌, ◌||◌, nat_le, nat_lt, List, [], ◌∷◌, ◌++◌, refl, sym, ap, ◌∙◌, arith, append_assoc, append-nil}
+use Rattle.std.proofs.lemmas.Bool.{agree_below, agree_below_at, and_parts, or_cases, eqb-true, ltb-true}
 use Rattle.std.proofs.lemmas.Bool.Decides.{nat_tests}
+use Rattle.std.proofs.Math.Arith.{mod-mul}
 use Rattle.std.proofs.Math.Decide.{dec_lt}
-use Rattle.std.proofs.Math.Nat.{mul-le-mul_left, mul-le-mul_right, pow-le-pow_right, mod-mod_of_dvd, mul-div_cancel, mod-le, mod-lt, div-add-mod, div-mul-le_self, lt_of_mul-lt-mul_right, one-le-pow}
-use Rattle.std.proofs.lemmas.Nat.Gcd.{dvd_of_mod-eq-zero}
-use Rattle.std.proofs.lemmas.Nat.{pow-add}
+use Rattle.std.proofs.Math.Nat.{mul-le-mul_left, mul-le-mul_right, pow-le-pow_right, mod-lt, one-le-pow, div-lt_iff_lt-mul, le-div_iff_mul-le}
+use Rattle.std.proofs.lemmas.Grind.{pow_more}
+use Rattle.std.proofs.lemmas.Nat.{pow-add, div-add-mod'}
 use Rattle.cn_core.specs.declared.method.ChineseCountMethod.{ChineseCountMethod}
-use Rattle.cn_core.specs.declared.method.ChineseCountMethod.TheVariants.{Low, TenThousand, Middle, High}
+use Rattle.cn_core.specs.declared.method.ChineseCountMethod.TheVariants.{Low}
 use Rattle.cn_core.specs.Mark.{Mark, digit, unit}
 use Rattle.cn_core.specs.Scale.{scale, exponent}
 use Rattle.cn_core.proofs.Cuts.{part, gap, part-cut}
-use Rattle.cn_core.proofs.Fronts.{and-left, and-right}
-use Rattle.cn_core.proofs.ScaleLaws.{scale-mono}
-use Rattle.cn_spell.specs.Working.Units.{widths_of, powers_within, rank_at, start_of, unit_behind, units_over}
+use Rattle.cn_spell.specs.Working.Sections.{sections_within, kept}
+use Rattle.cn_spell.specs.Working.Units.{widths_of, powers_within, rank_at, start_of, unit_behind, units_over, units_behind}
 
 -- the number has digits only at the powers below `filled`, and the highest of these is not 0
 pub record Fills (filled number : ℕ) : Type 0 where
-  pub below : number < 10 ^ filled
-  pub reach : 0 < filled → 10 ^ (filled - 1) ≤ number
+  pub below : (power : ℕ) → filled ≤ power → number < 10 ^ power
+  pub reach : (power : ℕ) → power < filled → 10 ^ power ≤ number
 
--- if a group of the smaller width begins inside a group of the greater one, its unit has the scale
--- of its own size
-abbrev pub stands : ChineseCountMethod → ℕ → ℕ → ℕ → Bool
-stands method outer width power =
-    let inside = power % outer - power % width in
-    let rank = rank_at method (power - power % width) in
-    inside == 0
-    || (nat_lt 0 rank && nat_le rank 15 && exponent method rank == inside
-    && (rank == 15 || nat_le (inside + width) (exponent method (rank + 1))))
+-- this unit is at most the one of the rank, or has at least `top` powers
+abbrev is_past : ChineseCountMethod → ℕ → ℕ → ℕ → Bool
+is_past method top rank more = nat_le more rank || nat_le top (exponent method more)
 
--- the same at each power below this one
-abbrev pub all_stand : ChineseCountMethod → ℕ → ℕ → ℕ → Bool
-all_stand method outer width zero = true
-all_stand method outer width (suc power) =
-    stands method outer width power && all_stand method outer width power
+-- the unit of this rank has this size, and no number of `top` digits reaches a greater one
+abbrev is_unit : ChineseCountMethod → ℕ → ℕ → ℕ → Bool
+is_unit method size top rank =
+    nat_lt 0 rank && nat_le rank 15 && exponent method rank == size
+    && nat_le top (exponent method 15 + exponent method 15)
+    && agree_below (is_past method top rank) (λ more. true) 16
 
--- each width divides the group of the one before, down to groups of `least` powers
-abbrev pub is_chain : ℕ → ChineseCountMethod → ℕ → List ℕ → Bool
-is_chain least method outer [] = outer == least
-is_chain least method outer (width ∷ widths) = outer == least
-    || (nat_lt 0 width && outer % width == 0 && width % least == 0
-    && all_stand method outer width (powers_within method) && is_chain least method width widths)
+-- a group inside one that begins at `base` begins there too, or at a unit
+abbrev is_start : ℕ → ChineseCountMethod → ℕ → ℕ → ℕ → Bool
+is_start step method power base start = base == start || (nat_lt base start
+    && is_unit method (start - base) (power - base + step) (rank_at method start))
 
-pub chain : (method : ChineseCountMethod) → is_chain 1 method 64 (widths_of method) ≡ true
-chain Low = refl
-chain TenThousand = refl
-chain Middle = refl
-chain High = refl
+-- each group of these widths that contains the power does, and the last begins at the power
+abbrev has_starts : ℕ → ChineseCountMethod → ℕ → ℕ → List ℕ → Bool
+has_starts step method power base [] = base == power
+has_starts step method power base (width ∷ widths) =
+    is_start step method power base (start_of width power)
+    && has_starts step method power (start_of width power) widths
 
--- a unit of this rank has this size, and a number with `width` more powers reaches no greater unit
-pub record Stands (method : ChineseCountMethod) (size width rank : ℕ) : Type 0 where
-  pub some : 1 ≤ rank
-  pub high : rank ≤ 15
-  pub is_size : exponent method rank ≡ size
-  pub next : (more : ℕ) → rank < more → more ≤ 15 → 10 ^ (size + width) ≤ scale method more
+-- a group that does not begin at the power begins at least `space` powers below
+abbrev pub is_spaced : ℕ → ℕ → ℕ → List ℕ → Bool
+is_spaced space power base [] = base == power
+is_spaced space power base (width ∷ widths) =
+    (start_of width power == power || nat_le (start_of width power + space) power)
+    && is_spaced space power (start_of width power) widths
 
-or-cases : (a b : Bool) → (a || b) ≡ true → a ≡ false → b ≡ true
-or-cases true b h e = cc
-or-cases false b h e = h
+abbrev has_units : ℕ → ChineseCountMethod → ℕ → Bool
+has_units step method power = has_starts step method power 0 (widths_of method)
 
-pub Stands-stands : (method : ChineseCountMethod) (outer width power : ℕ)
-    → stands method outer width power ≡ true → 0 < power % outer - power % width
-    → Stands method (power % outer - power % width) width (rank_at method (power - power % width))
-Stands-stands method outer width power h inside =
-    let size = power % outer - power % width in
-    let rank = rank_at method (power - power % width) in
-    let none : (size == 0) ≡ false = grind (arith, nat_tests, inside) in
-    let all = or-cases (size == 0) _ h none in
-    let one : nat_lt 0 rank ≡ true = and-left (nat_lt 0 rank) _
-    (and-left (nat_lt 0 rank && nat_le rank 15) _
-    (and-left (nat_lt 0 rank && nat_le rank 15 && exponent method rank == size) _ all)) in
-    let two : nat_le rank 15 ≡ true = and-right (nat_lt 0 rank) _
-    (and-left (nat_lt 0 rank && nat_le rank 15) _
-    (and-left (nat_lt 0 rank && nat_le rank 15 && exponent method rank == size) _ all)) in
-    let three : (exponent method rank == size) ≡ true =
-    and-right (nat_lt 0 rank && nat_le rank 15) _
-    (and-left (nat_lt 0 rank && nat_le rank 15 && exponent method rank == size) _ all) in
-    let last = and-right (nat_lt 0 rank && nat_le rank 15 && exponent method rank == size) _ all in
-    record {
-      some = grind (arith, nat_tests, one);
-      high = grind (arith, nat_tests, two);
-      is_size = grind (arith, nat_tests, three);
-      next = λ more up below.
-          let lower : (rank == 15) ≡ false = grind (arith, nat_tests, up, below) in
-          let test : nat_le (size + width) (exponent method (rank + 1)) ≡ true =
-          or-cases (rank == 15) _ last lower in
-          let raised : size + width ≤ exponent method (rank + 1) = grind (arith, nat_tests, test) in
-          let first : 10 ^ (size + width) ≤ scale method (rank + 1) =
-          pow-le-pow_right (omega arith) raised in
-          elim (dec_lt (rank + 1) more) [
-            | yes less ↦ let p = scale-mono method (rank + 1) more less in omega (arith, p, first)
-            | no same ↦ let e : rank + 1 ≡ more =
-                omega (arith, up, same) in let k : scale method (rank + 1) ≡ scale method more =
-                ap (λ n. scale method n) e in omega (arith, k, first)
-          ];
-    }
+abbrev has_section : ChineseCountMethod → ℕ → Bool
+has_section method index =
+    has_units 4 method (4 * index) && is_spaced 4 (4 * index) 0 (widths_of method)
 
-pub all_stand-at : (method : ChineseCountMethod) (outer width limit power : ℕ)
-    → all_stand method outer width limit ≡ true → power < limit
-    → stands method outer width power ≡ true
-all_stand-at method outer width zero power h less = absurd (omega (arith, less))
-all_stand-at method outer width (suc limit) power h less = elim (dec_lt power limit) [
-  | yes lower ↦ all_stand-at method outer width limit power
-      (and-right (stands method outer width limit) _ h) lower
-  | no last ↦ let e : limit ≡ power = omega (arith, less, last)
-      in rw e at (and-left (stands method outer width limit) _ h)
-]
+abbrev pub HasUnits : ℕ → ChineseCountMethod → ℕ → Type 0
+HasUnits step method power = has_units step method power ≡ true
 
--- a number that the method writes has at most as many powers as the square of the greatest unit
-pub powers-fit : (method : ChineseCountMethod)
-    → powers_within method ≤ exponent method 15 + exponent method 15
-powers-fit Low = omega arith
-powers-fit TenThousand = omega arith
-powers-fit Middle = omega arith
-powers-fit High = omega arith
+abbrev pub IsSpaced : ℕ → ChineseCountMethod → ℕ → Type 0
+IsSpaced space method power = is_spaced space power 0 (widths_of method) ≡ true
 
--- and it is less than that square
-pub few-of : (method : ChineseCountMethod) (number powers : ℕ) → number < 10 ^ powers
-    → powers ≤ exponent method 15 + exponent method 15 → number < scale method 15 * scale method 15
-few-of method number powers h within =
-    let e : 10 ^ (exponent method 15 + exponent method 15) ≡ scale method 15 * scale method 15 =
-    pow-add 10 (exponent method 15) (exponent method 15) in
-    let p : 10 ^ powers ≤ 10 ^ (exponent method 15 + exponent method 15) =
-    pow-le-pow_right (omega arith) within in
-    omega (arith, h, p, e)
+-- the tests hold for each digit and for each section that a method writes
+tables : (method : ChineseCountMethod)
+    → (agree_below (has_units 1 method) (λ n. true) (powers_within method) ≡ true)
+    × (agree_below (has_section method) (λ n. true) (suc (sections_within method)) ≡ true)
+tables Low = (refl, refl)
+tables method = (refl, refl)
 
-cut : (method : ChineseCountMethod) (high below size width rank : ℕ)
-    → Stands method size width rank → 0 < high → below < 10 ^ size
-    → high * 10 ^ size + below < 10 ^ (size + width)
-    → high * 10 ^ size + below < scale method 15 * scale method 15
-    → part method (high * 10 ^ size + below)
-    ≡ part method high ++ (unit rank ∷ (gap below (10 ^ size) ++ part method below))
-cut method high below size width rank s pos low fits small =
-    let e : scale method rank ≡ 10 ^ size = ap (λ n. 10 ^ n) s.is_size in
-    let P : ℕ → Type 0 = λ unit_size. part method (high * unit_size + below)
-    ≡ part method high ++ (unit rank ∷ (gap below unit_size ++ part method below)) in
-    subst P e (part-cut method high below rank s.some s.high pos (omega (arith, low, e))
-    (λ more up last. let p = s.next more up last in let whole =
-    same e in omega (arith, p, fits, whole)) (let whole =
-    same e in omega (arith, small, whole))) where
-      same : {a b : ℕ} → a ≡ b → high * a + below ≡ high * b + below
-      same f = ap (λ n. high * n + below) f
+pub HasUnits-digit : (method : ChineseCountMethod) (power : ℕ) → power < powers_within method
+    → HasUnits 1 method power
+HasUnits-digit method power = agree_below_at (has_units 1 method) (λ n. true)
+    (powers_within method) power (tables method).0
+
+pub HasUnits-section : (method : ChineseCountMethod) (index : ℕ) → index ≤ sections_within method
+    → HasUnits 4 method (4 * index) × IsSpaced 4 method (4 * index)
+HasUnits-section method index within = and_parts (has_units 4 method (4 * index)) _
+    (agree_below_at (has_section method) (λ n. true) (suc (sections_within method)) index
+    (tables method).1 (omega (arith, within)))
+
+-- a number with at most `top` powers is cut at such a unit
+cut : (method : ChineseCountMethod) (high low size top rank : ℕ)
+    → is_unit method size top rank ≡ true → 0 < high → low < 10 ^ size
+    → high * 10 ^ size + low < 10 ^ top
+    → part method (high * 10 ^ size + low)
+    ≡ part method high ++ (unit rank ∷ (gap low (10 ^ size) ++ part method low))
+cut method high low size top rank h pos less fits =
+    let tests = and_parts _ (agree_below (is_past method top rank) (λ more. true) 16) h in
+    let is_size : size ≡ exponent method rank = grind (arith, nat_tests, tests.0) in
+    let whole : 10 ^ size ≡ scale method rank = ap (λ n. 10 ^ n) is_size in
+    let below : (n : ℕ) → top ≤ n → high * scale method rank + low < 10 ^ n = λ n most.
+    let p : 10 ^ top ≤ 10 ^ n = pow-le-pow_right (omega arith) most in
+    let q : high * scale method rank + low < 10 ^ top = rw whole at fits in omega (arith, p, q) in
+    rw whole (part-cut method high low rank (grind (arith, nat_tests, tests.0))
+    (grind (arith, nat_tests, tests.0)) pos (rw whole at less) (λ more up last.
+    let past = agree_below_at (is_past method top rank) (λ n. true) 16 more tests.1
+    (omega (arith, last)) in below (exponent method more) (grind (arith, nat_tests, past, up)))
+    (rw pow-add at (below (exponent method 15 + exponent method 15)
+    (grind (arith, nat_tests, tests.0)))))
 
 -- 零 is written if a power below the unit is empty
-gap-flag : (inner size filled above below start base : ℕ) → Fills inner below → inner ≤ size
-    → 1 ≤ size → start ≡ base + size → above ≡ base + max inner 1
-    → (0 < inner → filled ≡ above) → (inner ≡ 0 → filled < above)
-    → gap below (10 ^ size) ≡ (if above == filled && nat_lt filled start then digit 0 ∷ [] else [])
-gap-flag inner size filled above below start base fills within one is_start is_above some none =
-    ap (λ flag. if flag then digit 0 ∷ [] else []) (elim (dec_lt 0 inner) [
-      | yes pos ↦
-          let less : size ≡ (size - 1) + 1 = omega (arith, one) in
-          let tenth : 10 ^ size / 10 ≡ 10 ^ (size - 1) =
-          ap (λ n. 10 ^ n / 10) less ∙ ap (λ n. n / 10) (pow-add 10 (size - 1) 1)
-          ∙ mul-div_cancel (10 ^ (size - 1)) (omega arith) in
-          let reach = fills.reach pos in
-          let lead : 1 ≤ 10 ^ (inner - 1) = one-le-pow (inner - 1) 10 (omega arith) in
-          let a : nat_lt 0 below ≡ true = let p : 0 < below =
-          omega (arith, reach, lead) in grind (arith, nat_tests, p) in
-          let b : (above == filled) ≡ true = let e = some pos in grind (arith, nat_tests, e) in
-          rw (a, b, tenth) (elim (dec_lt inner size) [
-            | yes short ↦
-                let p : 10 ^ inner ≤ 10 ^ (size - 1) =
-                pow-le-pow_right (omega arith) (omega (arith, short)) in
-                let c : nat_lt below (10 ^ (size - 1)) ≡ true = let q : below < 10 ^ (size - 1) =
-                omega (arith, p, fills.below) in grind (arith, nat_tests, q) in
-                let e : nat_lt filled start ≡ true = let q : filled < start =
-                omega (arith, some pos, is_above, is_start, short)
-                in grind (arith, nat_tests, q) in
-                rw (c, e) refl
-            | no full ↦
-                let same : inner ≡ size = omega (arith, within, full) in
-                let p : 10 ^ (size - 1) ≤ below = rw same at reach in
-                let c : nat_lt below (10 ^ (size - 1)) ≡ false = grind (arith, nat_tests, p) in
-                let e : nat_lt filled start ≡ false = let q : start ≤ filled =
-                omega (arith, some pos, is_above, is_start, same)
-                in grind (arith, nat_tests, q) in
-                rw (c, e) refl
-          ])
-      | no empty ↦
-          let zero : inner ≡ 0 = omega (arith, empty) in
-          let nothing : below ≡ 0 = let p : 10 ^ inner ≡ 1 =
-          ap (λ n. 10 ^ n) zero in omega (arith, p, fills.below) in
-          let b : (above == filled) ≡ false = let q = none zero in grind (arith, nat_tests, q) in
-          rw (nothing, b) refl
-    ])
+gap-flag : (base start filled low : ℕ) → base < start → filled ≤ start → Fills (filled - base) low
+    → (nat_lt 0 low && nat_lt low (10 ^ (start - base) / 10))
+    ≡ (max filled (base + 1) == filled && nat_lt filled start)
+gap-flag base start filled low some under fills =
+    let size : start - base ≡ start - base - 1 + 1 = omega (arith, some) in
+    let tenfold : 10 ^ (start - base) ≡ 10 ^ (start - base - 1) * 10 =
+    ap (λ n. 10 ^ n) size ∙ pow_more 10 (start - base - 1) in
+    grind (
+      arith,
+      nat_tests,
+      tenfold,
+      fills.below 0,
+      fills.reach 0,
+      fills.below (start - base - 1),
+      fills.reach (start - base - 1),
+    )
 
-if-then : {X : Type 0} {b : Bool} (x y : X) → b ≡ true → x ≡ (if b then x else y)
-if-then {b = true} x y e = refl
-if-then {b = false} x y e = cc
-
-if-else : {X : Type 0} {b : Bool} (x y : X) → b ≡ false → y ≡ (if b then x else y)
-if-else {b = true} x y e = cc
-if-else {b = false} x y e = refl
-
--- the part of a number above the powers of a unit
-Fills-above : (inner size below : ℕ) → Fills inner below → size < inner
-    → Fills (inner - size) (below / 10 ^ size)
-Fills-above inner size below fills deep = record { below = under; reach = λ pos. over pos } where
-  parts : 10 ^ inner ≡ 10 ^ (inner - size) * 10 ^ size
-  parts = let e : inner ≡ (inner - size) + size =
-      omega (arith, deep) in ap (λ n. 10 ^ n) e ∙ pow-add 10 (inner - size) size
-
-  under : below / 10 ^ size < 10 ^ (inner - size)
-  under = lt_of_mul-lt-mul_right (10 ^ size)
-      (omega (arith, parts, fills.below, div-mul-le_self below (10 ^ size)))
-
-  over : 0 < inner - size → 10 ^ (inner - size - 1) ≤ below / 10 ^ size
-  over pos =
-      let size_pos : 0 < 10 ^ size = one-le-pow size 10 (omega arith) in
-      let e : inner - 1 ≡ (inner - size - 1) + size = omega (arith, deep) in
-      let lower : 10 ^ (inner - 1) ≡ 10 ^ (inner - size - 1) * 10 ^ size =
-      ap (λ n. 10 ^ n) e ∙ pow-add 10 (inner - size - 1) size in
-      let split = div-add-mod below (10 ^ size) in
-      let less : below % 10 ^ size < 10 ^ size = mod-lt below size_pos in
-      let step : 10 ^ (inner - size - 1) * 10 ^ size < (below / 10 ^ size + 1) * 10 ^ size =
-      omega (arith, lower, split, less, fills.reach (omega (arith, deep))) in
-      let found : 10 ^ (inner - size - 1) < below / 10 ^ size + 1 =
-      lt_of_mul-lt-mul_right (10 ^ size) step in
-      omega (arith, found)
-
--- a digit or a section is joined to the part above the powers of a unit that is written already
-join : (method : ChineseCountMethod) (lead below size width rank : ℕ)
-    (lead_marks marks : List Mark) → Stands method size width rank → 10 ^ size ≤ below
-    → lead * 10 ^ size + below < 10 ^ (size + width)
-    → lead * 10 ^ size + below < scale method 15 * scale method 15
-    → part method (lead + below / 10 ^ size)
-    ≡ lead_marks ++ (marks ++ part method (below / 10 ^ size))
-    → part method (lead * 10 ^ size + below) ≡ lead_marks ++ (marks ++ part method below)
-join method lead below size width rank lead_marks marks unit_is least fits few known =
-    let size_pos : 0 < 10 ^ size = one-le-pow size 10 (omega arith) in
-    let high = below / 10 ^ size in
-    let low = below % 10 ^ size in
-    let less : low < 10 ^ size = mod-lt below size_pos in
-    let split : below ≡ high * 10 ^ size + low = omega (arith, div-add-mod below (10 ^ size)) in
-    let some : 0 < high = elim (dec_lt 0 high) [
-      | yes p ↦ p
-      | no p ↦
-          absurd (let z : high ≡ 0 = omega (arith, p) in let e : below ≡ 0 * 10 ^ size + low =
-          rw z at split in omega (arith, e, less, least))
-    ] in
-    let whole : lead * 10 ^ size + below ≡ (lead + high) * 10 ^ size + low = omega (arith, split) in
-    let tail : List Mark = unit rank ∷ (gap low (10 ^ size) ++ part method low) in
-    let one : part method ((lead + high) * 10 ^ size + low) ≡ part method (lead + high) ++ tail =
-    cut method (lead + high) low size width rank unit_is (omega (arith, some)) less
-    (omega (arith, fits, whole)) (omega (arith, few, whole)) in
-    let two : part method (high * 10 ^ size + low) ≡ part method high ++ tail =
-    cut method high low size width rank unit_is some less (omega (arith, fits, split))
-    (omega (arith, few, split)) in
-    ap (λ n. part method n) whole ∙ one ∙ ap (λ done. done ++ tail) known
-    ∙ append_assoc lead_marks (marks ++ part method high) tail
-    ∙ ap (λ rest. lead_marks ++ rest) (append_assoc marks (part method high) tail)
-    ∙ ap (λ rest. lead_marks ++ (marks ++ rest)) (sym two ∙ ap (λ n. part method n) (sym split))
-
--- two different multiples of a number differ by at least that number
-multiples-apart : (k a b : ℕ) → a % k ≡ 0 → b % k ≡ 0 → a < b → a + k ≤ b
-multiples-apart k a b one two less =
-    let low = div-add-mod a k in
-    let high = div-add-mod b k in
-    let fewer : a / k < b / k = lt_of_mul-lt-mul_right k (omega (arith, one, two, less, low, high)) in
-    let step : (a / k + 1) * k ≤ b / k * k = mul-le-mul_right k (omega (arith, fewer)) in
-    omega (arith, one, two, low, high, step)
+-- the part of a number above some powers
+Fills-above : (filled size number : ℕ) → Fills filled number
+    → Fills (filled - size) (number / 10 ^ size)
+Fills-above filled size number fills =
+    let some : 0 < 10 ^ size = one-le-pow size 10 (omega arith) in
+    record {
+      below = λ power most. (div-lt_iff_lt-mul some).1
+          (rw pow-add at (fills.below (power + size) (omega (arith, most))));
+      reach = λ power less. (le-div_iff_mul-le some).1
+          (rw pow-add at (fills.reach (power + size) (omega (arith, less))));
+    }
 
 -- no group that contains a power begins above it
-pub over-none : (method : ChineseCountMethod) (widths : List ℕ) (power filled above : ℕ)
+over-none : (method : ChineseCountMethod) (widths : List ℕ) (power filled above : ℕ)
     → power < above → units_over method power filled above widths ≡ []
 over-none method [] power filled above past = refl
 over-none method (width ∷ widths) power filled above past =
     let test : nat_le above (start_of width power) ≡ false = grind (arith, nat_tests, past) in
     rw test (over-none method widths power filled above past)
 
--- a lead whose group has no other digit
-lead-alone : (method : ChineseCountMethod) (widths : List ℕ)
-    (powers outer power lead below inner filled above : ℕ) → outer ≡ powers → power % powers ≡ 0
-    → below < 10 ^ (power % outer) → above ≡ (power - power % outer) + max inner 1
-    → part method (lead * 10 ^ (power % outer) + below)
-    ≡ part method lead ++ (units_over method power filled above widths ++ part method below)
-lead-alone method widths powers outer power lead below inner filled above same multiple small
-    is_above =
-    let zero : power % outer ≡ 0 = rw same multiple in
-    let empty : below ≡ 0 = let p : 10 ^ (power % outer) ≡ 1 =
-    ap (λ n. 10 ^ n) zero in omega (arith, p, small) in
-    let past : power < above = omega (arith, is_above, zero) in
+-- one or more digits before the lower marks: between them are the units of the groups that they are
+-- the first to fill
+lead-over : (step : ℕ) (method : ChineseCountMethod) (widths : List ℕ)
+    (power base lead below filled : ℕ) → has_starts step method power base widths ≡ true
+    → base ≤ power → 0 < lead → lead < 10 ^ step → filled ≤ power → Fills (filled - base) below
+    → part method (lead * 10 ^ (power - base) + below) ≡ part method lead
+    ++ (units_over method power filled (max filled (base + 1)) widths ++ part method below)
+lead-over step method [] power base lead below filled h within pos less under fills =
+    let end : power - base ≡ 0 = grind (arith, nat_tests, h) in
+    let none : below ≡ 0 = omega (arith, fills.below 0 (omega (arith, end, under))) in
     let only : lead * 10 ^ 0 + 0 ≡ lead = omega arith in
-    rw (zero, empty, only, over-none method widths power filled above past)
-    (sym (append-nil (part method lead)))
-
--- a lead before the lower marks: between them are the units of the groups that it is the first to
--- fill
-pub lead-over : (method : ChineseCountMethod) (widths : List ℕ)
-    (powers outer power lead below inner filled above : ℕ)
-    → is_chain powers method outer widths ≡ true → power < powers_within method
-    → power + powers ≤ exponent method 15 + exponent method 15 → power % powers ≡ 0
-    → 0 < lead → lead < 10 ^ powers → below < 10 ^ (power % outer) → Fills inner below
-    → above ≡ (power - power % outer) + max inner 1 → (0 < inner → filled ≡ above)
-    → (inner ≡ 0 → filled < above)
-    → part method (lead * 10 ^ (power % outer) + below)
-    ≡ part method lead ++ (units_over method power filled above widths ++ part method below)
-lead-over method [] powers outer power lead below inner filled above links within room multiple pos
-    less small fills is_above some none =
-    lead-alone method [] powers outer power lead below inner filled above
-    (grind (arith, nat_tests, links)) multiple small is_above
-lead-over method (width ∷ widths) powers outer power lead below inner filled above links within room
-    multiple pos less small fills is_above some none =
-    elim (cases_Bool (outer == powers)) [
-      | inl same ↦ lead-alone method (width ∷ widths) powers outer power lead below inner filled
-          above (grind (arith, nat_tests, same)) multiple small is_above
-      | inr other ↦
-          let all = or-cases (outer == powers) _ links other in
-          let rest = and-right _ (is_chain powers method width widths) all in
-          let four = and-left _ (is_chain powers method width widths) all in
-          let stand = all_stand-at method outer width (powers_within method) power
-          (and-right _ (all_stand method outer width (powers_within method)) four) within in
-          let three = and-left _ (all_stand method outer width (powers_within method)) four in
-          let whole_width = and-right _ (width % powers == 0) three in
-          let two = and-left _ (width % powers == 0) three in
-          let even = and-right _ (outer % width == 0) two in
-          let wide = and-left _ (outer % width == 0) two in
-          let start = start_of width power in
-          let size = power % outer - power % width in
-          let wider : 0 < width = grind (arith, nat_tests, wide) in
-          let divides : outer % width ≡ 0 = grind (arith, nat_tests, even) in
-          let multiples : width % powers ≡ 0 = grind (arith, nat_tests, whole_width) in
-          let inside : power % outer % width ≡ power % width =
-          mod-mod_of_dvd width power (dvd_of_mod-eq-zero width divides) in
-          let rest_multiple : power % width % powers ≡ 0 =
-          mod-mod_of_dvd powers power (dvd_of_mod-eq-zero powers multiples) ∙ multiple in
-          let rest_less : power % width < width = omega (arith, wider) in
-          let rest_few : power % width + powers ≤ width =
-          multiples-apart powers (power % width) width rest_multiple multiples rest_less in
-          let rest_in : power % width ≤ power % outer =
-          omega (arith, inside, mod-le (power % outer) width) in
-          let outer_in : power % outer ≤ power = mod-le power outer in
-          let is_start : start ≡ (power - power % outer) + size = omega (arith, rest_in, outer_in) in
-          let raised : 10 ^ (power % outer) ≡ 10 ^ (power % width) * 10 ^ size =
-          let e : power % outer ≡ power % width + size =
-          omega (arith, rest_in) in ap (λ n. 10 ^ n) e ∙ pow-add 10 (power % width) size in
-          let whole : lead * 10 ^ (power % outer) ≡ lead * 10 ^ (power % width) * 10 ^ size =
-          ap (λ n. lead * n) raised ∙ omega arith in
-          let top : 10 ^ (power % outer + powers) ≡ 10 ^ (power % outer) * 10 ^ powers =
-          pow-add 10 (power % outer) powers in
-          let most : (lead + 1) * 10 ^ (power % outer) ≤ 10 ^ powers * 10 ^ (power % outer) =
-          mul-le-mul_right (10 ^ (power % outer)) (omega (arith, less)) in
-          let number : lead * 10 ^ (power % outer) + below < 10 ^ (power % outer + powers) =
-          omega (arith, most, small, top) in
-          let fits : lead * 10 ^ (power % outer) + below < 10 ^ (size + width) =
-          let p : 10 ^ (power % outer + powers) ≤ 10 ^ (size + width) =
-          pow-le-pow_right (omega arith) (omega (arith, rest_few, rest_in))
-          in omega (arith, p, number) in
-          let few : lead * 10 ^ (power % outer) + below < scale method 15 * scale method 15 =
-          few-of method _ (power % outer + powers) number (omega (arith, outer_in, room)) in
-          let lead_pos : 0 < lead * 10 ^ (power % width) = let p : 1 ≤ 10 ^ (power % width) =
-          one-le-pow (power % width) 10 (omega arith) in let q : lead * 1 ≤ lead * 10 ^ (power % width) =
-          mul-le-mul_left lead p in omega (arith, q, pos) in
-          elim (dec_lt start above) [
-            | no reach ↦
-                let test : nat_le above start ≡ true = grind (arith, nat_tests, reach) in
-                let one : 1 ≤ size = omega (arith, reach, is_start, is_above) in
-                let inner_in : inner ≤ size = omega (arith, reach, is_start, is_above) in
-                let below_small : below < 10 ^ size = let p : 10 ^ inner ≤ 10 ^ size =
-                pow-le-pow_right (omega arith) inner_in in omega (arith, p, fills.below) in
-                let unit_is = Stands-stands method outer width power stand (omega (arith, one)) in
-                let lower : filled < start + 1 =
-                elim (dec_lt 0 inner) [
-                  | yes p ↦ omega (arith, some p, reach)
-                  | no p ↦
-                      omega (arith, none (omega (arith, p)), reach)
-                ] in
-                let more = lead-over method widths powers width power lead 0 0 filled (start + 1) rest
-                within room multiple pos less (one-le-pow (power % width) 10 (omega arith))
-                (record { below = omega arith; reach = λ z. absurd (omega (arith, z)) })
-                (omega arith) (λ z. absurd (omega (arith, z))) (λ z. lower) in
-                let lead_part : part method (lead * 10 ^ (power % width))
-                ≡ part method lead ++ units_over method power filled (start + 1) widths =
-                let e : lead * 10 ^ (power % width) + 0 ≡ lead * 10 ^ (power % width) = omega arith in
-                let none_left = append-nil (units_over method power filled (start + 1) widths) in
-                rw e at more ∙ ap (λ marks. part method lead ++ marks) none_left in
-                let split = cut method (lead * 10 ^ (power % width)) below size width (rank_at method start)
-                unit_is lead_pos below_small (omega (arith, fits, whole)) (omega (arith, few, whole)) in
-                let flag = gap-flag inner size filled above below start (power - power % outer) fills
-                inner_in one is_start is_above some none in
-                ap (λ n. part method (n + below)) whole ∙ split
-                ∙ ap (λ marks. marks ++ (unit (rank_at method start)
-                ∷ (gap below (10 ^ size) ++ part method below))) lead_part
-                ∙ append_assoc (part method lead)
-                (units_over method power filled (start + 1) widths) (unit (rank_at method start)
-                ∷ (gap below (10 ^ size) ++ part method below))
-                ∙ ap (λ marks. part method lead ++ (units_over method power filled (start + 1)
-                widths ++ (unit (rank_at method start) ∷ (marks ++ part method below)))) flag
-                ∙ ap (λ marks. part method lead ++ marks)
-                (sym (append_assoc (units_over method power filled (start + 1) widths)
-                (unit_behind method filled above start) (part method below)))
-                ∙ ap (λ marks. part method lead ++ (marks ++ part method below))
-                (if-then (units_over method power filled (start + 1) widths
-                ++ unit_behind method filled above start) (units_over method power filled above
-                widths) test)
-            | yes short ↦
-                let test : nat_le above start ≡ false = grind (arith, nat_tests, short) in
-                let otherwise = if-else {b = nat_le above start}
-                (units_over method power filled (start + 1) widths
-                ++ unit_behind method filled above start) (units_over method power filled above
-                widths) test in
-                elim (dec_lt 0 size) [
-                  | no none_in ↦
-                      let same : power % outer ≡ power % width = omega (arith, none_in, rest_in) in
-                      let more = lead-over method widths powers width power lead below inner filled
-                      above rest within room multiple pos less (rw same at small) fills
-                      (rw same at is_above) some none in
-                      ap (λ n. part method (lead * 10 ^ n + below)) same ∙ more
-                      ∙ ap (λ marks. part method lead ++ (marks ++ part method below)) otherwise
-                  | yes some_in ↦
-                      let deep : size < inner = omega (arith, short, is_start, is_above, some_in) in
-                      let least : 10 ^ size ≤ below = let p : 10 ^ size ≤ 10 ^ (inner - 1) =
-                      pow-le-pow_right (omega arith) (omega (arith, deep))
-                      in omega (arith, p, fills.reach (omega (arith, deep))) in
-                      let high_small : below / 10 ^ size < 10 ^ (power % width) =
-                      lt_of_mul-lt-mul_right (10 ^ size)
-                      (omega (arith, small, raised, div-mul-le_self below (10 ^ size))) in
-                      let more = lead-over method widths powers width power lead (below / 10 ^ size)
-                      (inner - size) filled above rest within room multiple pos less high_small
-                      (Fills-above inner size below fills deep)
-                      (omega (arith, is_above, is_start, deep)) (λ z. some (omega (arith, deep)))
-                      (λ z. absurd (omega (arith, z, deep))) in
-                      ap (λ n. part method (n + below)) whole
-                      ∙ join method (lead * 10 ^ (power % width)) below size width (rank_at method start)
-                      (part method lead) (units_over method power filled above widths)
-                      (Stands-stands method outer width power stand some_in) least
-                      (omega (arith, fits, whole)) (omega (arith, few, whole)) more
-                      ∙ ap (λ marks. part method lead ++ (marks ++ part method below)) otherwise
-                ]
+    rw (end, none, only) (sym (append-nil (part method lead)))
+lead-over step method (width ∷ widths) power base lead below filled h within pos less under fills =
+    let start = start_of width power in
+    let both = and_parts (is_start step method power base start) _ h in
+    let ends : start ≤ power = omega arith in
+    elim (or_cases (base == start) _ both.0) [
+      | inl equal ↦
+          let same : base ≡ start = eqb-true base start equal in
+          let test : nat_le (max filled (start + 1)) start ≡ false = grind (arith, nat_tests) in
+          rw (same, test) (lead-over step method widths power start lead below filled both.1 ends
+          pos less under (rw same at fills))
+      | inr new ↦
+          let all = power - base in
+          let size = start - base in
+          let rest = power - start in
+          let tests = and_parts (nat_lt base start) (is_unit method size (all + step)
+          (rank_at method start)) new in
+          let far : base < start = ltb-true base start tests.0 in
+          let high = below / 10 ^ size in
+          let low = below % 10 ^ size in
+          let low_small : low < 10 ^ size = mod-lt below (one-le-pow size 10 (omega arith)) in
+          let split : below ≡ high * 10 ^ size + low = sym (div-add-mod' below (10 ^ size)) in
+          let raised : 10 ^ all ≡ 10 ^ rest * 10 ^ size = let e : all ≡ rest + size =
+          omega (arith, far, ends) in ap (λ n. 10 ^ n) e ∙ pow-add 10 rest size in
+          let rest_fills : Fills (filled - start) high =
+          let e : filled - base - size ≡ filled - start = omega (arith, far) in
+          rw e at (Fills-above (filled - base) size below fills) in
+          let known = lead-over step method widths power start lead high filled both.1 ends pos less
+          under rest_fills in
+          let most : (lead + 1) * 10 ^ all ≤ 10 ^ step * 10 ^ all =
+          mul-le-mul_right (10 ^ all) (omega (arith, less)) in
+          let fits : lead * 10 ^ all + below < 10 ^ (all + step) =
+          rw pow-add (omega (arith, most, fills.below all (omega (arith, under)))) in
+          let whole : lead * 10 ^ all + below ≡ (lead * 10 ^ rest + high) * 10 ^ size + low =
+          omega (arith, ap (λ n. lead * n) raised, split) in
+          let lead_some : 0 < lead * 10 ^ rest + high =
+          omega (arith, mul-le-mul_left lead (one-le-pow rest 10 (omega arith)), pos) in
+          let tail = unit (rank_at method start) ∷ (gap low (10 ^ size) ++ part method low) in
+          let joined : part method (lead * 10 ^ all + below) ≡ part method lead
+          ++ (units_over method power filled (max filled (start + 1)) widths
+          ++ (part method high ++ tail)) = ap (λ n. part method n) whole
+          ∙ cut method (lead * 10 ^ rest + high) low size (all + step) (rank_at method start)
+          tests.1 lead_some low_small (omega (arith, fits, whole))
+          ∙ ap (λ marks. marks ++ tail) known ∙ simp append_assoc in
+          elim (dec_lt start filled) [
+            | yes deep ↦
+                let test : nat_le (max filled (base + 1)) start ≡ false =
+                grind (arith, nat_tests, deep) in
+                let above : max filled (base + 1) ≡ max filled (start + 1) =
+                omega (arith, deep, far) in
+                let some : 0 < high = omega (arith, rest_fills.reach 0 (omega (arith, deep))) in
+                let lower : part method below ≡ part method high ++ tail =
+                ap (λ n. part method n) split ∙ cut method high low size (all + step)
+                (rank_at method start) tests.1 some low_small (omega (arith, fits, split)) in
+                rw (test, above, lower) joined
+            | no short ↦
+                let test : nat_le (max filled (base + 1)) start ≡ true =
+                grind (arith, nat_tests, short, far) in
+                let above : max filled (start + 1) ≡ start + 1 = omega (arith, short) in
+                let none : high ≡ 0 = omega (arith, rest_fills.below 0 (omega (arith, short))) in
+                let same : low ≡ below = omega (arith, rw none at split) in
+                let flag = gap-flag base start filled below far (omega (arith, short)) fills in
+                rw (test, ← flag, append_assoc) (rw (above, none, same) at joined)
           ]
     ]
+
+pub lead-more : (step : ℕ) (method : ChineseCountMethod) (power lead below filled : ℕ)
+    → HasUnits step method power → 0 < lead → lead < 10 ^ step → filled ≤ power
+    → Fills filled below → part method (lead * 10 ^ power + below)
+    ≡ part method lead ++ (units_behind method power filled ++ part method below)
+lead-more step method power lead below filled h pos less under fills =
+    let same : power - 0 ≡ power = omega arith in
+    let all : filled - 0 ≡ filled = omega arith in
+    rw same at (lead-over step method (widths_of method) power 0 lead below filled h (omega arith)
+    pos less under (rw all fills))
+
+-- the lowest `step` digits of a number from a power up
+abbrev pub digits_at : ℕ → ℕ → ℕ → ℕ
+digits_at step number power = number / 10 ^ power % 10 ^ step
+
+pub lower-less : (number power : ℕ) → number % 10 ^ power < 10 ^ power
+lower-less number power = mod-lt number (one-le-pow power 10 (omega arith))
+
+pub lower-split : (step number power : ℕ) → number % 10 ^ (power + step)
+    ≡ digits_at step number power * 10 ^ power + number % 10 ^ power
+lower-split step number power =
+    let e : 10 ^ (power + step) ≡ 10 ^ step * 10 ^ power = pow-add 10 power step ∙ omega arith in
+    rw e (mod-mul number (one-le-pow step 10 (omega arith)) (one-le-pow power 10 (omega arith)))
+
+-- digits that are all 0 add nothing
+pub lower-same : (step number power : ℕ) → digits_at step number power ≡ 0
+    → number % 10 ^ (power + step) ≡ number % 10 ^ power
+lower-same step number power none =
+    lower-split step number power
+    ∙ ap (λ d. d * 10 ^ power + number % 10 ^ power) none ∙ omega arith
+
+-- any others are written before the lower marks
+pub part-more : (step : ℕ) (method : ChineseCountMethod) (number power filled : ℕ)
+    → HasUnits step method power → 0 < digits_at step number power → filled ≤ power
+    → Fills filled (number % 10 ^ power)
+    → part method (number % 10 ^ (power + step)) ≡ part method (digits_at step number power)
+    ++ (units_behind method power filled ++ part method (number % 10 ^ power))
+part-more step method number power filled h pos under fills =
+    ap (λ n. part method n) (lower-split step number power)
+    ∙ lead-more step method power (digits_at step number power) (number % 10 ^ power) filled h pos
+    (mod-lt (number / 10 ^ power) (one-le-pow step 10 (omega arith))) under fills
+
+pub Fills-more : (step number power size : ℕ) → digits_at step number power < 10 ^ size
+    → 10 ^ size ≤ 10 * digits_at step number power
+    → Fills (power + size) (number % 10 ^ (power + step))
+Fills-more step number power size below reach =
+    let digits = digits_at step number power in
+    let split = lower-split step number power in
+    let raised = pow-add 10 power size in
+    let small = lower-less number power in
+    let most : (digits + 1) * 10 ^ power ≤ 10 ^ size * 10 ^ power =
+    mul-le-mul_right (10 ^ power) (omega (arith, below)) in
+    let least : 10 ^ size * 10 ^ power ≤ 10 * digits * 10 ^ power =
+    mul-le-mul_right (10 ^ power) reach in
+    record {
+      below = λ more past. let p : 10 ^ (power + size) ≤ 10 ^ more =
+          pow-le-pow_right (omega arith) past in omega (arith, p, most);
+      reach = λ less under. let p : 10 ^ (less + 1) ≤ 10 ^ (power + size) =
+          pow-le-pow_right (omega arith) (omega (arith, under))
+          in omega (arith, p, pow_more 10 less, split, raised, least);
+    }
+
+-- the first of the units is that of the power, and the only one if no group begins from `above` up
+-- to the power
+over-head : (space : ℕ) (method : ChineseCountMethod) (widths : List ℕ)
+    (power base filled above : ℕ) → is_spaced space power base widths ≡ true → base < power
+    → above ≤ power → (rest : List Mark)
+    × (units_over method power filled above widths ≡ unit (rank_at method power) ∷ rest)
+    × (power < above + space → rest ≡ kept (above == filled && nat_lt filled power) (digit 0))
+over-head space method [] power base filled above h less reach =
+    absurd (grind (arith, nat_tests, h, less))
+over-head space method (width ∷ widths) power base filled above h less reach =
+    let start = start_of width power in
+    let both = and_parts _ (is_spaced space power start widths) h in
+    elim (dec_lt start power) [
+      | no outside ↦
+          let same : start ≡ power = omega (arith, outside) in
+          let test : nat_le above power ≡ true = grind (arith, nat_tests, reach) in (
+            kept (above == filled && nat_lt filled power) (digit 0),
+            rw (same, test, over-none method widths power filled (power + 1) (omega arith)) refl,
+            λ near. refl,
+          )
+      | yes inside ↦ elim (dec_lt start above) [
+        | yes short ↦
+            let test : nat_le above start ≡ false = grind (arith, nat_tests, short) in
+            let more = over-head space method widths power start filled above both.1 inside reach in
+            (more.0, rw test more.1, more.2)
+        | no long ↦
+            let test : nat_le above start ≡ true = grind (arith, nat_tests, long) in
+            let more = over-head space method widths power start filled (start + 1) both.1 inside
+            (omega (arith, inside)) in (
+              more.0 ++ unit_behind method filled above start,
+              rw test (ap (λ marks. marks ++ unit_behind method filled above start) more.1),
+              λ near. absurd (grind (arith, nat_tests, near, long, inside, both.0)),
+            )
+      ]
+    ]
+
+pub behind-head : (space : ℕ) (method : ChineseCountMethod) (power filled : ℕ)
+    → IsSpaced space method power → 0 < power → filled ≤ power → (rest : List Mark)
+    × (units_behind method power filled ≡ unit (rank_at method power) ∷ rest)
+    × (power < max filled 1 + space
+    → rest ≡ kept (max filled 1 == filled && nat_lt filled power) (digit 0))
+behind-head space method power filled h pos under =
+    over-head space method (widths_of method) power 0 filled (max filled 1) h pos (omega arith)
+
+-- no unit is written after the lowest digit
+pub behind-zero : (method : ChineseCountMethod) → units_behind method 0 0 ≡ []
+behind-zero method = over-none method (widths_of method) 0 0 1 (omega arith)
