@@ -52,7 +52,7 @@ pub fn last_is<F: FnOnce(char) -> bool>(text: &str, test: F) -> bool
 }
 
 /// Whether a character is 廿 or 卅, which stand for 20 and 30.
-#[tactic(auto, unfolding(crate::specs::Expressions::is_tens, cn_core::specs::Figures::tens_of))]
+#[tactic(auto, unfolding(crate::specs::Expressions::is_tens, cn_core::specs::FigureCharacters::tens_of))]
 pub fn is_tens(c: char) -> bool
     ensures { result ≡ is_tens c }
 {
