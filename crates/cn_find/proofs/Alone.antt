@@ -5,7 +5,7 @@ use Rattle.std.specs.List.{Contains}
 use Rattle.std.proofs.Math.Bool.{and-false, or-true}
 use Rattle.std.proofs.Math.Utf8.{scalar, scalars}
 use Rattle.std.proofs.lemmas.Bool.{not-true}
-use Rattle.std.proofs.lemmas.List.{append_cancel_left}
+use Rattle.std.proofs.lemmas.List.{append_cancel_left, reverse-append}
 use Rattle.std.proofs.lemmas.Str.{chars-encodes, encodes-append, scalars-chars}
 use Rattle.cn_core.specs.Characters.{digit_of, rank, rank_of}
 use Rattle.cn_core.specs.Mark.{mark_from}
@@ -18,7 +18,6 @@ use Rattle.cn_find.specs.Parting.{Meet, is_alone}
 use Rattle.cn_find.specs.Rule.{number_rule, is_joined}
 use Rattle.cn_find.specs.Runs.{IsRun, each_belongs, last_joined}
 use Rattle.cn_find.specs.Spans.{Span, spans}
-use Rattle.cn_find.proofs.Nearest.{reverse_last}
 use Rattle.cn_find.proofs.RunLaws.{scalars-both, scalars-end, scalars-start, span-is_run}
 use Rattle.cn_find.proofs.Unwanted.{inside}
 
@@ -135,11 +134,6 @@ near-links : (c far : ℕ) (others : List ℕ) → is_link c ≡ true
 near-links c far others link leads =
     rw (link, leads) (or-true (clings c))
 
-from-last : (before front : List ℕ) (c : ℕ) → before ≡ front ++ c ∷ []
-    → goes_on (c ∷ reverse front) ≡ true → goes_on (reverse before) ≡ true
-from-last before front c e on = ap (λ l. goes_on (reverse l)) e
-    ∙ ap goes_on (reverse_last front c) ∙ on
-
 -- a run of a text by its characters
 pub record Placed (wanted : Wanted) (text : List ℕ) (span : Span) : Type 0 where
   pub left : List ℕ
@@ -199,29 +193,6 @@ placed wanted bytes span whole found =
             after = ap chars r.after_is ∙ chars-encodes r.right ended;
           }
 
--- the characters before the second of two runs, if the characters `link` are between them
-between-left : (wanted : Wanted) (text : List ℕ) (first second : Span) (link : List ℕ)
-    → (p : Placed wanted text first) → (q : Placed wanted text second) → scalars link ≡ true
-    → second.before ≡ first.before ++ first.text ++ encode_utf8_all link
-    → q.left ≡ p.left ++ p.first ∷ p.others ++ link
-between-left wanted text first second link p q is_text e =
-    sym (chars-encodes q.left q.left_chars)
-    ∙ ap chars (sym q.before ∙ e ∙ ap (λ l. l ++ encode_utf8_all link) p.front
-    ∙ sym (encodes-append (p.left ++ p.first ∷ p.others) link))
-    ∙ chars-encodes (p.left ++ p.first ∷ p.others ++ link)
-    (scalars-both (p.left ++ p.first ∷ p.others) link p.run_chars is_text)
-
-between-right : (wanted : Wanted) (text : List ℕ) (first second : Span) (link : List ℕ)
-    → (p : Placed wanted text first) → (q : Placed wanted text second)
-    → q.left ≡ p.left ++ p.first ∷ p.others ++ link
-    → p.right ≡ link ++ (q.first ∷ (q.others ++ q.right))
-between-right wanted text first second link p q e =
-    append_cancel_left (p.left ++ p.first ∷ p.others) p.right
-    (link ++ (q.first ∷ (q.others ++ q.right)))
-    (append_assoc p.left (p.first ∷ p.others) p.right ∙ sym p.parts ∙ q.parts
-    ∙ ap (λ l. l ++ (q.first ∷ (q.others ++ q.right))) e
-    ∙ append_assoc (p.left ++ p.first ∷ p.others) link (q.first ∷ (q.others ++ q.right)))
-
 -- the characters before the second run, split before the last character of the first
 last-before : (wanted : Wanted) (text : List ℕ) (first : Span) (link : List ℕ)
     → (p : Placed wanted text first)
@@ -232,62 +203,69 @@ last-before wanted text first link p =
     ∙ ap (λ l. l ++ link) (sym (append_assoc p.left p.ends.front (p.ends.last ∷ [])))
     ∙ append_assoc (p.left ++ p.ends.front) (p.ends.last ∷ []) link
 
+-- two runs with the characters `link` between them do not stand alone if each of the two goes on
+-- with these
+met : (wanted : Wanted) (text : List ℕ) (first second : Span) (link : List ℕ)
+    (p : Placed wanted text first) (q : Placed wanted text second) → scalars link ≡ true
+    → second.before ≡ first.before ++ first.text ++ encode_utf8_all link
+    → (p.right ≡ link ++ (q.first ∷ (q.others ++ q.right))
+    → (goes_on (link ++ (q.first ∷ (q.others ++ q.right))) ≡ true)
+    × (goes_on (reverse (p.ends.last ∷ link) ++ reverse (p.left ++ p.ends.front)) ≡ true))
+    → (is_alone first ≡ false) × (is_alone second ≡ false)
+met wanted text first second link p q is_text e on = (
+  on-after (chars first.before) (chars first.after) (ap goes_on (p.after ∙ right) ∙ (on right).0),
+  on-before (chars second.before) (chars second.after)
+      (ap (λ l. goes_on (reverse l)) (ap chars q.before ∙ chars-encodes q.left q.left_chars ∙ left
+      ∙ last-before wanted text first link p)
+      ∙ ap goes_on (reverse-append (p.left ++ p.ends.front) (p.ends.last ∷ link)) ∙ (on right).1),
+) where
+  left : q.left ≡ p.left ++ p.first ∷ p.others ++ link
+  left =
+      sym (chars-encodes q.left q.left_chars)
+      ∙ ap chars (sym q.before ∙ e ∙ ap (λ l. l ++ encode_utf8_all link) p.front
+      ∙ sym (encodes-append (p.left ++ p.first ∷ p.others) link))
+      ∙ chars-encodes (p.left ++ p.first ∷ p.others ++ link)
+      (scalars-both (p.left ++ p.first ∷ p.others) link p.run_chars is_text)
+
+  right : p.right ≡ link ++ (q.first ∷ (q.others ++ q.right))
+  right =
+      append_cancel_left (p.left ++ p.first ∷ p.others) p.right
+      (link ++ (q.first ∷ (q.others ++ q.right)))
+      (append_assoc p.left (p.first ∷ p.others) p.right ∙ sym p.parts ∙ q.parts
+      ∙ ap (λ l. l ++ (q.first ∷ (q.others ++ q.right))) left
+      ∙ append_assoc (p.left ++ p.first ∷ p.others) link (q.first ∷ (q.others ++ q.right)))
+
 touching : (wanted : Wanted) (text : List ℕ) (first second : Span)
-    → (p : Placed wanted text first) → (q : Placed wanted text second)
+    → Placed wanted text first → Placed wanted text second
     → second.before ≡ first.before ++ first.text
     → (is_alone first ≡ false) × (is_alone second ≡ false)
-touching wanted text first second p q e = (
-  on-after (chars first.before) (chars first.after)
-      (ap goes_on (p.after ∙ right) ∙ near-clings q.first (q.others ++ q.right) both.1),
-  on-before (chars second.before) (chars second.after)
-      (from-last (chars second.before) (p.left ++ p.ends.front) p.ends.last
-      (ap chars q.before ∙ chars-encodes q.left q.left_chars ∙ left
-      ∙ last-before wanted text first [] p)
-      (near-clings p.ends.last (reverse (p.left ++ p.ends.front)) both.0)),
-) where
-  left : q.left ≡ p.left ++ p.first ∷ p.others ++ []
-  left = between-left wanted text first second [] p q refl
-      (e ∙ sym (append-nil (first.before ++ first.text)))
-
-  right : p.right ≡ q.first ∷ (q.others ++ q.right)
-  right = between-right wanted text first second [] p q left
-
-  both : (clings p.ends.last ≡ true) × (clings q.first ≡ true)
-  both = parted-cling p.ends.last q.first
-      (touched wanted p.ends.at p.ends.last q.first (q.others ++ q.right)
-      (ap (belongs wanted p.ends.last) (sym right) ∙ p.ends.numeral) q.begins
-      (ap (is_joined (number_rule wanted) p.ends.at p.ends.last) (sym right) ∙ p.ends.apart))
+touching wanted text first second p q e =
+    met wanted text first second [] p q refl (e ∙ sym (append-nil (first.before ++ first.text)))
+    (λ right.
+    let both = parted-cling p.ends.last q.first
+    (touched wanted p.ends.at p.ends.last q.first (q.others ++ q.right)
+    (ap (belongs wanted p.ends.last) (sym right) ∙ p.ends.numeral) q.begins
+    (ap (is_joined (number_rule wanted) p.ends.at p.ends.last) (sym right) ∙ p.ends.apart)) in (
+      near-clings q.first (q.others ++ q.right) both.1,
+      near-clings p.ends.last (reverse (p.left ++ p.ends.front)) both.0,
+    ))
 
 link-scalar : (c : ℕ) → is_link c ≡ true → scalar c ≡ true
 unfolding is_link
 link-scalar c h = inside scalar (codes ".,-点點") c refl h
 
 linking : (wanted : Wanted) (text : List ℕ) (first second : Span) (c : ℕ)
-    → (p : Placed wanted text first) → (q : Placed wanted text second) → is_link c ≡ true
+    → Placed wanted text first → Placed wanted text second → is_link c ≡ true
     → second.before ≡ first.before ++ first.text ++ encode_utf8 c
     → (is_alone first ≡ false) × (is_alone second ≡ false)
-linking wanted text first second c p q link e = (
-  on-after (chars first.before) (chars first.after)
-      (ap goes_on (p.after ∙ right) ∙ near-links c q.first (q.others ++ q.right) link
-      (linked wanted q.first (q.others ++ q.right) q.begins)),
-  on-before (chars second.before) (chars second.after)
-      (from-last (chars second.before) (p.left ++ p.ends.front ++ p.ends.last ∷ []) c
-      (ap chars q.before ∙ chars-encodes q.left q.left_chars ∙ left
-      ∙ last-before wanted text first (c ∷ []) p
-      ∙ sym (append_assoc (p.left ++ p.ends.front) (p.ends.last ∷ []) (c ∷ [])))
-      (ap (λ l. goes_on (c ∷ l)) (reverse_last (p.left ++ p.ends.front) p.ends.last)
-      ∙ near-links c p.ends.last (reverse (p.left ++ p.ends.front)) link
-      (linked wanted p.ends.last p.right p.ends.numeral))),
-) where
-  one : scalars (c ∷ []) ≡ true
-  one = ap (λ b. b && true) (link-scalar c link)
-
-  left : q.left ≡ p.left ++ p.first ∷ p.others ++ c ∷ []
-  left = between-left wanted text first second (c ∷ []) p q one
-      (e ∙ ap (λ l. first.before ++ first.text ++ l) (sym (append-nil (encode_utf8 c))))
-
-  right : p.right ≡ c ∷ q.first ∷ (q.others ++ q.right)
-  right = between-right wanted text first second (c ∷ []) p q left
+linking wanted text first second c p q link e =
+    met wanted text first second (c ∷ []) p q (ap (λ b. b && true) (link-scalar c link))
+    (e ∙ ap (λ l. first.before ++ first.text ++ l) (sym (append-nil (encode_utf8 c)))) (λ right. (
+      near-links c q.first (q.others ++ q.right) link
+          (linked wanted q.first (q.others ++ q.right) q.begins),
+      near-links c p.ends.last (reverse (p.left ++ p.ends.front)) link
+          (linked wanted p.ends.last p.right p.ends.numeral),
+    ))
 
 pub meeting : (wanted : Wanted) (bytes : List ℕ) (first second : Span) → IsUtf8 bytes
     → Contains (spans wanted bytes) first → Contains (spans wanted bytes) second

@@ -96,11 +96,9 @@ pub back_more : (text rest front : List ℕ) (c : ℕ) → PassedBack text rest 
     → PassedBack text front
 back_more text rest front c p utf8 utf8_front e is_of = record {
   passed = p.passed ++ c ∷ [];
-  parts = p.parts
-      ∙ ap (λ l. l ++ encode_utf8_all (reverse p.passed)) (back-more rest front c utf8 utf8_front characters)
-      ∙ append_assoc front (encode_utf8_all (c ∷ [])) (encode_utf8_all (reverse p.passed))
-      ∙ ap (λ l. front ++ l) (sym (encodes-append (c ∷ []) (reverse p.passed)))
-      ∙ ap (λ l. front ++ encode_utf8_all l) (sym more);
+  parts = rw (p.parts, more, back-more rest front c utf8 utf8_front characters)
+      (append_assoc front (encode_utf8_all (c ∷ [])) (encode_utf8_all (reverse p.passed))
+      ∙ ap (λ l. front ++ l) (sym (encodes-append (c ∷ []) (reverse p.passed))));
   spelled = ap scalars more
       ∙ both (scalar c) (scalars (reverse p.passed))
       (last-scalar (chars front) c (ap scalars (sym characters) ∙ scalars-chars rest utf8)) p.spelled;

@@ -110,11 +110,11 @@ pub Passed-of : (whole before ahead after : List ℕ) (c : ℕ) → whole ≡ be
     → Passed whole before after c
 Passed-of whole before ahead after c cut front whole_ahead ended parts = record {
   ends = IsEnd-at whole (before ++ encode_utf8 c) after at;
-  front =
-      ap in_front (seam-front whole (before ++ encode_utf8 c) after at)
-      ∙ ap reverse (chars-append before (encode_utf8 c) front
-      ∙ ap (λ l. chars before ++ l) (one-char ahead after c whole_ahead parts))
-      ∙ reverse-append (chars before) (c ∷ []);
+  front = rw (
+    seam-front whole (before ++ encode_utf8 c) after at,
+    chars-append before (encode_utf8 c) front,
+    one-char ahead after c whole_ahead parts,
+  ) (reverse-append (chars before) (c ∷ []));
 } where
   at : whole ≡ before ++ encode_utf8 c ++ after
   at = cut ∙ ap (λ l. before ++ l) (first-bytes ahead after c whole_ahead ended parts)
@@ -136,10 +136,8 @@ pub Skipping-more : (rule : Rule) (whole rest ahead after : List ℕ) (c : ℕ)
     → Skipping rule whole rest after
 Skipping-more rule whole rest ahead after c s front here ended parts e = record {
   ends = passed.ends;
-  same =
-      s.same ∙ ap (spans_after rule false (in_front (text_before whole ahead))) parts
-      ∙ next-character rule (in_front (text_before whole ahead)) c (chars after) e
-      ∙ ap (λ l. spans_after rule false l (chars after)) (sym passed.front);
+  same = rw (s.same, parts, passed.front)
+      (next-character rule (in_front (text_before whole ahead)) c (chars after) e);
 } where
   passed : Passed whole (text_before whole ahead) after c
   passed = Passed-of whole (text_before whole ahead) ahead after c (sym s.ends) front here ended
@@ -299,13 +297,12 @@ IsNext-found rule whole rest before ahead text after s here at utf8 run_ends cut
 
   at_end : reverse_aux (run_of rule front (chars ahead)) front
       ≡ in_front (text_before whole after)
-  at_end =
-      ap (λ l. reverse_aux l front)
-      (chars_from_encodes (run_of rule front (chars ahead)) text whole_text (sym run))
-      ∙ front-onto front (chars text)
-      ∙ sym (reverse-append (chars before) (chars text))
-      ∙ ap reverse (sym (chars-append before text utf8))
-      ∙ ap in_front (sym (seam-front whole (before ++ text) after at_after))
+  at_end = rw (
+    seam-front whole (before ++ text) after at_after,
+    chars-append before text utf8,
+    reverse-append (chars before) (chars text),
+    chars_from_encodes (run_of rule front (chars ahead)) text whole_text (sym run),
+  ) (front-onto front (chars text))
 
   begins : first_belongs rule front (chars ahead) ≡ true
   begins = ap (λ l. first_belongs rule (in_front l) (chars ahead)) at ∙ here

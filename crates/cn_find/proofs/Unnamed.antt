@@ -1,6 +1,5 @@
 -- The characters that part a text into expressions.
-use Rattle.std.proofs.Common.{◌≡◌, ℕ, zero, suc, Bool, true, false, not, ◌&&◌, ◌||◌, List, [], ◌∷◌, ◌++◌, codes, is_some, refl, ap, ◌∙◌}
-use Rattle.std.specs.List.{list_all}
+use Rattle.std.proofs.Common.{◌≡◌, ℕ, zero, suc, Bool, false, not, ◌&&◌, ◌||◌, List, [], ◌∷◌, ◌++◌, codes, is_some, refl, ap, ◌∙◌}
 use Rattle.std.specs.Char.{char_set_contains}
 use Rattle.std.proofs.lemmas.Bool.{or_from}
 use Rattle.std.proofs.Math.Bool.{and-false}
@@ -18,7 +17,7 @@ use Rattle.cn_find.proofs.Unwanted.{belongs-same, outside, unwanted, IsUnseen}
 
 -- the facts about such a character
 record IsUnnamed (wanted : Wanted) (c : ℕ) : Type 0 where
-  unwanted : is_wanted wanted c ≡ false
+  unseen : IsUnseen wanted c
   han : is_han c ≡ false
   figure : is_figure c ≡ false
   digit : is_some (digit_of c) ≡ false
@@ -28,7 +27,7 @@ record IsUnnamed (wanted : Wanted) (c : ℕ) : Type 0 where
 
 IsUnnamed-of : (wanted : Wanted) (c : ℕ) → is_wanted wanted c ≡ false → is_named c ≡ false
     → IsUnnamed wanted c
-unfolding is_named
+unfolding is_named is_of_measure is_han
 IsUnnamed-of wanted c unwanted e =
     let a = neither _ (char_set_contains (codes "℃") c) e in
     let b = neither _ (binds_minus c) a.0 in
@@ -36,7 +35,11 @@ IsUnnamed-of wanted c unwanted e =
     let f = neither _ (is_some (digit_of c)) d.0 in
     let g = neither (is_han c) (is_figure c) f.0 in
     record {
-      unwanted = unwanted;
+      unseen = record {
+        unwanted = unwanted;
+        unmeasured = outside is_han
+            (codes "瓦赫帕焦伏乏字节節比特电電子宽寬带帶頻位数數欧歐元") c refl g.0;
+      };
       han = g.0;
       figure = g.1;
       digit = f.1;
@@ -45,39 +48,23 @@ IsUnnamed-of wanted c unwanted e =
       degree = a.1;
     }
 
--- such a character is in no set of Han characters
-no-han : (wanted : Wanted) (set : List ℕ) (c : ℕ) → list_all is_han set ≡ true → IsUnnamed wanted c
-    → char_set_contains set c ≡ false
-no-han wanted set c all u = outside is_han set c all u.han
-
-unmeasured : (wanted : Wanted) (c : ℕ) → IsUnnamed wanted c → is_of_measure c ≡ false
-unfolding is_of_measure is_han
-unmeasured wanted c u = no-han wanted (codes "瓦赫帕焦伏乏字节節比特电電子宽寬带帶頻位数數欧歐元") c refl u
-
-IsUnseen-of : (wanted : Wanted) (c : ℕ) → IsUnnamed wanted c → IsUnseen wanted c
-IsUnseen-of wanted c u = record { unwanted = u.unwanted; unmeasured = unmeasured wanted c u }
-
 -- such a character belongs to nothing
 none-belongs : (wanted : Wanted) (front : List ℕ) (c : ℕ) (after : List ℕ) → IsUnnamed wanted c
     → (expression_rule wanted).belongs front c after ≡ false
 none-belongs wanted front c after u = usual_belongs wanted front c after u.extra
-    ∙ unwanted wanted c after (IsUnseen-of wanted c u)
+    ∙ unwanted wanted c after u.unseen
 
 none-numeric : (wanted : Wanted) (c : ℕ) (after : List ℕ) → IsUnnamed wanted c
     → is_numeric wanted c after ≡ false
 none-numeric wanted c after u = usual-numeric wanted c after u.extra
-    ∙ unwanted wanted c after (IsUnseen-of wanted c u)
-
-belongs-seen : (wanted : Wanted) (d c : ℕ) (right xs : List ℕ) → IsUnnamed wanted c
-    → belongs wanted d (xs ++ c ∷ right) ≡ belongs wanted d xs
-belongs-seen wanted d c right xs u = belongs-same wanted d c right xs (IsUnseen-of wanted c u)
+    ∙ unwanted wanted c after u.unseen
 
 -- a character before it is treated as if the text ended there
 numeric-same : (wanted : Wanted) (d c : ℕ) (right xs : List ℕ) → IsUnnamed wanted c
     → is_numeric wanted d (xs ++ c ∷ right) ≡ is_numeric wanted d xs
 unfolding is_numeric
 numeric-same wanted d c right xs u =
-    ap (λ b. b || (is_tens d || is_wide_figure d)) (belongs-seen wanted d c right xs u)
+    ap (λ b. b || (is_tens d || is_wide_figure d)) (belongs-same wanted d c right xs u.unseen)
 
 -- the test of a text treats the character like the end of the text
 abbrev Stops : ℕ → (List ℕ → Bool) → Type 0
@@ -107,7 +94,7 @@ time-stops : (wanted : Wanted) (c : ℕ) → IsUnnamed wanted c → Stops c begi
 unfolding is_han
 time-stops wanted c u =
     first-stops (char_set_contains (codes "分刻十点點")) c
-    (no-han wanted (codes "分刻十点點") c refl u)
+    (outside is_han (codes "分刻十点點") c refl u.han)
 
 minutes-stops : (wanted : Wanted) (c : ℕ) → IsUnnamed wanted c → Stops c begins_minutes
 minutes-stops wanted c u =
@@ -119,7 +106,7 @@ unfolding begins_word follows_one is_han
 word-stops wanted d c u right xs = rw (
   time-stops wanted c u right xs,
   minutes-stops wanted c u right xs,
-  first-stops follows_one c (no-han wanted (codes "定直起样樣些下切滴线線") c refl u) right xs,
+  first-stops follows_one c (outside is_han (codes "定直起样樣些下切滴线線") c refl u.han) right xs,
 )
 
 decimals-stops : (wanted : Wanted) (c : ℕ) → IsUnnamed wanted c → Stops c (begins_decimals wanted)
@@ -130,11 +117,11 @@ multiplier-stops : (wanted : Wanted) (c : ℕ) → IsUnnamed wanted c
     → Stops c (begins_multiplier wanted)
 multiplier-stops wanted c u right [] =
     or_from (is_multiplier (mark_of c) && belongs wanted c right) _
-    (ap (λ b. is_multiplier (mark_of c) && b) (unwanted wanted c right (IsUnseen-of wanted c u))
+    (ap (λ b. is_multiplier (mark_of c) && b) (unwanted wanted c right u.unseen)
     ∙ and-false (is_multiplier (mark_of c)))
     (or_from (is_percent c) _ (no-joiner (codes "%％") c refl u.extra)
     (no-joiner (codes "‰") c refl u.extra))
-multiplier-stops wanted c u right (x ∷ xs) = rw (belongs-seen wanted x c right xs u)
+multiplier-stops wanted c u right (x ∷ xs) = rw (belongs-same wanted x c right xs u.unseen)
 
 signed-stops : (wanted : Wanted) (c : ℕ) → IsUnnamed wanted c → Stops c (begins_signed wanted)
 signed-stops wanted c u right [] = rw (
@@ -171,7 +158,7 @@ degrees-stops wanted c u right xs = rw (
 )
 
 below-stops : (wanted : Wanted) (c : ℕ) → IsUnnamed wanted c → Stops c (begins_below_zero wanted)
-below-stops wanted c u right [] = rw (u.figure, u.unwanted)
+below-stops wanted c u right [] = rw (u.figure, u.unseen.unwanted)
 below-stops wanted c u right (x ∷ xs) = rw (degrees-stops wanted c u right xs)
 
 joins-ahead : (wanted : Wanted) (front : List ℕ) (d c : ℕ) → IsUnnamed wanted c
@@ -202,12 +189,12 @@ words-ahead wanted front d c u right xs =
     let may = not (ends_numeral wanted front) in
     rw (
       first-stops (λ e. is_wanted wanted e && (is_multiplier (mark_of e) || is_ge (mark_of e))) c
-          (rw u.unwanted) right xs,
+          (rw u.unseen.unwanted) right xs,
       then-stops (char_set_contains (codes "万萬")) (λ others. may || first_is is_han others) c
-          (no-han wanted (codes "万萬") c refl u)
+          (outside is_han (codes "万萬") c refl u.han)
           (λ more ys. ap (λ b. may || b) (first-stops is_han c u.han more ys)) right xs,
       first-stops (char_set_contains (codes "瓦克米卡赫伏安焦帕")) c
-          (no-han wanted (codes "瓦克米卡赫伏安焦帕") c refl u) right xs,
+          (outside is_han (codes "瓦克米卡赫伏安焦帕") c refl u.han) right xs,
     )
 
 -- a character after it is treated as if the text began there
@@ -249,9 +236,9 @@ joins-behind wanted d c after u left front =
       then-stops (char_set_contains (codes " ")) (first_is is_figure) c
           (no-joiner (codes " ") c refl u.extra) figure left front,
       then-stops (char_set_contains (codes "零")) (λ others. not (ends_numeral wanted others)) c
-          (no-han wanted (codes "零") c refl u) (λ more ys. ap not (numeral more ys)) left front,
+          (outside is_han (codes "零") c refl u.han) (λ more ys. ap not (numeral more ys)) left front,
       first-stops precedes_minus c
-          (no-han wanted (codes "正非背揹肩担擔抱胜勝辜欺自不") c refl u) left front,
+          (outside is_han (codes "正非背揹肩担擔抱胜勝辜欺自不") c refl u.han) left front,
       bound left front,
       then-stops is_figure_minus (may_precede_minus wanted) c
           (no-joiner (codes "-−－") c refl u.extra) (λ more ys. rw (numeral more ys, bound more ys))
@@ -271,7 +258,7 @@ words-behind : (wanted : Wanted) (d c : ℕ) (after : List ℕ) → IsUnnamed wa
 unfolding is_weight is_item is_kilo
 words-behind wanted d c after u left front = rw (
   nearest-numeral wanted c u left front,
-  first-stops (λ e. is_wanted wanted e && is_power (mark_of e)) c (rw u.unwanted) left front,
+  first-stops (λ e. is_wanted wanted e && is_power (mark_of e)) c (rw u.unseen.unwanted) left front,
   nearest-decimals wanted c u left front,
 )
 
