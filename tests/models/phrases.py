@@ -531,10 +531,8 @@ def doubt_of_date(line, phrase):
 
 
 def doubt_of_range(line, phrase):
-    low, high, link = phrase.parts["low"], phrase.parts["high"], phrase.words[1]
-    if link in "-－—" and not has_figure(low.text + high.text):
-        return None
-    return None
+    """A share of a price: 五到八折."""
+    return "part" if line.at(phrase.end) in "折成" else None
 
 
 DOUBTS = {"date": doubt_of_date, "range": doubt_of_range}

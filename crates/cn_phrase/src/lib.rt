@@ -1,0 +1,6 @@
+//! Finds phrases in a text: dates, times of day, durations, ranges, scores and lengths.
+#![tactic(auto)]
+
+mod shape;
+
+pub use shape::{Shape, value_of};
