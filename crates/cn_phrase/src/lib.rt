@@ -3,4 +3,4 @@
 
 mod shape;
 
-pub use shape::{Shape, value_of};
+pub use shape::count_of;
