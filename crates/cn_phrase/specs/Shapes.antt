@@ -18,6 +18,10 @@ counting_digit c = option_and_then (λ n. if n == 0 then None else Some n) (chin
 unfoldable pub is_ten : ℕ → Bool
 is_ten c = char_set_contains (codes "十") c
 
+-- the character is a Chinese zero
+unfoldable pub is_zero : ℕ → Bool
+is_zero c = char_set_contains (codes "零〇") c
+
 -- the number of two digits
 abbrev pub two_digits : Option ℕ → Option ℕ → Option ℕ
 two_digits first second =
@@ -35,3 +39,40 @@ count_of (c ∷ d ∷ []) =
 count_of (c ∷ d ∷ e ∷ []) =
     if is_ten d then two_digits (counting_digit c) (counting_digit e) else None
 count_of text = None
+
+-- 零 and a Chinese digit
+abbrev pub zero_digit_of : List ℕ → Option ℕ
+zero_digit_of (c ∷ d ∷ []) = if is_zero c then chinese_digit d else None
+zero_digit_of text = None
+
+-- a number of a clock: a count, or 零 and a digit
+abbrev pub clock_of : List ℕ → Option ℕ
+clock_of text = option_or (count_of text) (zero_digit_of text)
+
+-- a number of two parts, of which the second has two digits
+abbrev pub hundreds : Option ℕ → Option ℕ → Option ℕ
+hundreds first second =
+    option_and_then (λ high. option_map (λ low. 100 * high + low) second) first
+
+-- the number of four digits
+abbrev pub four_digits : (ℕ → Option ℕ) → List ℕ → Option ℕ
+four_digits digit (a ∷ b ∷ c ∷ d ∷ []) =
+    hundreds (two_digits (digit a) (digit b)) (two_digits (digit c) (digit d))
+four_digits digit text = None
+
+-- a year of four figures or four Chinese digits, from 1000 to 2999
+abbrev pub year_of : List ℕ → Option ℕ
+year_of text =
+    option_and_then (λ year. if nat_le 1000 year && nat_lt year 3000 then Some year else None)
+    (option_or (four_digits figure_of text) (four_digits chinese_digit text))
+
+-- two digits that follow one another, as in 五六 and 三五, are said of numbers that are approximate
+abbrev pub are_about : ℕ → ℕ → Bool
+are_about a b = nat_lt 0 a && (b == a + 1 || (a == 3 && b == 5))
+
+-- the last two digits of a year, in Chinese
+abbrev pub short_year_of : List ℕ → Option ℕ
+short_year_of (c ∷ d ∷ []) =
+    option_and_then (λ a. option_and_then (λ b. if are_about a b then None else Some (10 * a + b))
+    (chinese_digit d)) (chinese_digit c)
+short_year_of text = None
