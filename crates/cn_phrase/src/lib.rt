@@ -2,5 +2,7 @@
 #![tactic(auto)]
 
 mod shape;
+mod word;
 
 pub use shape::count_of;
+pub use word::Word;
