@@ -51,13 +51,22 @@ after_half_day text =
     (option_or (after_two (codes "午") (codes "后後") text)
     (after_one (codes "早晚") text))))))))
 
--- after a weekday: 周五, 星期五, 礼拜五
+-- after 周, 星期 or 礼拜
+abbrev pub after_week : List ℕ → Option (List ℕ)
+after_week text =
+    option_or (after_one (codes "周週") text)
+    (option_or (after_two (codes "星") (codes "期") text)
+    (after_two (codes "礼禮") (codes "拜") text))
+
+-- after a weekday, such as 周五
 unfoldable pub after_weekday : List ℕ → Option (List ℕ)
 after_weekday text =
-    option_and_then (λ rest. after_one (codes "一二三四五六") rest)
-    (option_or (after_one (codes "周週") text)
-    (option_or (after_two (codes "星") (codes "期") text)
-    (after_two (codes "礼禮") (codes "拜") text)))
+    option_and_then (λ rest. after_one (codes "一二三四五六") rest) (after_week text)
+
+-- after a word with 钟 or without
+abbrev pub after_with_zhong : ℕ → List ℕ → Option (List ℕ)
+after_with_zhong word text =
+    option_or (after_two (word ∷ []) (codes "钟鐘") text) (after_one (word ∷ []) text)
 
 -- the text after a word, if it begins with it
 abbrev pub after_word : Word → List ℕ → Option (List ℕ)
@@ -77,10 +86,8 @@ after_word Bi text = after_one (codes "比") text
 after_word Mi text = after_one (codes "米度秒") text
 after_word Link text = after_one (codes "到至~～－–—〜-") text
 after_word Hours text = after_hour_word (after_any (codes "个個") text)
-after_word Minutes text =
-    option_or (after_two (codes "分") (codes "钟鐘") text) (after_one (codes "分") text)
-after_word Seconds text =
-    option_or (after_two (codes "秒") (codes "钟鐘") text) (after_one (codes "秒") text)
+after_word Minutes text = after_with_zhong 20998 text
+after_word Seconds text = after_with_zhong 31186 text
 after_word HalfOf text =
     option_and_then (λ rest. after_halved rest) (after_two (codes "个個") (codes "半") text)
 after_word HalfAfter text = after_two (codes "年天周週岁歲斤里吨噸倍米度") (codes "半") text
