@@ -37,6 +37,12 @@ after_halved text =
     (option_or (after_two (codes "礼禮") (codes "拜") text)
     (after_two (codes "世") (codes "纪紀") text))))
 
+-- after 早 or 晚, but not before 一点: 早一点 is no time of day
+abbrev pub after_early : List ℕ → Option (List ℕ)
+after_early text =
+    option_and_then (λ rest. if is_some (after_two (codes "一") (codes "点點") rest) then None
+    else Some rest) (after_one (codes "早晚") text)
+
 -- after a word of half a day: 早, 晚; 凌晨, 清晨, 早晨; 上午, 中午, 下午, 正午; 傍晚; 今早, 昨晚; 深夜, 半夜,
 -- 午夜; 早上, 晚上; 夜里, 晚间; 午后
 unfoldable pub after_half_day : List ℕ → Option (List ℕ)
@@ -49,7 +55,7 @@ after_half_day text =
     (option_or (after_two (codes "早晚") (codes "上") text)
     (option_or (after_two (codes "夜晚") (codes "里裡间間") text)
     (option_or (after_two (codes "午") (codes "后後") text)
-    (after_one (codes "早晚") text))))))))
+    (after_early text))))))))
 
 -- after 周, 星期 or 礼拜
 abbrev pub after_week : List ℕ → Option (List ℕ)

@@ -2,7 +2,7 @@
 ghost use Rattle.std.specs.Prelude.{◌≡◌, chars};
 ghost use Rattle.std.specs.Char.{char_set_contains};
 ghost use Rattle.std.specs.Option.{option_map};
-ghost use Rattle.cn_phrase.specs.Words.{after_any, after_half_day, after_halved, after_hour_word, after_one, after_two, after_week, after_weekday, after_with_zhong, after_word};
+ghost use Rattle.cn_phrase.specs.Words.{after_any, after_early, after_half_day, after_halved, after_hour_word, after_one, after_two, after_week, after_weekday, after_with_zhong, after_word};
 
 use cn_core::split_first_char;
 
@@ -119,6 +119,18 @@ fn after_halved(text: &str) -> Option<&str>
     after_two(&['世'], &['纪', '紀'], text)
 }
 
+// The text after 早 or 晚, but not before 一点: 早一点 is no time of day.
+fn after_early(text: &str) -> Option<&str>
+    ensures { option_map (λ rest. chars rest.now) result ≡ after_early (chars text.now) }
+{
+    let rest = after_one(&['早', '晚'], text)?;
+    if after_two(&['一'], &['点', '點'], rest).is_some() {
+        None
+    } else {
+        Some(rest)
+    }
+}
+
 // The text after a word of half a day.
 #[tactic(auto, unfolding(crate::specs::Words::after_half_day))]
 fn after_half_day(text: &str) -> Option<&str>
@@ -148,7 +160,7 @@ fn after_half_day(text: &str) -> Option<&str>
     if let Some(rest) = after_two(&['午'], &['后', '後'], text) {
         return Some(rest);
     }
-    after_one(&['早', '晚'], text)
+    after_early(text)
 }
 
 // The text after 周, 星期 or 礼拜.

@@ -13,7 +13,7 @@ pub mod laws;
 mod nothing;
 mod numbers;
 mod options;
-mod pieces;
+pub mod pieces;
 mod quantities;
 mod replace;
 mod replacement;
