@@ -1,9 +1,11 @@
 -- The numbers that the slots of phrases hold.
-use Rattle.std.specs.Prelude.{ℕ, ◌+◌, ◌*◌, ◌==◌, nat_le, nat_lt, Bool, true, false, not, ◌&&◌, ◌||◌, List, [], ◌∷◌, codes, Option, Some, None, if◌then◌else◌}
+use Rattle.std.specs.Prelude.{ℕ, ◌+◌, ◌*◌, ◌==◌, nat_le, nat_lt, Bool, true, false, not, ◌&&◌, ◌||◌, List, [], ◌∷◌, length, codes, Option, Some, None, if◌then◌else◌}
 use Rattle.std.specs.Char.{char_set_contains}
 use Rattle.std.specs.Option.{option_and_then, option_map, option_or}
 use Rattle.cn_core.specs.Characters.{digit_of}
 use Rattle.cn_core.specs.FigureCharacters.{figure_of}
+use Rattle.cn_phrase.specs.declared.shape.Shape.{Shape}
+use Rattle.cn_phrase.specs.declared.shape.Shape.TheVariants.{Year, FullYear, EraYear, Count, Clock, BareMinute, Small, OneDigit, TwoDigits, TwoFigures, FewFigures}
 
 -- the value of a Chinese digit, such as 2 for 两
 unfoldable pub chinese_digit : ℕ → Option ℕ
@@ -76,3 +78,75 @@ short_year_of (c ∷ d ∷ []) =
     option_and_then (λ a. option_and_then (λ b. if are_about a b then None else Some (10 * a + b))
     (chinese_digit d)) (chinese_digit c)
 short_year_of text = None
+
+-- the number of three figures of which the first is not 0
+abbrev pub three_figures_of : List ℕ → Option ℕ
+three_figures_of (c ∷ d ∷ e ∷ []) =
+    hundreds (option_and_then (λ n. if n == 0 then None else Some n) (figure_of c))
+    (two_digits (figure_of d) (figure_of e))
+three_figures_of text = None
+
+-- the character is 百
+unfoldable pub is_hundred : ℕ → Bool
+is_hundred c = char_set_contains (codes "百") c
+
+-- what can be after 百: nothing, 零 and a digit, or a count of two characters or more
+abbrev pub after_hundred : List ℕ → Option ℕ
+after_hundred [] = Some 0
+after_hundred (c ∷ []) = None
+after_hundred text = clock_of text
+
+-- a numeral with 百, up to 999
+abbrev pub hundred_of : List ℕ → Option ℕ
+hundred_of (c ∷ d ∷ rest) =
+    if is_hundred d then hundreds (counting_digit c) (after_hundred rest) else None
+hundred_of text = None
+
+-- a number up to 999: a count, three figures, or a numeral with 百
+abbrev pub small_of : List ℕ → Option ℕ
+small_of text = option_or (count_of text) (option_or (three_figures_of text) (hundred_of text))
+
+-- a year by itself
+abbrev pub full_year_of : List ℕ → Option ℕ
+full_year_of text = option_or (year_of text) (short_year_of text)
+
+-- a year before a month, also one of an era
+abbrev pub era_year_of : List ℕ → Option ℕ
+era_year_of text = option_or (full_year_of text) (small_of text)
+
+-- a minute without 分, of two characters or more
+abbrev pub bare_minute_of : List ℕ → Option ℕ
+bare_minute_of text = if nat_le 2 (length text) then clock_of text else None
+
+-- one digit
+abbrev pub digit_alone_of : List ℕ → Option ℕ
+digit_alone_of (c ∷ []) = option_or (figure_of c) (chinese_digit c)
+digit_alone_of text = None
+
+-- two digits
+abbrev pub two_of : (ℕ → Option ℕ) → List ℕ → Option ℕ
+two_of digit (c ∷ d ∷ []) = two_digits (digit c) (digit d)
+two_of digit text = None
+
+-- two figures, or two Chinese digits
+abbrev pub two_alone_of : List ℕ → Option ℕ
+two_alone_of text = option_or (two_of figure_of text) (two_of chinese_digit text)
+
+-- one or two figures
+abbrev pub few_figures_of : List ℕ → Option ℕ
+few_figures_of (c ∷ []) = figure_of c
+few_figures_of text = two_of figure_of text
+
+-- the number in a slot
+abbrev pub value_of : Shape → List ℕ → Option ℕ
+value_of Year text = year_of text
+value_of FullYear text = full_year_of text
+value_of EraYear text = era_year_of text
+value_of Count text = count_of text
+value_of Clock text = clock_of text
+value_of BareMinute text = bare_minute_of text
+value_of Small text = small_of text
+value_of OneDigit text = digit_alone_of text
+value_of TwoDigits text = two_alone_of text
+value_of TwoFigures text = two_of figure_of text
+value_of FewFigures text = few_figures_of text

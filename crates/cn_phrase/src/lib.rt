@@ -4,5 +4,5 @@
 mod shape;
 mod word;
 
-pub use shape::count_of;
+pub use shape::Shape;
 pub use word::Word;
