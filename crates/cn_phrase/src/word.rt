@@ -55,8 +55,8 @@ pub enum Word {
     Weekday,
 }
 
-// Whether a character is one of a set.
-fn is_one_of(set: &[char], c: char) -> bool
+/// Whether a character is one of a set.
+pub fn is_one_of(set: &[char], c: char) -> bool
     ensures { result ≡ char_set_contains set.now c }
 {
     match set.split_first() {
