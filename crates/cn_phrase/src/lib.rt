@@ -1,6 +1,7 @@
 //! Finds phrases in a text: dates, times of day, durations, ranges, scores and lengths.
 #![tactic(auto)]
 
+pub mod form;
 pub mod piece;
 mod shape;
 mod word;

@@ -4,7 +4,7 @@ ghost use Rattle.std.specs.Char.{char_set_contains};
 ghost use Rattle.std.specs.Option.{option_map};
 ghost use Rattle.cn_replace.specs.Pieces.{begins, leading};
 ghost use Rattle.cn_phrase.specs.Shapes.{value_of};
-ghost use Rattle.cn_phrase.specs.Pieces.{is_numeral, piece_read, pieces_read, reading_of, refused_by, slot_read, with_number, without_blank};
+ghost use Rattle.cn_phrase.specs.Pieces.{is_numeral, piece_read, pieces_read, reading_of, is_refused, refused_by, slot_read, with_number, without_blank};
 
 use crate::shape::Shape;
 use crate::word::{Word, is_one_of};
@@ -28,6 +28,10 @@ pub enum Guard {
     OfHalf,
     /// A unit of the digits after 米.
     OfLength,
+    /// What goes on with a number.
+    OfScore,
+    /// A letter or `_`.
+    Name,
 }
 
 impl Guard {
@@ -40,22 +44,25 @@ impl Guard {
             Guard::Lunar => &['初'],
             Guard::OfDate => &['-', '/', '.', ':'],
             Guard::Share => &['之', '钟', '鐘'],
-            Guard::MoreMinutes => &['分'],
+            Guard::MoreMinutes => &['分', '几', '幾', '多'],
             Guard::OfClock => &[':', '：', '.'],
             Guard::OfHalf => &['载', '載', '夜', '天', '年'],
             Guard::OfLength => &[
-                '年', '月', '日', '点', '點', '人', '个', '個', '分', '秒', '米', '度',
+                '年', '月', '日', '点', '點', '人', '个', '個', '分', '秒', '米', '度', '几', '幾', '多',
             ],
+            Guard::OfScore => &['点', '點', '.', '年', '月', '日', '万', '萬', '千', '亿', '億'],
+            Guard::Name => &['_'],
         }
     }
 
     // Whether the text begins with what may not come next.
     fn begins(self, text: &str) -> bool
-        ensures { result
-            ≡ begins (λ c. char_set_contains (refused_by self) c) (chars text.now) }
+        ensures { result ≡ begins (λ c. is_refused self c) (chars text.now) }
     {
         match split_first_char(text) {
-            Some((c, _)) => is_one_of(self.refused(), c),
+            Some((c, _)) => {
+                is_one_of(self.refused(), c) || (self == Guard::Name && c.is_ascii_alphabetic())
+            }
             None => false,
         }
     }

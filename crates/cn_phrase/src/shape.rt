@@ -284,7 +284,10 @@ fn three_figures_of(text: &str) -> Option<u16>
     let (d, rest) = split_first_char(rest)?;
     let (e, rest) = split_first_char(rest)?;
     match split_first_char(rest) {
-        None => hundreds(counting_figure(c), two_digits(Figures.value(d), Figures.value(e))),
+        None => hundreds(
+            counting_figure(c),
+            two_digits(Figures.value(d), Figures.value(e)),
+        ),
         Some(_) => None,
     }
 }

@@ -70,7 +70,11 @@ fn after_one<'a>(these: &[char], text: &'a str) -> Option<&'a str>
     ensures { option_map (λ rest. chars rest.now) result ≡ after_one these.now (chars text.now) }
 {
     let (c, rest) = split_first_char(text)?;
-    if is_one_of(these, c) { Some(rest) } else { None }
+    if is_one_of(these, c) {
+        Some(rest)
+    } else {
+        None
+    }
 }
 
 // The text after its first two characters, if they are one of the first and one of the second.
@@ -220,7 +224,9 @@ impl Word {
             Word::Seconds => after_with_zhong('秒', text),
             Word::HalfOf => after_halved(after_two(&['个', '個'], &['半'], text)?),
             Word::HalfAfter => after_two(
-                &['年', '天', '周', '週', '岁', '歲', '斤', '里', '吨', '噸', '倍', '米', '度'],
+                &[
+                    '年', '天', '周', '週', '岁', '歲', '斤', '里', '吨', '噸', '倍', '米', '度',
+                ],
                 &['半'],
                 text,
             ),
