@@ -2,3 +2,4 @@ pub mod Shapes
 pub mod Words
 pub mod Pieces
 pub mod Forms
+pub mod Values

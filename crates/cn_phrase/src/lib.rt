@@ -4,6 +4,7 @@
 pub mod form;
 pub mod piece;
 mod shape;
+pub mod value;
 mod word;
 
 pub use shape::Shape;
