@@ -50,19 +50,27 @@ duration_of hours minutes seconds =
     if nat_lt seconds 60 && (nat_lt minutes 60 || hours == 0)
     then Some (Duration hours minutes seconds) else None
 
+-- a date of which not all is said
+abbrev pub part_of_date : Option ℕ → Option ℕ → Option ℕ → Value
+part_of_date year month day = Date (record { year = year; month = month; day = day })
+
+-- a number with decimals
+abbrev pub length_of : ℕ → ℕ → ℕ → Option Value
+length_of whole decimals places = option_map (λ d. Length whole d places) (within 0 99 decimals)
+
 -- the value of a form, by its numbers; none if it is refused
 abbrev pub value_by : Form → Numbers → Option Value
 value_by form.YearMonthDay n = date_of (Some n.first) n.first n.second n.last
 value_by form.DashDate n = date_of (Some n.first) n.first n.second n.last
 value_by form.SlashDate n = date_of (Some n.first) n.first n.second n.last
 value_by form.MonthDay n = date_of None 0 n.second n.last
-value_by form.YearMonth n = option_map (λ m.
-    Date (record { year = Some n.second; month = Some m; day = None })) (month_of n.last)
-value_by form.Year n = Some (Date (record { year = Some n.last; month = None; day = None }))
-value_by form.LinkedMonth n = option_map (λ m.
-    Date (record { year = None; month = Some m; day = None })) (month_of n.last)
-value_by form.LinkedDay n = option_map (λ d.
-    Date (record { year = None; month = None; day = Some d })) (within 1 31 n.last)
+value_by form.YearMonth n =
+    option_map (λ m. part_of_date (Some n.second) (Some m) None) (month_of n.last)
+value_by form.Year n = Some (part_of_date (Some n.last) None None)
+value_by form.LinkedMonth n =
+    option_map (λ m. part_of_date None (Some m) None) (month_of n.last)
+value_by form.LinkedDay n =
+    option_map (λ d. part_of_date None None (Some d)) (within 1 31 n.last)
 value_by form.Years n = rising Years (Some n.second) (Some n.last)
 value_by form.Months n = rising Months (month_of n.second) (month_of n.last)
 value_by form.MonthsTwice n = rising Months (month_of n.second) (month_of n.last)
@@ -74,14 +82,15 @@ value_by form.HourMinute n = time_of n.second n.last 0
 value_by form.HourBare n = time_of n.second n.last 0
 value_by form.ColonMinute n = time_of n.second n.last 0
 value_by form.HourHalf n = time_of n.last 30 0
-value_by form.HourQuarter n = time_of n.second (15 * n.last) 0
+value_by form.HourQuarter n =
+    option_and_then (λ quarters. time_of n.second (15 * quarters) 0) (within 1 3 n.last)
 value_by form.HourAlone n = time_of n.last 0 0
 value_by form.HoursMinutesSeconds n = duration_of n.first n.second n.last
 value_by form.HoursMinutes n = duration_of n.second n.last 0
 value_by form.MinutesSeconds n = duration_of 0 n.second n.last
 value_by form.HalfOf n = Some (Half n.last)
 value_by form.HalfAfter n = Some (Half n.last)
-value_by form.LengthOne n = Some (Length n.second n.last 1)
-value_by form.LengthTwo n = Some (Length n.second n.last 2)
+value_by form.LengthOne n = length_of n.second n.last 1
+value_by form.LengthTwo n = length_of n.second n.last 2
 value_by form.Score n = Some (Score n.second n.last)
 value_by form.ColonScore n = Some (Score n.second n.last)
