@@ -3,3 +3,4 @@ pub mod Words
 pub mod Pieces
 pub mod Forms
 pub mod Values
+pub mod Phrases

@@ -2,6 +2,7 @@
 #![tactic(auto)]
 
 pub mod form;
+pub mod phrase;
 pub mod piece;
 mod shape;
 pub mod value;
