@@ -102,3 +102,49 @@ is_phrase_by Weekday front form rest = true
 
 abbrev pub is_phrase : List ℕ → Found → Bool
 is_phrase front found = is_phrase_by found.lead front found.form found.rest
+
+-- the forms of times of day, before which a word of half a day or a weekday can be
+abbrev pub clock_forms : List Form
+clock_forms =
+    form.HourMinuteSecond ∷ form.HourMinute ∷ form.HourBare ∷ form.HourHalf ∷ form.HourQuarter ∷
+    form.ColonSecond ∷ form.ColonMinute ∷ form.HourAlone ∷ []
+
+-- all forms, in the order of the table
+abbrev pub all_forms : List Form
+all_forms =
+    form.YearMonthDay ∷ form.YearMonth ∷ form.MonthDay ∷ form.Year ∷ form.DashDate ∷
+    form.SlashDate ∷ form.Years ∷ form.Months ∷ form.MonthsTwice ∷ form.Days ∷ form.DaysTwice ∷
+    form.LinkedMonth ∷ form.LinkedDay ∷ form.HourMinuteSecond ∷ form.HourMinute ∷ form.HourBare ∷
+    form.HourHalf ∷ form.HourQuarter ∷ form.ColonSecond ∷ form.ColonMinute ∷ form.HourAlone ∷
+    form.HoursMinutesSeconds ∷ form.HoursMinutes ∷ form.MinutesSeconds ∷ form.HalfOf ∷
+    form.HalfAfter ∷ form.LengthOne ∷ form.LengthTwo ∷ form.Score ∷ form.ColonScore ∷ []
+
+-- a text has fewer bytes than another one
+abbrev pub is_shorter : List ℕ → List ℕ → Bool
+is_shorter text other =
+    nat_lt (length (encode_utf8_all text)) (length (encode_utf8_all other))
+
+-- the form that reaches further, of two in the same text; the first if both reach as far
+abbrev pub further : Option Found → Option Found → Option Found
+further None other = other
+further (Some one) None = Some one
+further (Some one) (Some other) =
+    if is_shorter other.rest one.rest then Some other else Some one
+
+-- a form that is read from a text, if it is a phrase
+abbrev pub phrase_read : List ℕ → List ℕ → Lead → Form → Option Found
+phrase_read front text lead form =
+    option_and_then (λ found. if is_phrase front found then Some found else None)
+    (form_read lead form text)
+
+-- the furthest of some forms
+abbrev pub furthest : List ℕ → List ℕ → Lead → List Form → Option Found
+furthest front text lead [] = None
+furthest front text lead (form ∷ forms) =
+    further (phrase_read front text lead form) (furthest front text lead forms)
+
+-- the phrase that begins with a text, if one does; the characters before it are `front`
+abbrev pub phrase_at : List ℕ → List ℕ → Option Found
+phrase_at front text =
+    further (furthest front text Bare all_forms)
+    (further (furthest front text HalfDay clock_forms) (furthest front text Weekday clock_forms))

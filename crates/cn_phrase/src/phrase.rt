@@ -4,7 +4,7 @@ ghost use Rattle.std.specs.Char.{char_set_contains};
 ghost use Rattle.std.specs.Option.{option_map};
 ghost use Rattle.cn_find.specs.Spans.{in_front};
 ghost use Rattle.cn_replace.specs.Pieces.{begins};
-ghost use Rattle.cn_phrase.specs.Phrases.{after_lead, follows_link, form_read, found_of, goes_on_with_hour, is_link, is_linked_hour, is_name, is_phrase, may_be_alone, refused_before};
+ghost use Rattle.cn_phrase.specs.Phrases.{after_lead, all_forms, clock_forms, follows_link, form_read, found_of, further, furthest, goes_on_with_hour, is_link, is_linked_hour, is_name, is_phrase, is_shorter, may_be_alone, phrase_at, phrase_read, refused_before};
 
 use crate::form::Form;
 use crate::piece::{Numbers, Progress, read_pieces};
@@ -165,4 +165,123 @@ fn is_phrase(before: &str, found: Match<'_>) -> bool
     !ends_with_name(before)
         && !ends_with(refused_before(found.form), before)
         && may_be_alone(found.form, before, found.rest)
+}
+
+// The forms of times of day.
+fn clock_forms() -> &'static [Form]
+    ensures { result.now ≡ clock_forms }
+{
+    &[
+        Form::HourMinuteSecond,
+        Form::HourMinute,
+        Form::HourBare,
+        Form::HourHalf,
+        Form::HourQuarter,
+        Form::ColonSecond,
+        Form::ColonMinute,
+        Form::HourAlone,
+    ]
+}
+
+// All forms, in the order of the table.
+fn all_forms() -> &'static [Form]
+    ensures { result.now ≡ all_forms }
+{
+    &[
+        Form::YearMonthDay,
+        Form::YearMonth,
+        Form::MonthDay,
+        Form::Year,
+        Form::DashDate,
+        Form::SlashDate,
+        Form::Years,
+        Form::Months,
+        Form::MonthsTwice,
+        Form::Days,
+        Form::DaysTwice,
+        Form::LinkedMonth,
+        Form::LinkedDay,
+        Form::HourMinuteSecond,
+        Form::HourMinute,
+        Form::HourBare,
+        Form::HourHalf,
+        Form::HourQuarter,
+        Form::ColonSecond,
+        Form::ColonMinute,
+        Form::HourAlone,
+        Form::HoursMinutesSeconds,
+        Form::HoursMinutes,
+        Form::MinutesSeconds,
+        Form::HalfOf,
+        Form::HalfAfter,
+        Form::LengthOne,
+        Form::LengthTwo,
+        Form::Score,
+        Form::ColonScore,
+    ]
+}
+
+// Whether a text has fewer bytes than another one.
+fn is_shorter(text: &str, other: &str) -> bool
+    ensures { result ≡ is_shorter (chars text.now) (chars other.now) }
+{
+    text.len() < other.len()
+}
+
+// The form that reaches further, of two in the same text.
+fn further<'a>(one: Option<Match<'a>>, other: Option<Match<'a>>) -> Option<Match<'a>>
+    ensures { option_map found_of result
+        ≡ further (option_map found_of one.entry) (option_map found_of other.entry) }
+{
+    match (one, other) {
+        (None, _) => other,
+        (Some(_), None) => one,
+        (Some(first), Some(second)) => {
+            if is_shorter(second.rest, first.rest) {
+                other
+            } else {
+                one
+            }
+        }
+    }
+}
+
+// A form that is read from a text, if it is a phrase after another text.
+fn read_phrase<'a>(before: &str, text: &'a str, lead: Lead, form: Form) -> Option<Match<'a>>
+    ensures { option_map found_of result
+        ≡ phrase_read (in_front before.now) (chars text.now) lead form }
+{
+    let found = read_form(lead, form, text)?;
+    if is_phrase(before, found) {
+        Some(found)
+    } else {
+        None
+    }
+}
+
+// The furthest of some forms.
+fn furthest<'a>(before: &str, text: &'a str, lead: Lead, forms: &[Form]) -> Option<Match<'a>>
+    ensures { option_map found_of result
+        ≡ furthest (in_front before.now) (chars text.now) lead forms.now }
+{
+    match forms.split_first() {
+        None => None,
+        Some((form, others)) => further(
+            read_phrase(before, text, lead, *form),
+            furthest(before, text, lead, others),
+        ),
+    }
+}
+
+/// The phrase that begins with a text, if one does, after another text.
+pub fn phrase_at<'a>(before: &str, text: &'a str) -> Option<Match<'a>>
+    ensures { option_map found_of result ≡ phrase_at (in_front before.now) (chars text.now) }
+{
+    further(
+        furthest(before, text, Lead::Bare, all_forms()),
+        further(
+            furthest(before, text, Lead::HalfDay, clock_forms()),
+            furthest(before, text, Lead::Weekday, clock_forms()),
+        ),
+    )
 }
