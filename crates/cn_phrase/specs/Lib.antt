@@ -4,3 +4,4 @@ pub mod Pieces
 pub mod Forms
 pub mod Values
 pub mod Phrases
+pub mod Suffix

@@ -5,6 +5,8 @@ pub mod form;
 pub mod phrase;
 pub mod piece;
 mod shape;
+#[cfg(test)]
+mod tries;
 pub mod value;
 mod word;
 
