@@ -27,7 +27,7 @@ if-or : {A : Type 0} (P : A → Type 0) (a b : Option A) → IfSome a P → IfSo
 if-or P None b h k = k
 if-or P (Some x) b h k = h
 
-if-then : {A B : Type 0} (P : A → Type 0) (Q : B → Type 0) (f : A → Option B) (o : Option A)
+pub if-then : {A B : Type 0} (P : A → Type 0) (Q : B → Type 0) (f : A → Option B) (o : Option A)
     → IfSome o P → ((x : A) → P x → IfSome (f x) Q) → IfSome (option_and_then f o) Q
 if-then P Q f None h k = tt
 if-then P Q f (Some x) h k = k x h
@@ -167,7 +167,7 @@ leaves-word word.HalfDay = leaves-half_day
 leaves-word word.Weekday = leaves-weekday
 
 -- a blank that is left out
-Ends-blank : (after_figure : Bool) (text : List ℕ) → EndsWith text (without_blank after_figure text)
+pub Ends-blank : (after_figure : Bool) (text : List ℕ) → EndsWith text (without_blank after_figure text)
 Ends-blank after_figure [] = Ends-self []
 Ends-blank after_figure (c ∷ []) = Ends-self (c ∷ [])
 Ends-blank after_figure (c ∷ d ∷ text) = by (c == 32 && (after_figure || is_figure d)) where
@@ -175,7 +175,7 @@ Ends-blank after_figure (c ∷ d ∷ text) = by (c == 32 && (after_figure || is_
   by true = (c ∷ [], refl)
   by false = Ends-self (c ∷ d ∷ text)
 
-Ends-leading : (passes : ℕ → Bool) (text : List ℕ) → EndsWith text (after_leading passes text)
+pub Ends-leading : (passes : ℕ → Bool) (text : List ℕ) → EndsWith text (after_leading passes text)
 Ends-leading passes [] = Ends-self []
 Ends-leading passes (c ∷ text) = by (passes c) (Ends-leading passes text) where
   by : (b : Bool) → EndsWith text (after_leading passes text)
@@ -184,10 +184,10 @@ Ends-leading passes (c ∷ text) = by (passes c) (Ends-leading passes text) wher
   by false ends = Ends-self (c ∷ text)
 
 -- a reading that has a suffix left
-abbrev Within : List ℕ → Reading → Type 0
+abbrev pub Within : List ℕ → Reading → Type 0
 Within text reading = EndsWith text reading.rest
 
-within-piece : (text : List ℕ) (piece : Piece) (reading : Reading) → Within text reading
+pub within-piece : (text : List ℕ) (piece : Piece) (reading : Reading) → Within text reading
     → IfSome (piece_read piece reading) (Within text)
 within-piece text (Slot shape) reading ends =
     by (value_of shape (leading is_numeral start)) where
