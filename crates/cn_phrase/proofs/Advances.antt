@@ -49,20 +49,20 @@ shorter-slot : (numbers : Numbers) (s : Shape) (text : List ℕ)
 shorter-slot numbers s [] = rw (empty-none s) tt
 shorter-slot numbers s (c ∷ text) = by (is_numeral c) where
   more : (o : Option ℕ) → IfSome (option_map (λ n. record {
-      numbers = record { first = numbers.second; second = numbers.last; last = n };
-      after_figure = begins is_figure (c ∷ text);
-      rest = after_leading is_numeral text;
-    }) o) (Shorter (c ∷ text))
+    numbers = record { first = numbers.second; second = numbers.last; last = n };
+    after_figure = begins is_figure (c ∷ text);
+    rest = after_leading is_numeral text;
+  }) o) (Shorter (c ∷ text))
   more None = tt
   more (Some n) =
       let less = Ends-length text (after_leading is_numeral text) (Ends-leading is_numeral text) in
       omega (arith, less)
 
   by : (b : Bool) → IfSome (option_map (λ n. record {
-      numbers = record { first = numbers.second; second = numbers.last; last = n };
-      after_figure = begins is_figure (c ∷ text);
-      rest = if b then after_leading is_numeral text else c ∷ text;
-    }) (value_of s (if b then c ∷ leading is_numeral text else []))) (Shorter (c ∷ text))
+    numbers = record { first = numbers.second; second = numbers.last; last = n };
+    after_figure = begins is_figure (c ∷ text);
+    rest = if b then after_leading is_numeral text else c ∷ text;
+  }) (value_of s (if b then c ∷ leading is_numeral text else []))) (Shorter (c ∷ text))
   by true = more (value_of s (c ∷ leading is_numeral text))
   by false = rw (empty-none s) tt
 

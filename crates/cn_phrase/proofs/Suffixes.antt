@@ -124,9 +124,9 @@ leaves-with_zhong c text =
 Ends-any : (these text : List ℕ) → EndsWith text (after_any these text)
 Ends-any these text = by (after_one these text) (leaves-one these text) where
   by : (o : Option (List ℕ)) → IfSome o (EndsWith text) → EndsWith text (elim o [
-      | None ↦ text
-      | Some rest ↦ rest
-    ])
+    | None ↦ text
+    | Some rest ↦ rest
+  ])
   by None h = Ends-self text
   by (Some rest) h = h
 
@@ -208,10 +208,10 @@ within-piece text (Fixed w) reading ends =
       start = without_blank reading.after_figure reading.rest
 
       by : (o : Option (List ℕ)) → IfSome o (EndsWith start) → IfSome (option_map (λ rest. record {
-          numbers = reading.numbers;
-          after_figure = false;
-          rest = rest;
-        }) o) (Within text)
+        numbers = reading.numbers;
+        after_figure = false;
+        rest = rest;
+      }) o) (Within text)
       by None h = tt
       by (Some rest) h = Ends-again text reading.rest rest ends
           (Ends-again reading.rest start rest (Ends-blank reading.after_figure reading.rest) h)

@@ -5,3 +5,4 @@ pub mod Forms
 pub mod Values
 pub mod Phrases
 pub mod Suffix
+pub mod Items

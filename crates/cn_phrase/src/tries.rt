@@ -30,7 +30,13 @@ static TEXTS: [(&str, &str); 22] = [
 fn tries(rt: HostRuntime) -> Result<(), Fail> {
     for (before, text) in &TEXTS {
         match phrase_at(before, text) {
-            Some(found) => println!(rt; "{before}|{text}: {:?} {:?} {:?} rest {}", found.lead, found.form, found.form.value(found.numbers), found.rest)?,
+            Some(found) => println!(rt;
+                "{before}|{text}: {:?} {:?} {:?} rest {}",
+                found.lead,
+                found.form,
+                found.form.value(found.numbers),
+                found.rest
+            )?,
             None => println!(rt; "{before}|{text}: none")?,
         }
     }
