@@ -1,0 +1,52 @@
+-- The next item of a text is found.
+use Rattle.std.proofs.Common.{◌≡◌, ℕ, ◌-◌, ◌<◌, List, [], ◌∷◌, ◌++◌, length, take, reverse, chars, encode_utf8_all, IsUtf8, Option, Some, None, IfSome, refl, sym, ap, ◌∙◌, subst, arith, append_assoc, length-append}
+use mathlib.Core.List.{reverse_aux}
+use Rattle.std.proofs.Math.Seq.{take-append_seam}
+use Rattle.std.proofs.Math.Utf8.{scalars}
+use Rattle.std.proofs.lemmas.List.{reverse-append, reverse-reverse}
+use Rattle.std.proofs.lemmas.Str.{chars-append, chars_from_encodes, encodes-append, encodes-chars}
+use Rattle.cn_find.specs.declared.wanted.Wanted.{Wanted}
+use Rattle.cn_find.specs.Spans.{Span, in_front, text_before}
+use Rattle.cn_find.proofs.Runs.{IsEnd, IsEnd-at, Passed, Passed-of, front-onto, front-utf8, seam-front}
+use Rattle.cn_phrase.specs.Items.{item_between, item_rest, items_after, items_left}
+use Rattle.cn_phrase.proofs.ItemSteps.{Leaves, item-leaves, none-here, some-here}
+
+-- characters with which no item begins were passed, and the text `ahead` is still to be searched
+pub record Skipping (wanted : Wanted) (whole rest ahead : List ℕ) : Type 0 where
+  pub ends : IsEnd whole ahead
+  pub same : items_left wanted whole rest ≡ items_left wanted whole ahead
+
+pub Skipping-none : (wanted : Wanted) (whole rest : List ℕ) → IsEnd whole rest
+    → Skipping wanted whole rest rest
+Skipping-none wanted whole rest ends = record { ends = ends; same = refl }
+
+pub Skipping-more : (wanted : Wanted) (whole rest ahead after : List ℕ) (c : ℕ)
+    → Skipping wanted whole rest ahead → IsUtf8 (text_before whole ahead) → IsUtf8 ahead
+    → IsUtf8 after → chars ahead ≡ c ∷ chars after
+    → item_rest wanted (in_front (text_before whole ahead)) (chars ahead) ≡ None
+    → Skipping wanted whole rest after
+Skipping-more wanted whole rest ahead after c s before_utf8 ahead_utf8 after_utf8 parts none = record {
+  ends = passed.ends;
+  same = s.same ∙ ap (items_after wanted 0 front) parts
+      ∙ none-here wanted front c (chars after) (subst (λ l. item_rest wanted front l ≡ None) parts none)
+      ∙ ap (λ l. items_after wanted 0 l (chars after)) (sym passed.front);
+} where
+  front : List ℕ
+  front = in_front (text_before whole ahead)
+
+  passed : Passed whole (text_before whole ahead) after c
+  passed = Passed-of whole (text_before whole ahead) ahead after c (sym s.ends) before_utf8 ahead_utf8
+      after_utf8 parts
+
+-- the next item, and what is left after it
+pub record IsNext (wanted : Wanted) (whole rest before text after : List ℕ) : Type 0 where
+  pub parts : items_left wanted whole rest
+      ≡ record { before = before; text = text; after = after } ∷ items_left wanted whole after
+  pub ends : IsEnd whole after
+
+-- the bytes of an item that has these characters
+bytes-of : (ahead after passed : List ℕ) → IsUtf8 ahead → IsUtf8 after
+    → chars ahead ≡ passed ++ chars after → ahead ≡ encode_utf8_all passed ++ after
+bytes-of ahead after passed utf8 ended parts =
+    sym (encodes-chars ahead utf8) ∙ ap encode_utf8_all parts ∙ encodes-append passed (chars after)
+    ∙ ap (λ l. encode_utf8_all passed ++ l) (encodes-chars after ended)
