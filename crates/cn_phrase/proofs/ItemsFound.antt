@@ -50,3 +50,71 @@ bytes-of : (ahead after passed : List ℕ) → IsUtf8 ahead → IsUtf8 after
 bytes-of ahead after passed utf8 ended parts =
     sym (encodes-chars ahead utf8) ∙ ap encode_utf8_all parts ∙ encodes-append passed (chars after)
     ∙ ap (λ l. encode_utf8_all passed ++ l) (encodes-chars after ended)
+
+-- an item of these characters begins at `ahead`
+found-here : (wanted : Wanted) (whole rest before ahead text after : List ℕ) (c : ℕ) (passed : List ℕ)
+    → Skipping wanted whole rest ahead → before ≡ text_before whole ahead → IsUtf8 before
+    → IsUtf8 ahead → IsUtf8 after → text ≡ text_before ahead after → IsUtf8 text
+    → chars ahead ≡ c ∷ passed ++ chars after
+    → item_rest wanted (in_front before) (chars ahead) ≡ Some (chars after)
+    → IsNext wanted whole rest before text after
+found-here wanted whole rest before ahead text after c passed s at utf8 ahead_utf8 ended cut whole_text
+    parts e = record {
+      parts = s.same ∙ ap (λ l. items_after wanted 0 (in_front l) (chars ahead)) (sym at)
+          ∙ ap (items_after wanted 0 front) parts
+          ∙ some-here wanted front passed (chars after) c
+          (subst (λ l. item_rest wanted front l ≡ Some (chars after)) parts e)
+          ∙ ap (λ l. item_between front (c ∷ passed ++ chars after) (chars after)
+          ∷ items_after wanted 0 l (chars after)) at_end
+          ∙ ap (λ i. i ∷ items_left wanted whole after) item_is;
+      ends = IsEnd-at whole (before ++ text) after at_after;
+    } where
+      front : List ℕ
+      front = in_front before
+
+      bytes : ahead ≡ encode_utf8_all (c ∷ passed) ++ after
+      bytes = bytes-of ahead after (c ∷ passed) ahead_utf8 ended parts
+
+      text_is : text ≡ encode_utf8_all (c ∷ passed)
+      text_is = cut ∙ seam-front ahead (encode_utf8_all (c ∷ passed)) after bytes
+
+      at_after : whole ≡ before ++ text ++ after
+      at_after = sym s.ends ∙ ap (λ l. l ++ ahead) (sym at) ∙ ap (λ l. before ++ l) (bytes
+          ∙ ap (λ l. l ++ after) (sym text_is))
+          ∙ sym (append_assoc before text after)
+
+      at_end : reverse_aux (c ∷ passed) front ≡ in_front (text_before whole after)
+      at_end = ap (λ l. reverse_aux l front)
+          (chars_from_encodes (c ∷ passed) text whole_text (sym text_is))
+          ∙ front-onto front (chars text)
+          ∙ sym (ap in_front (seam-front whole (before ++ text) after at_after)
+          ∙ ap reverse (chars-append before text utf8)
+          ∙ reverse-append (chars before) (chars text))
+
+      taken : take (length (c ∷ passed ++ chars after) - length (chars after))
+          (c ∷ passed ++ chars after) ≡ c ∷ passed
+      taken = let count : length (c ∷ passed ++ chars after) - length (chars after)
+          ≡ length (c ∷ passed) = omega (arith, length-append (c ∷ passed) (chars after)) in
+          ap (λ n. take n (c ∷ passed ++ chars after)) count
+          ∙ take-append_seam (c ∷ passed) (chars after)
+
+      item_is : item_between front (c ∷ passed ++ chars after) (chars after)
+          ≡ record { before = before; text = text; after = after }
+      item_is = rw (taken, sym text_is, encodes-chars after ended, reverse-reverse (chars before),
+        encodes-chars before utf8) refl
+
+pub IsNext-found : (wanted : Wanted) (whole rest before ahead text after : List ℕ)
+    → Skipping wanted whole rest ahead → before ≡ text_before whole ahead → IsUtf8 before
+    → IsUtf8 ahead → IsUtf8 after → text ≡ text_before ahead after → IsUtf8 text
+    → item_rest wanted (in_front before) (chars ahead) ≡ Some (chars after)
+    → IsNext wanted whole rest before text after
+IsNext-found wanted whole rest before ahead text after s at utf8 ahead_utf8 ended cut whole_text e =
+    by (subst (λ o. IfSome o (Leaves (chars ahead))) e (item-leaves wanted (in_front before)
+    (chars ahead))) where
+      by : Leaves (chars ahead) (chars after) → IsNext wanted whole rest before text after
+      by h = found h.0.0 h.0.1 h.1 where
+        found : (f : List ℕ) → chars ahead ≡ f ++ chars after
+            → length (chars after) < length (chars ahead) → IsNext wanted whole rest before text after
+        found [] parts less = absurd (omega (arith, ap length parts, less))
+        found (c ∷ passed) parts less = found-here wanted whole rest before ahead text after c passed s
+            at utf8 ahead_utf8 ended cut whole_text parts e
