@@ -100,17 +100,33 @@ found-here wanted whole rest before ahead text after c passed s at utf8 ahead_ut
 
       item_is : item_between front (c ∷ passed ++ chars after) (chars after)
           ≡ record { before = before; text = text; after = after }
-      item_is = rw (taken, sym text_is, encodes-chars after ended, reverse-reverse (chars before),
-        encodes-chars before utf8) refl
+      item_is = rw (
+        taken,
+        sym text_is,
+        encodes-chars after ended,
+        reverse-reverse (chars before),
+        encodes-chars before utf8,
+      ) refl
+
+-- what is left after an item is a suffix of the text before it
+pub rest-ends : (wanted : Wanted) (front ahead after : List ℕ) → IsUtf8 ahead → IsUtf8 after
+    → item_rest wanted front (chars ahead) ≡ Some (chars after) → IsEnd ahead after
+rest-ends wanted front ahead after utf8 ended e =
+    by (subst (λ o. IfSome o (Leaves (chars ahead))) e (item-leaves wanted front (chars ahead))) where
+      by : Leaves (chars ahead) (chars after) → IsEnd ahead after
+      by h = IsEnd-at ahead (encode_utf8_all h.0.0) after (bytes-of ahead after h.0.0 utf8 ended h.0.1)
 
 pub IsNext-found : (wanted : Wanted) (whole rest before ahead text after : List ℕ)
     → Skipping wanted whole rest ahead → before ≡ text_before whole ahead → IsUtf8 before
     → IsUtf8 ahead → IsUtf8 after → text ≡ text_before ahead after → IsUtf8 text
-    → item_rest wanted (in_front before) (chars ahead) ≡ Some (chars after)
+    → item_rest wanted (in_front (text_before whole ahead)) (chars ahead) ≡ Some (chars after)
     → IsNext wanted whole rest before text after
-IsNext-found wanted whole rest before ahead text after s at utf8 ahead_utf8 ended cut whole_text e =
+IsNext-found wanted whole rest before ahead text after s at utf8 ahead_utf8 ended cut whole_text is =
     by (subst (λ o. IfSome o (Leaves (chars ahead))) e (item-leaves wanted (in_front before)
     (chars ahead))) where
+      e : item_rest wanted (in_front before) (chars ahead) ≡ Some (chars after)
+      e = subst (λ l. item_rest wanted (in_front l) (chars ahead) ≡ Some (chars after)) (sym at) is
+
       by : Leaves (chars ahead) (chars after) → IsNext wanted whole rest before text after
       by h = found h.0.0 h.0.1 h.1 where
         found : (f : List ℕ) → chars ahead ≡ f ++ chars after
