@@ -4,11 +4,11 @@ use mathlib.Core.List.{reverse_aux}
 use Rattle.std.proofs.Math.Seq.{take-append_seam}
 use Rattle.std.proofs.Math.Utf8.{scalars}
 use Rattle.std.proofs.lemmas.List.{reverse-append, reverse-reverse}
-use Rattle.std.proofs.lemmas.Str.{chars-append, chars_from_encodes, encodes-append, encodes-chars}
+use Rattle.std.proofs.lemmas.Str.{chars-nil, chars-append, chars_from_encodes, encodes-append, encodes-chars}
 use Rattle.cn_find.specs.declared.wanted.Wanted.{Wanted}
 use Rattle.cn_find.specs.Spans.{Span, in_front, text_before}
 use Rattle.cn_find.proofs.Runs.{IsEnd, IsEnd-at, Passed, Passed-of, front-onto, front-utf8, seam-front}
-use Rattle.cn_phrase.specs.Items.{item_between, item_rest, items_after, items_left}
+use Rattle.cn_phrase.specs.Items.{item_between, item_rest, items, items_after, items_left}
 use Rattle.cn_phrase.proofs.ItemSteps.{Leaves, item-leaves, none-here, some-here}
 
 -- characters with which no item begins were passed, and the text `ahead` is still to be searched
@@ -134,3 +134,14 @@ IsNext-found wanted whole rest before ahead text after s at utf8 ahead_utf8 ende
         found [] parts less = absurd (omega (arith, ap length parts, less))
         found (c ∷ passed) parts less = found-here wanted whole rest before ahead text after c passed s
             at utf8 ahead_utf8 ended cut whole_text parts e
+
+-- no item is left at the end of a text
+pub no_item_left : (wanted : Wanted) (whole : List ℕ) → items_left wanted whole [] ≡ []
+no_item_left wanted whole =
+    ap (items_after wanted 0 (in_front (text_before whole []))) chars-nil
+
+-- at its start all items are left
+pub all-left : (wanted : Wanted) (whole : List ℕ) → items_left wanted whole whole ≡ items wanted whole
+all-left wanted whole =
+    ap (λ l. items_after wanted 0 l (chars whole))
+    (ap in_front (seam-front whole [] whole refl) ∙ ap reverse chars-nil)

@@ -1,12 +1,14 @@
 // Finds the phrases of a text, and its expressions that are in none.
-ghost use Rattle.std.specs.Prelude.{◌≡◌, ◌++◌, ◌∷◌, [], chars, MatchOption, IfSome};
+ghost use Rattle.std.specs.Prelude.{◌≡◌, ◌++◌, ◌∷◌, [], ◌↔◌, chars, drop, IsCharBoundary, IsSome, MatchOption, IfSome};
+ghost use Rattle.std.specs.Iterator.{YieldsFirstBy, item_count};
 ghost use Rattle.std.specs.Option.{option_map};
 ghost use Rattle.cn_find.specs.Spans.{in_front, span_of, text_before};
-ghost use Rattle.cn_phrase.specs.Items.{item_rest, items_left};
+ghost use Rattle.cn_phrase.specs.Items.{item_rest, items, items_left};
 
 use crate::phrase::phrase_at;
 use cn_core::split_first_char;
 use cn_find::{Found, Wanted, expression_after};
+use std::marker::Model;
 
 // The part of a text before its suffix `rest`.
 fn text_before<'a>(whole: &'a str, rest: &'a str) -> &'a str
@@ -50,4 +52,77 @@ fn next_item<'a>(whole: &'a str, rest: &'a str, wanted: Wanted) -> Option<Found<
         ahead = behind;
     }
     None
+}
+
+/// An iterator over the phrases of a text, and over its expressions that are in none. In contracts its
+/// value is the list of those that it has not yet returned.
+#[derive(Drop)]
+pub struct Phrases<'a> {
+    wanted: Wanted,
+    whole: &'a str,
+    // The suffix that is not yet searched.
+    rest: &'a str,
+}
+
+impl<'a> Model for Phrases<'a> {
+    ghost use Rattle.std.specs.Prelude.{◌≡◌, ◌++◌, List};
+    ghost use Rattle.cn_find.specs.Spans.{Span, text_before};
+    ghost use Rattle.cn_phrase.specs.Items.{items_left};
+
+    ghost Value = { List Span };
+
+    ghost view = { λ n. items_left n.wanted n.whole.now n.rest.now };
+
+    ghost invariant = { λ n. text_before n.whole.now n.rest.now ++ n.rest.now ≡ n.whole.now };
+}
+
+/// Finds the phrases of a text, and its expressions that are in none, from the first to the last.
+///
+/// `find_phrases("1月5日共三千元", Wanted::EVERYDAY)` gives 1月5日 and 三千.
+pub fn find_phrases(text: &str, wanted: Wanted) -> Phrases<'_>
+    ensures { result ≡ items wanted text.now }
+{
+    Phrases {
+        wanted,
+        whole: text,
+        rest: text,
+    }
+}
+
+/// Finds the phrases and expressions of a text from a byte on. All of the text before one is its
+/// `before`. The function returns `None` if no character of the text begins at that byte and the
+/// text does not end there.
+pub fn find_phrases_from(text: &str, from: usize, wanted: Wanted) -> Option<Phrases<'_>>
+    ensures variant { IsSome result ↔ IsCharBoundary text.now from }
+    ensures found { IfSome result
+        (λ found. found ≡ items_left wanted text.now (drop from text.now)) }
+{
+    let (_, rest) = text.split_at_checked(from)?;
+    Some(Phrases {
+        wanted,
+        whole: text,
+        rest,
+    })
+}
+
+impl<'a> Iterator for Phrases<'a> {
+    type Item = Found<'a>;
+
+    ghost next_gives = { YieldsFirstBy span_of (λ left. left) };
+
+    ghost remaining = { item_count (λ left. left) };
+
+    #[tactic(auto, using(crate::proofs::ItemsFound::no_item_left))]
+    fn next(&mut self) -> Option<Found<'a>> {
+        match next_item(self.whole, self.rest, self.wanted) {
+            Some(found) => {
+                self.rest = found.after;
+                Some(found)
+            }
+            None => {
+                self.rest = "";
+                None
+            }
+        }
+    }
 }

@@ -2,7 +2,7 @@
 #![tactic(auto)]
 
 pub mod form;
-mod items;
+pub mod items;
 pub mod phrase;
 pub mod piece;
 mod shape;
