@@ -51,7 +51,7 @@ unfoldable pub refused_by : Guard → List ℕ
 refused_by Lunar = codes "初"
 refused_by OfDate = codes "-/.:"
 refused_by Share = codes "之钟鐘"
-refused_by MoreMinutes = codes "分几幾多"
+refused_by MoreMinutes = codes "分几幾多元米度倍吨噸克升%％‰万萬亿億千"
 refused_by OfClock = codes ":：."
 refused_by OfHalf = codes "载載夜天年"
 refused_by OfLength = codes "年月日点點人个個分秒米度几幾多"

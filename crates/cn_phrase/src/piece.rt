@@ -20,7 +20,7 @@ pub enum Guard {
     OfDate,
     /// 之, 钟: 分 is a share, or 分钟 a duration.
     Share,
-    /// 分
+    /// What does not follow a minute: the number was a decimal, or goes on.
     MoreMinutes,
     /// What goes on with digits between colons.
     OfClock,
@@ -44,7 +44,10 @@ impl Guard {
             Guard::Lunar => &['初'],
             Guard::OfDate => &['-', '/', '.', ':'],
             Guard::Share => &['之', '钟', '鐘'],
-            Guard::MoreMinutes => &['分', '几', '幾', '多'],
+            Guard::MoreMinutes => &[
+                '分', '几', '幾', '多', '元', '米', '度', '倍', '吨', '噸', '克', '升', '%', '％', '‰', '万',
+                '萬', '亿', '億', '千',
+            ],
             Guard::OfClock => &[':', '：', '.'],
             Guard::OfHalf => &['载', '載', '夜', '天', '年'],
             Guard::OfLength => &[
