@@ -14,7 +14,7 @@ use Rattle.cn_phrase.specs.declared.shape.Shape.{Shape}
 use Rattle.cn_phrase.specs.declared.shape.Shape.TheVariants as shape
 use Rattle.cn_phrase.specs.declared.word.Word.TheVariants as word
 use Rattle.cn_phrase.specs.Forms.{pieces_of}
-use Rattle.cn_phrase.specs.Phrases.{Found, after_lead, form_read, further, furthest, is_phrase, is_shorter, phrase_at, phrase_read, all_forms, clock_forms}
+use Rattle.cn_phrase.specs.Phrases.{Found, is_blank, after_lead, form_read, further, furthest, is_phrase, is_shorter, phrase_at, phrase_read, all_forms, clock_forms}
 use Rattle.cn_phrase.specs.Pieces.{Reading, is_numeral, piece_read, pieces_read, slot_read, without_blank}
 use Rattle.cn_phrase.specs.Shapes.{value_of}
 use Rattle.cn_phrase.specs.Suffix.{EndsWith}
@@ -33,7 +33,8 @@ empty-none shape.FullYear = refl
 empty-none shape.EraYear = refl
 empty-none shape.Count = refl
 empty-none shape.Clock = refl
-empty-none shape.BareMinute = refl
+empty-none shape.LongCount = refl
+empty-none shape.ZeroDigit = refl
 empty-none shape.Small = refl
 empty-none shape.OneDigit = refl
 empty-none shape.TwoDigits = refl
@@ -88,6 +89,7 @@ slot-first form.LinkedDay = refl
 slot-first form.HourMinuteSecond = refl
 slot-first form.HourMinute = refl
 slot-first form.HourBare = refl
+slot-first form.HourZero = refl
 slot-first form.HourHalf = refl
 slot-first form.HourQuarter = refl
 slot-first form.ColonSecond = refl
@@ -162,7 +164,10 @@ abbrev pub IsAhead : List ℕ → Found → Type 0
 IsAhead text found = EndsWith text found.rest × (length found.rest < length text)
 
 ahead-lead : (lead : Lead) (text : List ℕ) → IfSome (after_lead lead text) (EndsWith text)
-ahead-lead Bare text = Ends-self text
+ahead-lead Bare text = by (begins is_blank text) where
+  by : (b : Bool) → IfSome (if b then None else Some text) (EndsWith text)
+  by true = tt
+  by false = Ends-self text
 ahead-lead HalfDay text = leaves-word word.HalfDay text
 ahead-lead Weekday text = leaves-word word.Weekday text
 

@@ -1,7 +1,7 @@
 -- The forms of phrases: the table of their pieces.
 use Rattle.std.specs.Prelude.{List, [], ◌∷◌}
 use Rattle.cn_phrase.specs.declared.form.Form.{Form}
-use Rattle.cn_phrase.specs.declared.form.Form.TheVariants.{YearMonthDay, YearMonth, MonthDay, Year, DashDate, SlashDate, Years, Months, MonthsTwice, Days, DaysTwice, LinkedMonth, LinkedDay, HourMinuteSecond, HourMinute, HourBare, HourHalf, HourQuarter, ColonSecond, ColonMinute, HourAlone, HoursMinutesSeconds, HoursMinutes, MinutesSeconds, HalfOf, HalfAfter, LengthOne, LengthTwo, Score, ColonScore}
+use Rattle.cn_phrase.specs.declared.form.Form.TheVariants.{YearMonthDay, YearMonth, MonthDay, Year, DashDate, SlashDate, Years, Months, MonthsTwice, Days, DaysTwice, LinkedMonth, LinkedDay, HourMinuteSecond, HourMinute, HourBare, HourZero, HourHalf, HourQuarter, ColonSecond, ColonMinute, HourAlone, HoursMinutesSeconds, HoursMinutes, MinutesSeconds, HalfOf, HalfAfter, LengthOne, LengthTwo, Score, ColonScore}
 use Rattle.cn_phrase.specs.declared.piece.Piece.{Piece}
 use Rattle.cn_phrase.specs.declared.piece.Piece.TheVariants.{Slot, Fixed, NotBefore}
 use Rattle.cn_phrase.specs.declared.piece.Guard.TheVariants.{Lunar, MoreMinutes, Name, OfClock, OfDate, OfHalf, OfLength, OfScore, Share}
@@ -41,7 +41,9 @@ pieces_of HourMinuteSecond =
 pieces_of HourMinute =
     Slot shape.Clock ∷ Fixed Shi ∷ Slot shape.Clock ∷ Fixed Fen ∷ NotBefore Share ∷ []
 pieces_of HourBare =
-    Slot shape.Clock ∷ Fixed Dian ∷ Slot shape.BareMinute ∷ NotBefore MoreMinutes ∷ NotBefore Name ∷ []
+    Slot shape.Clock ∷ Fixed Dian ∷ Slot shape.LongCount ∷ NotBefore MoreMinutes ∷ NotBefore Name ∷ []
+pieces_of HourZero =
+    Slot shape.Clock ∷ Fixed Dian ∷ Slot shape.ZeroDigit ∷ NotBefore MoreMinutes ∷ NotBefore Name ∷ []
 pieces_of HourHalf =
     Slot shape.Clock ∷ Fixed Dian ∷ Fixed Half ∷ []
 pieces_of HourQuarter =

@@ -26,9 +26,12 @@ abbrev pub found_of : Match → Found
 found_of m =
     record { lead = m.lead; form = m.form; numbers = m.numbers; rest = chars m.rest.now }
 
+unfoldable pub is_blank : ℕ → Bool
+is_blank c = char_set_contains (codes " ") c
+
 -- the text after what is before the first piece
 abbrev pub after_lead : Lead → List ℕ → Option (List ℕ)
-after_lead Bare text = Some text
+after_lead Bare text = if begins is_blank text then None else Some text
 after_lead HalfDay text = after_word word.HalfDay text
 after_lead Weekday text = after_word word.Weekday text
 
@@ -78,11 +81,12 @@ is_linked_hour front rest =
     || (follows_link (codes "点點时時半分刻") front || goes_on_with_hour rest)
 
 -- a form by itself is a phrase: most are; a month or a day only after a date and a link, an hour only
--- if it is linked
+-- if it is linked. An hour with 零 and a digit is not: it may be a decimal
 abbrev pub may_be_alone : Form → List ℕ → List ℕ → Bool
 may_be_alone form.LinkedMonth front rest = follows_link (codes "月日号號") front
 may_be_alone form.LinkedDay front rest = follows_link (codes "月日号號") front
 may_be_alone form.HourAlone front rest = is_linked_hour front rest
+may_be_alone form.HourZero front rest = false
 may_be_alone other front rest = true
 
 abbrev pub is_name : ℕ → Bool
@@ -106,7 +110,7 @@ is_phrase front found = is_phrase_by found.lead front found.form found.rest
 -- the forms of times of day, before which a word of half a day or a weekday can be
 abbrev pub clock_forms : List Form
 clock_forms =
-    form.HourMinuteSecond ∷ form.HourMinute ∷ form.HourBare ∷ form.HourHalf ∷ form.HourQuarter ∷
+    form.HourMinuteSecond ∷ form.HourMinute ∷ form.HourBare ∷ form.HourZero ∷ form.HourHalf ∷ form.HourQuarter ∷
     form.ColonSecond ∷ form.ColonMinute ∷ form.HourAlone ∷ []
 
 -- all forms, in the order of the table
@@ -114,7 +118,7 @@ abbrev pub all_forms : List Form
 all_forms =
     form.YearMonthDay ∷ form.YearMonth ∷ form.MonthDay ∷ form.Year ∷ form.DashDate ∷
     form.SlashDate ∷ form.Years ∷ form.Months ∷ form.MonthsTwice ∷ form.Days ∷ form.DaysTwice ∷
-    form.LinkedMonth ∷ form.LinkedDay ∷ form.HourMinuteSecond ∷ form.HourMinute ∷ form.HourBare ∷
+    form.LinkedMonth ∷ form.LinkedDay ∷ form.HourMinuteSecond ∷ form.HourMinute ∷ form.HourBare ∷ form.HourZero ∷
     form.HourHalf ∷ form.HourQuarter ∷ form.ColonSecond ∷ form.ColonMinute ∷ form.HourAlone ∷
     form.HoursMinutesSeconds ∷ form.HoursMinutes ∷ form.MinutesSeconds ∷ form.HalfOf ∷
     form.HalfAfter ∷ form.LengthOne ∷ form.LengthTwo ∷ form.Score ∷ form.ColonScore ∷ []

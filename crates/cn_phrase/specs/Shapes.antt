@@ -5,7 +5,7 @@ use Rattle.std.specs.Option.{option_and_then, option_map, option_or}
 use Rattle.cn_core.specs.Characters.{digit_of}
 use Rattle.cn_core.specs.FigureCharacters.{figure_of}
 use Rattle.cn_phrase.specs.declared.shape.Shape.{Shape}
-use Rattle.cn_phrase.specs.declared.shape.Shape.TheVariants.{Year, FullYear, EraYear, Count, Clock, BareMinute, Small, OneDigit, TwoDigits, TwoFigures, FewFigures}
+use Rattle.cn_phrase.specs.declared.shape.Shape.TheVariants.{Year, FullYear, EraYear, Count, Clock, LongCount, ZeroDigit, Small, OneDigit, TwoDigits, TwoFigures, FewFigures}
 
 -- the value of a Chinese digit, such as 2 for 两
 unfoldable pub chinese_digit : ℕ → Option ℕ
@@ -114,9 +114,9 @@ full_year_of text = option_or (year_of text) (short_year_of text)
 abbrev pub era_year_of : List ℕ → Option ℕ
 era_year_of text = option_or (full_year_of text) (small_of text)
 
--- a minute without 分, of two characters or more
-abbrev pub bare_minute_of : List ℕ → Option ℕ
-bare_minute_of text = if nat_le 2 (length text) then clock_of text else None
+-- a count of two characters or more
+abbrev pub long_count_of : List ℕ → Option ℕ
+long_count_of text = if nat_le 2 (length text) then count_of text else None
 
 -- one digit
 abbrev pub digit_alone_of : List ℕ → Option ℕ
@@ -144,7 +144,8 @@ value_of FullYear text = full_year_of text
 value_of EraYear text = era_year_of text
 value_of Count text = count_of text
 value_of Clock text = clock_of text
-value_of BareMinute text = bare_minute_of text
+value_of LongCount text = long_count_of text
+value_of ZeroDigit text = zero_digit_of text
 value_of Small text = small_of text
 value_of OneDigit text = digit_alone_of text
 value_of TwoDigits text = two_alone_of text

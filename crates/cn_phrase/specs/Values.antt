@@ -80,6 +80,7 @@ value_by form.HourMinuteSecond n = time_of n.first n.second n.last
 value_by form.ColonSecond n = time_of n.first n.second n.last
 value_by form.HourMinute n = time_of n.second n.last 0
 value_by form.HourBare n = time_of n.second n.last 0
+value_by form.HourZero n = time_of n.second n.last 0
 value_by form.ColonMinute n = time_of n.second n.last 0
 value_by form.HourHalf n = time_of n.last 30 0
 value_by form.HourQuarter n =

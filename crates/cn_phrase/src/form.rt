@@ -41,6 +41,8 @@ pub enum Form {
     HourMinute,
     /// 3点20
     HourBare,
+    /// 3点05, after a word of half a day or a weekday
+    HourZero,
     /// 3点半
     HourHalf,
     /// 3点1刻
@@ -167,7 +169,14 @@ impl Form {
             Form::HourBare => &[
                 Piece::Slot(Shape::Clock),
                 Piece::Fixed(Word::Dian),
-                Piece::Slot(Shape::BareMinute),
+                Piece::Slot(Shape::LongCount),
+                Piece::NotBefore(Guard::MoreMinutes),
+                Piece::NotBefore(Guard::Name),
+            ],
+            Form::HourZero => &[
+                Piece::Slot(Shape::Clock),
+                Piece::Fixed(Word::Dian),
+                Piece::Slot(Shape::ZeroDigit),
                 Piece::NotBefore(Guard::MoreMinutes),
                 Piece::NotBefore(Guard::Name),
             ],

@@ -6,8 +6,6 @@ pub mod items;
 pub mod phrase;
 pub mod piece;
 mod shape;
-#[cfg(test)]
-mod tries;
 pub mod value;
 mod word;
 

@@ -4,11 +4,12 @@ ghost use Rattle.std.specs.Char.{char_set_contains};
 ghost use Rattle.std.specs.Option.{option_map};
 ghost use Rattle.cn_find.specs.Spans.{in_front};
 ghost use Rattle.cn_replace.specs.Pieces.{begins};
-ghost use Rattle.cn_phrase.specs.Phrases.{after_lead, all_forms, clock_forms, follows_link, form_read, found_of, further, furthest, goes_on_with_hour, is_link, is_linked_hour, is_name, is_phrase, is_shorter, may_be_alone, phrase_at, phrase_read, refused_before};
+ghost use Rattle.cn_phrase.specs.Phrases.{after_lead, all_forms, clock_forms, follows_link, form_read, found_of, further, furthest, goes_on_with_hour, is_blank, is_link, is_linked_hour, is_name, is_phrase, is_shorter, may_be_alone, phrase_at, phrase_read, refused_before};
 
 use crate::form::Form;
 use crate::piece::{Numbers, Progress, read_pieces};
 use crate::word::{Word, is_one_of};
+use cn_core::split_first_char;
 use cn_replace::pieces::split_nearest;
 
 /// What is before the first number of a phrase.
@@ -22,13 +23,24 @@ pub enum Lead {
     Weekday,
 }
 
+// Whether a text begins with a blank.
+#[tactic(auto, unfolding(crate::specs::Phrases::is_blank))]
+fn begins_blank(text: &str) -> bool
+    ensures { result ≡ begins is_blank (chars text.now) }
+{
+    match split_first_char(text) {
+        Some((c, _)) => is_one_of(&[' '], c),
+        None => false,
+    }
+}
+
 impl Lead {
     // The text after it.
     fn after(self, text: &str) -> Option<&str>
         ensures { option_map (λ rest. chars rest.now) result ≡ after_lead self (chars text.now) }
     {
         match self {
-            Lead::Bare => Some(text),
+            Lead::Bare => { if begins_blank(text) { None } else { Some(text) } }
             Lead::HalfDay => Word::HalfDay.after(text),
             Lead::Weekday => Word::Weekday.after(text),
         }
@@ -141,6 +153,7 @@ fn may_be_alone(form: Form, before: &str, rest: &str) -> bool
     match form {
         Form::LinkedMonth | Form::LinkedDay => follows_link(&['月', '日', '号', '號'], before),
         Form::HourAlone => is_linked_hour(before, rest),
+        Form::HourZero => false,
         _ => true,
     }
 }
@@ -175,6 +188,7 @@ fn clock_forms() -> &'static [Form]
         Form::HourMinuteSecond,
         Form::HourMinute,
         Form::HourBare,
+        Form::HourZero,
         Form::HourHalf,
         Form::HourQuarter,
         Form::ColonSecond,
@@ -204,6 +218,7 @@ fn all_forms() -> &'static [Form]
         Form::HourMinuteSecond,
         Form::HourMinute,
         Form::HourBare,
+        Form::HourZero,
         Form::HourHalf,
         Form::HourQuarter,
         Form::ColonSecond,

@@ -2,7 +2,7 @@
 ghost use Rattle.std.specs.Prelude.{◌≡◌, ◌==◌, ◌<◌, ◌∷◌, ◌+◌, ◌*◌, [], ℕ, Option, None, Some, chars, if◌then◌else◌, IfSome};
 ghost use Rattle.std.specs.Option.{option_and_then};
 ghost use Rattle.cn_core.specs.FigureCharacters.{figure_of};
-ghost use Rattle.cn_phrase.specs.Shapes.{after_hundred, are_about, bare_minute_of, chinese_digit, clock_of, count_of, counting_digit, digit_alone_of, era_year_of, few_figures_of, four_digits, full_year_of, hundred_of, hundreds, is_hundred, is_ten, is_zero, short_year_of, small_of, three_figures_of, two_alone_of, two_digits, two_of, value_of, year_of, zero_digit_of};
+ghost use Rattle.cn_phrase.specs.Shapes.{after_hundred, are_about, chinese_digit, clock_of, count_of, counting_digit, digit_alone_of, era_year_of, few_figures_of, four_digits, full_year_of, hundred_of, hundreds, is_hundred, is_ten, is_zero, long_count_of, short_year_of, small_of, three_figures_of, two_alone_of, two_digits, two_of, value_of, year_of, zero_digit_of};
 
 use cn_core::{digit_of, figure_of, split_first_char};
 
@@ -19,8 +19,10 @@ pub enum Shape {
     Count,
     /// A count, or 零 and a digit.
     Clock,
-    /// A minute without 分.
-    BareMinute,
+    /// A count of two characters or more.
+    LongCount,
+    /// 零 and a digit.
+    ZeroDigit,
     /// A number up to 999.
     Small,
     /// One digit.
@@ -359,13 +361,13 @@ fn era_year_of(text: &str) -> Option<u16>
     }
 }
 
-// A minute without 分, of two characters or more.
-fn bare_minute_of(text: &str) -> Option<u8>
-    ensures { result ≡ bare_minute_of (chars text.now) }
+// A count of two characters or more.
+fn long_count_of(text: &str) -> Option<u8>
+    ensures { result ≡ long_count_of (chars text.now) }
 {
     let (_, rest) = split_first_char(text)?;
     split_first_char(rest)?;
-    clock_of(text)
+    count_of(text)
 }
 
 // One digit.
@@ -426,7 +428,8 @@ impl Shape {
             Shape::EraYear => era_year_of(text),
             Shape::Count => Some(u16::from(count_of(text)?)),
             Shape::Clock => Some(u16::from(clock_of(text)?)),
-            Shape::BareMinute => Some(u16::from(bare_minute_of(text)?)),
+            Shape::LongCount => Some(u16::from(long_count_of(text)?)),
+            Shape::ZeroDigit => Some(u16::from(zero_digit_of(text)?)),
             Shape::Small => small_of(text),
             Shape::OneDigit => Some(u16::from(digit_alone_of(text)?)),
             Shape::TwoDigits => Some(u16::from(two_alone_of(text)?)),

@@ -187,7 +187,9 @@ impl Form {
             Form::Months | Form::MonthsTwice => months_of(n.second, n.last),
             Form::Days | Form::DaysTwice => days_between(n.second, n.last),
             Form::HourMinuteSecond | Form::ColonSecond => time_of(n.first, n.second, n.last),
-            Form::HourMinute | Form::HourBare | Form::ColonMinute => time_of(n.second, n.last, 0),
+            Form::HourMinute | Form::HourBare | Form::HourZero | Form::ColonMinute => time_of(
+                n.second, n.last, 0,
+            ),
             Form::HourHalf => time_of(n.last, 30, 0),
             Form::HourQuarter => time_of(n.second, 15 * within_quarters(n.last)?, 0),
             Form::HourAlone => time_of(n.last, 0, 0),
