@@ -6,3 +6,4 @@ pub mod Values
 pub mod Phrases
 pub mod Suffix
 pub mod Items
+pub mod Written

@@ -8,6 +8,7 @@ pub mod piece;
 mod shape;
 pub mod value;
 mod word;
+mod written;
 
 pub use shape::Shape;
 pub use word::Word;
