@@ -19,11 +19,15 @@ number_text number =
 abbrev pub passed_text : List ℕ → List ℕ → List ℕ
 passed_text text rest = encode_utf8_all (take (length text - length rest) text)
 
+-- the new text of a slot
+abbrev pub slot_text : Bool → List ℕ → List ℕ
+slot_text after_figure text =
+    passed_text text (without_blank after_figure text)
+    ++ number_text (leading is_numeral (without_blank after_figure text))
+
 -- the new text of a piece, given what was read before it and after it
 abbrev pub piece_text : Piece → Reading → Reading → List ℕ
-piece_text (Slot shape) reading next =
-    passed_text reading.rest (without_blank reading.after_figure reading.rest)
-    ++ number_text (leading is_numeral (without_blank reading.after_figure reading.rest))
+piece_text (Slot shape) reading next = slot_text reading.after_figure reading.rest
 piece_text (Fixed word) reading next = passed_text reading.rest next.rest
 piece_text (NotBefore guard) reading next = []
 piece_text End reading next = []

@@ -114,9 +114,9 @@ pub struct Progress<'a> {
     pub rest: &'a str,
 }
 
-// A character that occurs in the number of a slot.
+/// A character that occurs in the number of a slot.
 #[derive(Copy, Clone)]
-struct Numeral;
+pub struct Numeral;
 
 impl CharTest for Numeral {
     ghost use Rattle.cn_phrase.specs.Pieces.{is_numeral};
@@ -135,8 +135,8 @@ impl CharTest for Numeral {
     }
 }
 
-// The text without a blank at its start that is beside a figure.
-fn without_blank(after_figure: bool, text: &str) -> &str
+/// The text without a blank at its start that is beside a figure.
+pub fn without_blank(after_figure: bool, text: &str) -> &str
     ensures { chars result.now ≡ without_blank after_figure (chars text.now) }
 {
     let Some((c, rest)) = split_first_char(text) else {
