@@ -54,7 +54,7 @@ to-kept text fen h = record {
 pub signed_reads : Reads IsSignedAmount signed_machine
 signed_reads = reads-same Kept IsSignedAmount signed_machine from-kept to-kept
     (sifted-reads sign_sieve both signed_value amount_machine signed_machine Open IsAmount
-    signs-sifted (signs.stands-behind 0x8D1F minus_signs IsAmount refl) amount_reads)
+    signs-sifted (signs.can-follow 0x8D1F minus_signs IsAmount refl) amount_reads)
 
 -- the state of the amount can be reached, and its sum is below the limit
 pub under-reached : (state : SignedProgress) → Reached signed_machine state

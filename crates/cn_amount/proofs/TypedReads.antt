@@ -11,7 +11,7 @@ use Rattle.cn_grammar.specs.Machine.{run, Leads, Reached, Reads}
 use Rattle.cn_grammar.specs.Sieve.{kept, after}
 use Rattle.cn_grammar.proofs.Runs as runs
 use Rattle.cn_grammar.proofs.Runs.{some-is, run-more}
-use Rattle.cn_grammar.proofs.Sieves.{IsSifted, IsKeptForm, CanStandBehind, sifted-leads, sifted-reads, reads-same}
+use Rattle.cn_grammar.proofs.Sieves.{IsSifted, IsKeptForm, CanFollow, sifted-leads, sifted-reads, reads-same}
 use Rattle.cn_core.proofs.Fronts.{and-left, and-right, both as both-true}
 use Rattle.cn_core.specs.Whole.{signed_number}
 use Rattle.cn_amount.specs.declared.prefix.Point.{Point}
@@ -300,8 +300,8 @@ visible-is (c ∷ text) h =
     rw (and-left (is_not_whitespace c) _ h)
     (ap (λ text. c ∷ text) (visible-is text (and-right (is_not_whitespace c) _ h)))
 
-stands-behind : (signed : Bool) → CanStandBehind visible_sieve tt (IsCore signed)
-stands-behind signed text behind value h =
+can-follow : (signed : Bool) → CanFollow visible_sieve tt (IsCore signed)
+can-follow signed text behind value h =
     let front = kept visible_sieve tt text in
     let all = sym (list_all-append is_not_whitespace front behind)
     ∙ form-visible (front ++ behind) value.0 value.1 h.0 in (
@@ -349,7 +349,7 @@ to-typed text fen h = record {
 pub typed_reads : Reads IsTypedAmount typed_machine
 typed_reads = reads-same TypedKept IsTypedAmount typed_machine from-typed to-typed
     (sifted-reads visible_sieve typed (λ nothing (value : Bool × ℕ). value.1) (core false)
-    typed_machine tt (IsCore false) typed-sifted (stands-behind false) (core-reads false))
+    typed_machine tt (IsCore false) typed-sifted (can-follow false) (core-reads false))
 
 -- with a sign or without one
 signed-end : (front : Front) (o : Option ℕ)
@@ -395,7 +395,7 @@ typed_signed_reads =
     reads-same SignedKept IsTypedSignedAmount typed_signed_machine from-signed to-signed
     (sifted-reads visible_sieve signed
     (λ nothing (value : Bool × ℕ). signed_number value.0 value.1) (core true)
-    typed_signed_machine tt (IsCore true) signed-sifted (stands-behind true) (core-reads true))
+    typed_signed_machine tt (IsCore true) signed-sifted (can-follow true) (core-reads true))
 
 -- the state of the amount can be reached
 core-reached : (signed : Bool) (typing : Typing) → Reached (core signed) typing

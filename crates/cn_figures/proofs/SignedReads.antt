@@ -6,7 +6,7 @@ use Rattle.cn_grammar.specs.Machine.{Reached, Reads}
 use Rattle.cn_grammar.specs.Sieve.{kept}
 use Rattle.cn_grammar.specs.declared.sign.Front.TheVariants.{Open}
 use Rattle.cn_grammar.proofs.Sieves.{IsSifted, IsKeptForm, sifted-leads, sifted-reads, reads-same}
-use Rattle.cn_grammar.proofs.Signs.{kept-is, below-is, stands-behind}
+use Rattle.cn_grammar.proofs.Signs.{kept-is, below-is, can-follow}
 use Rattle.cn_core.specs.FigureCharacters.{figure_of, is_figure_minus}
 use Rattle.cn_core.specs.Whole.{signed_number}
 use Rattle.cn_figures.specs.declared.part.Part.{Part}
@@ -94,7 +94,7 @@ to-kept (c ∷ text) amount (negative, fen, is, worth) =
 pub signed_read : Reads WriteSignedAmount signed_machine
 signed_read = reads-same Kept WriteSignedAmount signed_machine from-kept to-kept
     (sifted-reads sign_sieve both signed_value figures_machine signed_machine Open WriteAmount
-    signs-sifted (stands-behind 45 minus_signs WriteAmount refl) figures_read)
+    signs-sifted (can-follow 45 minus_signs WriteAmount refl) figures_read)
 
 -- the state of the figures can be reached, and their amount is below the limit
 pub under-reached : (state : SignedProgress) → Reached signed_machine state

@@ -95,15 +95,15 @@ pub record IsKeptForm {F A B : Type 0} (sieve : Sieve F) (first : F) (value : F 
   pub is : taken ≡ value (after sieve first text) under
 
 -- a text that completes the kept characters can also follow the text itself
-abbrev pub CanStandBehind : {F A : Type 0} → Sieve F → F → (List ℕ → A → Type 0) → Type 0
-CanStandBehind {F} {A} sieve first IsForm =
+abbrev pub CanFollow : {F A : Type 0} → Sieve F → F → (List ℕ → A → Type 0) → Type 0
+CanFollow {F} {A} sieve first IsForm =
     (text behind : List ℕ) (under : A) → IsForm (kept sieve first text ++ behind) under
     → (more : List ℕ) × (kept sieve (after sieve first text) more ≡ behind)
 
 pub sifted-reads : {F S T A B : Type 0} (sieve : Sieve F) (both : F → S → T)
     (value : F → A → B) (inner : Machine S A) (outer : Machine T B) (first : F)
     (IsForm : List ℕ → A → Type 0) → IsSifted sieve both value inner outer first
-    → CanStandBehind sieve first IsForm → Reads IsForm inner
+    → CanFollow sieve first IsForm → Reads IsForm inner
     → Reads (IsKeptForm sieve first value IsForm) outer
 sifted-reads {F} {S} {T} {A} {B} sieve both value inner outer first IsForm is stands reads =
     record { each = each; only = only; begins = begins } where

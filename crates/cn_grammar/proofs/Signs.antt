@@ -8,7 +8,7 @@ use Rattle.cn_grammar.specs.Sign.{keeps, is_below, sign_sieve}
 use Rattle.cn_grammar.specs.declared.sign.Front.{Front}
 use Rattle.cn_grammar.specs.declared.sign.Front.TheVariants.{Open, Plain, Minus}
 use Rattle.cn_grammar.proofs.LookUp.{none-in}
-use Rattle.cn_grammar.proofs.Sieves.{CanStandBehind}
+use Rattle.cn_grammar.proofs.Sieves.{CanFollow}
 
 -- once the start is read, the whole text is kept, and the start stays the same
 abbrev Stays : List ℕ → Front → Type 0
@@ -45,11 +45,11 @@ below-is signs c text = by (char_set_contains signs c) where
   by false = ap is_below (plain-stays signs text).1
 
 -- what completes the text without the sign completes the text; nothing is completed after a sign
-pub stands-behind : {A : Type 0} (sign : ℕ) (signs : List ℕ) (IsForm : List ℕ → A → Type 0)
-    → char_set_contains signs sign ≡ true → CanStandBehind (sign_sieve signs) Open IsForm
-stands-behind sign signs IsForm is [] behind value h =
+pub can-follow : {A : Type 0} (sign : ℕ) (signs : List ℕ) (IsForm : List ℕ → A → Type 0)
+    → char_set_contains signs sign ≡ true → CanFollow (sign_sieve signs) Open IsForm
+can-follow sign signs IsForm is [] behind value h =
     (sign ∷ behind, rw is (minus-stays signs behind).0)
-stands-behind sign signs IsForm is (c ∷ text) behind value h = by (char_set_contains signs c) where
+can-follow sign signs IsForm is (c ∷ text) behind value h = by (char_set_contains signs c) where
   by : (b : Bool) → (more : List ℕ)
       × (kept (sign_sieve signs) (after (sign_sieve signs) (if b then Minus else Plain) text) more
       ≡ behind)

@@ -28,8 +28,8 @@ pub fn each_text_has_one_answer<G: Grammar>()
 /// Each prefix of a form is unfinished or a form, and never incorrect. So an input form can judge a
 /// text at each key.
 pub fn beginnings_are_begun<G: Grammar>()
-    ensures { (front behind : List ℕ) → (value : G.Value) → G.is_form (front ++ behind) value
-        → (place : ℕ) → ¬ Answers G.is_form front (Err (Incorrect place)) }
+    ensures { (start rest : List ℕ) → (value : G.Value) → G.is_form (start ++ rest) value
+        → (place : ℕ) → ¬ Answers G.is_form start (Err (Incorrect place)) }
 {}
 
 /// A text has one place, at which a form may end or not, and one set of characters that may come

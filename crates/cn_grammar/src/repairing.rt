@@ -148,6 +148,7 @@ fn first_working<G: Listed>(
     None
 }
 
+// Left open (text → "" #2): which changes are tried is in no definition, but in rows.
 /// A change of one character after which a text goes on past its fault, for a text that is not a
 /// form; `None` if no change that is tried does that, or if the text is a form. No memory is
 /// allocated.
@@ -169,7 +170,6 @@ fn first_working<G: Listed>(
 ///    that no form has, unless it may change the value. A digit is never deleted.
 /// 8. The fault is replaced by the only character with which a form can go on, unless it carries a
 ///    value or the other is a digit.
-// Left open (text → "" #2): which changes are tried is in no definition, but in rows.
 pub fn find_repair<G: Listed>(text: &str) -> Option<Hint>
     ensures { IfSome result (IsRepair G.is_form (chars text.now)) }
 {
