@@ -943,55 +943,64 @@ def has_figure(text: str) -> bool:
     return any(is_figure(c) for c in text)
 
 
-def to_figures(
-    text: str,
-    style: str = "kept",
-    canonical: bool = False,
-    about: bool = False,
-    one_character: bool = False,
-    doubtful: bool = False,
-) -> str:
-    """`quantities_to_figures`: numerals in figures, in the kept or the expanded style."""
-    line, expressions = Line(text), find_quantities(text)
-    expanded = style == "expanded"
+class Options(NamedTuple):
+    style: str = "kept"
+    canonical: bool = False
+    about: bool = False
+    one_character: bool = False
+    doubtful: bool = False
 
-    def stays(e: Found) -> bool:
-        """Rules 1 to 4."""
-        if has_figure(e.text) and "分之" not in e.text:  # 1
-            is_written = canonical and canonical_text(e.text) is not None
-            has_unit = any(c in RANKS or c in "零〇" for c in e.text)
-            if not (is_written or (expanded and has_unit)):
-                return True
-        if e.quantity is None or e.doubt == "part":  # 2
-            return True
-        if e.is_about and not about or e.is_one_character and not one_character:
-            return True
-        if e.doubt is not None and not doubtful:
-            return True
-        if clings(line, e.start, e.end):  # 3
-            return True
-        below, is_fraction, _ = e.text.partition("分之")  # 4
-        if expanded or not is_fraction:
-            return False
-        denominator = part(text_of(signed(below)[1]), TEN_THOUSAND)
-        return "又" in e.text or (denominator is not None and denominator[0] >= 1000)
 
-    def new_text(e: Found) -> Optional[str]:
-        figures = canonical_text(e.text) if canonical else None
-        if figures is None and expanded and e.quantity is not None:
-            return figures_text(e.quantity)
-        return kept_text(e.text) if figures is None else figures
+def stays(line: Line, e: Found, options: Options) -> bool:
+    """Rules 1 to 4."""
+    expanded = options.style == "expanded"
+    if has_figure(e.text) and "分之" not in e.text:  # 1
+        is_written = options.canonical and canonical_text(e.text) is not None
+        has_unit = any(c in RANKS or c in "零〇" for c in e.text)
+        if not (is_written or (expanded and has_unit)):
+            return True
+    if e.quantity is None or e.doubt == "part":  # 2
+        return True
+    if e.is_about and not options.about or e.is_one_character and not options.one_character:
+        return True
+    if e.doubt is not None and not options.doubtful:
+        return True
+    if clings(line, e.start, e.end):  # 3
+        return True
+    below, is_fraction, _ = e.text.partition("分之")  # 4
+    if expanded or not is_fraction:
+        return False
+    denominator = part(text_of(signed(below)[1]), TEN_THOUSAND)
+    return "又" in e.text or (denominator is not None and denominator[0] >= 1000)
 
-    news = [None if stays(e) else new_text(e) for e in expressions]
+
+def new_text(line: Line, e: Found, options: Options = Options()) -> Optional[str]:
+    """The new text of an expression; None if it is left unchanged."""
+    if stays(line, e, options):
+        return None
+    figures = canonical_text(e.text) if options.canonical else None
+    if figures is None and options.style == "expanded" and e.quantity is not None:
+        return figures_text(e.quantity)
+    return kept_text(e.text) if figures is None else figures
+
+
+def put_in_chains(line: Line, expressions: List[Found], news: List[Optional[str]]) -> str:
+    """The text with new texts, except where an expression holds others: rule 5."""
     holds = [new is None and not has_figure(e.text) for e, new in zip(expressions, news)]
     joined = [are_joined(line, a, b) for a, b in zip(expressions, expressions[1:])]
-    for i, is_joined in enumerate(joined):  # 5: from one to the next, to the right
+    for i, is_joined in enumerate(joined):  # from one to the next, to the right
         holds[i + 1] = holds[i + 1] or (is_joined and holds[i])
     for i, is_joined in reversed(list(enumerate(joined))):  # and to the left
         holds[i] = holds[i] or (is_joined and holds[i + 1])
-
     pieces, end = [], 0
     for e, new, held in zip(expressions, news, holds):
-        pieces += [text[end : e.start], e.text if new is None or held else new]
+        pieces += [line.text[end : e.start], e.text if new is None or held else new]
         end = e.end
-    return "".join(pieces) + text[end:]
+    return "".join(pieces) + line.text[end:]
+
+
+def to_figures(text: str, **options) -> str:
+    """`quantities_to_figures`: numerals in figures, in the kept or the expanded style."""
+    line, expressions = Line(text), find_quantities(text)
+    news = [new_text(line, e, Options(**options)) for e in expressions]
+    return put_in_chains(line, expressions, news)

@@ -3,7 +3,8 @@ ghost use Rattle.std.specs.Prelude.{◌≡◌, ◌++◌, ◌<◌, ◌∷◌, [],
 ghost use Rattle.cn_core.specs.Mark.{mark_of};
 ghost use Rattle.cn_judge.specs.Marked.{marked};
 ghost use Rattle.cn_find.specs.Private.{EndsRun};
-ghost use Rattle.cn_find.specs.Spans.{in_front, left_by, span_of, text_before};
+ghost use Rattle.std.specs.Option.{option_map};
+ghost use Rattle.cn_find.specs.Spans.{in_front, left_by, run_after, span_of, text_before};
 
 use crate::Found;
 use crate::rule::SearchRule;
@@ -123,4 +124,19 @@ pub fn next_run<'a, R: SearchRule>(rule: R, whole: &'a str, rest: &'a str) -> Op
         ahead = look.behind;
     }
     None
+}
+
+/// The text after the run that begins with a suffix of a text; `None` if none begins there. The
+/// character before the suffix is not looked at: the suffix may begin within a run.
+pub fn run_after<'a, R: SearchRule>(rule: R, whole: &'a str, ahead: &'a str) -> Option<&'a str>
+    requires { text_before whole.now ahead.now ++ ahead.now ≡ whole.now }
+    ensures { option_map (λ after. chars after.now) result ≡ run_after (R.rule rule)
+        (in_front (text_before whole.now ahead.now)) (chars ahead.now) }
+{
+    let look = look_at(rule, whole, ahead)?;
+    if look.belongs {
+        Some(skip_run(rule, whole, ahead, look.first, look.behind))
+    } else {
+        None
+    }
 }

@@ -1,0 +1,154 @@
+-- The phrase that begins at a place of a text.
+use Rattle.std.specs.Prelude.{ℕ, nat_lt, Bool, true, false, not, ◌&&◌, ◌||◌, List, [], ◌∷◌, length, codes, chars, encode_utf8_all, Option, Some, None, is_some, if◌then◌else◌}
+use Rattle.std.specs.Char.{char_set_contains, is_ascii_alphabetic}
+use Rattle.std.specs.Option.{option_and_then, option_map, option_map_or}
+use Rattle.cn_replace.specs.Pieces.{begins}
+use Rattle.cn_phrase.specs.declared.form.Form.{Form}
+use Rattle.cn_phrase.specs.declared.form.Form.TheVariants as form
+use Rattle.cn_phrase.specs.declared.phrase.Lead.{Lead}
+use Rattle.cn_phrase.specs.declared.phrase.Lead.TheVariants.{Bare, HalfDay, Weekday}
+use Rattle.cn_phrase.specs.declared.phrase.Match.{Match}
+use Rattle.cn_phrase.specs.declared.piece.Numbers.{Numbers}
+use Rattle.cn_phrase.specs.declared.word.Word.TheVariants as word
+use Rattle.cn_phrase.specs.Forms.{pieces_of}
+use Rattle.cn_phrase.specs.Pieces.{Reading, pieces_read}
+use Rattle.cn_phrase.specs.Words.{after_word}
+
+-- a form in a text: what is before its first piece, the form, its numbers and the text after it
+pub record Found : Type 0 where
+  pub lead : Lead
+  pub form : Form
+  pub numbers : Numbers
+  pub rest : List ℕ
+
+-- what a `Match` in the code is
+abbrev pub found_of : Match → Found
+found_of m =
+    record { lead = m.lead; form = m.form; numbers = m.numbers; rest = chars m.rest.now }
+
+unfoldable pub is_blank : ℕ → Bool
+is_blank c = char_set_contains (codes " ") c
+
+-- the text after what is before the first piece
+abbrev pub after_lead : Lead → List ℕ → Option (List ℕ)
+after_lead Bare text = if begins is_blank text then None else Some text
+after_lead HalfDay text = after_word word.HalfDay text
+after_lead Weekday text = after_word word.Weekday text
+
+-- a form that is read from a text
+abbrev pub form_read : Lead → Form → List ℕ → Option Found
+form_read lead form text = option_and_then (λ start. option_map (λ reading. record {
+  lead = lead;
+  form = form;
+  numbers = reading.numbers;
+  rest = reading.rest;
+}) (pieces_read (pieces_of form) (record {
+  numbers = record { first = 0; second = 0; last = 0 };
+  after_figure = false;
+  rest = start;
+}))) (after_lead lead text)
+
+-- the characters directly after which a form is no phrase
+unfoldable pub refused_before : Form → List ℕ
+refused_before form.Year = codes "第周週每"
+refused_before form.DashDate = codes "-/."
+refused_before form.SlashDate = codes "-/."
+refused_before form.ColonSecond = codes ":：/.-"
+refused_before form.ColonMinute = codes ":：/.-"
+refused_before form.ColonScore = codes ":：-/.[(\"%,，"
+refused_before other = []
+
+abbrev pub is_link : ℕ → Bool
+is_link c = char_set_contains (codes "到至~～－–—〜-") c
+
+-- the text before something ends with a link, after one of some characters. Of the characters
+-- before, the nearest is the first
+abbrev pub follows_link : List ℕ → List ℕ → Bool
+follows_link these [] = false
+follows_link these (link ∷ front) =
+    is_link link && begins (λ c. char_set_contains these c) front
+
+-- the text goes on with a link and an hour
+abbrev pub goes_on_with_hour : List ℕ → Bool
+goes_on_with_hour rest = option_map_or (λ after.
+    is_some (form_read Bare form.HourAlone after) || is_some (form_read HalfDay form.HourAlone after))
+    (after_word word.Link rest) false
+
+-- an hour by itself is a time: it is after a day, or linked to another time
+abbrev pub is_linked_hour : List ℕ → List ℕ → Bool
+is_linked_hour front rest =
+    begins (λ c. char_set_contains (codes "日号號") c) front
+    || (follows_link (codes "点點时時半分刻") front || goes_on_with_hour rest)
+
+-- a form by itself is a phrase: most are; a month or a day only after a date and a link, an hour only
+-- if it is linked. An hour with 零 and a digit is not: it may be a decimal
+abbrev pub may_be_alone : Form → List ℕ → List ℕ → Bool
+may_be_alone form.LinkedMonth front rest = follows_link (codes "月日号號") front
+may_be_alone form.LinkedDay front rest = follows_link (codes "月日号號") front
+may_be_alone form.HourAlone front rest = is_linked_hour front rest
+may_be_alone form.HourZero front rest = false
+may_be_alone other front rest = true
+
+abbrev pub is_name : ℕ → Bool
+is_name c = is_ascii_alphabetic c || char_set_contains (codes "_") c
+
+-- a form that was read is a phrase, given the characters before it
+abbrev pub is_bare_phrase : List ℕ → Form → List ℕ → Bool
+is_bare_phrase front form rest =
+    not (begins is_name front)
+    && (not (begins (λ c. char_set_contains (refused_before form) c) front)
+    && may_be_alone form front rest)
+
+abbrev pub is_phrase_by : Lead → List ℕ → Form → List ℕ → Bool
+is_phrase_by Bare front form rest = is_bare_phrase front form rest
+is_phrase_by HalfDay front form rest = true
+is_phrase_by Weekday front form rest = true
+
+abbrev pub is_phrase : List ℕ → Found → Bool
+is_phrase front found = is_phrase_by found.lead front found.form found.rest
+
+-- the forms of times of day, before which a word of half a day or a weekday can be
+abbrev pub clock_forms : List Form
+clock_forms =
+    form.HourMinuteSecond ∷ form.HourMinute ∷ form.HourBare ∷ form.HourZero ∷ form.HourHalf ∷ form.HourQuarter ∷
+    form.ColonSecond ∷ form.ColonMinute ∷ form.HourAlone ∷ []
+
+-- all forms, in the order of the table
+abbrev pub all_forms : List Form
+all_forms =
+    form.YearMonthDay ∷ form.YearMonth ∷ form.MonthDay ∷ form.Year ∷ form.DashDate ∷
+    form.SlashDate ∷ form.Years ∷ form.Months ∷ form.MonthsTwice ∷ form.Days ∷ form.DaysTwice ∷
+    form.LinkedMonth ∷ form.LinkedDay ∷ form.HourMinuteSecond ∷ form.HourMinute ∷ form.HourBare ∷ form.HourZero ∷
+    form.HourHalf ∷ form.HourQuarter ∷ form.ColonSecond ∷ form.ColonMinute ∷ form.HourAlone ∷
+    form.HoursMinutesSeconds ∷ form.HoursMinutes ∷ form.MinutesSeconds ∷ form.HalfOf ∷
+    form.HalfAfter ∷ form.LengthOne ∷ form.LengthTwo ∷ form.Score ∷ form.ColonScore ∷ []
+
+-- a text has fewer bytes than another one
+abbrev pub is_shorter : List ℕ → List ℕ → Bool
+is_shorter text other =
+    nat_lt (length (encode_utf8_all text)) (length (encode_utf8_all other))
+
+-- the form that reaches further, of two in the same text; the first if both reach as far
+abbrev pub further : Option Found → Option Found → Option Found
+further None other = other
+further (Some one) None = Some one
+further (Some one) (Some other) =
+    if is_shorter other.rest one.rest then Some other else Some one
+
+-- a form that is read from a text, if it is a phrase
+abbrev pub phrase_read : List ℕ → List ℕ → Lead → Form → Option Found
+phrase_read front text lead form =
+    option_and_then (λ found. if is_phrase front found then Some found else None)
+    (form_read lead form text)
+
+-- the furthest of some forms
+abbrev pub furthest : List ℕ → List ℕ → Lead → List Form → Option Found
+furthest front text lead [] = None
+furthest front text lead (form ∷ forms) =
+    further (phrase_read front text lead form) (furthest front text lead forms)
+
+-- the phrase that begins with a text, if one does; the characters before it are `front`
+abbrev pub phrase_at : List ℕ → List ℕ → Option Found
+phrase_at front text =
+    further (furthest front text Bare all_forms)
+    (further (furthest front text HalfDay clock_forms) (furthest front text Weekday clock_forms))

@@ -1,0 +1,302 @@
+// The phrase that begins at a place of a text.
+ghost use Rattle.std.specs.Prelude.{◌≡◌, chars};
+ghost use Rattle.std.specs.Char.{char_set_contains};
+ghost use Rattle.std.specs.Option.{option_map};
+ghost use Rattle.cn_find.specs.Spans.{in_front};
+ghost use Rattle.cn_replace.specs.Pieces.{begins};
+ghost use Rattle.cn_phrase.specs.Phrases.{after_lead, all_forms, clock_forms, follows_link, form_read, found_of, further, furthest, goes_on_with_hour, is_blank, is_link, is_linked_hour, is_name, is_phrase, is_shorter, may_be_alone, phrase_at, phrase_read, refused_before};
+
+use crate::form::Form;
+use crate::piece::{Numbers, Progress, read_pieces};
+use crate::word::{Word, is_one_of};
+use cn_core::split_first_char;
+use cn_replace::pieces::split_nearest;
+
+/// What is before the first number of a phrase.
+#[derive(Debug, Copy, Clone, PartialEq, Eq)]
+pub enum Lead {
+    /// Nothing.
+    Bare,
+    /// A word of half a day.
+    HalfDay,
+    /// A weekday.
+    Weekday,
+}
+
+// Whether a text begins with a blank.
+#[tactic(auto, unfolding(crate::specs::Phrases::is_blank))]
+fn begins_blank(text: &str) -> bool
+    ensures { result ≡ begins is_blank (chars text.now) }
+{
+    match split_first_char(text) {
+        Some((c, _)) => is_one_of(&[' '], c),
+        None => false,
+    }
+}
+
+impl Lead {
+    // The text after it.
+    fn after(self, text: &str) -> Option<&str>
+        ensures { option_map (λ rest. chars rest.now) result ≡ after_lead self (chars text.now) }
+    {
+        match self {
+            Lead::Bare => { if begins_blank(text) { None } else { Some(text) } }
+            Lead::HalfDay => Word::HalfDay.after(text),
+            Lead::Weekday => Word::Weekday.after(text),
+        }
+    }
+}
+
+/// A form in a text.
+#[derive(Debug, Copy, Clone)]
+pub struct Match<'a> {
+    pub lead: Lead,
+    pub form: Form,
+    pub numbers: Numbers,
+    /// The text after it.
+    pub rest: &'a str,
+}
+
+// A form that is read from a text.
+fn read_form(lead: Lead, form: Form, text: &str) -> Option<Match<'_>>
+    ensures { option_map found_of result ≡ form_read lead form (chars text.now) }
+{
+    let start = lead.after(text)?;
+    let numbers = Numbers {
+        first: 0,
+        second: 0,
+        last: 0,
+    };
+    let progress = read_pieces(
+        form.pieces(),
+        Progress {
+            numbers,
+            after_figure: false,
+            rest: start,
+        },
+    )?;
+    Some(Match {
+        lead,
+        form,
+        numbers: progress.numbers,
+        rest: progress.rest,
+    })
+}
+
+// The characters directly after which a form is no phrase.
+#[tactic(auto, unfolding(crate::specs::Phrases::refused_before))]
+fn refused_before(form: Form) -> &'static [char]
+    ensures { result.now ≡ refused_before form }
+{
+    match form {
+        Form::Year => &['第', '周', '週', '每'],
+        Form::DashDate | Form::SlashDate => &['-', '/', '.'],
+        Form::ColonSecond | Form::ColonMinute => &[':', '：', '/', '.', '-'],
+        Form::ColonScore => &[':', '：', '-', '/', '.', '[', '(', '"', '%', ',', '，'],
+        _ => &[],
+    }
+}
+
+// Whether the last character of a text is one of these.
+fn ends_with(these: &[char], before: &str) -> bool
+    ensures { result ≡ begins (λ c. char_set_contains these.now c) (in_front before.now) }
+{
+    match split_nearest(before) {
+        Some((c, _)) => is_one_of(these, c),
+        None => false,
+    }
+}
+
+// Whether a character is a link.
+fn is_link(c: char) -> bool
+    ensures { result ≡ is_link c }
+{
+    is_one_of(&['到', '至', '~', '～', '－', '–', '—', '〜', '-'], c)
+}
+
+// Whether a text ends with a link after one of some characters.
+fn follows_link(these: &[char], before: &str) -> bool
+    ensures { result ≡ follows_link these.now (in_front before.now) }
+{
+    match split_nearest(before) {
+        Some((link, front)) => is_link(link) && ends_with(these, front),
+        None => false,
+    }
+}
+
+// Whether a text goes on with a link and an hour.
+fn goes_on_with_hour(rest: &str) -> bool
+    ensures { result ≡ goes_on_with_hour (chars rest.now) }
+{
+    match Word::Link.after(rest) {
+        Some(after) => {
+            read_form(Lead::Bare, Form::HourAlone, after).is_some()
+                || read_form(Lead::HalfDay, Form::HourAlone, after).is_some()
+        }
+        None => false,
+    }
+}
+
+// Whether an hour by itself is a time: it is after a day, or linked to another time.
+fn is_linked_hour(before: &str, rest: &str) -> bool
+    ensures { result ≡ is_linked_hour (in_front before.now) (chars rest.now) }
+{
+    ends_with(&['日', '号', '號'], before)
+        || follows_link(&['点', '點', '时', '時', '半', '分', '刻'], before)
+        || goes_on_with_hour(rest)
+}
+
+// Whether a form by itself is a phrase, between these texts.
+fn may_be_alone(form: Form, before: &str, rest: &str) -> bool
+    ensures { result ≡ may_be_alone form (in_front before.now) (chars rest.now) }
+{
+    match form {
+        Form::LinkedMonth | Form::LinkedDay => follows_link(&['月', '日', '号', '號'], before),
+        Form::HourAlone => is_linked_hour(before, rest),
+        Form::HourZero => false,
+        _ => true,
+    }
+}
+
+// Whether a text ends with a letter or `_`.
+fn ends_with_name(before: &str) -> bool
+    ensures { result ≡ begins is_name (in_front before.now) }
+{
+    match split_nearest(before) {
+        Some((c, _)) => c.is_ascii_alphabetic() || is_one_of(&['_'], c),
+        None => false,
+    }
+}
+
+// Whether a form that was read is a phrase, after this text.
+fn is_phrase(before: &str, found: Match<'_>) -> bool
+    ensures { result ≡ is_phrase (in_front before.now) (found_of found.entry) }
+{
+    if found.lead != Lead::Bare {
+        return true;
+    }
+    !ends_with_name(before)
+        && !ends_with(refused_before(found.form), before)
+        && may_be_alone(found.form, before, found.rest)
+}
+
+// The forms of times of day.
+fn clock_forms() -> &'static [Form]
+    ensures { result.now ≡ clock_forms }
+{
+    &[
+        Form::HourMinuteSecond,
+        Form::HourMinute,
+        Form::HourBare,
+        Form::HourZero,
+        Form::HourHalf,
+        Form::HourQuarter,
+        Form::ColonSecond,
+        Form::ColonMinute,
+        Form::HourAlone,
+    ]
+}
+
+// All forms, in the order of the table.
+fn all_forms() -> &'static [Form]
+    ensures { result.now ≡ all_forms }
+{
+    &[
+        Form::YearMonthDay,
+        Form::YearMonth,
+        Form::MonthDay,
+        Form::Year,
+        Form::DashDate,
+        Form::SlashDate,
+        Form::Years,
+        Form::Months,
+        Form::MonthsTwice,
+        Form::Days,
+        Form::DaysTwice,
+        Form::LinkedMonth,
+        Form::LinkedDay,
+        Form::HourMinuteSecond,
+        Form::HourMinute,
+        Form::HourBare,
+        Form::HourZero,
+        Form::HourHalf,
+        Form::HourQuarter,
+        Form::ColonSecond,
+        Form::ColonMinute,
+        Form::HourAlone,
+        Form::HoursMinutesSeconds,
+        Form::HoursMinutes,
+        Form::MinutesSeconds,
+        Form::HalfOf,
+        Form::HalfAfter,
+        Form::LengthOne,
+        Form::LengthTwo,
+        Form::Score,
+        Form::ColonScore,
+    ]
+}
+
+// Whether a text has fewer bytes than another one.
+fn is_shorter(text: &str, other: &str) -> bool
+    ensures { result ≡ is_shorter (chars text.now) (chars other.now) }
+{
+    text.len() < other.len()
+}
+
+// The form that reaches further, of two in the same text.
+fn further<'a>(one: Option<Match<'a>>, other: Option<Match<'a>>) -> Option<Match<'a>>
+    ensures { option_map found_of result
+        ≡ further (option_map found_of one.entry) (option_map found_of other.entry) }
+{
+    match (one, other) {
+        (None, _) => other,
+        (Some(_), None) => one,
+        (Some(first), Some(second)) => {
+            if is_shorter(second.rest, first.rest) {
+                other
+            } else {
+                one
+            }
+        }
+    }
+}
+
+// A form that is read from a text, if it is a phrase after another text.
+fn read_phrase<'a>(before: &str, text: &'a str, lead: Lead, form: Form) -> Option<Match<'a>>
+    ensures { option_map found_of result
+        ≡ phrase_read (in_front before.now) (chars text.now) lead form }
+{
+    let found = read_form(lead, form, text)?;
+    if is_phrase(before, found) {
+        Some(found)
+    } else {
+        None
+    }
+}
+
+// The furthest of some forms.
+fn furthest<'a>(before: &str, text: &'a str, lead: Lead, forms: &[Form]) -> Option<Match<'a>>
+    ensures { option_map found_of result
+        ≡ furthest (in_front before.now) (chars text.now) lead forms.now }
+{
+    match forms.split_first() {
+        None => None,
+        Some((form, others)) => further(
+            read_phrase(before, text, lead, *form),
+            furthest(before, text, lead, others),
+        ),
+    }
+}
+
+/// The phrase that begins with a text, if one does, after another text.
+pub fn phrase_at<'a>(before: &str, text: &'a str) -> Option<Match<'a>>
+    ensures { option_map found_of result ≡ phrase_at (in_front before.now) (chars text.now) }
+{
+    further(
+        furthest(before, text, Lead::Bare, all_forms()),
+        further(
+            furthest(before, text, Lead::HalfDay, clock_forms()),
+            furthest(before, text, Lead::Weekday, clock_forms()),
+        ),
+    )
+}

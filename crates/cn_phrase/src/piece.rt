@@ -1,0 +1,207 @@
+// The pieces of a form, read one after another.
+ghost use Rattle.std.specs.Prelude.{◌≡◌, ℕ, chars};
+ghost use Rattle.std.specs.Char.{char_set_contains};
+ghost use Rattle.std.specs.Option.{option_map};
+ghost use Rattle.cn_replace.specs.Pieces.{begins, leading};
+ghost use Rattle.cn_phrase.specs.Shapes.{value_of};
+ghost use Rattle.cn_phrase.specs.Pieces.{is_numeral, piece_read, pieces_read, reading_of, is_refused, refused_by, slot_read, with_number, without_blank};
+
+use crate::shape::Shape;
+use crate::word::{Word, is_one_of};
+use cn_core::{is_figure, split_first_char};
+use cn_replace::pieces::{CharTest, Figure, begins, split_leading};
+
+/// What may not come after a form.
+#[derive(Debug, Copy, Clone, PartialEq, Eq)]
+pub enum Guard {
+    /// 初: the month is one of the moon.
+    Lunar,
+    /// What goes on with a date in figures.
+    OfDate,
+    /// 之, 钟: 分 is a share, or 分钟 a duration.
+    Share,
+    /// What does not follow a minute: the number was a decimal, or goes on.
+    MoreMinutes,
+    /// What goes on with digits between colons.
+    OfClock,
+    /// A word that 半 begins.
+    OfHalf,
+    /// A unit of the digits after 米.
+    OfLength,
+    /// What goes on with a number.
+    OfScore,
+    /// A letter or `_`.
+    Name,
+}
+
+impl Guard {
+    // The characters that may not come next.
+    #[tactic(auto, unfolding(crate::specs::Pieces::refused_by))]
+    fn refused(self) -> &'static [char]
+        ensures { result.now ≡ refused_by self }
+    {
+        match self {
+            Guard::Lunar => &['初'],
+            Guard::OfDate => &['-', '/', '.', ':'],
+            Guard::Share => &['之', '钟', '鐘'],
+            Guard::MoreMinutes => &[
+                '分', '几', '幾', '多', '元', '米', '度', '倍', '吨', '噸', '克', '升', '%', '％', '‰', '万',
+                '萬', '亿', '億', '千',
+            ],
+            Guard::OfClock => &[':', '：', '.'],
+            Guard::OfHalf => &['载', '載', '夜', '天', '年'],
+            Guard::OfLength => &[
+                '年', '月', '日', '点', '點', '人', '个', '個', '分', '秒', '米', '度', '几', '幾', '多',
+            ],
+            Guard::OfScore => &['点', '點', '.', '年', '月', '日', '万', '萬', '千', '亿', '億'],
+            Guard::Name => &['_'],
+        }
+    }
+
+    // Whether the text begins with what may not come next.
+    fn begins(self, text: &str) -> bool
+        ensures { result ≡ begins (λ c. is_refused self c) (chars text.now) }
+    {
+        match split_first_char(text) {
+            Some((c, _)) => {
+                is_one_of(self.refused(), c) || (self == Guard::Name && c.is_ascii_alphabetic())
+            }
+            None => false,
+        }
+    }
+}
+
+/// A piece of a form.
+#[derive(Debug, Copy, Clone, PartialEq, Eq)]
+pub enum Piece {
+    /// A number.
+    Slot(Shape),
+    /// A word.
+    Fixed(Word),
+    /// Nothing, but not before some characters.
+    NotBefore(Guard),
+    /// Nothing: the form has ended.
+    End,
+}
+
+/// The last three numbers that were read of a form.
+#[derive(Debug, Copy, Clone, PartialEq, Eq)]
+pub struct Numbers {
+    pub first: u16,
+    pub second: u16,
+    pub last: u16,
+}
+
+impl Numbers {
+    // The numbers with one more.
+    fn with(self, number: u16) -> Numbers
+        ensures { result ≡ with_number self number }
+    {
+        Numbers {
+            first: self.second,
+            second: self.last,
+            last: number,
+        }
+    }
+}
+
+/// What has been read of a form.
+#[derive(Copy, Clone)]
+pub struct Progress<'a> {
+    pub numbers: Numbers,
+    /// Whether a figure was the last character.
+    pub after_figure: bool,
+    pub rest: &'a str,
+}
+
+/// A character that occurs in the number of a slot.
+#[derive(Copy, Clone)]
+pub struct Numeral;
+
+impl CharTest for Numeral {
+    ghost use Rattle.cn_phrase.specs.Pieces.{is_numeral};
+
+    ghost test = { λ _. is_numeral };
+
+    #[tactic(auto, unfolding(crate::specs::Pieces::is_numeral))]
+    fn passes(self, c: char) -> bool {
+        is_figure(c)
+            || is_one_of(
+                &[
+                    '零', '〇', '一', '二', '两', '兩', '三', '四', '五', '六', '七', '八', '九', '十', '百',
+                ],
+                c,
+            )
+    }
+}
+
+/// The text without a blank at its start that is beside a figure.
+pub fn without_blank(after_figure: bool, text: &str) -> &str
+    ensures { chars result.now ≡ without_blank after_figure (chars text.now) }
+{
+    let Some((c, rest)) = split_first_char(text) else {
+        return text;
+    };
+    let Some((d, _)) = split_first_char(rest) else {
+        return text;
+    };
+    if c == ' ' && (after_figure || is_figure(d)) {
+        rest
+    } else {
+        text
+    }
+}
+
+// The progress after a slot with a number, at a text.
+fn after_slot<'a>(numbers: Numbers, text: &'a str, shape: Shape) -> Option<Progress<'a>>
+    ensures { option_map reading_of result ≡ slot_read numbers (chars text.now)
+        (value_of shape (leading is_numeral (chars text.now))) }
+{
+    let (number, rest) = split_leading(Numeral, text);
+    Some(Progress {
+        numbers: numbers.with(shape.value_of(number)?),
+        after_figure: begins(Figure, text),
+        rest,
+    })
+}
+
+impl Piece {
+    /// What has been read after this piece; `None` if the text does not go on with it.
+    pub fn after(self, progress: Progress<'_>) -> Option<Progress<'_>>
+        ensures { option_map reading_of result ≡ piece_read self (reading_of progress.entry) }
+    {
+        match self {
+            Piece::Slot(shape) => after_slot(
+                progress.numbers,
+                without_blank(progress.after_figure, progress.rest),
+                shape,
+            ),
+            Piece::Fixed(word) => {
+                let rest = word.after(without_blank(progress.after_figure, progress.rest))?;
+                Some(Progress {
+                    numbers: progress.numbers,
+                    after_figure: false,
+                    rest,
+                })
+            }
+            Piece::NotBefore(guard) => {
+                if guard.begins(progress.rest) {
+                    None
+                } else {
+                    Some(progress)
+                }
+            }
+            Piece::End => Some(progress),
+        }
+    }
+}
+
+/// What has been read after some pieces; `None` if the text does not have them.
+pub fn read_pieces<'a>(pieces: &[Piece], progress: Progress<'a>) -> Option<Progress<'a>>
+    ensures { option_map reading_of result ≡ pieces_read pieces.now (reading_of progress.entry) }
+{
+    match pieces.split_first() {
+        None => Some(progress),
+        Some((piece, others)) => read_pieces(others, piece.after(progress)?),
+    }
+}
