@@ -1,8 +1,8 @@
-ghost use Rattle.std.specs.Prelude.{◌≡◌, ◌≤◌, ◌↔◌, ◌++◌, length, drop, chars, IsSome, IfSome, IsCharBoundary};
+ghost use Rattle.std.specs.Prelude.{◌≡◌, ◌≤◌, ◌↔◌, ◌++◌, ◌∷◌, [], length, drop, chars, IsSome, IfSome, MatchOption, IsCharBoundary};
 ghost use Rattle.std.specs.Option.{option_map};
 ghost use Rattle.std.specs.Iterator.{YieldsFirstBy, item_count};
 ghost use Rattle.cn_find.specs.Expressions.{expression_rule};
-ghost use Rattle.cn_find.specs.Spans.{expressions, expressions_left, in_front, left_by, run_after, spans, spans_by, spans_left, span_of, text_before};
+ghost use Rattle.cn_find.specs.Spans.{IsPartOf, expressions, expressions_left, in_front, left_by, run_after, spans, spans_by, spans_left, span_of, text_before};
 
 use crate::rule::{NumberRule, QuantityRule, SearchRule};
 use crate::run::{next_run, run_after};
@@ -105,6 +105,20 @@ pub fn find_quantities_from(
         (λ found. found ≡ expressions_left wanted text.now (drop from text.now)) }
 {
     search_from(QuantityRule { wanted }, text, from)
+}
+
+/// The first expression of a suffix of a text; `None` if it has none. The search looks at the text
+/// before the suffix too.
+///
+/// `next_expression("3-5", "-5", Wanted::EVERYDAY)` is 5, after `3-`.
+pub fn next_expression<'a>(whole: &'a str, rest: &'a str, wanted: Wanted) -> Option<Found<'a>>
+    requires { text_before whole.now rest.now ++ rest.now ≡ whole.now }
+    ensures first { MatchOption result (expressions_left wanted whole.now rest.now ≡ [])
+        (λ found. expressions_left wanted whole.now rest.now
+        ≡ span_of found ∷ expressions_left wanted whole.now found.after.now) }
+    ensures part { IfSome result (λ found. IsPartOf whole.now rest.now (span_of found)) }
+{
+    next_run(QuantityRule { wanted }, whole, rest)
 }
 
 /// The text after the expression that begins with a suffix of a text; `None` if none begins there. The

@@ -4,7 +4,7 @@ ghost use Rattle.cn_core.specs.Mark.{mark_of};
 ghost use Rattle.cn_judge.specs.Marked.{marked};
 ghost use Rattle.cn_find.specs.Private.{EndsRun};
 ghost use Rattle.std.specs.Option.{option_map};
-ghost use Rattle.cn_find.specs.Spans.{in_front, left_by, run_after, span_of, text_before};
+ghost use Rattle.cn_find.specs.Spans.{IsPartOf, in_front, left_by, run_after, span_of, text_before};
 
 use crate::Found;
 use crate::rule::SearchRule;
@@ -110,6 +110,7 @@ pub fn next_run<'a, R: SearchRule>(rule: R, whole: &'a str, rest: &'a str) -> Op
         ≡ span_of found ∷ left_by (R.rule rule) whole.now found.after.now) }
     ensures ends { IfSome result
         (λ found. text_before whole.now found.after.now ++ found.after.now ≡ whole.now) }
+    ensures part { IfSome result (λ found. IsPartOf whole.now rest.now (span_of found)) }
 {
     let mut ahead = rest;
     'searching: while let Some(look) = look_at(rule, whole, ahead) {

@@ -8,7 +8,7 @@ use Rattle.cn_find.specs.declared.doubt.Doubt.TheVariants.{Part}
 use Rattle.cn_find.specs.declared.wanted.Wanted.{Wanted}
 use Rattle.cn_find.specs.Doubt.{doubt_of}
 use Rattle.cn_find.specs.Flags.{is_about, is_one_character}
-use Rattle.cn_find.specs.Spans.{Span}
+use Rattle.cn_find.specs.Spans.{Span, expressions}
 use Rattle.cn_quantity.specs.Ratio.{is_fraction}
 use Rattle.cn_quantity.specs.Reading.{quantity_answer}
 use Rattle.cn_replace.specs.declared.options.Figures.{Figures}
@@ -85,4 +85,5 @@ holds_others method options span =
 -- a text with its expressions in figures
 unfoldable pub in_figures : ChineseCountMethod → Figures → Wanted → List ℕ → List ℕ
 in_figures method options wanted bytes =
-    in_chains (figures_for method options) (holds_others method options) wanted bytes
+    in_chains (figures_for method options) (holds_others method options) bytes
+    (expressions wanted bytes)

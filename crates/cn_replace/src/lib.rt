@@ -4,7 +4,7 @@
 
 mod buffer;
 mod canonical;
-mod chains;
+pub mod chains;
 mod clings;
 mod in_figures;
 mod joined;
@@ -17,6 +17,7 @@ pub mod pieces;
 mod quantities;
 mod replace;
 mod replacement;
+mod rewriting;
 mod sink;
 
 pub use in_figures::InFigures;
@@ -24,4 +25,5 @@ pub use options::{Figures, Included, Style};
 pub use quantities::{put_quantities_in_figures, quantities_to_figures};
 pub use replace::replace_quantities;
 pub use replacement::Replacement;
+pub use rewriting::Rewriting;
 pub use sink::Sink;
