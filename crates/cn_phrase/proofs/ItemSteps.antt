@@ -1,5 +1,6 @@
 -- Steps over the characters of a text and over its items.
-use Rattle.std.proofs.Common.{◌≡◌, ℕ, zero, suc, ◌-◌, ◌<◌, ◌≤◌, Bool, true, false, List, [], ◌∷◌, ◌++◌, length, take, drop, reverse, chars, encode_utf8_all, IsUtf8, Option, Some, None, IfSome, refl, sym, ap, ap₂, ◌∙◌, subst, arith, append_assoc, length-append, if◌then◌else◌}
+use Rattle.std.proofs.Common.{◌≡◌, ℕ, zero, suc, ◌-◌, ◌<◌, ◌≤◌, Bool, true, false, List, [], ◌∷◌, ◌++◌, length, take, drop, reverse, chars, encode_utf8_all, IsUtf8, Option, Some, None, IfSome, option_map, refl, sym, ap, ap₂, ◌∙◌, subst, arith, append_assoc, length-append, if◌then◌else◌}
+use Rattle.std.specs.Option.{option_and_then}
 use mathlib.Core.List.{reverse_aux}
 use Rattle.std.proofs.Math.Seq.{drop-append_seam, take-append_seam}
 use Rattle.std.proofs.Math.Utf8.{scalars}
@@ -10,8 +11,10 @@ use Rattle.cn_find.specs.Expressions.{expression_rule}
 use Rattle.cn_find.specs.Rule.{Rule, is_joined}
 use Rattle.cn_find.specs.Spans.{Span, after_run, in_front, run_after, text_before}
 use Rattle.cn_find.proofs.Runs.{IsEnd, IsEnd-at, front-onto, seam-front}
-use Rattle.cn_phrase.specs.Items.{item_between, item_here, item_rest, items_after, items_left, rest_of, still_passed}
+use Rattle.cn_phrase.specs.Between.{part_between}
+use Rattle.cn_phrase.specs.Items.{first_of, item_here, item_rest, items_after, items_left, rest_of, still_passed}
 use Rattle.cn_phrase.specs.Phrases.{Found, phrase_at}
+use Rattle.cn_phrase.specs.Ranges.{Ends, ends_at, is_link, is_range, linked, range_at}
 use Rattle.cn_phrase.specs.Suffix.{EndsWith}
 use Rattle.cn_phrase.proofs.Advances.{IsAhead, phrase_ahead}
 use Rattle.cn_phrase.proofs.Suffixes.{Ends-again, Ends-self}
@@ -33,7 +36,7 @@ Ends-run rule front c (d ∷ ahead) =
       by true h = Ends-again (d ∷ ahead) ahead (after_run rule (c ∷ front) (d ∷ ahead)) (d ∷ [], refl) h
       by false h = Ends-self (d ∷ ahead)
 
-run-leaves : (rule : Rule) (front text : List ℕ) → IfSome (run_after rule front text) (Leaves text)
+pub run-leaves : (rule : Rule) (front text : List ℕ) → IfSome (run_after rule front text) (Leaves text)
 run-leaves rule front [] = tt
 run-leaves rule front (c ∷ ahead) =
     by (rule.belongs front c ahead) (Ends-run rule front c ahead) where
@@ -45,16 +48,74 @@ run-leaves rule front (c ∷ ahead) =
         omega (arith, ap length h.1, length-append h.0 (after_run rule front (c ∷ ahead))),
       )
 
+range-leaves : (wanted : Wanted) (front text : List ℕ)
+    → IfSome (range_at wanted front text) (λ ends. Leaves text ends.rest)
+range-leaves wanted front text =
+    first (run_after (expression_rule wanted) front text)
+    (run-leaves (expression_rule wanted) front text) where
+      rule : Rule
+      rule = expression_rule wanted
+
+      -- what is chosen of two ends leaves the same
+      chosen : (b : Bool) (e : Ends) → Leaves text e.rest
+          → IfSome (if b then Some e else None) (λ ends. Leaves text ends.rest)
+      chosen true e h = h
+      chosen false e h = tt
+
+      second : (low : Span) (link : ℕ) (at : List ℕ) (run : Option (List ℕ)) → Leaves text at
+          → IfSome run (Leaves at)
+          → IfSome (option_and_then (λ e. if is_range e then Some e else None)
+          (option_map (λ rest. record {
+            low = low;
+            link = link;
+            high = part_between (link ∷ in_front (low.before ++ low.text)) at rest;
+            rest = rest;
+          }) run)) (λ ends. Leaves text ends.rest)
+      second low link at None h k = tt
+      second low link at (Some rest) h k = chosen _ _ (
+        Ends-again text at rest h.0 k.0,
+        omega (arith, h.1, k.1),
+      )
+
+      after-link : (low : Span) (rest : List ℕ) → Leaves text rest
+          → IfSome (option_and_then (λ e. if is_range e then Some e else None)
+          (linked wanted low rest)) (λ ends. Leaves text ends.rest)
+      after-link low [] h = tt
+      after-link low (c ∷ at) h = by (is_link c) where
+        by : (b : Bool) → IfSome (option_and_then (λ e. if is_range e then Some e else None)
+            (if b then option_map (λ rest. record {
+              low = low;
+              link = c;
+              high = part_between (c ∷ in_front (low.before ++ low.text)) at rest;
+              rest = rest;
+            }) (run_after rule (c ∷ in_front (low.before ++ low.text)) at) else None))
+            (λ ends. Leaves text ends.rest)
+        by false = tt
+        by true = second low c at (run_after rule (c ∷ in_front (low.before ++ low.text)) at) (
+          Ends-again text (c ∷ at) at h.0 (c ∷ [], refl),
+          omega (arith, h.1),
+        ) (run-leaves rule (c ∷ in_front (low.before ++ low.text)) at)
+
+      first : (run : Option (List ℕ)) → IfSome run (Leaves text)
+          → IfSome (option_and_then (λ e. if is_range e then Some e else None)
+          (option_and_then (λ rest. linked wanted (part_between front text rest) rest) run))
+          (λ ends. Leaves text ends.rest)
+      first None h = tt
+      first (Some rest) h = after-link (part_between front text rest) rest h
+
 pub item-leaves : (wanted : Wanted) (front text : List ℕ)
     → IfSome (item_rest wanted front text) (Leaves text)
 item-leaves wanted front text =
-    by (phrase_at front text) (phrase_ahead front text)
+    by (phrase_at front text) (range_at wanted front text) (run_after (expression_rule wanted) front text)
+    (phrase_ahead front text) (range-leaves wanted front text)
     (run-leaves (expression_rule wanted) front text) where
-      by : (o : Option Found) → IfSome o (IsAhead text)
-          → IfSome (run_after (expression_rule wanted) front text) (Leaves text)
-          → IfSome (rest_of o (run_after (expression_rule wanted) front text)) (Leaves text)
-      by None h k = k
-      by (Some found) h k = h
+      by : (o : Option Found) (r : Option Ends) (run : Option (List ℕ)) → IfSome o (IsAhead text)
+          → IfSome r (λ ends. Leaves text ends.rest) → IfSome run (Leaves text)
+          → IfSome (option_map rest_of (first_of o r run)) (Leaves text)
+      by (Some found) r run h k l = h
+      by None (Some ends) run h k l = k
+      by None None (Some rest) h k l = l
+      by None None None h k l = tt
 
 -- characters of an item are passed over
 pass-all : (wanted : Wanted) (passed front text : List ℕ)
@@ -73,10 +134,10 @@ none-here wanted front c ahead e = rw e refl
 pub some-here : (wanted : Wanted) (front passed rest : List ℕ) (c : ℕ)
     → item_rest wanted front (c ∷ passed ++ rest) ≡ Some rest
     → items_after wanted 0 front (c ∷ passed ++ rest)
-    ≡ item_between front (c ∷ passed ++ rest) rest
+    ≡ part_between front (c ∷ passed ++ rest) rest
     ∷ items_after wanted 0 (reverse_aux (c ∷ passed) front) rest
 some-here wanted front passed rest c e =
     let count : length (passed ++ rest) - length rest ≡ length passed =
     omega (arith, length-append passed rest) in
-    rw (e, count) (ap (λ l. item_between front (c ∷ passed ++ rest) rest ∷ l)
+    rw (e, count) (ap (λ l. part_between front (c ∷ passed ++ rest) rest ∷ l)
     (pass-all wanted passed (c ∷ front) rest))

@@ -6,10 +6,12 @@ use Rattle.std.proofs.Math.Utf8.{scalars}
 use Rattle.std.proofs.lemmas.List.{reverse-append, reverse-reverse}
 use Rattle.std.proofs.lemmas.Str.{chars-nil, chars-append, chars_from_encodes, encodes-append, encodes-chars}
 use Rattle.cn_find.specs.declared.wanted.Wanted.{Wanted}
-use Rattle.cn_find.specs.Spans.{Span, in_front, text_before}
+use Rattle.cn_find.specs.Spans.{Span, in_front, run_after, text_before}
+use Rattle.cn_find.specs.Rule.{Rule}
 use Rattle.cn_find.proofs.Runs.{IsEnd, IsEnd-at, Passed, Passed-of, front-onto, front-utf8, seam-front}
-use Rattle.cn_phrase.specs.Items.{item_between, item_rest, items, items_after, items_left}
-use Rattle.cn_phrase.proofs.ItemSteps.{Leaves, item-leaves, none-here, some-here}
+use Rattle.cn_phrase.specs.Between.{part_between}
+use Rattle.cn_phrase.specs.Items.{item_rest, items, items_after, items_left}
+use Rattle.cn_phrase.proofs.ItemSteps.{Leaves, item-leaves, none-here, run-leaves, some-here}
 
 -- characters with which no item begins were passed, and the text `ahead` is still to be searched
 pub record Skipping (wanted : Wanted) (whole rest ahead : List ℕ) : Type 0 where
@@ -64,7 +66,7 @@ found-here wanted whole rest before ahead text after c passed s at utf8 ahead_ut
           ∙ ap (items_after wanted 0 front) parts
           ∙ some-here wanted front passed (chars after) c
           (subst (λ l. item_rest wanted front l ≡ Some (chars after)) parts e)
-          ∙ ap (λ l. item_between front (c ∷ passed ++ chars after) (chars after)
+          ∙ ap (λ l. part_between front (c ∷ passed ++ chars after) (chars after)
           ∷ items_after wanted 0 l (chars after)) at_end
           ∙ ap (λ i. i ∷ items_left wanted whole after) item_is;
       ends = IsEnd-at whole (before ++ text) after at_after;
@@ -98,7 +100,7 @@ found-here wanted whole rest before ahead text after c passed s at utf8 ahead_ut
           ap (λ n. take n (c ∷ passed ++ chars after)) count
           ∙ take-append_seam (c ∷ passed) (chars after)
 
-      item_is : item_between front (c ∷ passed ++ chars after) (chars after)
+      item_is : part_between front (c ∷ passed ++ chars after) (chars after)
           ≡ record { before = before; text = text; after = after }
       item_is = rw (
         taken,
@@ -108,13 +110,21 @@ found-here wanted whole rest before ahead text after c passed s at utf8 ahead_ut
         encodes-chars before utf8,
       ) refl
 
--- what is left after an item is a suffix of the text before it
+-- what is left after a part of a text is a suffix of the text before it
+ends-at : (ahead after : List ℕ) → IsUtf8 ahead → IsUtf8 after → Leaves (chars ahead) (chars after)
+    → IsEnd ahead after
+ends-at ahead after utf8 ended h =
+    IsEnd-at ahead (encode_utf8_all h.0.0) after (bytes-of ahead after h.0.0 utf8 ended h.0.1)
+
+pub run-ends : (rule : Rule) (front ahead after : List ℕ) → IsUtf8 ahead → IsUtf8 after
+    → run_after rule front (chars ahead) ≡ Some (chars after) → IsEnd ahead after
+run-ends rule front ahead after utf8 ended e = ends-at ahead after utf8 ended
+    (subst (λ o. IfSome o (Leaves (chars ahead))) e (run-leaves rule front (chars ahead)))
+
 pub rest-ends : (wanted : Wanted) (front ahead after : List ℕ) → IsUtf8 ahead → IsUtf8 after
     → item_rest wanted front (chars ahead) ≡ Some (chars after) → IsEnd ahead after
-rest-ends wanted front ahead after utf8 ended e =
-    by (subst (λ o. IfSome o (Leaves (chars ahead))) e (item-leaves wanted front (chars ahead))) where
-      by : Leaves (chars ahead) (chars after) → IsEnd ahead after
-      by h = IsEnd-at ahead (encode_utf8_all h.0.0) after (bytes-of ahead after h.0.0 utf8 ended h.0.1)
+rest-ends wanted front ahead after utf8 ended e = ends-at ahead after utf8 ended
+    (subst (λ o. IfSome o (Leaves (chars ahead))) e (item-leaves wanted front (chars ahead)))
 
 pub IsNext-found : (wanted : Wanted) (whole rest before ahead text after : List ℕ)
     → Skipping wanted whole rest ahead → before ≡ text_before whole ahead → IsUtf8 before

@@ -1,32 +1,51 @@
 -- The phrases of a text, and its expressions that are in none.
-use Rattle.std.specs.Prelude.{ℕ, zero, suc, ◌-◌, Bool, List, [], ◌∷◌, ◌++◌, length, take, reverse, chars, encode_utf8_all, Option, Some, None}
+use Rattle.std.specs.Prelude.{ℕ, zero, suc, ◌-◌, List, [], ◌∷◌, ◌++◌, length, chars, Option, Some, None, option_map}
 use Rattle.cn_find.specs.declared.wanted.Wanted.{Wanted}
 use Rattle.cn_find.specs.Expressions.{expression_rule}
 use Rattle.cn_find.specs.Spans.{Span, in_front, run_after, text_before}
-use Rattle.cn_phrase.specs.Phrases.{Found, phrase_at}
+use Rattle.cn_phrase.specs.declared.items.Item.{Item as CodeItem}
+use Rattle.cn_phrase.specs.declared.items.Item.TheVariants as code
+use Rattle.cn_phrase.specs.Between.{part_between}
+use Rattle.cn_phrase.specs.Phrases.{Found, found_of, phrase_at}
+use Rattle.cn_phrase.specs.Ranges.{Ends, ends_of, range_at}
 
--- what is left after a phrase, or else after an expression
-abbrev pub rest_of : Option Found → Option (List ℕ) → Option (List ℕ)
-rest_of (Some found) run = Some found.rest
-rest_of None run = run
+-- a phrase of one of the forms, a range, or an expression in none, each with the text after it
+pub data Item : Type 0 where
+  phrase : Found → Item
+  range : Ends → Item
+  expression : List ℕ → Item
 
--- the text after the item that begins with a text, if one does: a phrase, or else an expression. The
--- characters before it are `front`, the nearest first
+-- what an `Item` in the code is
+abbrev pub item_of : CodeItem → Item
+item_of (code.Phrase found) = phrase (found_of found)
+item_of (code.Range ends) = range (ends_of ends)
+item_of (code.Expression rest) = expression (chars rest.now)
+
+abbrev pub rest_of : Item → List ℕ
+rest_of (phrase found) = found.rest
+rest_of (range ends) = ends.rest
+rest_of (expression rest) = rest
+
+-- the first that there is: a phrase, a range or an expression
+abbrev pub first_of : Option Found → Option Ends → Option (List ℕ) → Option Item
+first_of (Some found) ends rest = Some (phrase found)
+first_of None (Some ends) rest = Some (range ends)
+first_of None None (Some rest) = Some (expression rest)
+first_of None None None = None
+
+-- the item that begins with a text, if one does. The characters before it are `front`, the nearest
+-- first
+abbrev pub item_at : Wanted → List ℕ → List ℕ → Option Item
+item_at wanted front text =
+    first_of (phrase_at front text) (range_at wanted front text)
+    (run_after (expression_rule wanted) front text)
+
 abbrev pub item_rest : Wanted → List ℕ → List ℕ → Option (List ℕ)
-item_rest wanted front text =
-    rest_of (phrase_at front text) (run_after (expression_rule wanted) front text)
-
--- the item with the text before it and the text after it
-abbrev pub item_between : List ℕ → List ℕ → List ℕ → Span
-item_between front text rest = record {
-  before = encode_utf8_all (reverse front);
-  text = encode_utf8_all (take (length text - length rest) text);
-  after = encode_utf8_all rest;
-}
+item_rest wanted front text = option_map rest_of (item_at wanted front text)
 
 abbrev pub item_here : List ℕ → List ℕ → Option (List ℕ) → List Span
 item_here front text None = []
-item_here front text (Some rest) = item_between front text rest ∷ []
+item_here front text (Some rest) = part_between front text rest ∷ []
 
 -- how many characters of a text belong to the item that began one character before it
 abbrev pub still_passed : List ℕ → Option (List ℕ) → ℕ

@@ -1,3 +1,5 @@
+pub mod Between
+pub mod Ranges
 pub mod Shapes
 pub mod Words
 pub mod Pieces
@@ -7,3 +9,4 @@ pub mod Phrases
 pub mod Suffix
 pub mod Items
 pub mod Written
+pub mod InText

@@ -12,6 +12,7 @@ use Rattle.cn_phrase.specs.declared.piece.Numbers.{Numbers}
 use Rattle.cn_phrase.specs.declared.word.Word.TheVariants as word
 use Rattle.cn_phrase.specs.Forms.{pieces_of}
 use Rattle.cn_phrase.specs.Pieces.{Reading, pieces_read}
+use Rattle.cn_phrase.specs.Ranges.{is_link}
 use Rattle.cn_phrase.specs.Words.{after_word}
 
 -- a form in a text: what is before its first piece, the form, its numbers and the text after it
@@ -57,9 +58,6 @@ refused_before form.ColonSecond = codes ":：/.-"
 refused_before form.ColonMinute = codes ":：/.-"
 refused_before form.ColonScore = codes ":：-/.[(\"%,，"
 refused_before other = []
-
-abbrev pub is_link : ℕ → Bool
-is_link c = char_set_contains (codes "到至~～－–—〜-") c
 
 -- the text before something ends with a link, after one of some characters. Of the characters
 -- before, the nearest is the first

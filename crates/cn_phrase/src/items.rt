@@ -2,13 +2,42 @@
 ghost use Rattle.std.specs.Prelude.{◌≡◌, ◌++◌, ◌∷◌, [], ◌↔◌, chars, drop, IsCharBoundary, IsSome, MatchOption, IfSome};
 ghost use Rattle.std.specs.Iterator.{YieldsFirstBy, item_count};
 ghost use Rattle.std.specs.Option.{option_map};
-ghost use Rattle.cn_find.specs.Spans.{in_front, span_of, text_before};
-ghost use Rattle.cn_phrase.specs.Items.{item_rest, items, items_left};
+ghost use Rattle.cn_find.specs.Expressions.{expression_rule};
+ghost use Rattle.cn_find.specs.Spans.{IsPartOf, in_front, run_after, span_of, text_before};
+ghost use Rattle.cn_replace.specs.Chains.{IsPart};
+ghost use Rattle.cn_phrase.specs.Between.{part_between};
+ghost use Rattle.cn_phrase.specs.Items.{item_at, item_of, item_rest, items, items_left, rest_of};
+ghost use Rattle.cn_phrase.specs.Ranges.{ends_at, ends_of, linked, range_at};
 
-use crate::phrase::phrase_at;
+use crate::phrase::{Match, phrase_at};
+use crate::range::{Ends, is_link, is_range};
 use cn_core::split_first_char;
 use cn_find::{Found, Wanted, expression_after};
 use std::marker::Model;
+
+/// What is found in a text.
+#[derive(Debug, Copy, Clone)]
+pub enum Item<'a> {
+    /// A phrase of one of the forms.
+    Phrase(Match<'a>),
+    /// Two quantities with a link between them.
+    Range(Ends<'a>),
+    /// An expression that is in no phrase, and the text after it.
+    Expression(&'a str),
+}
+
+impl<'a> Item<'a> {
+    /// The text after it.
+    pub fn rest(self) -> &'a str
+        ensures { chars result.now ≡ rest_of (item_of self.entry) }
+    {
+        match self {
+            Item::Phrase(found) => found.rest,
+            Item::Range(ends) => ends.high.after,
+            Item::Expression(rest) => rest,
+        }
+    }
+}
 
 // The part of a text before its suffix `rest`.
 fn text_before<'a>(whole: &'a str, rest: &'a str) -> &'a str
@@ -19,26 +48,114 @@ fn text_before<'a>(whole: &'a str, rest: &'a str) -> &'a str
     before
 }
 
+// The part of a text between two of its suffixes.
+fn part_between<'a>(whole: &'a str, ahead: &'a str, rest: &'a str) -> Found<'a>
+    requires ahead { text_before whole.now ahead.now ++ ahead.now ≡ whole.now }
+    requires rest { text_before ahead.now rest.now ++ rest.now ≡ ahead.now }
+    ensures span { span_of result
+        ≡ part_between (in_front (text_before whole.now ahead.now)) (chars ahead.now) (chars rest.now) }
+    ensures part { IsPart whole.now (span_of result) }
+    ensures after { result.after.now ≡ rest.now }
+{
+    Found {
+        before: text_before(whole, ahead),
+        text: text_before(ahead, rest),
+        after: rest,
+    }
+}
+
+// The expression with which a suffix of a text begins.
+fn expression_at<'a>(whole: &'a str, ahead: &'a str, wanted: Wanted) -> Option<Found<'a>>
+    requires { text_before whole.now ahead.now ++ ahead.now ≡ whole.now }
+    ensures span { option_map span_of result ≡ option_map
+        (part_between (in_front (text_before whole.now ahead.now)) (chars ahead.now))
+        (run_after (expression_rule wanted) (in_front (text_before whole.now ahead.now)) (chars ahead.now)) }
+    ensures rest { option_map (λ found. chars found.after.now) result
+        ≡ run_after (expression_rule wanted) (in_front (text_before whole.now ahead.now)) (chars ahead.now) }
+    ensures part { IfSome result (λ found. IsPart whole.now (span_of found)) }
+{
+    match expression_after(whole, ahead, wanted) {
+        Some(rest) => Some(part_between(whole, ahead, rest)),
+        None => None,
+    }
+}
+
+// A link and an expression, after the expression `low`.
+fn linked<'a>(whole: &'a str, low: Found<'a>, wanted: Wanted) -> Option<Ends<'a>>
+    requires { IsPart whole.now (span_of low) }
+    ensures { option_map ends_of result ≡ linked wanted (span_of low.entry) (chars low.entry.after.now) }
+{
+    let (link, ahead) = split_first_char(low.after)?;
+    if !is_link(link) {
+        return None;
+    }
+    match expression_at(whole, ahead, wanted) {
+        Some(high) => Some(Ends { low, link, high }),
+        None => None,
+    }
+}
+
+// Two expressions with a link between them, with which a suffix of a text begins.
+fn ends_at<'a>(whole: &'a str, ahead: &'a str, wanted: Wanted) -> Option<Ends<'a>>
+    requires { text_before whole.now ahead.now ++ ahead.now ≡ whole.now }
+    ensures { option_map ends_of result
+        ≡ ends_at wanted (in_front (text_before whole.now ahead.now)) (chars ahead.now) }
+{
+    match expression_at(whole, ahead, wanted) {
+        Some(low) => linked(whole, low, wanted),
+        None => None,
+    }
+}
+
+// The range with which a suffix of a text begins.
+fn range_at<'a>(whole: &'a str, ahead: &'a str, wanted: Wanted) -> Option<Ends<'a>>
+    requires { text_before whole.now ahead.now ++ ahead.now ≡ whole.now }
+    ensures { option_map ends_of result
+        ≡ range_at wanted (in_front (text_before whole.now ahead.now)) (chars ahead.now) }
+{
+    let ends = ends_at(whole, ahead, wanted)?;
+    if is_range(ends) { Some(ends) } else { None }
+}
+
+/// The item that begins with a suffix of a text; `None` if none begins there.
+pub fn item_at<'a>(whole: &'a str, ahead: &'a str, wanted: Wanted) -> Option<Item<'a>>
+    requires { text_before whole.now ahead.now ++ ahead.now ≡ whole.now }
+    ensures { option_map item_of result
+        ≡ item_at wanted (in_front (text_before whole.now ahead.now)) (chars ahead.now) }
+{
+    if let Some(found) = phrase_at(text_before(whole, ahead), ahead) {
+        return Some(Item::Phrase(found));
+    }
+    if let Some(ends) = range_at(whole, ahead, wanted) {
+        return Some(Item::Range(ends));
+    }
+    match expression_after(whole, ahead, wanted) {
+        Some(rest) => Some(Item::Expression(rest)),
+        None => None,
+    }
+}
+
 // The text after the item that begins with a suffix of a text.
 fn item_rest<'a>(whole: &'a str, ahead: &'a str, wanted: Wanted) -> Option<&'a str>
     requires { text_before whole.now ahead.now ++ ahead.now ≡ whole.now }
     ensures { option_map (λ rest. chars rest.now) result
         ≡ item_rest wanted (in_front (text_before whole.now ahead.now)) (chars ahead.now) }
 {
-    match phrase_at(text_before(whole, ahead), ahead) {
-        Some(found) => Some(found.rest),
-        None => expression_after(whole, ahead, wanted),
+    match item_at(whole, ahead, wanted) {
+        Some(item) => Some(item.rest()),
+        None => None,
     }
 }
 
-// The first item of a suffix of a text; `None` if it has none.
-fn next_item<'a>(whole: &'a str, rest: &'a str, wanted: Wanted) -> Option<Found<'a>>
+/// The first item of a suffix of a text; `None` if it has none.
+pub fn next_item<'a>(whole: &'a str, rest: &'a str, wanted: Wanted) -> Option<Found<'a>>
     requires { text_before whole.now rest.now ++ rest.now ≡ whole.now }
     ensures parts { MatchOption result (items_left wanted whole.now rest.now ≡ [])
         (λ found. items_left wanted whole.now rest.now
         ≡ span_of found ∷ items_left wanted whole.now found.after.now) }
     ensures ends { IfSome result
         (λ found. text_before whole.now found.after.now ++ found.after.now ≡ whole.now) }
+    ensures part { IfSome result (λ found. IsPartOf whole.now rest.now (span_of found)) }
 {
     let mut ahead = rest;
     'searching: while let Some((_, behind)) = split_first_char(ahead) {

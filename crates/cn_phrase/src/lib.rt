@@ -2,13 +2,16 @@
 #![tactic(auto)]
 
 pub mod form;
+mod in_text;
 pub mod items;
 pub mod phrase;
 pub mod piece;
+pub mod range;
 mod shape;
 pub mod value;
 mod word;
 mod written;
 
+pub use in_text::{InText, is_doubtful, is_of_tenths, put_text_in_figures, text_to_figures};
 pub use shape::Shape;
 pub use word::Word;

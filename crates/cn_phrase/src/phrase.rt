@@ -4,10 +4,11 @@ ghost use Rattle.std.specs.Char.{char_set_contains};
 ghost use Rattle.std.specs.Option.{option_map};
 ghost use Rattle.cn_find.specs.Spans.{in_front};
 ghost use Rattle.cn_replace.specs.Pieces.{begins};
-ghost use Rattle.cn_phrase.specs.Phrases.{after_lead, all_forms, clock_forms, follows_link, form_read, found_of, further, furthest, goes_on_with_hour, is_blank, is_link, is_linked_hour, is_name, is_phrase, is_shorter, may_be_alone, phrase_at, phrase_read, refused_before};
+ghost use Rattle.cn_phrase.specs.Phrases.{after_lead, all_forms, clock_forms, follows_link, form_read, found_of, further, furthest, goes_on_with_hour, is_blank, is_linked_hour, is_name, is_phrase, is_shorter, may_be_alone, phrase_at, phrase_read, refused_before};
 
 use crate::form::Form;
 use crate::piece::{Numbers, Progress, read_pieces};
+use crate::range::is_link;
 use crate::word::{Word, is_one_of};
 use cn_core::split_first_char;
 use cn_replace::pieces::split_nearest;
@@ -35,8 +36,8 @@ fn begins_blank(text: &str) -> bool
 }
 
 impl Lead {
-    // The text after it.
-    fn after(self, text: &str) -> Option<&str>
+    /// The text after it.
+    pub fn after(self, text: &str) -> Option<&str>
         ensures { option_map (λ rest. chars rest.now) result ≡ after_lead self (chars text.now) }
     {
         match self {
@@ -105,13 +106,6 @@ fn ends_with(these: &[char], before: &str) -> bool
         Some((c, _)) => is_one_of(these, c),
         None => false,
     }
-}
-
-// Whether a character is a link.
-fn is_link(c: char) -> bool
-    ensures { result ≡ is_link c }
-{
-    is_one_of(&['到', '至', '~', '～', '－', '–', '—', '〜', '-'], c)
 }
 
 // Whether a text ends with a link after one of some characters.

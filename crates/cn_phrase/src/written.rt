@@ -39,8 +39,8 @@ fn put_number<S: Sink>(sink: &mut S, number: &str) -> Result<(), S::Error>
     Ok(())
 }
 
-// Writes the characters of a text before one of its suffixes.
-fn put_passed<S: Sink>(sink: &mut S, text: &str, rest: &str) -> Result<(), S::Error>
+/// Writes the characters of a text before one of its suffixes.
+pub fn put_passed<S: Sink>(sink: &mut S, text: &str, rest: &str) -> Result<(), S::Error>
     requires { EndsWith (chars text.now) (chars rest.now) }
     ensures { OnOk result
         (S.took sink.old sink.new (passed_text (chars text.now) (chars rest.now))) }

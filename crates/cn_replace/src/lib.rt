@@ -5,7 +5,7 @@
 mod buffer;
 mod canonical;
 pub mod chains;
-mod clings;
+pub mod clings;
 mod in_figures;
 mod joined;
 pub mod kept;

@@ -1,7 +1,7 @@
-use Rattle.std.proofs.Common.{◌≡◌, rules, Some, None, chars, sym, ap, ◌∙◌}
+use Rattle.std.proofs.Common.{◌≡◌, rules, arith, Some, None, chars, sym, ap, ◌∙◌}
 use Rattle.std.specs.Option.{option_map}
 use Rattle.cn_find.specs.Spans.{in_front, text_before}
-use Rattle.cn_find.proofs.Runs.{front-utf8}
+use Rattle.cn_find.proofs.Runs.{front-utf8, part-of}
 use Rattle.cn_phrase.specs.Items.{item_rest}
 use Rattle.cn_phrase.proofs.ItemsFound.{IsNext-found, Skipping-more, rest-ends}
 use Rattle.cn_phrase.proofs.items.next_item.Goals as goal
@@ -28,6 +28,14 @@ returns-in-Some-item_rest-clause-ends c =
     c.text_before.ensures c.text_before.utf8 c.searching.invariant.utf8 (search rules)
     c.text_before-in-Some-item_rest.ensures c.text_before-in-Some-item_rest.utf8 e in next.ends
 
+pub returns-in-Some-item_rest-clause-part : goal.returns-in-Some-item_rest-clause-part
+returns-in-Some-item_rest-clause-part c =
+    let e : item_rest c.args.wanted (in_front (text_before c.args.whole.now c.searching.ahead.now))
+    (chars c.searching.ahead.now) ≡ Some (chars c.in-Some-item_rest.after.now) = search rules in
+    part-of _ _ _ _ _ _ c.searching.invariant.skipped.ends
+    (rest-ends c.args.wanted _ _ _ c.searching.invariant.utf8 (search rules) e)
+    c.text_before.ensures c.text_before-in-Some-item_rest.ensures c.searching.invariant.within
+
 pub searching-preserved : goal.searching-preserved
 searching-preserved c =
     let skipped = c.searching.invariant.skipped in
@@ -38,4 +46,5 @@ searching-preserved c =
           (front-utf8 _ _ skipped.ends c.utf8.whole c.searching.invariant.utf8)
           c.searching.invariant.utf8 (search rules) c.in-Some.ensures.parts none;
       utf8 = search rules;
+      within = omega (arith, c.in-Some.ensures.shorter, c.searching.invariant.within);
     }

@@ -1,0 +1,103 @@
+-- A text with its phrases and expressions in figures.
+use Rattle.std.specs.Prelude.{ℕ, ◌%◌, ◌==◌, Bool, true, false, not, ◌&&◌, ◌||◌, List, [], ◌++◌, codes, chars, Option, Some, None, is_some, option_map, if◌then◌else◌}
+use Rattle.std.specs.Char.{char_set_contains}
+use Rattle.std.specs.List.{list_any}
+use Rattle.std.specs.Option.{option_map_or}
+use Rattle.cn_core.specs.declared.method.ChineseCountMethod.{ChineseCountMethod}
+use Rattle.cn_core.specs.FigureCharacters.{is_figure}
+use Rattle.cn_find.specs.declared.wanted.Wanted.{Wanted}
+use Rattle.cn_find.specs.Flags.{is_one_character}
+use Rattle.cn_find.specs.Spans.{Span, in_front}
+use Rattle.cn_replace.specs.declared.options.Figures.{Figures}
+use Rattle.cn_replace.specs.declared.options.Included.{Included}
+use Rattle.cn_replace.specs.Chains.{in_chains}
+use Rattle.cn_replace.specs.InFigures.{figures_for}
+use Rattle.cn_replace.specs.Pieces.{begins, leading}
+use Rattle.cn_phrase.specs.declared.form.Form.{Form}
+use Rattle.cn_phrase.specs.declared.form.Form.TheVariants as form
+use Rattle.cn_phrase.specs.Forms.{pieces_of}
+use Rattle.cn_phrase.specs.Items.{Item, phrase, range, expression, item_at, items}
+use Rattle.cn_phrase.specs.Phrases.{Found, after_lead}
+use Rattle.cn_phrase.specs.Pieces.{is_numeral}
+use Rattle.cn_phrase.specs.Ranges.{Ends, range_of, range_text}
+use Rattle.cn_phrase.specs.Values.{value_by}
+use Rattle.cn_phrase.specs.Written.{passed_text, pieces_text}
+
+-- a year in figures that ends with 00, before 前, 来, 历 or 间: it may be a number of years
+abbrev pub may_be_years : Form → ℕ → List ℕ → List ℕ → Bool
+may_be_years form.Year year text rest =
+    year % 100 == 0 && (begins is_figure text
+    && begins (λ c. char_set_contains (codes "前来來历歷间間") c) rest)
+may_be_years other year text rest = false
+
+-- a phrase that begins with this text may mean something else
+abbrev pub is_doubtful : Found → List ℕ → Bool
+is_doubtful found text = may_be_years found.form found.numbers.last text found.rest
+
+-- a range before 折 or 成: its numbers are tenths
+abbrev pub is_of_tenths : Ends → Bool
+is_of_tenths ends = begins (λ c. char_set_contains (codes "折成") c) ends.rest
+
+abbrev pub is_half : Form → Bool
+is_half form.HalfOf = true
+is_half form.HalfAfter = true
+is_half other = false
+
+-- a half after one Chinese character, as in 一个半小时
+abbrev pub is_short_half : Form → List ℕ → Bool
+is_short_half form text = is_half form && is_one_character (leading is_numeral text)
+
+-- a phrase that begins with this text is written in figures: it has a value, and if it is doubtful, or
+-- a half after one character, phrases of that kind are included
+abbrev pub is_phrase_included : Included → Found → List ℕ → Bool
+is_phrase_included included found text =
+    is_some (value_by found.form found.numbers)
+    && ((included.doubtful || not (is_doubtful found text))
+    && (included.one_character || not (is_short_half found.form text)))
+
+abbrev pub is_range_included : Included → Ends → Bool
+is_range_included included ends =
+    is_some (range_of ends.low.text ends.high.text) && (included.doubtful || not (is_of_tenths ends))
+
+-- the text of a phrase with its numbers in figures
+abbrev pub phrase_text : Found → List ℕ → List ℕ
+phrase_text found text = option_map_or (λ start. passed_text text start
+    ++ pieces_text (pieces_of found.form) (record {
+      numbers = record { first = 0; second = 0; last = 0 };
+      after_figure = false;
+      rest = start;
+    })) (after_lead found.lead text) []
+
+-- the new text of a phrase, if it has one
+abbrev pub phrase_new : Included → Found → List ℕ → Option (List ℕ)
+phrase_new included found text =
+    if is_phrase_included included found text then Some (phrase_text found text) else None
+
+-- the new text of a range, if it has one
+abbrev pub range_new : Included → Ends → Option (List ℕ)
+range_new included ends = if is_range_included included ends then range_text ends else None
+
+-- the new text of an item that begins with this text
+abbrev pub item_text : ChineseCountMethod → Figures → Span → List ℕ → Option Item → Option (List ℕ)
+item_text method options span text None = None
+item_text method options span text (Some (phrase found)) = phrase_new options.included found text
+item_text method options span text (Some (range ends)) = range_new options.included ends
+item_text method options span text (Some (expression rest)) = figures_for method options span
+
+-- the new text of an item of a text
+unfoldable pub text_for_item : ChineseCountMethod → Figures → Wanted → Span → Option (List ℕ)
+text_for_item method options wanted span =
+    let text = chars (span.text ++ span.after) in
+    item_text method options span text (item_at wanted (in_front span.before) text)
+
+-- an item without figures that is left unchanged holds all that it is joined to
+unfoldable pub item_holds : ChineseCountMethod → Figures → Wanted → Span → Bool
+item_holds method options wanted span =
+    not (list_any is_figure (chars span.text))
+    && not (is_some (text_for_item method options wanted span))
+
+-- a text with its phrases and expressions in figures
+unfoldable pub text_in_figures : ChineseCountMethod → Figures → Wanted → List ℕ → List ℕ
+text_in_figures method options wanted bytes =
+    in_chains (text_for_item method options wanted) (item_holds method options wanted) bytes
+    (items wanted bytes)

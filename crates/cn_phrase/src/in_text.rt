@@ -1,0 +1,295 @@
+// A text with its phrases and expressions in figures.
+ghost use Rattle.std.specs.Prelude.{◌≡◌, ◌++◌, ◌-◌, ◌^◌, ◌≤◌, ◌==◌, min, drop, length, chars, is_some, string_bytes, IfOk, OnOk};
+ghost use Rattle.std.specs.Option.{option_map};
+ghost use Rattle.std.specs.Char.{char_set_contains};
+ghost use Rattle.cn_core.specs.Buffers.{PutsPrefix};
+ghost use Rattle.cn_find.specs.Spans.{in_front, span_of, text_before};
+ghost use Rattle.cn_replace.specs.Chains.{IsPart};
+ghost use Rattle.cn_replace.specs.Pieces.{begins};
+ghost use Rattle.cn_replace.specs.Private.{PutsText};
+ghost use Rattle.cn_phrase.specs.InText.{is_doubtful, is_half, is_of_tenths, is_phrase_included, is_range_included, is_short_half, item_holds, item_text, may_be_years, phrase_new, phrase_text, range_new, text_for_item, text_in_figures};
+ghost use Rattle.cn_phrase.specs.Items.{item_at, item_of};
+ghost use Rattle.cn_phrase.specs.Phrases.{found_of};
+ghost use Rattle.cn_phrase.specs.Ranges.{ends_of};
+
+use crate::form::Form;
+use crate::items::{Item, item_at, next_item};
+use crate::phrase::Match;
+use crate::piece::{Numbers, Numeral, Progress};
+use crate::range::{Ends, put_range, range_of};
+use crate::word::is_one_of;
+use crate::written::{put_passed, put_pieces};
+use cn_core::{Buffer, ChineseCountMethod, split_first_char};
+use cn_find::{Found, Wanted, is_one_character};
+use cn_replace::chains::put_in_chains;
+use cn_replace::nothing::Nothing;
+use cn_replace::pieces::{Figure, any, begins, split_leading};
+use cn_replace::{Figures, InFigures, Included, Replacement, Rewriting, Sink};
+use std::alloc::{AllocError, Global};
+
+// Whether a text begins with one of these characters.
+fn begins_with(these: &[char], text: &str) -> bool
+    ensures { result ≡ begins (λ c. char_set_contains these.now c) (chars text.now) }
+{
+    match split_first_char(text) {
+        Some((c, _)) => is_one_of(these, c),
+        None => false,
+    }
+}
+
+// Whether a year may be a number of years.
+fn may_be_years(form: Form, year: u16, text: &str, rest: &str) -> bool
+    ensures { result ≡ may_be_years form year (chars text.now) (chars rest.now) }
+{
+    match form {
+        Form::Year => {
+            year % 100 == 0
+                && begins(Figure, text)
+                && begins_with(&['前', '来', '來', '历', '歷', '间', '間'], rest)
+        }
+        _ => false,
+    }
+}
+
+/// Whether a phrase that begins with this text may mean something else.
+pub fn is_doubtful(found: Match<'_>, text: &str) -> bool
+    ensures { result ≡ is_doubtful (found_of found.entry) (chars text.now) }
+{
+    may_be_years(found.form, found.numbers.last, text, found.rest)
+}
+
+/// Whether a range is one of tenths, before 折 or 成.
+pub fn is_of_tenths(ends: Ends<'_>) -> bool
+    ensures { result ≡ is_of_tenths (ends_of ends.entry) }
+{
+    begins_with(&['折', '成'], ends.high.after)
+}
+
+// Whether a form is a half.
+fn is_half(form: Form) -> bool
+    ensures { result ≡ is_half form }
+{
+    matches!(form, Form::HalfOf | Form::HalfAfter)
+}
+
+// Whether a half is after one Chinese character.
+fn is_short_half(form: Form, text: &str) -> bool
+    ensures { result ≡ is_short_half form (chars text.now) }
+{
+    let (number, _) = split_leading(Numeral, text);
+    is_half(form) && is_one_character(number)
+}
+
+// Whether a phrase that begins with this text is written in figures.
+fn is_phrase_included(included: Included, found: Match<'_>, text: &str) -> bool
+    ensures { result ≡ is_phrase_included included (found_of found.entry) (chars text.now) }
+{
+    found.form.value(found.numbers).is_some()
+        && (included.doubtful || !is_doubtful(found, text))
+        && (included.one_character || !is_short_half(found.form, text))
+}
+
+// Whether a range is written in figures.
+fn is_range_included(included: Included, ends: Ends<'_>) -> bool
+    ensures { result ≡ is_range_included included (ends_of ends.entry) }
+{
+    range_of(ends.low.text, ends.high.text).is_some()
+        && (included.doubtful || !is_of_tenths(ends))
+}
+
+// Writes a phrase that begins with this text, with its numbers in figures.
+fn put_phrase<S: Sink>(sink: &mut S, found: Match<'_>, text: &str) -> Result<(), S::Error>
+    ensures { OnOk result
+        (S.took sink.old sink.new (phrase_text (found_of found.entry) (chars text.now))) }
+{
+    let Some(start) = found.lead.after(text) else {
+        return Ok(());
+    };
+    put_passed(sink, text, start)?;
+    let numbers = Numbers {
+        first: 0,
+        second: 0,
+        last: 0,
+    };
+    put_pieces(
+        sink,
+        found.form.pieces(),
+        Progress {
+            numbers,
+            after_figure: false,
+            rest: start,
+        },
+    )
+}
+
+// Writes the new text of a phrase, and returns whether it has one.
+fn put_included<S: Sink>(
+    sink: &mut S,
+    included: Included,
+    found: Match<'_>,
+    text: &str,
+) -> Result<bool, S::Error>
+    ensures { IfOk result (PutsText S.took sink.old sink.new
+        (phrase_new included (found_of found.entry) (chars text.now))) }
+{
+    if !is_phrase_included(included, found, text) {
+        return Ok(false);
+    }
+    put_phrase(sink, found, text)?;
+    Ok(true)
+}
+
+// Writes the new text of a range, and returns whether it has one.
+fn put_range_included<S: Sink>(
+    sink: &mut S,
+    included: Included,
+    ends: Ends<'_>,
+) -> Result<bool, S::Error>
+    ensures { IfOk result (PutsText S.took sink.old sink.new (range_new included (ends_of ends.entry))) }
+{
+    if is_range_included(included, ends) {
+        put_range(sink, ends)
+    } else {
+        Ok(false)
+    }
+}
+
+// The text that begins with a part of a text.
+fn text_from<'a>(whole: &'a str, part: Found<'_>) -> &'a str
+    requires { IsPart whole.now (span_of part) }
+    ensures text { result.now ≡ part.entry.text.now ++ part.entry.after.now }
+    ensures before { text_before whole.now result.now ≡ part.entry.before.now }
+    ensures end { text_before whole.now result.now ++ result.now ≡ whole.now }
+{
+    let (_, text) = whole.split_at(part.before.len());
+    text
+}
+
+/// The phrases and expressions of a text, which are written in figures.
+#[derive(Debug, Copy, Clone)]
+pub struct InText {
+    pub wanted: Wanted,
+    pub replacement: InFigures,
+}
+
+impl InText {
+    // Writes the new text of an item, and returns whether it has one. If not, anything may have been
+    // written.
+    fn put_item<S: Sink>(self, sink: &mut S, whole: &str, part: Found<'_>) -> Result<bool, S::Error>
+        requires { IsPart whole.now (span_of part) }
+        ensures { IfOk result (PutsText S.took sink.old sink.new
+            (text_for_item self.replacement.method self.replacement.figures self.wanted
+            (span_of part.entry))) }
+    {
+        let text = text_from(whole, part);
+        let included = self.replacement.figures.included;
+        match item_at(whole, text, self.wanted) {
+            None => Ok(false),
+            Some(Item::Phrase(found)) => put_included(sink, included, found, text),
+            Some(Item::Range(ends)) => put_range_included(sink, included, ends),
+            Some(Item::Expression(_)) => self.replacement.put_new(part, sink),
+        }
+    }
+
+    // Whether an item has a new text.
+    fn is_new(self, whole: &str, part: Found<'_>) -> bool
+        requires { IsPart whole.now (span_of part) }
+        ensures { result ≡ is_some (text_for_item self.replacement.method self.replacement.figures
+            self.wanted (span_of part.entry)) }
+    {
+        match self.put_item(&mut Nothing {}, whole, part) {
+            Ok(is_new) => is_new,
+            Err(never) => match never {},
+        }
+    }
+}
+
+impl Rewriting for InText {
+    ghost use Rattle.cn_phrase.specs.Items.{items_left};
+    ghost use Rattle.cn_phrase.specs.InText.{item_holds, text_for_item};
+
+    ghost left = { λ t. items_left t.wanted };
+
+    ghost new = { λ t. text_for_item t.replacement.method t.replacement.figures t.wanted };
+
+    ghost holds = { λ t. item_holds t.replacement.method t.replacement.figures t.wanted };
+
+    fn next<'a>(self, whole: &'a str, rest: &'a str) -> Option<Found<'a>> {
+        next_item(whole, rest, self.wanted)
+    }
+
+    #[tactic(auto, unfolding(crate::specs::InText::item_holds))]
+    fn holds_others(self, whole: &str, part: Found<'_>) -> bool {
+        !any(Figure, part.text) && !self.is_new(whole, part)
+    }
+
+    fn put_new<S: Sink>(
+        self,
+        sink: &mut S,
+        whole: &str,
+        part: Found<'_>,
+    ) -> Result<bool, S::Error> {
+        if !self.is_new(whole, part) {
+            return Ok(false);
+        }
+        self.put_item(sink, whole, part)
+    }
+}
+
+// Writes a text with its phrases and expressions in figures.
+fn put_text<S: Sink>(sink: &mut S, text: &str, in_text: InText) -> Result<(), S::Error>
+    ensures { OnOk result (S.took sink.old sink.new (text_in_figures in_text.replacement.method
+        in_text.replacement.figures in_text.wanted text.now)) }
+{
+    put_in_chains(sink, text, in_text)
+}
+
+/// Returns the text with its dates, times, durations, ranges and quantities in figures: numerals are
+/// changed, unless they may mean something else, and words stay. The rules are those of docs/RULES.md,
+/// "Phrases in figures".
+///
+/// ```text
+/// text_to_figures(alloc, "二零二六年一月五日下午三点半，三到五万元", Wanted::EVERYDAY,
+///     ChineseCountMethod::TenThousand, Figures::DEFAULT)
+///     == Ok("2026年1月5日下午3点半，3万到5万元")
+/// ```
+///
+/// The error means that memory ran out; memory is requested as the text grows.
+pub fn text_to_figures(
+    alloc: Global,
+    text: &str,
+    wanted: Wanted,
+    method: ChineseCountMethod,
+    figures: Figures,
+) -> Result<String, AllocError>
+    ensures { IfOk result (λ new. string_bytes new ≡ text_in_figures method figures wanted text.now) }
+{
+    let mut new = String::with_capacity(alloc, text.len())?;
+    let replacement = InFigures { method, figures };
+    put_text(&mut new, text, InText { wanted, replacement })?;
+    Ok(new)
+}
+
+/// Writes the same text at the start of a buffer, if it fits, and returns the number of its bytes,
+/// at most the greatest `usize`. If it does not fit, a prefix of it is written. All other bytes of the
+/// buffer stay as they are.
+pub fn put_text_in_figures(
+    room: &mut [u8],
+    text: &str,
+    wanted: Wanted,
+    method: ChineseCountMethod,
+    figures: Figures,
+) -> usize
+    ensures count { let new = text_in_figures method figures wanted text.now in
+        result ≡ min (length new) (2 ^ 64 - 1) }
+    ensures put { let new = text_in_figures method figures wanted text.now in
+        length new ≤ length room.old → room.new ≡ new ++ drop (length new) room.old }
+    ensures prefix { PutsPrefix (text_in_figures method figures wanted text.now) room.old room.new }
+{
+    let mut buffer = Buffer::new(room);
+    let replacement = InFigures { method, figures };
+    match put_text(&mut buffer, text, InText { wanted, replacement }) {
+        Ok(()) => buffer.count,
+        Err(never) => match never {},
+    }
+}
