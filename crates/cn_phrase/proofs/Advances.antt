@@ -163,7 +163,7 @@ advances-pieces text (End ∷ pieces) h = absurd (cc)
 abbrev pub IsAhead : List ℕ → Found → Type 0
 IsAhead text found = EndsWith text found.rest × (length found.rest < length text)
 
-ahead-lead : (lead : Lead) (text : List ℕ) → IfSome (after_lead lead text) (EndsWith text)
+pub ahead-lead : (lead : Lead) (text : List ℕ) → IfSome (after_lead lead text) (EndsWith text)
 ahead-lead Bare text = by (begins is_blank text) where
   by : (b : Bool) → IfSome (if b then None else Some text) (EndsWith text)
   by true = tt

@@ -173,6 +173,28 @@ pub struct InText {
 }
 
 impl InText {
+    // Writes the new text of an item with which this text begins, and returns whether it has one. If
+    // not, anything may have been written.
+    fn put_known<S: Sink>(
+        self,
+        sink: &mut S,
+        part: Found<'_>,
+        text: &str,
+        item: Option<Item<'_>>,
+    ) -> Result<bool, S::Error>
+        ensures { IfOk result (PutsText S.took sink.old sink.new
+            (item_text self.replacement.method self.replacement.figures (span_of part.entry)
+            (chars text.now) (option_map item_of item.entry))) }
+    {
+        let included = self.replacement.figures.included;
+        match item {
+            None => Ok(false),
+            Some(Item::Phrase(found)) => put_included(sink, included, found, text),
+            Some(Item::Range(ends)) => put_range_included(sink, included, ends),
+            Some(Item::Expression(_)) => self.replacement.put_known(part, sink),
+        }
+    }
+
     // Writes the new text of an item, and returns whether it has one. If not, anything may have been
     // written.
     fn put_item<S: Sink>(self, sink: &mut S, whole: &str, part: Found<'_>) -> Result<bool, S::Error>
@@ -182,13 +204,7 @@ impl InText {
             (span_of part.entry))) }
     {
         let text = text_from(whole, part);
-        let included = self.replacement.figures.included;
-        match item_at(whole, text, self.wanted) {
-            None => Ok(false),
-            Some(Item::Phrase(found)) => put_included(sink, included, found, text),
-            Some(Item::Range(ends)) => put_range_included(sink, included, ends),
-            Some(Item::Expression(_)) => self.replacement.put_new(part, sink),
-        }
+        self.put_known(sink, part, text, item_at(whole, text, self.wanted))
     }
 
     // Whether an item has a new text.

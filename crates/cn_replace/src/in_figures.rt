@@ -143,6 +143,20 @@ impl InFigures {
         }
     }
 
+    /// Writes the new text of an expression, and returns whether it has one. If not, anything may have
+    /// been written.
+    #[tactic(auto, unfolding(crate::specs::InFigures::figures_for))]
+    pub fn put_known<S: Sink>(self, found: Found<'_>, sink: &mut S) -> Result<bool, S::Error>
+        ensures { IfOk result (PutsText S.took sink.old sink.new
+            (figures_for self.method self.figures (span_of found.entry))) }
+    {
+        if may_change(self.method, self.figures.included, found) {
+            self.put_written(sink, found.text)
+        } else {
+            Ok(false)
+        }
+    }
+
     // Whether an expression has a new text.
     #[tactic(auto, unfolding(crate::specs::InFigures::figures_for))]
     fn is_new(self, found: Found<'_>) -> bool
