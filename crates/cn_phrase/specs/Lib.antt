@@ -10,3 +10,5 @@ pub mod Suffix
 pub mod Items
 pub mod Written
 pub mod InText
+pub mod Hours
+pub mod Described

@@ -154,8 +154,8 @@ fn put_range_included<S: Sink>(
     }
 }
 
-// The text that begins with a part of a text.
-fn text_from<'a>(whole: &'a str, part: Found<'_>) -> &'a str
+/// The text that begins with a part of a text.
+pub fn text_from<'a>(whole: &'a str, part: Found<'_>) -> &'a str
     requires { IsPart whole.now (span_of part) }
     ensures text { result.now ≡ part.entry.text.now ++ part.entry.after.now }
     ensures before { text_before whole.now result.now ≡ part.entry.before.now }

@@ -1,7 +1,9 @@
 //! Finds phrases in a text: dates, times of day, durations, ranges, scores and lengths.
 #![tactic(auto)]
 
+mod described;
 pub mod form;
+mod hour;
 mod in_text;
 pub mod items;
 pub mod phrase;
@@ -12,6 +14,8 @@ pub mod value;
 mod word;
 mod written;
 
+pub use described::{Described, Kind, PhraseNumbers, State, describe};
+pub use hour::{PartOfDay, hour_of_day};
 pub use in_text::{InText, is_doubtful, is_of_tenths, put_text_in_figures, text_to_figures};
 pub use shape::Shape;
 pub use word::Word;
