@@ -67,6 +67,20 @@ enum class Doubt : std::uint32_t {
     part = CN_DOUBT_PART, time = CN_DOUBT_TIME, range = CN_DOUBT_RANGE,
 };
 
+/* What an item of a text is. */
+enum class PhraseKind : std::uint32_t {
+    expression = CN_PHRASE_KIND_EXPRESSION, date = CN_PHRASE_KIND_DATE,
+    years = CN_PHRASE_KIND_YEARS, months = CN_PHRASE_KIND_MONTHS, days = CN_PHRASE_KIND_DAYS,
+    time = CN_PHRASE_KIND_TIME, duration = CN_PHRASE_KIND_DURATION, half = CN_PHRASE_KIND_HALF,
+    length = CN_PHRASE_KIND_LENGTH, score = CN_PHRASE_KIND_SCORE, range = CN_PHRASE_KIND_RANGE,
+};
+
+/* What is known of a phrase. */
+enum class PhraseState : std::uint32_t {
+    certain = CN_PHRASE_STATE_CERTAIN, doubtful = CN_PHRASE_STATE_DOUBTFUL,
+    refused = CN_PHRASE_STATE_REFUSED,
+};
+
 /* What a text is meant to be, for the calls that say what may follow it and why it is refused. */
 enum class Input : std::uint32_t {
     amount = CN_AMOUNT, signed_amount = CN_SIGNED_AMOUNT, typed_amount = CN_TYPED_AMOUNT,

@@ -137,6 +137,48 @@ const (
 	DoubtRange Doubt = 6
 )
 
+// PhraseKind is what an item of a text is: an expression that is in no phrase, or a phrase of a
+// kind. The numbers of a phrase that follow here are called first, second, third and fourth
+// where a language has no type of its own for them.
+type PhraseKind uint32
+
+const (
+	// An expression in no phrase.
+	PhraseKindExpression PhraseKind = 0
+	// A date or a part of one: the year, the month, the day.
+	PhraseKindDate PhraseKind = 1
+	// From a year to another one.
+	PhraseKindYears PhraseKind = 2
+	// From a month to another one of the same year.
+	PhraseKindMonths PhraseKind = 3
+	// From a day to another one of the same month.
+	PhraseKindDays PhraseKind = 4
+	// A time of day: the hour as it is written, the minute, the second, the hour of 24.
+	PhraseKindTime PhraseKind = 5
+	// Hours, minutes and seconds.
+	PhraseKindDuration PhraseKind = 6
+	// A number and a half: the number without the half.
+	PhraseKindHalf PhraseKind = 7
+	// A number with decimals, as 一米七五: the number, the decimals, how many decimals there are.
+	PhraseKindLength PhraseKind = 8
+	// Two numbers that are compared.
+	PhraseKindScore PhraseKind = 9
+	// From a quantity to another one.
+	PhraseKindRange PhraseKind = 10
+)
+
+// PhraseState is what is known of a phrase.
+type PhraseState uint32
+
+const (
+	// It has a value.
+	PhraseStateCertain PhraseState = 0
+	// It has a value, but may mean something else: 1000年 of 1000年前, 五到八 of 五到八折.
+	PhraseStateDoubtful PhraseState = 1
+	// It has no value: it names a day or a time that does not exist, or does not rise.
+	PhraseStateRefused PhraseState = 2
+)
+
 // Input is what a text is meant to be, for the calls that say what may follow it and why it is
 // refused: each names the call that reads it.
 type Input uint32

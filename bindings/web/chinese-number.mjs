@@ -137,6 +137,40 @@ export const DOUBTS = Object.freeze(/** @type {const} */ ([
 ]));
 
 /**
+ * What an item of a text is: an expression that is in no phrase, or a phrase of a kind. The
+ * numbers of a phrase that follow here are called first, second, third and fourth where a
+ * language has no type of its own for them.
+ *
+ * - 'expression': an expression in no phrase.
+ * - 'date': a date or a part of one: the year, the month, the day.
+ * - 'years': from a year to another one.
+ * - 'months': from a month to another one of the same year.
+ * - 'days': from a day to another one of the same month.
+ * - 'time': a time of day: the hour as it is written, the minute, the second, the hour of 24.
+ * - 'duration': hours, minutes and seconds.
+ * - 'half': a number and a half: the number without the half.
+ * - 'length': a number with decimals, as 一米七五: the number, the decimals, how many decimals there
+ * are.
+ * - 'score': two numbers that are compared.
+ * - 'range': from a quantity to another one.
+ */
+export const PHRASE_KINDS = Object.freeze(/** @type {const} */ ([
+  'expression', 'date', 'years', 'months', 'days', 'time', 'duration', 'half', 'length', 'score',
+  'range',
+]));
+
+/**
+ * What is known of a phrase.
+ *
+ * - 'certain': it has a value.
+ * - 'doubtful': it has a value, but may mean something else: 1000年 of 1000年前, 五到八 of 五到八折.
+ * - 'refused': it has no value: it names a day or a time that does not exist, or does not rise.
+ */
+export const PHRASE_STATES = Object.freeze(/** @type {const} */ ([
+  'certain', 'doubtful', 'refused',
+]));
+
+/**
  * What a text is meant to be, for the calls that say what may follow it and why it is refused:
  * each names the call that reads it.
  *

@@ -78,6 +78,26 @@ _DoubtWord = Literal[
     "range",
 ]
 
+_PhraseKindWord = Literal[
+    "expression",
+    "date",
+    "years",
+    "months",
+    "days",
+    "time",
+    "duration",
+    "half",
+    "length",
+    "score",
+    "range",
+]
+
+_PhraseStateWord = Literal[
+    "certain",
+    "doubtful",
+    "refused",
+]
+
 _InputWord = Literal[
     "amount",
     "signed_amount",
@@ -223,6 +243,49 @@ class Doubt(str, Enum):
     PART = "part"
     TIME = "time"
     RANGE = "range"
+
+
+class PhraseKind(str, Enum):
+    """What an item of a text is: an expression that is in no phrase, or a phrase of a kind. The
+    numbers of a phrase that follow here are called first, second, third and fourth where a
+    language has no type of its own for them.
+
+    EXPRESSION: an expression in no phrase.
+    DATE: a date or a part of one: the year, the month, the day.
+    YEARS: from a year to another one.
+    MONTHS: from a month to another one of the same year.
+    DAYS: from a day to another one of the same month.
+    TIME: a time of day: the hour as it is written, the minute, the second, the hour of 24.
+    DURATION: hours, minutes and seconds.
+    HALF: a number and a half: the number without the half.
+    LENGTH: a number with decimals, as 一米七五: the number, the decimals, how many decimals there
+    are.
+    SCORE: two numbers that are compared.
+    RANGE: from a quantity to another one."""
+
+    EXPRESSION = "expression"
+    DATE = "date"
+    YEARS = "years"
+    MONTHS = "months"
+    DAYS = "days"
+    TIME = "time"
+    DURATION = "duration"
+    HALF = "half"
+    LENGTH = "length"
+    SCORE = "score"
+    RANGE = "range"
+
+
+class PhraseState(str, Enum):
+    """What is known of a phrase.
+
+    CERTAIN: it has a value.
+    DOUBTFUL: it has a value, but may mean something else: 1000年 of 1000年前, 五到八 of 五到八折.
+    REFUSED: it has no value: it names a day or a time that does not exist, or does not rise."""
+
+    CERTAIN = "certain"
+    DOUBTFUL = "doubtful"
+    REFUSED = "refused"
 
 
 class Input(str, Enum):

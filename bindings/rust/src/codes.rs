@@ -158,6 +158,48 @@ pub enum Doubt {
     Range = 6,
 }
 
+/// What an item of a text is: an expression that is in no phrase, or a phrase of a kind. The
+/// numbers of a phrase that follow here are called first, second, third and fourth where a
+/// language has no type of its own for them.
+#[non_exhaustive]
+#[derive(Debug, Copy, Clone, Eq, PartialEq, Hash)]
+pub enum PhraseKind {
+    /// An expression in no phrase.
+    Expression = 0,
+    /// A date or a part of one: the year, the month, the day.
+    Date = 1,
+    /// From a year to another one.
+    Years = 2,
+    /// From a month to another one of the same year.
+    Months = 3,
+    /// From a day to another one of the same month.
+    Days = 4,
+    /// A time of day: the hour as it is written, the minute, the second, the hour of 24.
+    Time = 5,
+    /// Hours, minutes and seconds.
+    Duration = 6,
+    /// A number and a half: the number without the half.
+    Half = 7,
+    /// A number with decimals, as 一米七五: the number, the decimals, how many decimals there are.
+    Length = 8,
+    /// Two numbers that are compared.
+    Score = 9,
+    /// From a quantity to another one.
+    Range = 10,
+}
+
+/// What is known of a phrase.
+#[non_exhaustive]
+#[derive(Debug, Copy, Clone, Eq, PartialEq, Hash)]
+pub enum PhraseState {
+    /// It has a value.
+    Certain = 0,
+    /// It has a value, but may mean something else: 1000年 of 1000年前, 五到八 of 五到八折.
+    Doubtful = 1,
+    /// It has no value: it names a day or a time that does not exist, or does not rise.
+    Refused = 2,
+}
+
 /// Why a text is not a number or a quantity. From `Start` on it is the rule that the wrong
 /// character breaks; from `BareTen` on, a rule of quantities alone.
 #[non_exhaustive]
@@ -213,6 +255,23 @@ impl Doubt {
     ];
 }
 
+impl PhraseKind {
+    /// All members, to find one by its code.
+    #[rustfmt::skip]
+    pub(crate) const ALL: [Self; 11] = [
+        Self::Expression, Self::Date, Self::Years, Self::Months, Self::Days, Self::Time,
+        Self::Duration, Self::Half, Self::Length, Self::Score, Self::Range,
+    ];
+}
+
+impl PhraseState {
+    /// All members, to find one by its code.
+    #[rustfmt::skip]
+    pub(crate) const ALL: [Self; 3] = [
+        Self::Certain, Self::Doubtful, Self::Refused,
+    ];
+}
+
 impl Fault {
     /// All members, to find one by its code.
     #[rustfmt::skip]
@@ -240,7 +299,7 @@ pub mod flag {
     pub const ONE_CHARACTER: u32 = 8;
 }
 
-/// The options for replacing quantities, added together, and to `About` and `OneCharacter`.
+/// The options for writing a text in figures, added together, and to `About` and `OneCharacter`.
 pub mod option {
     pub const DOUBTFUL: u32 = 16;
     pub const EXPANDED: u32 = 32;
