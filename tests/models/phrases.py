@@ -525,7 +525,10 @@ JUDGES = {
 
 
 def doubt_of_date(line, phrase):
-    """A year in figures that ends with 00 may be a number of years: 1000年前."""
+    """A year in figures that ends with 00 may be a number of years: 1000年前; one with 十 or 百 is of an
+    era."""
+    if "month" in phrase.parts and "year" in phrase.parts:
+        return "era" if re.search("[十百]", phrase.parts["year"].text) else None
     if list(phrase.parts) == ["year"] and phrase.parts["year"].text.endswith("00"):
         return "years" if line.at(phrase.end) in "前来來历歷间間" else None
     return None
@@ -553,7 +556,7 @@ def new_part(phrase: Phrase, role: str, part: Part) -> Optional[str]:
         return new_end(phrase, role, part)
     if phrase.kind == "half" and len(text) == 1:
         return None
-    if has_figure(text):
+    if has_figure(text) or role == "quarter":
         return text
     if role == "both":
         hour, minute = re.split("[点點]", text)

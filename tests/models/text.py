@@ -516,6 +516,8 @@ def is_about(line: Line, start: int, end: int) -> bool:
         return True
     if line.at(end) in "几幾多余餘来來" or (line.at(end) == "好" and line.at(end + 1) in "几幾"):
         return True
+    if line.at(end) == "出" and line.at(end + 1) in "头頭":
+        return True
     whole = re.split("[点點]", text)[0]
     pairs = [(a, b) for a, b in zip(whole, whole[1:]) if is_any_digit(a) and is_any_digit(b)]
     if len(pairs) != 1 or is_figure(pairs[0][0]) or is_figure(pairs[0][1]):
@@ -686,12 +688,12 @@ WORDS = [
     tuple(word.split("|"))
     for word in """
     |十二|指肠 |十二|生肖 |十二|月党 |十八|般 |十八|大 |十八|罗汉 |十八|层地 |十九|大 |二十|大
-    |十一|假期 |十一|长假 |十一|黄金 |三十六|计 |七十二|变 |七十二|行 |三百六十|行 |二十四|史
+    |十一|假期 |十一|长假 |十一|黄金 |三十六|计 |七十二|变 |七十二|行 |三百六十|行 |二十四|史 |二十四|节气
     |二十八|宿 |十三|陵 |十三|妹 |一千零一|夜 |二八|年华 |三十|而立 |三十|年河 |四十|不惑
-    |五十|步笑 |十五|个吊 |十万|火急 |十万八千|里 |二百五| |亿万| 双|十一| 双|十二| 年|三十|
+    |五十|步笑 |十五|个吊 |十万|火急 |十万八千|里 |二百五| |亿万| 双|十一| 双|十二| 年|三十| 初|一十五| |一千|道一 千道|一万|
     """.split()
 ]
-SIMPLE = str.maketrans("腸黨羅漢層長黃計變華個雙萬億臘", "肠党罗汉层长黄计变华个双万亿腊")
+SIMPLE = str.maketrans("腸黨羅漢層長黃計變華個雙萬億臘節氣", "肠党罗汉层长黄计变华个双万亿腊节气")
 HALVED = "个個倍天岁歲里年月日号號點点时時分秒刻元圆圓块塊角毛度米斤两兩"
 LINKS = "到至~～－–—〜-"
 CHINESE_DIGITS = re.compile(f"{_D}+")
@@ -907,8 +909,8 @@ CALENDAR, CLOCK = "年月日号號分秒刻", "點点时時"
 MONEY_AND_MEASURES = "元圆圓块塊角毛度米斤两兩"
 COUNTED = "个個件张張人名位只隻條条斤份次瓶包箱盒本套台杯碗"
 BEFORE_LINK = CALENDAR + CLOCK + MONEY_AND_MEASURES
-JOINED_IN_ANY_CASE = re.compile(f"[{BEFORE_LINK}]?[{LINKS}]|比|[单單有]|[个個]?小[时時]|分[钟鐘]|[{CLOCK}]")
-CHARACTERS_ABOVE = frozenset(BEFORE_LINK + LINKS + "比单單有个個小钟鐘")
+JOINED_IN_ANY_CASE = re.compile(f"[{BEFORE_LINK}]?[{LINKS}]|比|[单單有加减減乘除]|[个個]?小[时時]|分[钟鐘]|[乘除]以|等[于於]|[{CLOCK}]")
+CHARACTERS_ABOVE = frozenset(BEFORE_LINK + LINKS + "比单單有加减減乘除个個小钟鐘")
 
 
 def clings(line: Line, start: int, end: int) -> bool:

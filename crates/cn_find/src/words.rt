@@ -4,7 +4,7 @@ ghost use Rattle.std.specs.Char.{char_set_contains};
 ghost use Rattle.cn_find.specs.Belongs.{begins_with};
 ghost use Rattle.cn_find.specs.Spans.{in_front};
 ghost use Rattle.cn_find.specs.Private.{may_begin_word};
-ghost use Rattle.cn_find.specs.Words.{begins_with_two, begins_word, ends_word, is_exactly, is_named_group, is_of_word, is_saying, is_saying_of_tens, is_title, is_word_by_itself};
+ghost use Rattle.cn_find.specs.Words.{begins_with_two, begins_word, ends_word, is_exactly, is_named_group, is_of_word, is_saying, is_saying_of_tens, is_ten_thousand, is_title, is_word_by_itself};
 
 use crate::expressions::{first_is, last_is, split_nearest};
 use cn_core::split_first_char;
@@ -85,7 +85,9 @@ fn is_title(text: &str, after: &str) -> bool
     (is_exactly(&['三', '十', '六'], text) && begins_with(&['计', '計'], after))
         || (is_exactly(&['七', '十', '二'], text) && begins_with(&['变', '變', '行'], after))
         || (is_exactly(&['三', '百', '六', '十'], text) && begins_with(&['行'], after))
-        || (is_exactly(&['二', '十', '四'], text) && begins_with(&['史'], after))
+        || (is_exactly(&['二', '十', '四'], text)
+            && (begins_with(&['史'], after)
+                || begins_with_two(&['节', '節'], &['气', '氣'], after)))
         || (is_exactly(&['二', '十', '八'], text) && begins_with(&['宿'], after))
         || (is_exactly(&['十', '三'], text) && begins_with(&['陵', '妹'], after))
         || (is_exactly(&['一', '千', '零', '一'], text) && begins_with(&['夜'], after))
@@ -124,8 +126,15 @@ fn is_saying(text: &str, after: &str) -> bool
     (is_hundred_thousand(text) && begins_with_two(&['火'], &['急'], after))
         || ((is_exactly(&['十', '万', '八', '千'], text) || is_exactly(&['十', '萬', '八', '千'], text))
             && begins_with(&['里'], after))
+        || (is_exactly(&['一', '千'], text) && begins_with_two(&['道'], &['一'], after))
         || is_saying_of_tens(text, after)
         || is_word_by_itself(text)
+}
+
+fn is_ten_thousand(text: &str) -> bool
+    ensures { result ≡ is_ten_thousand (chars text.now) }
+{
+    is_exactly(&['一', '万'], text) || is_exactly(&['一', '萬'], text)
 }
 
 fn ends_word(before: &str, text: &str) -> bool
@@ -137,6 +146,8 @@ fn ends_word(before: &str, text: &str) -> bool
     match c {
         '双' | '雙' => is_exactly(&['十', '一'], text) || is_exactly(&['十', '二'], text),
         '年' => is_exactly(&['三', '十'], text),
+        '初' => is_exactly(&['一', '十', '五'], text),
+        '道' => ends_with(&['千'], front) && is_ten_thousand(text),
         '月' => ends_with(&['正', '腊', '臘'], front),
         _ => false,
     }

@@ -37,6 +37,7 @@ empty-none shape.LongCount = refl
 empty-none shape.ZeroDigit = refl
 empty-none shape.Small = refl
 empty-none shape.OneDigit = refl
+empty-none shape.Quarter = refl
 empty-none shape.TwoDigits = refl
 empty-none shape.TwoFigures = refl
 empty-none shape.FewFigures = refl

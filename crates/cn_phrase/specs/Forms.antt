@@ -47,7 +47,7 @@ pieces_of HourZero =
 pieces_of HourHalf =
     Slot shape.Clock ∷ Fixed Dian ∷ Fixed Half ∷ []
 pieces_of HourQuarter =
-    Slot shape.Clock ∷ Fixed Dian ∷ Slot shape.OneDigit ∷ Fixed Ke ∷ []
+    Slot shape.Clock ∷ Fixed Dian ∷ Slot shape.Quarter ∷ Fixed Ke ∷ []
 pieces_of ColonSecond =
     Slot shape.FewFigures ∷ Fixed Colon ∷ Slot shape.TwoFigures ∷ Fixed Colon ∷ Slot shape.TwoFigures ∷ NotBefore OfClock ∷ NotBefore Name ∷ []
 pieces_of ColonMinute =

@@ -30,9 +30,21 @@ may_be_years form.Year year text rest =
     && begins (λ c. char_set_contains (codes "前来來历歷间間") c) rest)
 may_be_years other year text rest = false
 
--- a phrase that begins with this text may mean something else
+-- a number has 十 or 百
+abbrev pub has_unit : List ℕ → Bool
+has_unit number = list_any (λ c. char_set_contains (codes "十百") c) number
+
+-- a date whose year has 十 or 百, such as 民国二十六年七月七日: it is one of an era, whose dates stay in
+-- characters
+abbrev pub is_of_era : Form → List ℕ → Bool
+is_of_era form.YearMonthDay text = has_unit (leading is_numeral text)
+is_of_era form.YearMonth text = has_unit (leading is_numeral text)
+is_of_era other text = false
+
+-- a phrase that begins with this text may mean something else, or is one of an era
 abbrev pub is_doubtful : Found → List ℕ → Bool
-is_doubtful found text = may_be_years found.form found.numbers.last text found.rest
+is_doubtful found text =
+    may_be_years found.form found.numbers.last text found.rest || is_of_era found.form text
 
 -- a range before 折 or 成: its numbers are tenths
 abbrev pub is_of_tenths : Ends → Bool

@@ -5,7 +5,7 @@ use Rattle.std.specs.Option.{option_and_then, option_map, option_or}
 use Rattle.cn_core.specs.Characters.{digit_of}
 use Rattle.cn_core.specs.FigureCharacters.{figure_of}
 use Rattle.cn_phrase.specs.declared.shape.Shape.{Shape}
-use Rattle.cn_phrase.specs.declared.shape.Shape.TheVariants.{Year, FullYear, EraYear, Count, Clock, LongCount, ZeroDigit, Small, OneDigit, TwoDigits, TwoFigures, FewFigures}
+use Rattle.cn_phrase.specs.declared.shape.Shape.TheVariants.{Year, FullYear, EraYear, Count, Clock, LongCount, ZeroDigit, Small, OneDigit, Quarter, TwoDigits, TwoFigures, FewFigures}
 
 -- the value of a Chinese digit, such as 2 for 两
 unfoldable pub chinese_digit : ℕ → Option ℕ
@@ -148,6 +148,7 @@ value_of LongCount text = long_count_of text
 value_of ZeroDigit text = zero_digit_of text
 value_of Small text = small_of text
 value_of OneDigit text = digit_alone_of text
+value_of Quarter text = digit_alone_of text
 value_of TwoDigits text = two_alone_of text
 value_of TwoFigures text = two_of figure_of text
 value_of FewFigures text = few_figures_of text

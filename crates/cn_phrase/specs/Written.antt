@@ -7,6 +7,7 @@ use Rattle.cn_replace.specs.Kept.{kept_text}
 use Rattle.cn_replace.specs.Pieces.{leading}
 use Rattle.cn_phrase.specs.declared.piece.Piece.{Piece}
 use Rattle.cn_phrase.specs.declared.piece.Piece.TheVariants.{Slot, Fixed, NotBefore, End}
+use Rattle.cn_phrase.specs.declared.shape.Shape.TheVariants.{Quarter}
 use Rattle.cn_phrase.specs.Pieces.{Reading, is_numeral, piece_read, without_blank}
 
 -- the new text of a number: as it is, if it has a figure; otherwise in the kept style
@@ -25,8 +26,9 @@ slot_text after_figure text =
     passed_text text (without_blank after_figure text)
     ++ number_text (leading is_numeral (without_blank after_figure text))
 
--- the new text of a piece, given what was read before it and after it
+-- the new text of a piece, given what was read before it and after it; the digit of a quarter stays
 abbrev pub piece_text : Piece → Reading → Reading → List ℕ
+piece_text (Slot Quarter) reading next = passed_text reading.rest next.rest
 piece_text (Slot shape) reading next = slot_text reading.after_figure reading.rest
 piece_text (Fixed word) reading next = passed_text reading.rest next.rest
 piece_text (NotBefore guard) reading next = []

@@ -188,7 +188,7 @@ impl Form {
             Form::HourQuarter => &[
                 Piece::Slot(Shape::Clock),
                 Piece::Fixed(Word::Dian),
-                Piece::Slot(Shape::OneDigit),
+                Piece::Slot(Shape::Quarter),
                 Piece::Fixed(Word::Ke),
             ],
             Form::ColonSecond => &[

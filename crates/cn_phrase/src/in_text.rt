@@ -7,7 +7,7 @@ ghost use Rattle.cn_find.specs.Spans.{in_front, span_of, text_before};
 ghost use Rattle.cn_replace.specs.Chains.{IsPart};
 ghost use Rattle.cn_replace.specs.Pieces.{begins};
 ghost use Rattle.cn_replace.specs.Private.{PutsText};
-ghost use Rattle.cn_phrase.specs.InText.{is_doubtful, is_half, is_of_tenths, is_phrase_included, is_range_included, is_short_half, item_holds, item_text, may_be_years, phrase_new, phrase_text, range_new, text_for_item, text_in_figures};
+ghost use Rattle.cn_phrase.specs.InText.{is_doubtful, is_half, is_of_era, is_of_tenths, is_phrase_included, is_range_included, is_short_half, item_holds, item_text, may_be_years, phrase_new, phrase_text, range_new, text_for_item, text_in_figures};
 ghost use Rattle.cn_phrase.specs.Items.{item_at, item_of};
 ghost use Rattle.cn_phrase.specs.Phrases.{found_of};
 ghost use Rattle.cn_phrase.specs.Ranges.{ends_of};
@@ -23,7 +23,7 @@ use cn_core::{Buffer, ChineseCountMethod, split_first_char};
 use cn_find::{Found, Wanted, is_one_character};
 use cn_replace::chains::put_in_chains;
 use cn_replace::nothing::Nothing;
-use cn_replace::pieces::{Figure, any, begins, split_leading};
+use cn_replace::pieces::{CharTest, Figure, any, begins, split_leading};
 use cn_replace::{Figures, InFigures, Included, Replacement, Rewriting, Sink};
 use std::alloc::{AllocError, Global};
 
@@ -51,11 +51,39 @@ fn may_be_years(form: Form, year: u16, text: &str, rest: &str) -> bool
     }
 }
 
-/// Whether a phrase that begins with this text may mean something else.
+// A character that makes a year one of an era.
+#[derive(Copy, Clone)]
+struct TenOrHundred;
+
+impl CharTest for TenOrHundred {
+    ghost use Rattle.std.specs.Prelude.{codes};
+    ghost use Rattle.std.specs.Char.{char_set_contains};
+
+    ghost test = { λ _ c. char_set_contains (codes "十百") c };
+
+    fn passes(self, c: char) -> bool {
+        is_one_of(&['十', '百'], c)
+    }
+}
+
+// Whether a date that begins with this text has a year with 十 or 百, and so is one of an era.
+fn is_of_era(form: Form, text: &str) -> bool
+    ensures { result ≡ is_of_era form (chars text.now) }
+{
+    match form {
+        Form::YearMonthDay | Form::YearMonth => {
+            let (year, _) = split_leading(Numeral, text);
+            any(TenOrHundred, year)
+        }
+        _ => false,
+    }
+}
+
+/// Whether a phrase that begins with this text may mean something else, or is one of an era.
 pub fn is_doubtful(found: Match<'_>, text: &str) -> bool
     ensures { result ≡ is_doubtful (found_of found.entry) (chars text.now) }
 {
-    may_be_years(found.form, found.numbers.last, text, found.rest)
+    may_be_years(found.form, found.numbers.last, text, found.rest) || is_of_era(found.form, text)
 }
 
 /// Whether a range is one of tenths, before 折 or 成.

@@ -27,6 +27,8 @@ pub enum Shape {
     Small,
     /// One digit.
     OneDigit,
+    /// The digit of a quarter of an hour, which stays as it is.
+    Quarter,
     /// Two digits of one kind.
     TwoDigits,
     /// Two figures.
@@ -431,7 +433,7 @@ impl Shape {
             Shape::LongCount => Some(u16::from(long_count_of(text)?)),
             Shape::ZeroDigit => Some(u16::from(zero_digit_of(text)?)),
             Shape::Small => small_of(text),
-            Shape::OneDigit => Some(u16::from(digit_alone_of(text)?)),
+            Shape::OneDigit | Shape::Quarter => Some(u16::from(digit_alone_of(text)?)),
             Shape::TwoDigits => Some(u16::from(two_alone_of(text)?)),
             Shape::TwoFigures => Some(u16::from(two_of(Figures, text)?)),
             Shape::FewFigures => Some(u16::from(few_figures_of(text)?)),

@@ -8,6 +8,7 @@ ghost use Rattle.cn_phrase.specs.Suffix.{EndsWith};
 ghost use Rattle.cn_phrase.specs.Written.{number_text, passed_text, piece_text, pieces_text, slot_text};
 
 use crate::piece::{Numeral, Piece, Progress, without_blank};
+use crate::shape::Shape;
 use cn_core::ChineseCountMethod;
 use cn_replace::Sink;
 use cn_replace::kept::put_kept;
@@ -70,6 +71,7 @@ fn put_piece<S: Sink>(
         (piece_text piece (reading_of progress.entry) (reading_of next.entry))) }
 {
     match piece {
+        Piece::Slot(Shape::Quarter) => put_passed(sink, progress.rest, next.rest),
         Piece::Slot(_) => put_slot(sink, progress.after_figure, progress.rest),
         Piece::Fixed(_) => put_passed(sink, progress.rest, next.rest),
         Piece::NotBefore(_) | Piece::End => Ok(()),

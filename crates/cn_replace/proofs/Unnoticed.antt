@@ -22,7 +22,7 @@ use Rattle.cn_find.proofs.Unwanted.{outside}
 use Rattle.cn_replace.specs.declared.options.Figures.{Figures}
 use Rattle.cn_replace.specs.InFigures.{figures_for, may_change}
 use Rattle.cn_replace.specs.Clings.{begins_measure, clings, clings_to, is_bound, is_bridge}
-use Rattle.cn_replace.specs.Joined.{begins_counter, is_between, is_counter, is_hour, is_length, is_link, is_of_amount as is_amount_unit, is_of_date, is_of_word as is_of_one, joins, joins_three}
+use Rattle.cn_replace.specs.Joined.{begins_counter, is_between, is_counter, is_hour, is_length, is_link, is_of_amount as is_amount_unit, is_of_date, is_of_word as is_of_one, is_operation, joins, joins_three}
 use Rattle.cn_replace.specs.Parting.{is_noticed}
 use Rattle.cn_replace.specs.Pieces.{after_leading, begins, leading}
 
@@ -187,7 +187,7 @@ module _ (c : ℕ) (u : IsUnseen c) (more : List ℕ) where
 -- nothing joins two expressions between which it is
 pub none-joins : (c : ℕ) → IsUnseen c → (xs ys text after : List ℕ)
     → joins (xs ++ c ∷ ys) text after ≡ false
-unfolding is_link is_between is_hour is_of_date is_amount_unit is_length joins_three is_named is_noticed is_han is_extra is_tens tens_of digit_of binds_minus
+unfolding is_link is_between is_hour is_of_date is_amount_unit is_length is_operation joins_three is_named is_noticed is_han is_extra is_tens tens_of digit_of binds_minus
 none-joins c u [] [] text after = simp (u.other)
 none-joins c u [] (y ∷ []) text after = simp (u.other)
 none-joins c u [] (y ∷ z ∷ []) text after = simp (u.other)
