@@ -16,8 +16,8 @@ use crate::status::{DONE, INCORRECT, NOT_UTF8, UNKNOWN, tell_none};
 use chinese_number::{QuantityRule, Wanted};
 use cn_dynamic::utf8_text;
 use cn_find::Found;
-use cn_phrase::range::{Range, range_of};
 use cn_phrase::items::next_item;
+use cn_phrase::range::{Range, range_of};
 use cn_phrase::{Kind, State, describe};
 use std::str;
 

@@ -192,7 +192,11 @@ fn of_value(lead: Lead, text: &str, value: Value) -> PhraseNumbers
 fn state_of(is_doubtful: bool) -> State
     ensures { result ≡ state_of is_doubtful }
 {
-    if is_doubtful { State::Doubtful } else { State::Certain }
+    if is_doubtful {
+        State::Doubtful
+    } else {
+        State::Certain
+    }
 }
 
 // A phrase with which a text begins.

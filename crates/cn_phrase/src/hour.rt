@@ -96,7 +96,11 @@ fn hour_by(lead: Lead, text: &str, hour: u8) -> Option<u8>
 fn without_24(time: Time, hour: u8) -> u8
     ensures { result ≡ without_24 time hour }
 {
-    if hour == 24 && !(time.minute == 0 && time.second == 0) { 0 } else { hour }
+    if hour == 24 && !(time.minute == 0 && time.second == 0) {
+        0
+    } else {
+        hour
+    }
 }
 
 /// The hour of 24 of a time with which a text begins; `None` if it is not known.

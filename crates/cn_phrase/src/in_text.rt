@@ -121,8 +121,7 @@ fn is_phrase_included(included: Included, found: Match<'_>, text: &str) -> bool
 fn is_range_included(included: Included, ends: Ends<'_>) -> bool
     ensures { result ≡ is_range_included included (ends_of ends.entry) }
 {
-    range_of(ends.low.text, ends.high.text).is_some()
-        && (included.doubtful || !is_of_tenths(ends))
+    range_of(ends.low.text, ends.high.text).is_some() && (included.doubtful || !is_of_tenths(ends))
 }
 
 // Writes a phrase that begins with this text, with its numbers in figures.
@@ -310,7 +309,14 @@ pub fn text_to_figures(
 {
     let mut new = String::with_capacity(alloc, text.len())?;
     let replacement = InFigures { method, figures };
-    put_text(&mut new, text, InText { wanted, replacement })?;
+    put_text(
+        &mut new,
+        text,
+        InText {
+            wanted,
+            replacement,
+        },
+    )?;
     Ok(new)
 }
 
@@ -332,7 +338,14 @@ pub fn put_text_in_figures(
 {
     let mut buffer = Buffer::new(room);
     let replacement = InFigures { method, figures };
-    match put_text(&mut buffer, text, InText { wanted, replacement }) {
+    match put_text(
+        &mut buffer,
+        text,
+        InText {
+            wanted,
+            replacement,
+        },
+    ) {
         Ok(()) => buffer.count,
         Err(never) => match never {},
     }

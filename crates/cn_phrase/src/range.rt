@@ -13,8 +13,8 @@ use crate::word::is_one_of;
 use cn_core::{Buffer, ChineseCountMethod, Unit, is_figure, split_first_char};
 use cn_find::Found;
 use cn_quantity::{Quantity, QuantityForm, chinese_to_quantity};
-use cn_replace::clings::clings;
 use cn_replace::Sink;
+use cn_replace::clings::clings;
 use cn_replace::kept::put_kept;
 use cn_replace::pieces::{Figure, UnitFrom, all, any, before_rest, begins, split_nearest};
 
@@ -149,7 +149,10 @@ fn goes_on(after: &str) -> bool
     ensures { result ≡ goes_on (chars after.now) }
 {
     match split_first_char(after) {
-        Some((c, _)) => is_one_of(&['-', '/', '~', ':', '：', '=', '+', '^', '*', '×', '_', '\\'], c),
+        Some((c, _)) => is_one_of(
+            &['-', '/', '~', ':', '：', '=', '+', '^', '*', '×', '_', '\\'],
+            c,
+        ),
         None => false,
     }
 }
@@ -301,7 +304,10 @@ pub fn range_of(low: &str, high: &str) -> Option<Range>
     let first = quantity_with(low, more_of_low(low, high))?;
     let second = quantity_with(high, more_of_high(low, high))?;
     if is_less(first, second) {
-        Some(Range { low: first, high: second })
+        Some(Range {
+            low: first,
+            high: second,
+        })
     } else {
         None
     }
@@ -338,7 +344,11 @@ fn put_end<S: Sink>(sink: &mut S, text: &str, more: &str) -> Result<bool, S::Err
         return Ok(false);
     }
     let mut room = [0; 96];
-    put_kept(sink, ChineseCountMethod::TenThousand, joined(&mut room, text, more))
+    put_kept(
+        sink,
+        ChineseCountMethod::TenThousand,
+        joined(&mut room, text, more),
+    )
 }
 
 // Writes a link and the second end of a range.
@@ -347,14 +357,22 @@ fn put_high<S: Sink>(sink: &mut S, ends: Ends<'_>) -> Result<bool, S::Error>
 {
     let mut room = [0; 4];
     sink.put(ends.link.encode_utf8(&mut room))?;
-    put_end(sink, ends.high.text, more_of_high(ends.low.text, ends.high.text))
+    put_end(
+        sink,
+        ends.high.text,
+        more_of_high(ends.low.text, ends.high.text),
+    )
 }
 
 // Writes the first end of a range.
 fn put_low<S: Sink>(sink: &mut S, ends: Ends<'_>) -> Result<bool, S::Error>
     ensures { IfOk result (PutsText S.took sink.old sink.new (low_text (ends_of ends.entry))) }
 {
-    put_end(sink, ends.low.text, more_of_low(ends.low.text, ends.high.text))
+    put_end(
+        sink,
+        ends.low.text,
+        more_of_low(ends.low.text, ends.high.text),
+    )
 }
 
 // Writes both ends of a range.

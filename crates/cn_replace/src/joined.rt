@@ -48,10 +48,7 @@ fn is_part_unit(c: char) -> bool
 fn is_joint(c: char) -> bool
     ensures { result ≡ is_joint c }
 {
-    is_link(c)
-        || is_part_unit(c)
-        || is_between(c)
-        || matches!(c, '小' | '个' | '個' | '钟' | '鐘' | '的')
+    is_link(c) || is_part_unit(c) || is_between(c) || matches!(c, '小' | '个' | '個' | '钟' | '鐘' | '的')
 }
 
 #[tactic(auto, unfolding(cn_find::specs::Expressions::is_han))]

@@ -54,7 +54,14 @@ fn put_quantities<S: Sink>(
     ensures { OnOk result (S.took sink.old sink.new
         (in_figures replacement.method replacement.figures wanted text.now)) }
 {
-    put_in_chains(sink, text, Quantities { wanted, replacement })
+    put_in_chains(
+        sink,
+        text,
+        Quantities {
+            wanted,
+            replacement,
+        },
+    )
 }
 
 /// Returns the text with its expressions in figures: numerals are changed, unless they may mean

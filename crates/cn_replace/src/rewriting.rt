@@ -34,12 +34,7 @@ pub trait Rewriting: Copy {
     /// the part is left unchanged.
     ///
     /// The errors are those of the sink.
-    fn put_new<S: Sink>(
-        self,
-        sink: &mut S,
-        whole: &str,
-        part: Found<'_>,
-    ) -> Result<bool, S::Error>
+    fn put_new<S: Sink>(self, sink: &mut S, whole: &str, part: Found<'_>) -> Result<bool, S::Error>
         requires { IsPart whole.now (span_of part) }
         ensures variant { IfOk result (λ is_new. is_new ≡ is_some (new self (span_of part.entry))) }
         ensures text { OnOk result
