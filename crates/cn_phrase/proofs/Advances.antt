@@ -1,6 +1,6 @@
 -- A phrase has at least one character.
-use Rattle.std.proofs.Common.{◌≡◌, ℕ, ◌<◌, ◌≤◌, ◌+◌, ◌==◌, ◌||◌, ◌&&◌, Bool, true, false, List, [], ◌∷◌, ◌++◌, length, length-append, Option, Some, None, IfSome, codes, refl, sym, ap, ◌∙◌, arith, if◌then◌else◌}
-use Rattle.std.specs.Option.{option_and_then, option_map}
+use Rattle.std.proofs.Common.{◌≡◌, ℕ, ◌<◌, ◌≤◌, Bool, true, false, List, [], ◌∷◌, length, length-append, Option, Some, None, IfSome, refl, ap, arith, if◌then◌else◌}
+use Rattle.std.specs.Option.{option_map}
 use Rattle.cn_core.specs.FigureCharacters.{is_figure}
 use Rattle.cn_replace.specs.Pieces.{after_leading, begins, leading}
 use Rattle.cn_phrase.specs.declared.form.Form.{Form}
@@ -18,7 +18,6 @@ use Rattle.cn_phrase.specs.Phrases.{Found, is_blank, after_lead, form_read, furt
 use Rattle.cn_phrase.specs.Pieces.{Reading, is_numeral, piece_read, pieces_read, slot_read, without_blank}
 use Rattle.cn_phrase.specs.Shapes.{value_of}
 use Rattle.cn_phrase.specs.Suffix.{EndsWith}
-use Rattle.cn_phrase.specs.Words.{after_word}
 use Rattle.cn_phrase.proofs.Suffixes.{Within, within-piece, if-then, Ends-again, Ends-blank, Ends-leading, Ends-self, leaves-word, within-pieces}
 
 -- a suffix is not longer

@@ -1,5 +1,5 @@
 -- Parts of a text, and where the next ones begin.
-use Rattle.std.proofs.Common.{◌≡◌, ℕ, ◌-◌, true, false, Option, Some, None, List, [], ◌∷◌, ◌++◌, length, take, reverse, chars, encode_utf8_all, IsUtf8, refl, sym, ap, ◌∙◌, arith, append_assoc, length-append}
+use Rattle.std.proofs.Common.{◌≡◌, ℕ, ◌-◌, true, false, Option, Some, None, List, [], ◌∷◌, ◌++◌, length, take, chars, IsUtf8, refl, sym, ap, ◌∙◌, arith, append_assoc, length-append}
 use Rattle.std.proofs.Math.Seq.{take-append_seam}
 use Rattle.std.proofs.lemmas.List.{reverse-reverse}
 use Rattle.std.proofs.lemmas.Str.{IsUtf8-append, chars-append, encodes-chars}
@@ -11,7 +11,7 @@ use Rattle.cn_find.specs.Spans.{Span, in_front, run_after, text_before}
 use Rattle.cn_find.proofs.Runs.{IsEnd, Passed, Passed-of}
 use Rattle.cn_replace.specs.Chains.{IsPart}
 use Rattle.cn_phrase.specs.Between.{characters_before, part_between}
-use Rattle.cn_phrase.specs.Ranges.{Ends, is_great, is_link, linked, units_of}
+use Rattle.cn_phrase.specs.Ranges.{is_great, is_link, linked, units_of}
 use Rattle.cn_phrase.specs.Suffix.{EndsWith}
 use Rattle.cn_phrase.proofs.Suffixes.{Ends-again}
 

@@ -1,20 +1,15 @@
 -- Steps over the characters of a text and over its items.
-use Rattle.std.proofs.Common.{◌≡◌, ℕ, zero, suc, ◌-◌, ◌<◌, ◌≤◌, Bool, true, false, List, [], ◌∷◌, ◌++◌, length, take, drop, reverse, chars, encode_utf8_all, IsUtf8, Option, Some, None, IfSome, option_map, refl, sym, ap, ap₂, ◌∙◌, subst, arith, append_assoc, length-append, if◌then◌else◌}
+use Rattle.std.proofs.Common.{◌≡◌, ℕ, ◌-◌, ◌<◌, Bool, true, false, List, [], ◌∷◌, ◌++◌, length, Option, Some, None, IfSome, option_map, refl, ap, arith, length-append, if◌then◌else◌}
 use Rattle.std.specs.Option.{option_and_then}
 use mathlib.Core.List.{reverse_aux}
-use Rattle.std.proofs.Math.Seq.{drop-append_seam, take-append_seam}
-use Rattle.std.proofs.Math.Utf8.{scalars}
-use Rattle.std.proofs.lemmas.List.{reverse-append, reverse-reverse}
-use Rattle.std.proofs.lemmas.Str.{chars-append, chars-encodes, encodes-append, encodes-chars, scalars-chars}
 use Rattle.cn_find.specs.declared.wanted.Wanted.{Wanted}
 use Rattle.cn_find.specs.Expressions.{expression_rule}
 use Rattle.cn_find.specs.Rule.{Rule, is_joined}
-use Rattle.cn_find.specs.Spans.{Span, after_run, in_front, run_after, text_before}
-use Rattle.cn_find.proofs.Runs.{IsEnd, IsEnd-at, front-onto, seam-front}
+use Rattle.cn_find.specs.Spans.{Span, after_run, in_front, run_after}
 use Rattle.cn_phrase.specs.Between.{part_between}
-use Rattle.cn_phrase.specs.Items.{first_of, item_here, item_rest, items_after, items_left, rest_of, still_passed}
+use Rattle.cn_phrase.specs.Items.{first_of, item_rest, items_after, rest_of}
 use Rattle.cn_phrase.specs.Phrases.{Found, phrase_at}
-use Rattle.cn_phrase.specs.Ranges.{Ends, ends_at, is_link, is_range, linked, range_at}
+use Rattle.cn_phrase.specs.Ranges.{Ends, is_link, is_range, linked, range_at}
 use Rattle.cn_phrase.specs.Suffix.{EndsWith}
 use Rattle.cn_phrase.proofs.Advances.{IsAhead, phrase_ahead}
 use Rattle.cn_phrase.proofs.Suffixes.{Ends-again, Ends-self}

@@ -1,14 +1,13 @@
 -- The next item of a text is found.
-use Rattle.std.proofs.Common.{◌≡◌, ℕ, ◌-◌, ◌<◌, List, [], ◌∷◌, ◌++◌, length, take, reverse, chars, encode_utf8_all, IsUtf8, Option, Some, None, IfSome, refl, sym, ap, ◌∙◌, subst, arith, append_assoc, length-append}
+use Rattle.std.proofs.Common.{◌≡◌, ℕ, ◌-◌, ◌<◌, List, [], ◌∷◌, ◌++◌, length, take, reverse, chars, encode_utf8_all, IsUtf8, Some, None, IfSome, refl, sym, ap, ◌∙◌, subst, arith, append_assoc, length-append}
 use mathlib.Core.List.{reverse_aux}
 use Rattle.std.proofs.Math.Seq.{take-append_seam}
-use Rattle.std.proofs.Math.Utf8.{scalars}
 use Rattle.std.proofs.lemmas.List.{reverse-append, reverse-reverse}
 use Rattle.std.proofs.lemmas.Str.{chars-nil, chars-append, chars_from_encodes, encodes-append, encodes-chars}
 use Rattle.cn_find.specs.declared.wanted.Wanted.{Wanted}
-use Rattle.cn_find.specs.Spans.{Span, in_front, run_after, text_before}
+use Rattle.cn_find.specs.Spans.{in_front, run_after, text_before}
 use Rattle.cn_find.specs.Rule.{Rule}
-use Rattle.cn_find.proofs.Runs.{IsEnd, IsEnd-at, Passed, Passed-of, front-onto, front-utf8, seam-front}
+use Rattle.cn_find.proofs.Runs.{IsEnd, IsEnd-at, Passed, Passed-of, front-onto, seam-front}
 use Rattle.cn_phrase.specs.Between.{part_between}
 use Rattle.cn_phrase.specs.Items.{item_rest, items, items_after, items_left}
 use Rattle.cn_phrase.proofs.ItemSteps.{Leaves, item-leaves, none-here, run-leaves, some-here}

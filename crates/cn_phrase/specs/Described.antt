@@ -18,7 +18,7 @@ use Rattle.cn_phrase.specs.declared.value.Value.{Value}
 use Rattle.cn_phrase.specs.declared.value.Value.TheVariants as value
 use Rattle.cn_phrase.specs.Hours.{hour_of_day}
 use Rattle.cn_phrase.specs.InText.{is_doubtful, is_of_tenths}
-use Rattle.cn_phrase.specs.Items.{Item, phrase, range, expression, item_at}
+use Rattle.cn_phrase.specs.Items.{Item, phrase, range, item_at}
 use Rattle.cn_phrase.specs.Phrases.{Found}
 use Rattle.cn_phrase.specs.Ranges.{Ends, range_of}
 use Rattle.cn_phrase.specs.Values.{value_by}

@@ -1,5 +1,5 @@
 -- The hour of 24 of a time of day.
-use Rattle.std.specs.Prelude.{ℕ, ◌+◌, ◌==◌, nat_le, nat_lt, Bool, not, ◌&&◌, ◌||◌, List, [], ◌∷◌, codes, Option, Some, None, option_map, if◌then◌else◌}
+use Rattle.std.specs.Prelude.{ℕ, ◌+◌, ◌==◌, nat_le, nat_lt, not, ◌&&◌, ◌||◌, List, [], ◌∷◌, codes, Option, Some, None, option_map, if◌then◌else◌}
 use Rattle.std.specs.Char.{char_set_contains}
 use Rattle.cn_phrase.specs.declared.hour.PartOfDay.{PartOfDay}
 use Rattle.cn_phrase.specs.declared.hour.PartOfDay.TheVariants.{AfterMidnight, Morning, Noon, Afternoon, Evening, Night}

@@ -11,7 +11,7 @@ use Rattle.cn_phrase.specs.declared.phrase.Match.{Match}
 use Rattle.cn_phrase.specs.declared.piece.Numbers.{Numbers}
 use Rattle.cn_phrase.specs.declared.word.Word.TheVariants as word
 use Rattle.cn_phrase.specs.Forms.{pieces_of}
-use Rattle.cn_phrase.specs.Pieces.{Reading, pieces_read}
+use Rattle.cn_phrase.specs.Pieces.{pieces_read}
 use Rattle.cn_phrase.specs.Ranges.{is_link}
 use Rattle.cn_phrase.specs.Words.{after_word}
 

@@ -1,12 +1,10 @@
 -- The values of phrases.
-use Rattle.std.specs.Prelude.{ℕ, ◌*◌, ◌==◌, nat_le, nat_lt, Bool, not, ◌&&◌, ◌||◌, Option, Some, None, if◌then◌else◌}
+use Rattle.std.specs.Prelude.{ℕ, ◌*◌, ◌==◌, nat_le, nat_lt, ◌&&◌, ◌||◌, Option, Some, None, if◌then◌else◌}
 use Rattle.std.specs.Option.{option_and_then, option_map}
 use Rattle.cn_date.specs.Calendar.{days_of}
 use Rattle.cn_phrase.specs.declared.form.Form.{Form}
 use Rattle.cn_phrase.specs.declared.form.Form.TheVariants as form
 use Rattle.cn_phrase.specs.declared.piece.Numbers.{Numbers}
-use Rattle.cn_phrase.specs.declared.value.Date.{Date as CalendarDate}
-use Rattle.cn_phrase.specs.declared.value.Time.{Time as ClockTime}
 use Rattle.cn_phrase.specs.declared.value.Value.{Value}
 use Rattle.cn_phrase.specs.declared.value.Value.TheVariants.{Date, Years, Months, Days, Time, Duration, Half, Length, Score}
 

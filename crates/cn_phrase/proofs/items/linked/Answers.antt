@@ -1,5 +1,5 @@
-use Rattle.std.proofs.Common.{◌≡◌, ◌∷◌, ◌++◌, rules, sym}
-use Rattle.cn_find.specs.Spans.{in_front, span_of, text_before}
+use Rattle.std.proofs.Common.{rules}
+use Rattle.cn_find.specs.Spans.{span_of}
 use Rattle.cn_phrase.proofs.Between.{after-part, linked-none, linked-some}
 use Rattle.cn_phrase.proofs.items.linked.Goals as goal
 

@@ -1,5 +1,4 @@
-use Rattle.std.proofs.Common.{◌≡◌, rules, arith, Some, None, chars, sym, ap, ◌∙◌}
-use Rattle.std.specs.Option.{option_map}
+use Rattle.std.proofs.Common.{◌≡◌, rules, arith, Some, None, chars}
 use Rattle.cn_find.specs.Spans.{in_front, text_before}
 use Rattle.cn_find.proofs.Runs.{front-utf8, part-of}
 use Rattle.cn_phrase.specs.Items.{item_rest}

@@ -1,4 +1,4 @@
-use Rattle.std.proofs.Common.{rules, ◌∙◌, ap, sym, chars, encode_utf8_all}
+use Rattle.std.proofs.Common.{rules, ◌∙◌, ap, sym, encode_utf8_all}
 use Rattle.std.proofs.lemmas.Str.{encodes-chars}
 use Rattle.cn_phrase.proofs.Between.{front-is}
 use Rattle.cn_phrase.proofs.range.before_units.Goals as goal

@@ -1,7 +1,6 @@
-use Rattle.std.proofs.Common.{◌≡◌, ℕ, ◌*◌, ◌<◌, ◌^◌, nat_lt, Bool, true, false, Option, Some, None, if◌then◌else◌, sym, ap, ◌∙◌, arith, refl}
+use Rattle.std.proofs.Common.{◌≡◌, ℕ, ◌<◌, ◌^◌, nat_lt, Bool, true, false, Option, Some, None, if◌then◌else◌, ap, arith, refl}
 use Rattle.std.specs.Option.{SomeIff}
 use Rattle.std.proofs.lemmas.Bool.Decides.{nat_tests}
-use Rattle.cn_phrase.specs.Ranges.{product}
 use Rattle.cn_phrase.proofs.range.product.Goals as goal
 
 chosen : (o : Option ℕ) (n : ℕ) (b : Bool) → nat_lt n (2 ^ 128) ≡ b → SomeIff o (n < 2 ^ 128) n

@@ -1,7 +1,6 @@
-use Rattle.std.proofs.Common.{drop, refl, sym, ap, subst, ◌∙◌, IsCharBoundary, rules}
-use Rattle.std.proofs.lemmas.Result.{on_ok_weaker}
+use Rattle.std.proofs.Common.{drop, refl, ap, ◌∙◌, rules}
 use Rattle.cn_find.specs.Spans.{span_of}
-use Rattle.cn_replace.proofs.ChainsPut.{chains_all, chains_more, chains_none, cut-before}
+use Rattle.cn_replace.proofs.ChainsPut.{chains_more, chains_none}
 use Rattle.cn_replace.proofs.chains.put_in_chains.Goals as goal
 
 pub replacing-init : goal.replacing-init

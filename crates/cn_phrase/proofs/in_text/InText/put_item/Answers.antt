@@ -1,8 +1,7 @@
 use Rattle.std.proofs.Common.{ap, refl, ◌∙◌, chars}
-use Rattle.cn_find.specs.Spans.{in_front, span_of}
+use Rattle.cn_find.specs.Spans.{span_of}
 use Rattle.cn_replace.proofs.Texts.{if_puts}
 use Rattle.cn_phrase.specs.InText.{item_text, text_for_item}
-use Rattle.cn_phrase.specs.Items.{item_at}
 use Rattle.cn_phrase.proofs.in_text.InText.put_item.Goals as goal
 
 pub returns : goal.returns
