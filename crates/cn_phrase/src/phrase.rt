@@ -273,13 +273,13 @@ fn furthest<'a>(before: &str, text: &'a str, lead: Lead, forms: &[Form]) -> Opti
     ensures { option_map found_of result
         ≡ furthest (in_front before.now) (chars text.now) lead forms.now }
 {
-    match forms.split_first() {
-        None => None,
-        Some((form, others)) => further(
-            read_phrase(before, text, lead, *form),
-            furthest(before, text, lead, others),
-        ),
+    let mut best = None;
+    let mut left = forms.len();
+    'searching: while left > 0 {
+        left -= 1;
+        best = further(read_phrase(before, text, lead, forms[left]), best);
     }
+    best
 }
 
 /// The phrase that begins with a text, if one does, after another text.
