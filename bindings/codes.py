@@ -85,7 +85,14 @@ class Language(NamedTuple):
 
 JAVASCRIPT = Language("/**\n * ", " * ", "\n */", "'{camel}'", "{camel}", "- '{camel}': {text}.")
 LANGUAGES = {
-    "c": Language("/* ", " * ", " */", "CN_{NAME}", "{c}", prefixed=("doubt", "fault", "phrase_kind", "phrase_state")),
+    "c": Language(
+        "/* ",
+        " * ",
+        " */",
+        "CN_{NAME}",
+        "{c}",
+        prefixed=("doubt", "fault", "phrase_kind", "phrase_state"),
+    ),
     "cpp": Language(
         *("/* ", " * ", " */", "{name}", "{name}"), names={"delete": "erase", "no_doubt": "none"}
     ),

@@ -13,9 +13,7 @@ from text import FIGURES, Found, Line, has_figure, is_chinese_digit, is_figure, 
 
 LINKS = numbers.LINKS
 DAYS = (31, 28, 31, 30, 31, 30, 31, 31, 30, 31, 30, 31)
-HALF_DAY = re.compile(
-    "(?:凌晨|清晨|早晨|[上中下正]午|傍晚|[今明昨当當][晚早]|[深半午]夜|[早晚]上|[夜晚][里裡间間]|午[后後]|早|晚) ?$"
-)
+HALF_DAY = re.compile("(?:凌晨|清晨|早晨|[上中下正]午|傍晚|[今明昨当當][晚早]|[深半午]夜|[早晚]上|[夜晚][里裡间間]|午[后後]|早|晚) ?$")
 WEEKDAY = re.compile("(?:周|週|星期|[礼禮]拜)$")
 
 
@@ -174,44 +172,108 @@ def rows():
         return [Slot(*triple) for triple in triples]
 
     first = ()
-    yield Row("date", slots((first, "year", is_era_year), (NIAN, "month", is_count), (YUE, "day", is_count)), RI)
-    yield Row("date", slots((first, "year", is_era_year), (NIAN, "month", is_count)), YUE, not_before="初")
+    yield Row(
+        "date",
+        slots((first, "year", is_era_year), (NIAN, "month", is_count), (YUE, "day", is_count)),
+        RI,
+    )
+    yield Row(
+        "date", slots((first, "year", is_era_year), (NIAN, "month", is_count)), YUE, not_before="初"
+    )
     yield Row("date", slots((first, "month", is_count), (YUE, "day", is_count)), RI)
     yield Row("date", slots((first, "year", is_alone_year)), NIAN)
     for bar in "-/":
-        yield Row("date", slots((first, "year", is_year), ((bar,), "month", figures_like("[0-9]{1,2}")), ((bar,), "day", figures_like("[0-9]{1,2}"))), not_before="-/.:0123456789")
+        yield Row(
+            "date",
+            slots(
+                (first, "year", is_year),
+                ((bar,), "month", figures_like("[0-9]{1,2}")),
+                ((bar,), "day", figures_like("[0-9]{1,2}")),
+            ),
+            not_before="-/.:0123456789",
+        )
     years = slots((first, "from", is_year), (tuple(LINKS), "to", is_year))
     yield Row("years", years, NIAN)
     for words in (YUE, RI):
         both = tuple(a + b for a in words for b in LINKS)
-        yield Row("dates", slots((first, "from", is_count), (both + tuple(LINKS), "to", is_count)), words)
+        yield Row(
+            "dates", slots((first, "from", is_count), (both + tuple(LINKS), "to", is_count)), words
+        )
     yield Row("date", slots((first, "month", is_count)), YUE, weak=True)
     yield Row("date", slots((first, "day", is_count)), RI, weak=True)
     for lead in ("half day", ""):
-        yield Row("time", slots((first, "hour", is_clock), (SHI, "minute", is_clock), (("分",), "second", is_clock)), ("秒",), lead)
-        yield Row("time", slots((first, "hour", is_clock), (SHI, "minute", is_clock)), ("分",), lead, not_before="之钟鐘")
-        yield Row("time", slots((first, "hour", is_clock), (DIAN, "minute", is_bare_minute)), ("",), lead, not_before="分")
+        yield Row(
+            "time",
+            slots(
+                (first, "hour", is_clock), (SHI, "minute", is_clock), (("分",), "second", is_clock)
+            ),
+            ("秒",),
+            lead,
+        )
+        yield Row(
+            "time",
+            slots((first, "hour", is_clock), (SHI, "minute", is_clock)),
+            ("分",),
+            lead,
+            not_before="之钟鐘",
+        )
+        yield Row(
+            "time",
+            slots((first, "hour", is_clock), (DIAN, "minute", is_bare_minute)),
+            ("",),
+            lead,
+            not_before="分",
+        )
         yield Row("time", slots((first, "hour", is_clock)), tuple(it + "半" for it in DIAN), lead)
-        yield Row("time", slots((first, "hour", is_clock), (DIAN, "quarter", is_digit)), ("刻",), lead)
+        yield Row(
+            "time", slots((first, "hour", is_clock), (DIAN, "quarter", is_digit)), ("刻",), lead
+        )
         yield Row("time", slots((first, "both", is_hour_and_minute)), ("",), lead)
         for colon in COLON:
-            minute, second = ((colon,), "minute", figures_like("[0-9]{2}")), ((colon,), "second", figures_like("[0-9]{2}"))
+            minute, second = ((colon,), "minute", figures_like("[0-9]{2}")), (
+                (colon,),
+                "second",
+                figures_like("[0-9]{2}"),
+            )
             hour = (first, "hour", figures_like("[0-9]{1,2}"))
             yield Row("time", slots(hour, minute, second), ("",), lead, not_before=":：.0123456789")
             yield Row("time", slots(hour, minute), ("",), lead, not_before=":：.0123456789")
     yield Row("time", slots((first, "hour", is_clock)), SHI, "half day")
     yield Row("time", slots((first, "hour", is_clock)), SHI, weak=True)
-    yield Row("duration", slots((first, "hours", is_whole), (HOURS, "minutes", is_count), (MINUTES, "seconds", is_count)), ("秒", "秒钟", "秒鐘"))
+    yield Row(
+        "duration",
+        slots(
+            (first, "hours", is_whole), (HOURS, "minutes", is_count), (MINUTES, "seconds", is_count)
+        ),
+        ("秒", "秒钟", "秒鐘"),
+    )
     yield Row("duration", slots((first, "hours", is_whole), (HOURS, "minutes", is_count)), MINUTES)
-    yield Row("duration", slots((first, "minutes", is_whole), (MINUTES, "seconds", is_count)), ("秒", "秒钟", "秒鐘"))
+    yield Row(
+        "duration",
+        slots((first, "minutes", is_whole), (MINUTES, "seconds", is_count)),
+        ("秒", "秒钟", "秒鐘"),
+    )
     halves = tuple(ge + "半" + word for ge in "个個" for word in AFTER_HALF)
     yield Row("half", slots((first, "number", is_whole)), halves)
-    yield Row("half", slots((first, "number", is_whole)), tuple(it + "半" for it in BEFORE_HALF), not_before="载載夜天年")
+    yield Row(
+        "half",
+        slots((first, "number", is_whole)),
+        tuple(it + "半" for it in BEFORE_HALF),
+        not_before="载載夜天年",
+    )
     for unit in "米度秒":
-        yield Row("length", slots((first, "number", is_whole), ((unit,), "rest", is_decimals)), not_before="年月日点點人个個分秒米度")
+        yield Row(
+            "length",
+            slots((first, "number", is_whole), ((unit,), "rest", is_decimals)),
+            not_before="年月日点點人个個分秒米度",
+        )
     yield Row("score", slots((first, "left", is_whole), (("比",), "right", is_whole)))
     for colon in COLON:
-        yield Row("score", slots((first, "left", is_whole), ((colon,), "right", is_whole)), not_before=":：.0123456789")
+        yield Row(
+            "score",
+            slots((first, "left", is_whole), ((colon,), "right", is_whole)),
+            not_before=":：.0123456789",
+        )
     yield Row("range", slots((first, "low", is_any), (tuple(LINKS), "high", is_any)))
 
 
@@ -233,7 +295,11 @@ def parts_of(line: Line, expressions: List[Found]) -> List[Part]:
 
 def is_weekday_and_hour(line: Line, found: Found) -> bool:
     """The first digit is that of a weekday, and an hour follows: 周五九点."""
-    if len(found.text) < 2 or found.text[0] not in "一二三四五六" or not WEEKDAY.search(line.text[: found.start]):
+    if (
+        len(found.text) < 2
+        or found.text[0] not in "一二三四五六"
+        or not WEEKDAY.search(line.text[: found.start])
+    ):
         return False
     return line.at(found.end) in "点點时時" or found.doubt == "time"
 
@@ -355,7 +421,11 @@ def touches(line: Line, phrase: Phrase) -> bool:
     while is_letter(line.at(end)):
         end += 1
     is_measure = line.text[phrase.end : end] in numbers.MEASURES and not line.is_figure(end)
-    return is_letter(before) or before == "_" or ((is_letter(after) or after == "_") and not is_measure)
+    return (
+        is_letter(before)
+        or before == "_"
+        or ((is_letter(after) or after == "_") and not is_measure)
+    )
 
 
 def wholes(phrase):
@@ -363,7 +433,9 @@ def wholes(phrase):
 
 
 def days_of(year, month):
-    if month == 2 and (year is None or year < 100 or (year % 4 == 0 and (year % 100 or year % 400 == 0))):
+    if month == 2 and (
+        year is None or year < 100 or (year % 4 == 0 and (year % 100 or year % 400 == 0))
+    ):
         return 29
     return DAYS[month - 1]
 
@@ -434,7 +506,9 @@ def half_of(line, phrase):
 
 def length_of(line, phrase):
     rest = phrase.parts["rest"]
-    return Fraction(wholes(phrase)["number"]) + Fraction(int(digits_text(rest.text)), 10 ** len(rest.text))
+    return Fraction(wholes(phrase)["number"]) + Fraction(
+        int(digits_text(rest.text)), 10 ** len(rest.text)
+    )
 
 
 def score_of(line, phrase):
@@ -577,7 +651,9 @@ def new_end(phrase: Phrase, role: str, part: Part) -> Optional[str]:
         return new if new.endswith("%") else new + "%"
     if shared and role == "low":
         great = "".join(c for c in shared if numbers.rank_of(c) >= 4)
-        value = fraction_of(low) * numbers.units_product(shared[: len(shared) - len(great)], numbers.TEN_THOUSAND)
+        value = fraction_of(low) * numbers.units_product(
+            shared[: len(shared) - len(great)], numbers.TEN_THOUSAND
+        )
         return new_number(value) + great
     return new
 
@@ -625,7 +701,9 @@ def items_of(line: Line, expressions: List[Found]) -> List[Item]:
             start = WEEKDAY.search(line.text[: start - 1]).start()
         text = line.text[start : phrase.end]
         new = new_phrase(line, phrase)
-        items.append(Item(start, phrase.end, text, new and line.text[start : phrase.start] + new, False))
+        items.append(
+            Item(start, phrase.end, text, new and line.text[start : phrase.start] + new, False)
+        )
         taken.update(part.index for part in phrase.parts.values())
     for index, found in enumerate(expressions):
         if index not in taken:

@@ -909,7 +909,9 @@ CALENDAR, CLOCK = "年月日号號分秒刻", "點点时時"
 MONEY_AND_MEASURES = "元圆圓块塊角毛度米斤两兩"
 COUNTED = "个個件张張人名位只隻條条斤份次瓶包箱盒本套台杯碗"
 BEFORE_LINK = CALENDAR + CLOCK + MONEY_AND_MEASURES
-JOINED_IN_ANY_CASE = re.compile(f"[{BEFORE_LINK}]?[{LINKS}]|比|[单單有加减減乘除]|[个個]?小[时時]|分[钟鐘]|[乘除]以|等[于於]|[{CLOCK}]")
+JOINED_IN_ANY_CASE = re.compile(
+    f"[{BEFORE_LINK}]?[{LINKS}]|比|[单單有加减減乘除]|[个個]?小[时時]|分[钟鐘]|[乘除]以|等[于於]|[{CLOCK}]"
+)
 CHARACTERS_ABOVE = frozenset(BEFORE_LINK + LINKS + "比单單有加减減乘除个個小钟鐘")
 
 
