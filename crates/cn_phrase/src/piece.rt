@@ -200,8 +200,14 @@ impl Piece {
 pub fn read_pieces<'a>(pieces: &[Piece], progress: Progress<'a>) -> Option<Progress<'a>>
     ensures { option_map reading_of result ≡ pieces_read pieces.now (reading_of progress.entry) }
 {
-    match pieces.split_first() {
-        None => Some(progress),
-        Some((piece, others)) => read_pieces(others, piece.after(progress)?),
+    let mut read = progress;
+    let mut count = 0;
+    'reading: while count < pieces.len() {
+        let Some(next) = pieces[count].after(read) else {
+            return None;
+        };
+        read = next;
+        count += 1;
     }
+    Some(read)
 }

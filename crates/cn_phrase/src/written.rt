@@ -87,14 +87,15 @@ pub fn put_pieces<S: Sink>(
     ensures { OnOk result (S.took sink.old sink.new
         (pieces_text pieces.now (reading_of progress.entry))) }
 {
-    let Some((piece, others)) = pieces.split_first() else {
-        return Ok(());
-    };
-    match piece.after(progress) {
-        None => Ok(()),
-        Some(next) => {
-            put_piece(sink, *piece, progress, next)?;
-            put_pieces(sink, others, next)
-        }
+    let mut read = progress;
+    let mut count = 0;
+    'writing: while count < pieces.len() {
+        let Some(next) = pieces[count].after(read) else {
+            return Ok(());
+        };
+        put_piece(sink, pieces[count], read, next)?;
+        read = next;
+        count += 1;
     }
+    Ok(())
 }
