@@ -12,3 +12,4 @@ pub mod Written
 pub mod InText
 pub mod Hours
 pub mod Described
+pub mod Plain

@@ -6,6 +6,7 @@ pub mod form;
 mod hour;
 mod in_text;
 pub mod items;
+pub mod laws;
 pub mod phrase;
 pub mod piece;
 pub mod range;
