@@ -1,5 +1,5 @@
 -- The items of a text without phrases are its expressions.
-use Rattle.std.proofs.Common.{◌≡◌, ◌≢◌, ℕ, zero, suc, ◌-◌, ◌<◌, ◌≤◌, Bool, true, false, not, ◌&&◌, List, [], ◌∷◌, ◌++◌, length, take, drop, reverse, chars, encode_utf8_all, IsUtf8, Option, Some, None, is_some, option_map, if◌then◌else◌, refl, sym, ap, ◌∙◌, subst, arith, append_assoc, length-append}
+use Rattle.std.proofs.Common.{◌≡◌, ◌≢◌, ℕ, zero, suc, ◌-◌, ◌≤◌, Bool, true, false, not, List, [], ◌∷◌, ◌++◌, length, take, drop, reverse, chars, encode_utf8_all, IsUtf8, Option, Some, None, is_some, option_map, if◌then◌else◌, refl, sym, ap, ◌∙◌, subst, arith, length-append}
 use mathlib.Core.List.{reverse_aux}
 use Rattle.std.proofs.Math.Seq.{take-append_seam}
 use Rattle.std.specs.List.{Contains}
@@ -14,7 +14,7 @@ use Rattle.cn_find.specs.Runs.{IsRunBy, each_belongs}
 use Rattle.cn_find.proofs.RunLaws.{found-is_run, scalars-end, scalars-start}
 use Rattle.cn_find.proofs.Runs.{first-span, next-character}
 use Rattle.cn_phrase.specs.Between.{part_between}
-use Rattle.cn_phrase.specs.Items.{Item, expression, first_of, item_at, item_rest, items, items_after, rest_of}
+use Rattle.cn_phrase.specs.Items.{expression, first_of, item_at, item_rest, items, items_after, rest_of}
 use Rattle.cn_phrase.specs.Phrases.{Found, phrase_at}
 use Rattle.cn_phrase.specs.Plain.{begins_no_phrase, has_no_phrase}
 use Rattle.cn_phrase.specs.Ranges.{Ends, range_at}
@@ -147,8 +147,12 @@ module _ (wanted : Wanted) where
       (plain-items n (c ∷ front) ahead (omega (arith, few)) (plain-next front c ahead plain))
       (plain-items n (reverse_aux (run_of rule front (c ∷ ahead)) front)
       (after_run rule front (c ∷ ahead))
-      (omega (arith, ap length (run-parts rule front (c ∷ ahead)),
-      length-append (run_of rule front (c ∷ ahead)) (after_run rule front (c ∷ ahead)), few))
+      (omega (
+        arith,
+        ap length (run-parts rule front (c ∷ ahead)),
+        length-append (run_of rule front (c ∷ ahead)) (after_run rule front (c ∷ ahead)),
+        few,
+      ))
       (plain-after (run_of rule front (c ∷ ahead)) front (after_run rule front (c ∷ ahead))
       (subst (λ l. begins_no_phrase wanted front l ≡ true) (run-parts rule front (c ∷ ahead)) plain)))
 

@@ -1,5 +1,5 @@
 -- A text without phrases is written in figures as its quantities are.
-use Rattle.std.proofs.Common.{◌≡◌, ℕ, Bool, true, false, not, ◌&&◌, ◌||◌, List, [], ◌∷◌, ◌++◌, drop, chars, IsUtf8, Option, Some, None, is_some, unwrap_or, refl, sym, ap, ◌∙◌, subst}
+use Rattle.std.proofs.Common.{◌≡◌, ℕ, Bool, true, false, not, ◌&&◌, List, [], ◌∷◌, ◌++◌, chars, IsUtf8, Option, Some, None, is_some, refl, ap, ◌∙◌}
 use Rattle.std.specs.List.{Contains, list_any}
 use Rattle.cn_core.specs.declared.method.ChineseCountMethod.{ChineseCountMethod}
 use Rattle.cn_find.specs.declared.wanted.Wanted.{Wanted}
@@ -11,7 +11,7 @@ use Rattle.cn_replace.specs.Joined.{end_of}
 use Rattle.cn_phrase.specs.InText.{item_holds, item_text, text_for_item, text_in_figures}
 use Rattle.cn_phrase.specs.Plain.{has_no_phrase}
 use Rattle.cn_phrase.proofs.PlainItems.{item-plain, items-plain}
-use Rattle.cn_replace.specs.Chains.{held_on, in_chains, in_chains_from, is_held, is_joined_to_next, text_unless}
+use Rattle.cn_replace.specs.Chains.{held_on, in_chains, in_chains_from, is_held}
 use Rattle.cn_replace.proofs.Unchanged.{of-first, of-others}
 
 -- two ways of rewriting that agree on the parts of a text

@@ -1,6 +1,4 @@
 use Rattle.std.proofs.Common.{◌≡◌, ◌-◌, ◌≤◌, drop, length}
-use denote.Shadow.{shadow}
-use denote.Text.{Utf8}
 use Rattle.cn_phrase.specs.Pieces.{pieces_read, reading_of}
 use Rattle.cn_phrase.proofs.piece.read_pieces.Given as goal
 

@@ -1,4 +1,4 @@
-use Rattle.std.proofs.Common.{Some, IfSome, arith, chars, subst, sym}
+use Rattle.std.proofs.Common.{IfSome, arith, chars, subst, sym}
 use Rattle.std.proofs.lemmas.List.{drop_more}
 use Rattle.cn_phrase.specs.Pieces.{reading_of}
 use Rattle.cn_phrase.proofs.PiecesPut.{pieces_more}

@@ -1,6 +1,4 @@
-use Rattle.std.proofs.Common.{◌≡◌, ◌-◌, ◌≤◌, drop, length}
-use denote.Shadow.{shadow}
-use denote.Text.{Utf8}
+use Rattle.std.proofs.Common.{◌-◌, ◌≤◌, drop, length}
 use Rattle.cn_phrase.specs.Pieces.{reading_of}
 use Rattle.cn_phrase.proofs.PiecesPut.{PutPieces}
 use Rattle.cn_phrase.proofs.written.put_pieces.Given as goal
