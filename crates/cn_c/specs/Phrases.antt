@@ -6,11 +6,11 @@ use Rattle.chinese_number.specs.declared.Wanted.{Wanted}
 use Rattle.cn_find.specs.Doubt.{doubt_of}
 use Rattle.cn_find.specs.Spans.{Span}
 use Rattle.cn_phrase.specs.declared.described.Described.{Described}
-use Rattle.cn_phrase.specs.declared.described.Kind.{Kind}
-use Rattle.cn_phrase.specs.declared.described.Kind.TheVariants as kind
-use Rattle.cn_phrase.specs.declared.described.State.{State}
-use Rattle.cn_phrase.specs.declared.described.State.TheVariants.{Certain, Doubtful, Refused}
-use Rattle.cn_phrase.specs.declared.range.Range.{Range}
+use Rattle.cn_phrase.specs.declared.described.PhraseKind.{PhraseKind}
+use Rattle.cn_phrase.specs.declared.described.PhraseKind.TheVariants as kind
+use Rattle.cn_phrase.specs.declared.described.PhraseState.{PhraseState}
+use Rattle.cn_phrase.specs.declared.described.PhraseState.TheVariants.{Certain, Doubtful, Refused}
+use Rattle.cn_phrase.specs.declared.range.QuantityRange.{QuantityRange}
 use Rattle.cn_phrase.specs.Described.{described}
 use Rattle.cn_phrase.specs.Items.{items_left}
 use Rattle.cn_phrase.specs.Ranges.{range_of}
@@ -21,7 +21,7 @@ use Rattle.cn_c.specs.Finds.{Fills, doubt_code, flags_told, wanted_of}
 use Rattle.cn_c.specs.Quantities.{IsTold, no_quantity}
 
 -- the code of a kind
-abbrev pub kind_code : Kind → ℕ
+abbrev pub kind_code : PhraseKind → ℕ
 kind_code kind.Expression = CN_PHRASE_KIND_EXPRESSION
 kind_code kind.Date = CN_PHRASE_KIND_DATE
 kind_code kind.Years = CN_PHRASE_KIND_YEARS
@@ -35,7 +35,7 @@ kind_code kind.Score = CN_PHRASE_KIND_SCORE
 kind_code kind.Range = CN_PHRASE_KIND_RANGE
 
 -- the code of a state
-abbrev pub state_code : State → ℕ
+abbrev pub state_code : PhraseState → ℕ
 state_code Certain = CN_PHRASE_STATE_CERTAIN
 state_code Doubtful = CN_PHRASE_STATE_DOUBTFUL
 state_code Refused = CN_PHRASE_STATE_REFUSED
@@ -88,7 +88,7 @@ IsPhraseFound bytes from upper greatest old status new count =
     status new count
 
 -- the ends of a range are written, or nothing if there is none
-abbrev pub TellsRange : Option Range → ℕ → Quantity → Quantity → Type 0
+abbrev pub TellsRange : Option QuantityRange → ℕ → Quantity → Quantity → Type 0
 TellsRange (Some range) status low high =
     (status ≡ CN_DONE) × IsTold range.low low × IsTold range.high high
 TellsRange None status low high =

@@ -17,8 +17,8 @@ use chinese_number::{QuantityRule, Wanted};
 use cn_dynamic::utf8_text;
 use cn_find::Found;
 use cn_phrase::items::next_item;
-use cn_phrase::range::{Range, range_of};
-use cn_phrase::{Kind, State, describe};
+use cn_phrase::range::{QuantityRange, range_of};
+use cn_phrase::{PhraseKind, PhraseState, describe_phrase};
 use std::str;
 
 /// A phrase of a text, or an expression that is in none: its position in bytes, how many bytes the
@@ -40,32 +40,32 @@ pub struct Phrase {
 }
 
 // The code of a kind.
-fn kind_code(kind: Kind) -> u32
+fn kind_code(kind: PhraseKind) -> u32
     ensures { result ≡ kind_code kind }
 {
     match kind {
-        Kind::Expression => 0,
-        Kind::Date => 1,
-        Kind::Years => 2,
-        Kind::Months => 3,
-        Kind::Days => 4,
-        Kind::Time => 5,
-        Kind::Duration => 6,
-        Kind::Half => 7,
-        Kind::Length => 8,
-        Kind::Score => 9,
-        Kind::Range => 10,
+        PhraseKind::Expression => 0,
+        PhraseKind::Date => 1,
+        PhraseKind::Years => 2,
+        PhraseKind::Months => 3,
+        PhraseKind::Days => 4,
+        PhraseKind::Time => 5,
+        PhraseKind::Duration => 6,
+        PhraseKind::Half => 7,
+        PhraseKind::Length => 8,
+        PhraseKind::Score => 9,
+        PhraseKind::Range => 10,
     }
 }
 
 // The code of a state.
-fn state_code(state: State) -> u32
+fn state_code(state: PhraseState) -> u32
     ensures { result ≡ state_code state }
 {
     match state {
-        State::Certain => 0,
-        State::Doubtful => 1,
-        State::Refused => 2,
+        PhraseState::Certain => 0,
+        PhraseState::Doubtful => 1,
+        PhraseState::Refused => 2,
     }
 }
 
@@ -74,7 +74,7 @@ fn phrase_of(text: &str, found: Found<'_>, wanted: Wanted) -> Phrase
     requires { IsPart text.now (span_of found) }
     ensures { result ≡ phrase_told wanted (span_of found.entry) }
 {
-    let item = describe(text, found, wanted);
+    let item = describe_phrase(text, found, wanted);
     Phrase {
         start: found.start(),
         end: found.end(),
@@ -173,7 +173,7 @@ pub unsafe extern "C" fn chinese_phrase_find_utf8(
 }
 
 // Writes the ends of a range, if there is one.
-fn tell_range(range: Option<Range>, low: &mut Quantity, high: &mut Quantity) -> u32
+fn tell_range(range: Option<QuantityRange>, low: &mut Quantity, high: &mut Quantity) -> u32
     ensures { TellsRange range result low.new high.new }
 {
     match range {

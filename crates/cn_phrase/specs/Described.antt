@@ -3,15 +3,15 @@ use Rattle.std.specs.Prelude.{ℕ, ◌+◌, Bool, List, ◌++◌, length, chars,
 use Rattle.cn_find.specs.declared.wanted.Wanted.{Wanted}
 use Rattle.cn_find.specs.Spans.{Span, in_front}
 use Rattle.cn_phrase.specs.declared.described.Described.{Described}
-use Rattle.cn_phrase.specs.declared.described.Kind.{Kind}
-use Rattle.cn_phrase.specs.declared.described.Kind.TheVariants as kind
+use Rattle.cn_phrase.specs.declared.described.PhraseKind.{PhraseKind}
+use Rattle.cn_phrase.specs.declared.described.PhraseKind.TheVariants as kind
 use Rattle.cn_phrase.specs.declared.described.PhraseNumbers.{PhraseNumbers}
-use Rattle.cn_phrase.specs.declared.described.State.{State}
-use Rattle.cn_phrase.specs.declared.described.State.TheVariants.{Certain, Doubtful, Refused}
+use Rattle.cn_phrase.specs.declared.described.PhraseState.{PhraseState}
+use Rattle.cn_phrase.specs.declared.described.PhraseState.TheVariants.{Certain, Doubtful, Refused}
 use Rattle.cn_phrase.specs.declared.form.Form.{Form}
 use Rattle.cn_phrase.specs.declared.form.Form.TheVariants as form
 use Rattle.cn_phrase.specs.declared.phrase.Lead.{Lead}
-use Rattle.cn_phrase.specs.declared.range.Range.{Range}
+use Rattle.cn_phrase.specs.declared.range.QuantityRange.{QuantityRange}
 use Rattle.cn_phrase.specs.declared.value.Date.{Date}
 use Rattle.cn_phrase.specs.declared.value.Time.{Time}
 use Rattle.cn_phrase.specs.declared.value.Value.{Value}
@@ -27,7 +27,7 @@ abbrev pub numbers : ℕ → ℕ → ℕ → ℕ → PhraseNumbers
 numbers a b c d = record { first = a; second = b; third = c; fourth = d }
 
 -- the kind of a form
-abbrev pub kind_of : Form → Kind
+abbrev pub kind_of : Form → PhraseKind
 kind_of form.YearMonthDay = kind.Date
 kind_of form.YearMonth = kind.Date
 kind_of form.MonthDay = kind.Date
@@ -93,10 +93,10 @@ of_value lead text (value.Half number) = numbers number 0 0 0
 of_value lead text (value.Length whole decimals places) = numbers whole decimals places 0
 of_value lead text (value.Score first second) = numbers first second 0 0
 
-abbrev pub state_of : Bool → State
+abbrev pub state_of : Bool → PhraseState
 state_of is_doubtful = if is_doubtful then Doubtful else Certain
 
-abbrev pub described_as : Kind → Lead → List ℕ → Bool → Option Value → Described
+abbrev pub described_as : PhraseKind → Lead → List ℕ → Bool → Option Value → Described
 described_as kind lead text doubtful None =
     record { kind = kind; state = Refused; numbers = numbers 0 0 0 0; split = 0 }
 described_as kind lead text doubtful (Some v) =
@@ -107,7 +107,7 @@ abbrev pub described_phrase : Found → List ℕ → Described
 described_phrase found text = described_as (kind_of found.form) found.lead text
     (is_doubtful found text) (value_by found.form found.numbers)
 
-abbrev pub range_state : Ends → Option Range → State
+abbrev pub range_state : Ends → Option QuantityRange → PhraseState
 range_state ends None = Refused
 range_state ends (Some r) = state_of (is_of_tenths ends)
 

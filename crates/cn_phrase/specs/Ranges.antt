@@ -20,7 +20,7 @@ use Rattle.cn_replace.specs.Kept.{kept_text}
 use Rattle.cn_replace.specs.KeptNumbers.{and_text}
 use Rattle.cn_replace.specs.Pieces.{begins, is_unit_from}
 use Rattle.cn_phrase.specs.declared.range.Ends.{Ends as CodeEnds}
-use Rattle.cn_phrase.specs.declared.range.Range.{Range}
+use Rattle.cn_phrase.specs.declared.range.QuantityRange.{QuantityRange}
 use Rattle.cn_phrase.specs.Between.{characters_before, part_between}
 
 -- two expressions with a link between them, and the characters after them
@@ -184,13 +184,13 @@ abbrev pub quantity_with : List ℕ → List ℕ → Option Quantity
 quantity_with text more =
     if is_short text && is_short more then result_ok (quantity_answer TenThousand (text ++ more)) else None
 
-abbrev pub rising_range : Option Quantity → Option Quantity → Option Range
+abbrev pub rising_range : Option Quantity → Option Quantity → Option QuantityRange
 rising_range (Some q) (Some other) =
     if is_less q other then Some (record { low = q; high = other }) else None
 rising_range q other = None
 
 -- the range of two texts; none if the second is not greater
-abbrev pub range_of : List ℕ → List ℕ → Option Range
+abbrev pub range_of : List ℕ → List ℕ → Option QuantityRange
 range_of low high =
     rising_range (quantity_with low (more_of_low low high)) (quantity_with high (more_of_high low high))
 

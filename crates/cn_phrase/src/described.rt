@@ -19,7 +19,7 @@ use cn_find::{Found, Wanted};
 
 /// What an item of a text is.
 #[derive(Debug, Copy, Clone, PartialEq, Eq)]
-pub enum Kind {
+pub enum PhraseKind {
     /// An expression in no phrase.
     Expression,
     Date,
@@ -45,7 +45,7 @@ pub enum Kind {
 
 /// What is known of an item.
 #[derive(Debug, Copy, Clone, PartialEq, Eq)]
-pub enum State {
+pub enum PhraseState {
     /// It has a value.
     Certain,
     /// It has a value, but may mean something else.
@@ -75,8 +75,8 @@ pub struct PhraseNumbers {
 /// What an item of a text is, in numbers.
 #[derive(Debug, Copy, Clone, PartialEq, Eq)]
 pub struct Described {
-    pub kind: Kind,
-    pub state: State,
+    pub kind: PhraseKind,
+    pub state: PhraseState,
     pub numbers: PhraseNumbers,
     /// How many bytes the first end of a range has; 0 otherwise.
     pub split: usize,
@@ -95,22 +95,24 @@ fn numbers(first: u16, second: u16, third: u8, fourth: u8) -> PhraseNumbers
 }
 
 // The kind of a form.
-fn kind_of(form: Form) -> Kind
+fn kind_of(form: Form) -> PhraseKind
     ensures { result ≡ kind_of form }
 {
     match form {
-        Form::YearMonthDay | Form::YearMonth | Form::MonthDay | Form::Year => Kind::Date,
-        Form::DashDate | Form::SlashDate | Form::LinkedMonth | Form::LinkedDay => Kind::Date,
-        Form::Years => Kind::Years,
-        Form::Months | Form::MonthsTwice => Kind::Months,
-        Form::Days | Form::DaysTwice => Kind::Days,
-        Form::HourMinuteSecond | Form::HourMinute | Form::HourBare | Form::HourZero => Kind::Time,
-        Form::HourHalf | Form::HourQuarter | Form::HourAlone => Kind::Time,
-        Form::ColonSecond | Form::ColonMinute => Kind::Time,
-        Form::HoursMinutesSeconds | Form::HoursMinutes | Form::MinutesSeconds => Kind::Duration,
-        Form::HalfOf | Form::HalfAfter => Kind::Half,
-        Form::LengthOne | Form::LengthTwo => Kind::Length,
-        Form::Score | Form::ColonScore => Kind::Score,
+        Form::YearMonthDay | Form::YearMonth | Form::MonthDay | Form::Year => PhraseKind::Date,
+        Form::DashDate | Form::SlashDate | Form::LinkedMonth | Form::LinkedDay => PhraseKind::Date,
+        Form::Years => PhraseKind::Years,
+        Form::Months | Form::MonthsTwice => PhraseKind::Months,
+        Form::Days | Form::DaysTwice => PhraseKind::Days,
+        Form::HourMinuteSecond | Form::HourMinute | Form::HourBare | Form::HourZero =>
+            PhraseKind::Time,
+        Form::HourHalf | Form::HourQuarter | Form::HourAlone => PhraseKind::Time,
+        Form::ColonSecond | Form::ColonMinute => PhraseKind::Time,
+        Form::HoursMinutesSeconds | Form::HoursMinutes | Form::MinutesSeconds =>
+            PhraseKind::Duration,
+        Form::HalfOf | Form::HalfAfter => PhraseKind::Half,
+        Form::LengthOne | Form::LengthTwo => PhraseKind::Length,
+        Form::Score | Form::ColonScore => PhraseKind::Score,
     }
 }
 
@@ -189,13 +191,13 @@ fn of_value(lead: Lead, text: &str, value: Value) -> PhraseNumbers
 }
 
 // The state of an item that has a value.
-fn state_of(is_doubtful: bool) -> State
+fn state_of(is_doubtful: bool) -> PhraseState
     ensures { result ≡ state_of is_doubtful }
 {
     if is_doubtful {
-        State::Doubtful
+        PhraseState::Doubtful
     } else {
-        State::Certain
+        PhraseState::Certain
     }
 }
 
@@ -213,7 +215,7 @@ fn described_phrase(found: Match<'_>, text: &str) -> Described
         },
         None => Described {
             kind,
-            state: State::Refused,
+            state: PhraseState::Refused,
             numbers: numbers(0, 0, 0, 0),
             split: 0,
         },
@@ -226,10 +228,10 @@ fn described_range(ends: Ends<'_>) -> Described
 {
     let state = match range_of(ends.low.text, ends.high.text) {
         Some(_) => state_of(is_of_tenths(ends)),
-        None => State::Refused,
+        None => PhraseState::Refused,
     };
     Described {
-        kind: Kind::Range,
+        kind: PhraseKind::Range,
         state,
         numbers: numbers(0, 0, 0, 0),
         split: ends.low.text.len(),
@@ -244,8 +246,8 @@ fn described_item(item: Option<Item<'_>>, text: &str) -> Described
         Some(Item::Phrase(found)) => described_phrase(found, text),
         Some(Item::Range(ends)) => described_range(ends),
         _ => Described {
-            kind: Kind::Expression,
-            state: State::Certain,
+            kind: PhraseKind::Expression,
+            state: PhraseState::Certain,
             numbers: numbers(0, 0, 0, 0),
             split: 0,
         },
@@ -253,7 +255,7 @@ fn described_item(item: Option<Item<'_>>, text: &str) -> Described
 }
 
 /// What an item of a text is.
-pub fn describe(whole: &str, part: Found<'_>, wanted: Wanted) -> Described
+pub fn describe_phrase(whole: &str, part: Found<'_>, wanted: Wanted) -> Described
     requires { IsPart whole.now (span_of part) }
     ensures { result ≡ described wanted (span_of part.entry) }
 {

@@ -15,7 +15,7 @@ pub mod value;
 mod word;
 mod written;
 
-pub use described::{Described, Kind, PhraseNumbers, State, describe};
+pub use described::{Described, PhraseKind, PhraseNumbers, PhraseState, describe_phrase};
 pub use hour::{PartOfDay, hour_of_day};
 pub use in_text::{InText, is_doubtful, is_of_tenths, put_text_in_figures, text_to_figures};
 pub use shape::Shape;

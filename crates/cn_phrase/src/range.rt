@@ -28,7 +28,7 @@ pub struct Ends<'a> {
 
 /// Two quantities, of which the second is greater.
 #[derive(Debug, Copy, Clone, PartialEq, Eq)]
-pub struct Range {
+pub struct QuantityRange {
     pub low: Quantity,
     pub high: Quantity,
 }
@@ -298,13 +298,13 @@ fn quantity_with(text: &str, more: &str) -> Option<Quantity>
 }
 
 /// The range of two texts; `None` if the second is not greater.
-pub fn range_of(low: &str, high: &str) -> Option<Range>
+pub fn range_of(low: &str, high: &str) -> Option<QuantityRange>
     ensures { result ≡ range_of low.now high.now }
 {
     let first = quantity_with(low, more_of_low(low, high))?;
     let second = quantity_with(high, more_of_high(low, high))?;
     if is_less(first, second) {
-        Some(Range {
+        Some(QuantityRange {
             low: first,
             high: second,
         })

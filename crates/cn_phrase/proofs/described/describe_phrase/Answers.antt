@@ -1,6 +1,6 @@
 use Rattle.std.proofs.Common.{ap, refl, ◌∙◌, chars}
 use Rattle.cn_phrase.specs.Described.{described, described_item}
-use Rattle.cn_phrase.proofs.described.describe.Goals as goal
+use Rattle.cn_phrase.proofs.described.describe_phrase.Goals as goal
 
 pub returns : goal.returns
 unfolding described
