@@ -1,13 +1,13 @@
 -- Steps over the characters of a text and over its items.
-use Rattle.std.proofs.Common.{◌≡◌, ℕ, ◌-◌, ◌<◌, Bool, true, false, List, [], ◌∷◌, ◌++◌, length, Option, Some, None, IfSome, option_map, refl, ap, arith, length-append, if◌then◌else◌}
+use Rattle.std.proofs.Common.{reverse, ◌≡◌, ℕ, ◌-◌, ◌<◌, Bool, true, false, List, [], ◌∷◌, ◌++◌, length, Option, Some, None, IfSome, option_map, refl, ap, arith, length-append, if◌then◌else◌}
 use Rattle.std.specs.Option.{option_and_then}
 use mathlib.Core.List.{reverse_aux}
 use Rattle.cn_find.specs.declared.wanted.Wanted.{Wanted}
 use Rattle.cn_find.specs.Expressions.{expression_rule}
 use Rattle.cn_find.specs.Rule.{Rule, is_joined}
 use Rattle.cn_find.specs.Spans.{Span, after_run, in_front, run_after}
-use Rattle.cn_phrase.specs.Between.{part_between}
-use Rattle.cn_phrase.specs.Items.{first_of, item_rest, items_after, rest_of}
+use Rattle.cn_phrase.specs.Between.{characters_before, part_between}
+use Rattle.cn_phrase.specs.Items.{ends_whole, first_of, item_rest, items_after, rest_of, ends_whole, whole_phrase}
 use Rattle.cn_phrase.specs.Phrases.{Found, phrase_at}
 use Rattle.cn_phrase.specs.Ranges.{Ends, is_link, is_range, linked, range_at}
 use Rattle.cn_phrase.specs.Suffix.{EndsWith}
@@ -98,11 +98,26 @@ range-leaves wanted front text =
       first None h = tt
       first (Some rest) h = after-link (part_between front text rest) rest h
 
+whole-ahead : (wanted : Wanted) (front text : List ℕ)
+    → IfSome (whole_phrase wanted front text) (IsAhead text)
+whole-ahead wanted front text = by (phrase_at front text) (phrase_ahead front text) where
+  chosen : (b : Bool) (found : Found) → IsAhead text found
+      → IfSome (if b then Some found else None) (IsAhead text)
+  chosen true found h = h
+  chosen false found h = tt
+
+  by : (o : Option Found) → IfSome o (IsAhead text)
+      → IfSome (option_and_then (λ found.
+      if ends_whole wanted (reverse (characters_before text found.rest) ++ front) found.rest
+      then Some found else None) o) (IsAhead text)
+  by None h = tt
+  by (Some found) h = chosen _ found h
+
 pub item-leaves : (wanted : Wanted) (front text : List ℕ)
     → IfSome (item_rest wanted front text) (Leaves text)
 item-leaves wanted front text =
-    by (phrase_at front text) (range_at wanted front text) (run_after (expression_rule wanted) front text)
-    (phrase_ahead front text) (range-leaves wanted front text)
+    by (whole_phrase wanted front text) (range_at wanted front text) (run_after (expression_rule wanted) front text)
+    (whole-ahead wanted front text) (range-leaves wanted front text)
     (run-leaves (expression_rule wanted) front text) where
       by : (o : Option Found) (r : Option Ends) (run : Option (List ℕ)) → IfSome o (IsAhead text)
           → IfSome r (λ ends. Leaves text ends.rest) → IfSome run (Leaves text)

@@ -110,7 +110,7 @@ found-here wanted whole rest before ahead text after c passed s at utf8 ahead_ut
       ) refl
 
 -- what is left after a part of a text is a suffix of the text before it
-ends-at : (ahead after : List ℕ) → IsUtf8 ahead → IsUtf8 after → Leaves (chars ahead) (chars after)
+pub ends-at : (ahead after : List ℕ) → IsUtf8 ahead → IsUtf8 after → Leaves (chars ahead) (chars after)
     → IsEnd ahead after
 ends-at ahead after utf8 ended h =
     IsEnd-at ahead (encode_utf8_all h.0.0) after (bytes-of ahead after h.0.0 utf8 ended h.0.1)

@@ -14,8 +14,8 @@ use Rattle.cn_find.specs.Runs.{IsRunBy, each_belongs}
 use Rattle.cn_find.proofs.RunLaws.{found-is_run, scalars-end, scalars-start}
 use Rattle.cn_find.proofs.Runs.{first-span, next-character}
 use Rattle.cn_phrase.specs.Between.{part_between}
-use Rattle.cn_phrase.specs.Items.{expression, first_of, item_at, item_rest, items, items_after, rest_of}
-use Rattle.cn_phrase.specs.Phrases.{Found, phrase_at}
+use Rattle.cn_phrase.specs.Items.{expression, first_of, item_at, item_rest, items, items_after, rest_of, whole_phrase}
+use Rattle.cn_phrase.specs.Phrases.{Found}
 use Rattle.cn_phrase.specs.Plain.{begins_no_phrase, has_no_phrase}
 use Rattle.cn_phrase.specs.Ranges.{Ends, range_at}
 use Rattle.cn_phrase.proofs.ItemSteps.{none-here, some-here}
@@ -59,7 +59,7 @@ module _ (wanted : Wanted) where
       → begins_no_phrase wanted front (c ∷ ahead) ≡ true
       → item_rest wanted front (c ∷ ahead) ≡ run_after rule front (c ∷ ahead)
   plain-rest front c ahead plain =
-      only-last (phrase_at front (c ∷ ahead)) (range_at wanted front (c ∷ ahead))
+      only-last (whole_phrase wanted front (c ∷ ahead)) (range_at wanted front (c ∷ ahead))
       (run_after rule front (c ∷ ahead))
       (not-true _ (and-left _ _ plain)) (not-true _ (and-left _ _ (and-right _ _ plain)))
 
@@ -68,8 +68,8 @@ module _ (wanted : Wanted) where
       → begins_no_phrase wanted front (c ∷ ahead) ≡ true → rule.belongs front c ahead ≡ true
       → item_at wanted front (c ∷ ahead) ≡ Some (expression (after_run rule front (c ∷ ahead)))
   plain-expression front c ahead plain here =
-      ap (first_of (phrase_at front (c ∷ ahead)) (range_at wanted front (c ∷ ahead))) begins
-      ∙ only-third (phrase_at front (c ∷ ahead)) (range_at wanted front (c ∷ ahead))
+      ap (first_of (whole_phrase wanted front (c ∷ ahead)) (range_at wanted front (c ∷ ahead))) begins
+      ∙ only-third (whole_phrase wanted front (c ∷ ahead)) (range_at wanted front (c ∷ ahead))
       (after_run rule front (c ∷ ahead))
       (not-true _ (and-left _ _ plain)) (not-true _ (and-left _ _ (and-right _ _ plain))) where
         begins : run_after rule front (c ∷ ahead) ≡ Some (after_run rule front (c ∷ ahead))

@@ -1,11 +1,12 @@
 -- The phrases of a text, and its expressions that are in none.
-use Rattle.std.specs.Prelude.{ℕ, zero, suc, ◌-◌, List, [], ◌∷◌, ◌++◌, length, chars, Option, Some, None, option_map}
+use Rattle.std.specs.Prelude.{ℕ, zero, suc, ◌-◌, ◌==◌, Bool, true, List, [], ◌∷◌, ◌++◌, length, reverse, chars, encode_utf8_all, Option, Some, None, option_map, if◌then◌else◌}
+use Rattle.std.specs.Option.{option_and_then, option_map_or}
 use Rattle.cn_find.specs.declared.wanted.Wanted.{Wanted}
 use Rattle.cn_find.specs.Expressions.{expression_rule}
 use Rattle.cn_find.specs.Spans.{Span, in_front, run_after, text_before}
 use Rattle.cn_phrase.specs.declared.items.Item.{Item as CodeItem}
 use Rattle.cn_phrase.specs.declared.items.Item.TheVariants as code
-use Rattle.cn_phrase.specs.Between.{part_between}
+use Rattle.cn_phrase.specs.Between.{characters_before, part_between}
 use Rattle.cn_phrase.specs.Phrases.{Found, found_of, phrase_at}
 use Rattle.cn_phrase.specs.Ranges.{Ends, ends_of, range_at}
 
@@ -26,6 +27,21 @@ rest_of (phrase found) = found.rest
 rest_of (range ends) = ends.rest
 rest_of (expression rest) = rest
 
+-- what ends before `rest` does not end within an expression, given the characters of the text up to
+-- there, the nearest first
+abbrev pub ends_whole : Wanted → List ℕ → List ℕ → Bool
+ends_whole wanted [] rest = true
+ends_whole wanted (last ∷ front) rest =
+    option_map_or (λ after. length (encode_utf8_all after) == length (encode_utf8_all rest))
+    (run_after (expression_rule wanted) front (last ∷ rest)) true
+
+-- the phrase with which a text begins, unless it ends within an expression, as 三米2 of 三米2.5公里 does
+abbrev pub whole_phrase : Wanted → List ℕ → List ℕ → Option Found
+whole_phrase wanted front text =
+    option_and_then (λ found.
+    if ends_whole wanted (reverse (characters_before text found.rest) ++ front) found.rest
+    then Some found else None) (phrase_at front text)
+
 -- the first that there is: a phrase, a range or an expression
 abbrev pub first_of : Option Found → Option Ends → Option (List ℕ) → Option Item
 first_of (Some found) ends rest = Some (phrase found)
@@ -37,7 +53,7 @@ first_of None None None = None
 -- first
 abbrev pub item_at : Wanted → List ℕ → List ℕ → Option Item
 item_at wanted front text =
-    first_of (phrase_at front text) (range_at wanted front text)
+    first_of (whole_phrase wanted front text) (range_at wanted front text)
     (run_after (expression_rule wanted) front text)
 
 abbrev pub item_rest : Wanted → List ℕ → List ℕ → Option (List ℕ)

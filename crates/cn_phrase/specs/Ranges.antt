@@ -207,10 +207,13 @@ is_range e =
     is_end e.low && (is_end e.high
     && (not (clings (chars e.low.before) (chars e.high.after)) && is_linked e))
 
+-- two expressions with a link between them, if they are a range
+abbrev pub range_from : Option Ends → Option Ends
+range_from ends = option_and_then (λ e. if is_range e then Some e else None) ends
+
 -- the range that begins with a text, if one does; the characters before it are `front`
 abbrev pub range_at : Wanted → List ℕ → List ℕ → Option Ends
-range_at wanted front text =
-    option_and_then (λ e. if is_range e then Some e else None) (ends_at wanted front text)
+range_at wanted front text = range_from (ends_at wanted front text)
 
 -- the new text of an end, in the kept style
 abbrev pub end_text : List ℕ → List ℕ → Option (List ℕ)

@@ -6,12 +6,14 @@ ghost use Rattle.cn_find.specs.Expressions.{expression_rule};
 ghost use Rattle.cn_find.specs.Spans.{IsPartOf, in_front, run_after, span_of, text_before};
 ghost use Rattle.cn_replace.specs.Chains.{IsPart};
 ghost use Rattle.cn_phrase.specs.Between.{part_between};
-ghost use Rattle.cn_phrase.specs.Items.{item_at, item_of, item_rest, items, items_left, rest_of};
-ghost use Rattle.cn_phrase.specs.Ranges.{ends_at, ends_of, linked, range_at};
+ghost use Rattle.cn_phrase.specs.Items.{ends_whole, item_at, item_of, item_rest, items, items_left, rest_of, whole_phrase};
+ghost use Rattle.cn_phrase.specs.Phrases.{found_of};
+ghost use Rattle.cn_phrase.specs.Ranges.{ends_of, linked, range_from};
 
 use crate::phrase::{Match, phrase_at};
 use crate::range::{Ends, is_link, is_range};
 use cn_core::split_first_char;
+use cn_replace::pieces::split_nearest;
 use cn_find::{Found, Wanted, expression_after};
 use std::marker::Model;
 
@@ -95,26 +97,41 @@ fn linked<'a>(whole: &'a str, low: Found<'a>, wanted: Wanted) -> Option<Ends<'a>
     }
 }
 
-// Two expressions with a link between them, with which a suffix of a text begins.
-fn ends_at<'a>(whole: &'a str, ahead: &'a str, wanted: Wanted) -> Option<Ends<'a>>
-    requires { text_before whole.now ahead.now ++ ahead.now ≡ whole.now }
+// The range that begins with an expression.
+fn range_after<'a>(whole: &'a str, low: Found<'a>, wanted: Wanted) -> Option<Ends<'a>>
+    requires { IsPart whole.now (span_of low) }
     ensures { option_map ends_of result
-        ≡ ends_at wanted (in_front (text_before whole.now ahead.now)) (chars ahead.now) }
+        ≡ range_from (linked wanted (span_of low.entry) (chars low.entry.after.now)) }
 {
-    match expression_at(whole, ahead, wanted) {
-        Some(low) => linked(whole, low, wanted),
-        None => None,
+    let ends = linked(whole, low, wanted)?;
+    if is_range(ends) { Some(ends) } else { None }
+}
+
+// Whether what ends before a suffix of a text does not end within an expression.
+fn ends_whole(whole: &str, rest: &str, wanted: Wanted) -> bool
+    requires { text_before whole.now rest.now ++ rest.now ≡ whole.now }
+    ensures { result ≡ ends_whole wanted (in_front (text_before whole.now rest.now)) (chars rest.now) }
+{
+    let Some((_, front)) = split_nearest(text_before(whole, rest)) else {
+        return true;
+    };
+    let (_, last) = whole.split_at(front.len());
+    match expression_after(whole, last, wanted) {
+        Some(after) => after.len() == rest.len(),
+        None => true,
     }
 }
 
-// The range with which a suffix of a text begins.
-fn range_at<'a>(whole: &'a str, ahead: &'a str, wanted: Wanted) -> Option<Ends<'a>>
+// The phrase with which a suffix of a text begins, unless it ends within an expression.
+fn whole_phrase<'a>(whole: &'a str, ahead: &'a str, wanted: Wanted) -> Option<Match<'a>>
     requires { text_before whole.now ahead.now ++ ahead.now ≡ whole.now }
-    ensures { option_map ends_of result
-        ≡ range_at wanted (in_front (text_before whole.now ahead.now)) (chars ahead.now) }
+    ensures { option_map found_of result
+        ≡ whole_phrase wanted (in_front (text_before whole.now ahead.now)) (chars ahead.now) }
 {
-    let ends = ends_at(whole, ahead, wanted)?;
-    if is_range(ends) { Some(ends) } else { None }
+    match phrase_at(text_before(whole, ahead), ahead) {
+        Some(found) => { if ends_whole(whole, found.rest, wanted) { Some(found) } else { None } }
+        None => None,
+    }
 }
 
 /// The item that begins with a suffix of a text; `None` if none begins there.
@@ -123,14 +140,14 @@ pub fn item_at<'a>(whole: &'a str, ahead: &'a str, wanted: Wanted) -> Option<Ite
     ensures { option_map item_of result
         ≡ item_at wanted (in_front (text_before whole.now ahead.now)) (chars ahead.now) }
 {
-    if let Some(found) = phrase_at(text_before(whole, ahead), ahead) {
+    if let Some(found) = whole_phrase(whole, ahead, wanted) {
         return Some(Item::Phrase(found));
     }
-    if let Some(ends) = range_at(whole, ahead, wanted) {
-        return Some(Item::Range(ends));
-    }
-    match expression_after(whole, ahead, wanted) {
-        Some(rest) => Some(Item::Expression(rest)),
+    match expression_at(whole, ahead, wanted) {
+        Some(low) => match range_after(whole, low, wanted) {
+            Some(ends) => Some(Item::Range(ends)),
+            None => Some(Item::Expression(low.after)),
+        },
         None => None,
     }
 }
