@@ -26,7 +26,7 @@ Ends-length text rest ends =
     omega (arith, ap length ends.1, length-append ends.0 rest)
 
 -- no number is empty
-empty-none : (s : Shape) → value_of s [] ≡ None
+pub empty-none : (s : Shape) → value_of s [] ≡ None
 empty-none shape.Year = refl
 empty-none shape.FullYear = refl
 empty-none shape.EraYear = refl

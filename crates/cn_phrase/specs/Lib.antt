@@ -13,3 +13,4 @@ pub mod InText
 pub mod Hours
 pub mod Described
 pub mod Plain
+pub mod Private

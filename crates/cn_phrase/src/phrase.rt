@@ -4,14 +4,16 @@ ghost use Rattle.std.specs.Char.{char_set_contains};
 ghost use Rattle.std.specs.Option.{option_map};
 ghost use Rattle.cn_find.specs.Spans.{in_front};
 ghost use Rattle.cn_replace.specs.Pieces.{begins};
+ghost use Rattle.cn_phrase.specs.declared.phrase.Lead.TheVariants.{Bare};
+ghost use Rattle.cn_phrase.specs.Private.{is_second, may_begin};
 ghost use Rattle.cn_phrase.specs.Phrases.{after_lead, all_forms, clock_forms, follows_link, form_read, found_of, further, furthest, goes_on_with_hour, is_blank, is_linked_hour, is_name, is_phrase, is_shorter, may_be_alone, phrase_at, phrase_read, refused_before};
 
 use crate::form::Form;
-use crate::piece::{Numbers, Progress, read_pieces};
+use crate::piece::{Numbers, Numeral, Progress, read_pieces, without_blank};
 use crate::range::is_link;
 use crate::word::{Word, is_one_of};
 use cn_core::split_first_char;
-use cn_replace::pieces::split_nearest;
+use cn_replace::pieces::{Figure, begins, split_leading, split_nearest};
 
 /// What is before the first number of a phrase.
 #[derive(Debug, Copy, Clone, PartialEq, Eq)]
@@ -282,15 +284,73 @@ fn furthest<'a>(before: &str, text: &'a str, lead: Lead, forms: &[Form]) -> Opti
     best
 }
 
+// Whether a form can begin with a text.
+#[tactic(auto, unfolding(crate::specs::Private::is_second))]
+fn is_second(c: char) -> bool
+    ensures { result ≡ is_second c }
+{
+    matches!(
+        c,
+        '年' | '月' | '日' | '号' | '號' | '点' | '點' | '时' | '時' | '分' | ':' | '：' | '-' | '/' | '到' | '至'
+            | '~' | '～' | '－' | '–' | '—' | '〜' | '比' | '个' | '個' | '小' | '钟' | '鐘' | '天' | '周' | '週'
+            | '岁' | '歲' | '斤' | '里' | '吨' | '噸' | '倍' | '米' | '度' | '秒'
+    )
+}
+
+// Whether a character that can come after the first number of a form is next.
+fn begins_second(text: &str) -> bool
+    ensures { result ≡ begins is_second (chars text.now) }
+{
+    match split_first_char(text) {
+        Some((c, _)) => is_second(c),
+        None => false,
+    }
+}
+
+// Whether a form can begin with a text: most texts fail this quick test.
+fn may_begin(text: &str) -> bool
+    ensures { result ≡ may_begin (chars text.now) }
+{
+    if !begins(Numeral, text) {
+        return false;
+    }
+    let (_, rest) = split_leading(Numeral, text);
+    begins_second(without_blank(begins(Figure, text), rest))
+}
+
+// The furthest of all forms without a word before them.
+fn bare_at<'a>(before: &str, text: &'a str) -> Option<Match<'a>>
+    ensures { option_map found_of result
+        ≡ furthest (in_front before.now) (chars text.now) Bare all_forms }
+{
+    if may_begin(text) {
+        furthest(before, text, Lead::Bare, all_forms())
+    } else {
+        None
+    }
+}
+
+// The furthest of the forms of times of day after a word.
+#[tactic(auto, using(crate::proofs::Beginnings::nothing_leads))]
+fn led_at<'a>(before: &str, text: &'a str, lead: Lead) -> Option<Match<'a>>
+    ensures { option_map found_of result
+        ≡ furthest (in_front before.now) (chars text.now) lead clock_forms }
+{
+    match lead.after(text) {
+        Some(_) => furthest(before, text, lead, clock_forms()),
+        None => None,
+    }
+}
+
 /// The phrase that begins with a text, if one does, after another text.
 pub fn phrase_at<'a>(before: &str, text: &'a str) -> Option<Match<'a>>
     ensures { option_map found_of result ≡ phrase_at (in_front before.now) (chars text.now) }
 {
     further(
-        furthest(before, text, Lead::Bare, all_forms()),
+        bare_at(before, text),
         further(
-            furthest(before, text, Lead::HalfDay, clock_forms()),
-            furthest(before, text, Lead::Weekday, clock_forms()),
+            led_at(before, text, Lead::HalfDay),
+            led_at(before, text, Lead::Weekday),
         ),
     )
 }
