@@ -1,7 +1,7 @@
 -- A text that fails the quick tests begins no form.
 use Rattle.std.proofs.Common.{◌≡◌, ℕ, ◌==◌, Bool, true, false, ◌&&◌, ◌||◌, if◌then◌else◌, arith, List, [], ◌∷◌, codes, Option, Some, None, refl, sym, ap, ◌∙◌}
 use Rattle.std.proofs.lemmas.Bool.Decides.{nat_tests}
-use Rattle.std.specs.Option.{option_and_then, option_map}
+use Rattle.std.specs.Option.{option_and_then}
 use Rattle.cn_core.specs.FigureCharacters.{is_figure}
 use Rattle.cn_find.proofs.Unwanted.{outside}
 use Rattle.cn_replace.specs.Pieces.{after_leading, begins, leading}
@@ -15,11 +15,11 @@ use Rattle.cn_phrase.specs.declared.shape.Shape.{Shape}
 use Rattle.cn_phrase.specs.declared.word.Word.{Word}
 use Rattle.cn_phrase.specs.declared.word.Word.TheVariants as word
 use Rattle.cn_phrase.specs.Forms.{pieces_of}
-use Rattle.cn_phrase.specs.Phrases.{after_lead, form_read, further, furthest, is_blank, phrase_read}
+use Rattle.cn_phrase.specs.Phrases.{after_lead, clock_forms, form_read, further, furthest, is_blank}
 use Rattle.cn_phrase.specs.Pieces.{Reading, is_numeral, pieces_read, slot_read, with_number, without_blank}
 use Rattle.cn_phrase.specs.Private.{is_second, may_begin, may_lead}
 use Rattle.cn_phrase.specs.Shapes.{value_of}
-use Rattle.cn_phrase.specs.Words.{after_any, after_hour_word, after_one, after_word}
+use Rattle.cn_phrase.specs.Words.{after_any, after_half_day, after_hour_word, after_one, after_weekday, after_word}
 use Rattle.cn_phrase.proofs.Advances.{empty-none}
 
 -- the words that come after the first number of a form
@@ -213,3 +213,35 @@ pub nothing_leads : (front text : List ℕ) (lead : Lead) (forms : List Form)
     → after_lead lead text ≡ None → furthest front text lead forms ≡ None
 nothing_leads front text lead forms none =
     furthest-none front text lead forms (λ f. rw none refl)
+
+-- no word of half a day and no weekday begins here
+module _ (front : List ℕ) where
+  half_day-none : (text : List ℕ) → begins may_lead text ≡ false → after_half_day text ≡ None
+  unfolding may_lead after_half_day
+  half_day-none [] e = refl
+  half_day-none (c ∷ text) e = rw (
+    outside may_lead (codes "凌清早") c refl e,
+    outside may_lead (codes "上中下正") c refl e,
+    outside may_lead (codes "傍") c refl e,
+    outside may_lead (codes "今明昨当當") c refl e,
+    outside may_lead (codes "深半午") c refl e,
+    outside may_lead (codes "早晚") c refl e,
+    outside may_lead (codes "夜晚") c refl e,
+    outside may_lead (codes "午") c refl e,
+  ) refl
+
+  weekday-none : (text : List ℕ) → begins may_lead text ≡ false → after_weekday text ≡ None
+  unfolding may_lead after_weekday
+  weekday-none [] e = refl
+  weekday-none (c ∷ text) e = rw (
+    outside may_lead (codes "周週") c refl e,
+    outside may_lead (codes "星") c refl e,
+    outside may_lead (codes "礼禮") c refl e,
+  ) refl
+
+  pub nothing_by_word : (text : List ℕ) → begins may_lead text ≡ false
+      → further (furthest front text HalfDay clock_forms) (furthest front text Weekday clock_forms) ≡ None
+  nothing_by_word text e = rw (
+    nothing_leads front text HalfDay clock_forms (half_day-none text e),
+    nothing_leads front text Weekday clock_forms (weekday-none text e),
+  ) refl

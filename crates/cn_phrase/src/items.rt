@@ -13,8 +13,8 @@ ghost use Rattle.cn_phrase.specs.Ranges.{ends_of, linked, range_from};
 use crate::phrase::{Match, phrase_at};
 use crate::range::{Ends, is_link, is_range};
 use cn_core::split_first_char;
-use cn_replace::pieces::split_nearest;
 use cn_find::{Found, Wanted, expression_after};
+use cn_replace::pieces::split_nearest;
 use std::marker::Model;
 
 /// What is found in a text.
@@ -129,7 +129,13 @@ fn whole_phrase<'a>(whole: &'a str, ahead: &'a str, wanted: Wanted) -> Option<Ma
         ≡ whole_phrase wanted (in_front (text_before whole.now ahead.now)) (chars ahead.now) }
 {
     match phrase_at(text_before(whole, ahead), ahead) {
-        Some(found) => { if ends_whole(whole, found.rest, wanted) { Some(found) } else { None } }
+        Some(found) => {
+            if ends_whole(whole, found.rest, wanted) {
+                Some(found)
+            } else {
+                None
+            }
+        }
         None => None,
     }
 }

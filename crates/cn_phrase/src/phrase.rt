@@ -4,8 +4,8 @@ ghost use Rattle.std.specs.Char.{char_set_contains};
 ghost use Rattle.std.specs.Option.{option_map};
 ghost use Rattle.cn_find.specs.Spans.{in_front};
 ghost use Rattle.cn_replace.specs.Pieces.{begins};
-ghost use Rattle.cn_phrase.specs.declared.phrase.Lead.TheVariants.{Bare};
-ghost use Rattle.cn_phrase.specs.Private.{is_second, may_begin};
+ghost use Rattle.cn_phrase.specs.declared.phrase.Lead.TheVariants.{Bare, HalfDay, Weekday};
+ghost use Rattle.cn_phrase.specs.Private.{is_second, may_begin, may_lead};
 ghost use Rattle.cn_phrase.specs.Phrases.{after_lead, all_forms, clock_forms, follows_link, form_read, found_of, further, furthest, goes_on_with_hour, is_blank, is_linked_hour, is_name, is_phrase, is_shorter, may_be_alone, phrase_at, phrase_read, refused_before};
 
 use crate::form::Form;
@@ -291,9 +291,46 @@ fn is_second(c: char) -> bool
 {
     matches!(
         c,
-        '年' | '月' | '日' | '号' | '號' | '点' | '點' | '时' | '時' | '分' | ':' | '：' | '-' | '/' | '到' | '至'
-            | '~' | '～' | '－' | '–' | '—' | '〜' | '比' | '个' | '個' | '小' | '钟' | '鐘' | '天' | '周' | '週'
-            | '岁' | '歲' | '斤' | '里' | '吨' | '噸' | '倍' | '米' | '度' | '秒'
+        '年' | '月'
+            | '日'
+            | '号'
+            | '號'
+            | '点'
+            | '點'
+            | '时'
+            | '時'
+            | '分'
+            | ':'
+            | '：'
+            | '-'
+            | '/'
+            | '到'
+            | '至'
+            | '~'
+            | '～'
+            | '－'
+            | '–'
+            | '—'
+            | '〜'
+            | '比'
+            | '个'
+            | '個'
+            | '小'
+            | '钟'
+            | '鐘'
+            | '天'
+            | '周'
+            | '週'
+            | '岁'
+            | '歲'
+            | '斤'
+            | '里'
+            | '吨'
+            | '噸'
+            | '倍'
+            | '米'
+            | '度'
+            | '秒'
     )
 }
 
@@ -342,15 +379,67 @@ fn led_at<'a>(before: &str, text: &'a str, lead: Lead) -> Option<Match<'a>>
     }
 }
 
+// Whether a character can begin a word of half a day or a weekday.
+#[tactic(auto, unfolding(crate::specs::Private::may_lead))]
+fn may_lead(c: char) -> bool
+    ensures { result ≡ may_lead c }
+{
+    matches!(
+        c,
+        '凌' | '清'
+            | '早'
+            | '上'
+            | '中'
+            | '下'
+            | '正'
+            | '傍'
+            | '今'
+            | '明'
+            | '昨'
+            | '当'
+            | '當'
+            | '深'
+            | '半'
+            | '午'
+            | '夜'
+            | '晚'
+            | '周'
+            | '週'
+            | '星'
+            | '礼'
+            | '禮'
+    )
+}
+
+// Whether a word of half a day or a weekday can begin with a text: most texts fail this quick test.
+fn begins_lead(text: &str) -> bool
+    ensures { result ≡ begins may_lead (chars text.now) }
+{
+    match split_first_char(text) {
+        Some((c, _)) => may_lead(c),
+        None => false,
+    }
+}
+
+// The furthest of the times of day after a word of half a day or a weekday.
+fn led_by_word<'a>(before: &str, text: &'a str) -> Option<Match<'a>>
+    ensures { option_map found_of result
+        ≡ further (furthest (in_front before.now) (chars text.now) HalfDay clock_forms)
+        (furthest (in_front before.now) (chars text.now) Weekday clock_forms) }
+{
+    if begins_lead(text) {
+        further(
+            led_at(before, text, Lead::HalfDay),
+            led_at(before, text, Lead::Weekday),
+        )
+    } else {
+        None
+    }
+}
+
 /// The phrase that begins with a text, if one does, after another text.
 pub fn phrase_at<'a>(before: &str, text: &'a str) -> Option<Match<'a>>
     ensures { option_map found_of result ≡ phrase_at (in_front before.now) (chars text.now) }
 {
-    further(
-        bare_at(before, text),
-        further(
-            led_at(before, text, Lead::HalfDay),
-            led_at(before, text, Lead::Weekday),
-        ),
-    )
+    further(bare_at(before, text), led_by_word(before, text))
 }

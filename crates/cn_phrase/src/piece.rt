@@ -126,11 +126,22 @@ impl CharTest for Numeral {
     #[tactic(auto, unfolding(crate::specs::Pieces::is_numeral))]
     fn passes(self, c: char) -> bool {
         is_figure(c)
-            || is_one_of(
-                &[
-                    '零', '〇', '一', '二', '两', '兩', '三', '四', '五', '六', '七', '八', '九', '十', '百',
-                ],
+            || matches!(
                 c,
+                '零' | '〇'
+                    | '一'
+                    | '二'
+                    | '两'
+                    | '兩'
+                    | '三'
+                    | '四'
+                    | '五'
+                    | '六'
+                    | '七'
+                    | '八'
+                    | '九'
+                    | '十'
+                    | '百'
             )
     }
 }

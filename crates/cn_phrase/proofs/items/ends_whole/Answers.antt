@@ -1,10 +1,6 @@
-use Rattle.std.proofs.Common.{◌≡◌, ◌∷◌, ◌++◌, Some, None, chars, length, rules, sym, ap, subst, ◌∙◌}
-use Rattle.std.specs.Str.{IsCharBoundary}
+use Rattle.std.proofs.Common.{◌++◌, chars, rules, sym, ap, ◌∙◌}
 use Rattle.std.proofs.lemmas.Str.{IsCharBoundary-at_seam}
-use Rattle.cn_find.specs.Expressions.{expression_rule}
-use Rattle.cn_find.specs.Spans.{in_front, run_after, text_before}
-use Rattle.cn_find.proofs.Runs.{IsEnd, IsEnd-at, seam-front}
-use Rattle.cn_phrase.specs.Items.{ends_whole}
+use Rattle.cn_find.proofs.Runs.{IsEnd-at}
 use Rattle.cn_phrase.proofs.Between.{before-rest, drop-parts, whole-none, whole-some}
 use Rattle.cn_phrase.proofs.items.ends_whole.Goals as goal
 
