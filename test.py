@@ -46,16 +46,17 @@ separated by tabs. An answer is `ok` and the result of the call, or `err` and th
     quantities_to_figures FLAGS TEXT    the text with its numerals in figures; FLAGS are `none`, or
                                         with + between them some of `about`, `one`, `doubtful`,
                                         `expanded` and `canonical`
-    text_to_figures FLAGS TEXT          the same with its phrases in figures too
+    replace_quantities FLAGS TEXT       the text with its quantities in simple numerals of the lower
+                                        case, by a function that leaves fractions as they are; FLAGS
+                                        are of the first three of these
+    text_to_figures FLAGS TEXT          the text with its phrases and numerals in figures; FLAGS
+                                        are those of quantities_to_figures
     phrases TEXT                        the phrases of a text, with tabs between them: the kind, the
                                         state, the text and the value of each. A date is 2026-1-5,
                                         or ?-1-5 without a year; a time 3:30:0 =15, as it is written
                                         and the hour of 24 or `?`; years, months and days 5..8; a
                                         duration 1:20:0; a half or a length 175/100; a score 3:2; a
                                         range 3/1..5/1; and what is refused `-`
-    replace_quantities FLAGS TEXT       the text with its quantities in simple numerals of the lower
-                                        case, by a function that leaves fractions as they are; FLAGS
-                                        are of the first three of these
     expected INPUT TEXT                 how many characters of a text begin an INPUT; `end` if it may
                                         end there; `space` if white space may come next; and the
                                         characters that may. `-` is in the place of the flags. INPUT

@@ -113,7 +113,7 @@ def examples():
 
 
 def of_phrase(asked, answer):
-    """The full answer on a phrase for an example, which has its kind and its value, or `refused`."""
+    """The full answer on a phrase for an example: its kind, and its value or `refused`."""
     kind, value = answer.split(" ", 2)[1:]
     state, value = ("refused", "-") if value == "refused" else ("certain", value)
     return f"ok {kind} {state} {asked} {value}"
