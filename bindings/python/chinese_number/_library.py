@@ -433,7 +433,8 @@ def _some(call: Any, record: Any, make: Any, *words: Any) -> Some:
 
 def _run(of: Any, it: Any, *place: Any) -> Any:
     doubt, flags = divmod(it.flags, _DOUBT)
-    return Run.__new__(of, *place, *_FLAGS_OF[flags], doubt)
+    values: List[Any] = [*place, *_FLAGS_OF[flags], doubt]
+    return Run.__new__(of, *values)
 
 
 def _ends_of(text: str, split: int) -> Tuple[Words, Words]:
