@@ -13,13 +13,18 @@ is not known in which half of the day it is.
 import re
 from collections import Counter
 from fractions import Fraction
+from itertools import chain, repeat
 from pathlib import Path
 
 FOLDER = Path(__file__).resolve().parent
-# For all sentences, and for those by others: the least percentage of right sentences, and the
-# greatest percentage of wrong ones. The same for phrases.tsv.
-BARS = {"all": (92, 4), "other": (88, 6)}
-BARS_OF_PHRASES = {"all": (0, 100), "other": (0, 100)}
+# For all sentences of a file in figures, and for those by others: the least percentage of right
+# sentences, and the greatest percentage of wrong ones.
+BARS = {
+    "corpus.tsv by quantities_to_figures": {"all": (92, 4), "other": (88, 6)},
+    "corpus.tsv by text_to_figures": {"all": (93, 4), "other": (90, 6)},
+    "phrases.tsv by text_to_figures": {"all": (80, 14), "other": (69, 22)},
+}
+COUNT_OF_BARS = sum(map(len, BARS.values()))
 FORMS = {"percent": "%", "fraction": "/"}
 # A phrase in an answer: its kind, its state, its text and its value.
 PHRASE = re.compile(r"(\w+) (\w+) (.+?) (\S+(?: =\S+)?)")
@@ -33,10 +38,12 @@ def sentences(name="corpus"):
 
 
 def questions():
-    """The questions for each sentence: the text in figures, its quantities and their doubts; then for
-    each one with phrases: the text in figures, and its phrases."""
+    """The questions for each sentence: the text in figures, without phrases and with them, its
+    quantities and their doubts; for a sentence of phrases.tsv the text in figures and its phrases.
+    """
     for _, _, _, sentence, _, _ in sentences():
         yield ["quantities_to_figures", "none", sentence]
+        yield ["text_to_figures", "none", sentence]
         yield ["find_quantities", sentence]
         yield ["doubts", sentence]
     for _, _, sentence, _, _ in sentences("phrases"):
@@ -137,9 +144,9 @@ def count_texts(rows):
     return texts
 
 
-def missed(texts, bars, name):
+def missed(name, texts):
     """The bars that are missed."""
-    for group, (right, wrong) in bars.items():
+    for group, (right, wrong) in BARS[name].items():
         counts = texts[group]
         total = sum(counts.values())
         if 100 * counts["right"] < right * total or 100 * counts["wrong"] > wrong * total:
@@ -149,22 +156,17 @@ def missed(texts, bars, name):
 def report(said):
     """The lines of the report, by genre and in total, and the bars that are missed. `said` has an
     answer for each question."""
-    answers = iter(line[3:] if line.startswith("ok ") else "" for line in said)
-    texts, values, of_phrases, phrase_values = [], Counter(), [], Counter()
-    for hand, genre, mark, sentence, edited, meant in sentences():
-        made, quantities, doubts = next(answers), next(answers), next(answers)
-        texts.append((hand, genre, mark, sentence, edited, made))
-        values.update(judged_values(sentence, meant, quantities, doubts))
-    for hand, genre, sentence, edited, meant in sentences("phrases"):
-        of_phrases.append((hand, genre, "-", sentence, edited, next(answers)))
-        phrase_values.update(judged_phrases(meant, next(answers)))
-    lines, low = [], []
-    for name, rows, found, bars in (
-        ("corpus.tsv", texts, values, BARS),
-        ("phrases.tsv", of_phrases, phrase_values, BARS_OF_PHRASES),
-    ):
-        counts = count_texts(rows)
-        lines += [f"    {name}, {group}: {rate(its)}" for group, its in counts.items()]
-        lines.append(f"    {name}, values: {rate(found)}")
-        low += missed(counts, bars, name)
-    return lines, low
+    answers = chain((line[3:] if line.startswith("ok ") else "" for line in said), repeat(""))
+    rows, values = {name: [] for name in BARS}, {"corpus.tsv": Counter(), "phrases.tsv": Counter()}
+    without, with_phrases, of_phrases = rows.values()
+    for *row, meant in sentences():
+        without.append((*row, next(answers)))
+        with_phrases.append((*row, next(answers)))
+        values["corpus.tsv"].update(judged_values(row[3], meant, next(answers), next(answers)))
+    for hand, genre, *row, meant in sentences("phrases"):
+        of_phrases.append((hand, genre, "-", *row, next(answers)))
+        values["phrases.tsv"].update(judged_phrases(meant, next(answers)))
+    texts = {name: count_texts(its) for name, its in rows.items()}
+    lines = [f"    {name}, {it}: {rate(texts[name][it])}" for name in texts for it in texts[name]]
+    lines += [f"    {name}, values: {rate(its)}" for name, its in values.items()]
+    return lines, [it for name in texts for it in missed(name, texts[name])]
