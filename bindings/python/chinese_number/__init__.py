@@ -1196,7 +1196,8 @@ def find_phrases(
     and ranges. Between them are the expressions that are in no phrase, as find_quantities finds
     them. upper and greatest are as in find_numbers.
 
-    >>> [(found.start, found.text) for found in find_phrases('五日下午三点半，三到五万元，二十人')]
+    >>> [(found.start, found.text) for found in find_phrases('一月五日下午三点半，三到五万元，二十人')]
+    [(0, '一月五日'), (4, '下午三点半'), (10, '三到五万'), (16, '二十')]
     >>> [end.to_whole() for found in find_phrases('三到五万元') for end in found.value]
     [30000, 50000]
 
