@@ -1097,15 +1097,15 @@ class Phrase:
 
 # What the library adds for the year, the month and the day of a date that are given, and the hour
 # of the day of a time for which it is not known.
-_GIVEN, _NOT_KNOWN = (1, 2, 4), 255
+_YEAR, _MONTH, _DAY, _NOT_KNOWN = 1, 2, 4, 255
 _FIRST_FULL_YEAR = 1000
 
 
 def _date_of(year: int, month: int, day: int, given: int) -> Union[date, PartialDate]:
-    if given == sum(_GIVEN) and year >= _FIRST_FULL_YEAR:
+    if given == _YEAR | _MONTH | _DAY and year >= _FIRST_FULL_YEAR:
         return date(year, month, day)
-    parts = zip((year, month, day), _GIVEN)
-    return PartialDate(*(part if given & flag else None for part, flag in parts))
+    parts = (year, _YEAR), (month, _MONTH), (day, _DAY)
+    return PartialDate(*[part if given & flag else None for part, flag in parts])
 
 
 def _time_of(hour: int, minute: int, second: int, of_day: int) -> Union[time, ClockTime]:
