@@ -24,9 +24,9 @@ async function findsQuantities(page) {
   assert.equal(await page.value('found.querySelector("u").textContent'), '五');
   assert.equal(await page.value('text.nextElementSibling.textContent'), TYPED);
   assert.deepEqual(await told(page),
-    ['Quantities: 9 · not replaced: 3 · doubtful: 1 · refused: 1', IN_FIGURES]);
+    ['Found: 9 · not replaced: 3 · doubtful: 1 · refused: 1', IN_FIGURES]);
   await page.check('about', true);
-  assert.deepEqual(await told(page), ['Quantities: 9 · not replaced: 2 · doubtful: 2 · refused: 1',
+  assert.deepEqual(await told(page), ['Found: 9 · not replaced: 2 · doubtful: 2 · refused: 1',
     IN_FIGURES.replace('三百', '300')]);
   assert.deepEqual((await marks('#found'))[3], ['三百 about 300', 'doubtful']);
   await page.check('about', false);
@@ -34,7 +34,7 @@ async function findsQuantities(page) {
   assert.equal((await told(page))[1], IN_FIGURES.replace('一般', '1般'));
   await page.check('oneCharacter', false);
   await page.check('doubtful', true);
-  assert.deepEqual(await told(page), ['Quantities: 9 · not replaced: 2 · doubtful: 2 · refused: 1',
+  assert.deepEqual(await told(page), ['Found: 9 · not replaced: 2 · doubtful: 2 · refused: 1',
     IN_FIGURES.replace('五一', '51')]);
   assert.deepEqual((await marks('#found')).at(-1), ['五一 51? (a list of digits)', 'doubtful']);
   await page.check('doubtful', false);
@@ -64,7 +64,7 @@ async function findsByChoices(page) {
   for (const [way, it] of [['low', '1000000'], ['high', '10000000000000000'],
     ['digits', '1000000000000'], ['any', '1000000000000']]) {
     await page.choose('way', way);
-    assert.deepEqual(await told(page), ['Quantities: 1', it]);
+    assert.deepEqual(await told(page), ['Found: 1', it]);
   }
   await page.check('expanded', false);
   assert.equal((await told(page))[1], '1兆');
@@ -73,9 +73,9 @@ async function findsByChoices(page) {
   assert.equal((await told(page))[1], '1280');
   await page.check('canonical', false);
   await page.type('text', '正在參加');
-  assert.deepEqual(await told(page), ['Quantities: 0', '正在參加']);
+  assert.deepEqual(await told(page), ['Found: 0', '正在參加']);
   await page.check('upper', true);
-  assert.equal((await told(page))[0], 'Quantities: 2 · not replaced: 1 · refused: 1');
+  assert.equal((await told(page))[0], 'Found: 2 · not replaced: 1 · refused: 1');
 }
 
 // In a text no longer than 2,000 characters the mirror has the field's lines: it is as high and as
@@ -93,7 +93,7 @@ async function showsLongTexts(page) {
   await page.type('text', `三百${'字'.repeat(5000)}五十${'字'.repeat(5000)}七千`);
   const listed = () => page.all('#found mark span');
   assert.deepEqual(await listed(), ['七千']);
-  assert.match(await page.value('textSaid.textContent'), /^Long text: .* Quantities: 1$/);
+  assert.match(await page.value('textSaid.textContent'), /^Long text: .* Found: 1$/);
   // What the search saw in part is not listed: 十 of 五十.
   for (const [at, ...found] of [[0, '三百'], [5000, '五十'], [5203]]) {
     await page.value(`text.setSelectionRange(${at}, ${at});
