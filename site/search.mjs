@@ -1,5 +1,5 @@
-// Marks the phrases and quantities of a text, lists them below it with their values, and writes them
-// in figures.
+// Marks the phrases and quantities of a text, lists them below it with their values, and writes
+// them in figures.
 
 import { Phrase, findPhrases, findQuantities, textToFigures } from './library.mjs';
 import { MOST_MARKED, atEachKey, copyButton, element, partsAround, say } from './field.mjs';

@@ -40,12 +40,42 @@ async function findsQuantities(page) {
   await page.check('doubtful', false);
 }
 
+// Phrases, each with its class, and what is said of it in each language.
+const MEETING = '二零二六年一月五日下午三点半，三到五万元，一个半小时，二月三十日，五到八折，三比二，二十人';
+const PHRASES = [
+  ['二零二六年一月五日', '', '日期：2026年1月5日', '日期：2026年1月5日', 'date: year 2026 month 1 day 5'],
+  ['下午三点半', '', '时刻：15:30:00', '時刻：15:30:00', 'time: 15:30:00'],
+  ['三到五万', '', '范围：30000–50000', '範圍：30000–50000', 'range: 30000–50000'],
+  ['一个半小时', 'left', '带半的数：1.5', '帶半的數：1.5', 'half: 1.5'],
+  ['二月三十日', 'fault', '没有这样的日期', '沒有這樣的日期', 'not a valid date'],
+  ['五到八', 'left', '范围：5–8？', '範圍：5–8？', 'range: 5–8?'],
+  ['三比二', '', '比分：3:2', '比分：3:2', 'score: 3:2'], ['二十', '', '20', '20', '20'],
+];
+
+// They are listed with their kind and value, and the text has them in figures.
+async function findsPhrases(page) {
+  for (const language of LANGUAGES) {
+    const at = await page.speak(language);
+    await page.type('text', MEETING);
+    assert.deepEqual(await page.all('#found mark', '[it.textContent, it.className]'),
+      PHRASES.map(([it, name, ...said]) => [`${it} ${said[at]}`, name]));
+  }
+  const anew = '2026年1月5日下午3点半，3万到5万元，一个半小时，二月三十日，五到八折，3比2，20人';
+  assert.deepEqual(await told(page), ['Found: 8 · not replaced: 2 · refused: 1', anew]);
+  await page.check('doubtful', true);
+  await page.check('oneCharacter', true);
+  assert.deepEqual(await told(page), ['Found: 8 · doubtful: 1 · refused: 1',
+    anew.replace('一个', '1个').replace('五到八', '5到8')]);
+  await page.check('oneCharacter', false);
+  await page.check('doubtful', false);
+}
+
 // Each doubt is explained in each language, and part of something is never replaced.
 async function tellsDoubts(page) {
   const told = [];
   for (const language of LANGUAGES) {
     await page.speak(language);
-    await page.type('text', '三十六计，五一，负二项，六点五折，下午三点五，30~50万');
+    await page.type('text', '三十六计，五一，负二项，六点五折，下午三点五，50~30万');
     told.push(await page.all('#found small', `it.textContent.replace(/^[^?？]*[?？] ?/, '')`));
   }
   assert.deepEqual(told.map((it) => it.length), LANGUAGES.map(() => 7));
@@ -53,7 +83,7 @@ async function tellsDoubts(page) {
     '(折, 成 or 半 follows)', '(a time)', '(one end of a range)', '(one end of a range)']);
   await page.check('doubtful', true);
   assert.equal(await page.value('replaced.textContent'),
-    '36计，51，-2项，六点五折，下午3.5，30~50万');
+    '36计，51，-2项，六点五折，下午3.5，50~30万');
   await page.check('doubtful', false);
 }
 
@@ -153,6 +183,6 @@ async function readsVeryLongTexts(page) {
 }
 
 export const PARTS = [
-  findsQuantities, tellsDoubts, findsByChoices, showsLongTexts, answersLongTexts,
+  findsQuantities, findsPhrases, tellsDoubts, findsByChoices, showsLongTexts, answersLongTexts,
   readsVeryLongTexts,
 ];

@@ -1024,8 +1024,8 @@ const FORMS = ['二零二六年', '一月', '五日', '下午', '三点', '小�
 const areApart = (items) => items.every((it, at) => at === 0 || items[at - 1].end <= it.start);
 const touches = ({ start, end }) => (it) => start < it.end && it.start < end;
 
-// The expressions in no phrase are those of findQuantities that no phrase has a part of; each phrase
-// has a value unless it is refused.
+// The expressions in no phrase are those of findQuantities of which no phrase has a part; each
+// phrase has a value unless it is refused.
 function comparePhrasesOf(text) {
   const wanted = { upper: below(2) === 1, greatest: one(UNITS) };
   const items = Array.from(findPhrases(text, wanted));
@@ -1070,8 +1070,8 @@ function tryPhrases() {
   const [early] = findPhrases('1000年前'), [tenths] = findPhrases('五到八折');
   assert.deepEqual([early.state, early.value], ['doubtful', { year: 1000 }]);
   assert.deepEqual([tenths.state, tenths.value.map((it) => it.toWhole())], ['doubtful', [5n, 8n]]);
-  const [half, length] = findPhrases('一个半小时，一米七五');
-  assert(half.value.equals(Quantity.decimal(15, 1)) && length.value.equals(Quantity.decimal(175, 2)));
+  const decimals = Array.from(findPhrases('一个半小时，一米七五'), (it) => it.value);
+  assert.deepEqual(decimals, [Quantity.decimal(15, 1), Quantity.decimal(175, 2)]);
   let phrases = 0;
   for (let i = 0; i < TEXTS; i++) {
     const some = Array.from({ length: below(12) }, () => one(below(4) ? RUNNING_PHRASES : FORMS));
