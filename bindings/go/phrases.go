@@ -95,9 +95,9 @@ func (it Phrase) end() int {
 	return it.End
 }
 
-// FindPhrases returns the phrases of a text, and the expressions that are in none, as FindQuantities
-// returns them, in order: for 二零二六年一月五日下午三点半，三到五万元，共十二人 a date, a time and a range, each a
-// Phrase, and 十二, a Found. The errors are those of FindQuantities.
+// FindPhrases returns the phrases of a text, and its expressions that are in none, in order: for
+// 二零二六年一月五日下午三点半，三到五万元，共十二人 a date, a time and a range, each a Phrase, and 十二, a Found like
+// those of FindQuantities, whose errors it has.
 func FindPhrases(text string, wanted *Wanted) ([]Item, error) {
 	return all(EachPhrase, text, wanted)
 }
