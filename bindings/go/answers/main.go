@@ -314,7 +314,7 @@ func showValue(phrase cn.Phrase) string {
 	return "-"
 }
 
-// phrases describes the phrases of a text.
+// phrases describes the phrases of a text, with a tab between them.
 func phrases(text string) string {
 	var shown []string
 	err := cn.EachPhrase(text, nil, func(item cn.Item) bool {
@@ -324,7 +324,7 @@ func phrases(text string) string {
 		}
 		return true
 	})
-	return told(strings.Join(shown, "; "), err)
+	return told(strings.Join(shown, "\t"), err)
 }
 
 // The functions that answer each question, by its name; each takes the other words.
