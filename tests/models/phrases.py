@@ -189,7 +189,7 @@ def rows():
     yield Row("date", slots((first, "day", is_count)), RI, weak=True)
     for lead in ("half day", ""):
         yield Row("time", slots((first, "hour", is_clock), (SHI, "minute", is_clock), (("分",), "second", is_clock)), ("秒",), lead)
-        yield Row("time", slots((first, "hour", is_clock), (SHI, "minute", is_clock)), ("分",), lead, not_before="之")
+        yield Row("time", slots((first, "hour", is_clock), (SHI, "minute", is_clock)), ("分",), lead, not_before="之钟鐘")
         yield Row("time", slots((first, "hour", is_clock), (DIAN, "minute", is_bare_minute)), ("",), lead, not_before="分")
         yield Row("time", slots((first, "hour", is_clock)), tuple(it + "半" for it in DIAN), lead)
         yield Row("time", slots((first, "hour", is_clock), (DIAN, "quarter", is_digit)), ("刻",), lead)
@@ -405,8 +405,6 @@ def time_of(line, phrase):
     else:
         value = wholes(phrase)
     hour, minute, second = value["hour"], value.get("minute", 0), value.get("second", 0)
-    if phrase.words[-1] == "分" and line.at(phrase.end) in "钟鐘":
-        return REFUSED
     if "半" in phrase.words[-1]:
         minute = 30
     if "quarter" in value:
@@ -481,11 +479,14 @@ def range_of(line, phrase):
     low, high, link = phrase.parts["low"], phrase.parts["high"], phrase.words[1]
     before, after = line.at(phrase.start - 1), line.at(phrase.end)
     in_words = link in "到至"
-    if "fraction" in (numbers.quantity(it.text).form for it in (low, high)):
+    ends = [numbers.quantity(it.text) for it in (low, high)]
+    if any(it.form == "fraction" or it.numerator < 0 for it in ends):
+        return None
+    if numbers.clings(line, phrase.start, phrase.end):
         return None
     if low.found.is_about or high.found.is_about:
         return None
-    if numbers.signed(high.text)[0] and not in_words:
+    if high.text[0] in "正+＋负負-−－" and not in_words:
         return None
     if not in_words:
         if has_figure(low.text) != has_figure(high.text):
@@ -588,14 +589,50 @@ def new_number(value: Fraction) -> str:
     return f"{scaled // 10**digits}.{scaled % 10**digits:0{digits}d}"
 
 
+class Item(NamedTuple):
+    """A phrase, or an expression that is in none."""
+
+    start: int
+    end: int
+    text: str
+    new: Optional[str]
+    is_one_character: bool
+
+
+def new_phrase(line: Line, phrase: Phrase) -> Optional[str]:
+    """The new text of a phrase."""
+    if phrase.value is None or phrase.doubt is not None:
+        return None
+    pieces, end = [], phrase.start
+    for role, part in phrase.parts.items():
+        new = new_part(phrase, role, part)
+        if new is None:
+            return None
+        pieces += [line.text[end : part.start], new]
+        end = part.end
+    return "".join(pieces) + line.text[end : phrase.end]
+
+
+def items_of(line: Line, expressions: List[Found]) -> List[Item]:
+    """The phrases of a text, and its expressions that are in none."""
+    items, taken = [], set()
+    for phrase in phrases(line, expressions):
+        start = phrase.start
+        if is_cut(next(iter(phrase.parts.values()))):
+            start = WEEKDAY.search(line.text[: start - 1]).start()
+        text = line.text[start : phrase.end]
+        new = new_phrase(line, phrase)
+        items.append(Item(start, phrase.end, text, new and line.text[start : phrase.start] + new, False))
+        taken.update(part.index for part in phrase.parts.values())
+    for index, found in enumerate(expressions):
+        if index not in taken:
+            new = numbers.new_text(line, found)
+            items.append(Item(found.start, found.end, found.text, new, found.is_one_character))
+    return sorted(items)
+
+
 def text_to_figures(text: str) -> str:
     """Numerals and phrases in figures, in the kept style."""
     line, expressions = Line(text), numbers.find_quantities(text)
-    news = [numbers.new_text(line, e) for e in expressions]
-    for phrase in phrases(line, expressions):
-        rewritten = phrase.value is not None and phrase.doubt is None
-        for role, part in phrase.parts.items():
-            cut = text[part.found.start : part.start]
-            new = new_part(phrase, role, part) if rewritten else None
-            news[part.index] = None if new is None else cut + new
-    return numbers.put_in_chains(line, expressions, news)
+    items = items_of(line, expressions)
+    return numbers.put_in_chains(line, items, [it.new for it in items])
