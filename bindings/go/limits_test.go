@@ -379,11 +379,9 @@ func TestLongTexts(t *testing.T) {
 		text, wanted := strings.Repeat(piece, many), strings.Repeat(its, many)
 		figures, err := cn.QuantitiesToFigures(text, &cn.Replacing{Expanded: true})
 		wantStatus(t, piece, err, cn.Done)
-		with, err := cn.TextToFigures(text, &cn.Replacing{Expanded: true})
-		wantStatus(t, piece, err, cn.Done)
 		replaced, err := cn.ReplaceQuantities(text, nil, inFigures)
 		wantStatus(t, piece, err, cn.Done)
-		if figures != wanted || with != wanted || replaced != wanted {
+		if figures != wanted || replaced != wanted {
 			t.Errorf("%d times %s is otherwise", many, piece)
 		}
 	}
@@ -391,16 +389,17 @@ func TestLongTexts(t *testing.T) {
 
 // A text that grows, and has more items than one call finds.
 func TestLongPhrases(t *testing.T) {
-	const many, piece = 10_000, "三到五万元，一月五日，"
-	figures, err := cn.TextToFigures(strings.Repeat(piece, many), nil)
+	const many, piece, its = 1_000, "三亿，三到五万，", "300000000，3万到5万，"
+	text := strings.Repeat(piece, many)
+	figures, err := cn.TextToFigures(text, &cn.Replacing{Expanded: true})
 	wantStatus(t, piece, err, cn.Done)
-	if figures != strings.Repeat("3万到5万元，1月5日，", many) {
+	if figures != strings.Repeat(its, many) {
 		t.Errorf("%d times %s is otherwise", many, piece)
 	}
-	items, err := cn.FindPhrases(strings.Repeat(piece, many), nil)
+	items, err := cn.FindPhrases(text, nil)
 	wantStatus(t, piece, err, cn.Done)
 	last, _ := items[len(items)-1].(cn.Phrase)
-	if len(items) != 2*many || last.Text != "一月五日" || last.End != many*len(piece)-len("，") {
+	if len(items) != 2*many || last.Text != "三到五万" || last.End != len(text)-len("，") {
 		t.Errorf("%d items, and the last is %v", len(items), last)
 	}
 }
@@ -503,7 +502,7 @@ var phrases = []struct {
 		cn.Range{must(cn.NewPercent(3, 0)), must(cn.NewPercent(55, 1))}},
 	{"八到八点五折", cn.PhraseKindRange, cn.PhraseStateDoubtful,
 		cn.Range{must(cn.NewDecimal(8, 0)), must(cn.NewDecimal(85, 1))}},
-	{"五到三万", cn.PhraseKindRange, cn.PhraseStateRefused, nil},
+	{"五到三", cn.PhraseKindRange, cn.PhraseStateRefused, nil},
 }
 
 func TestPhrases(t *testing.T) {
