@@ -258,7 +258,7 @@ std::string phrase_in_words(const Phrase &phrase) {
 /* The phrases of a text, with a tab between them. */
 std::string phrases(const Words &words) {
     std::string done;
-    for (const Item &item : find_phrases(words[1]))
+    for (const Item item : find_phrases(words[1]))
         if (const auto *phrase = std::get_if<Phrase>(&item))
             done += (done.empty() ? "" : "\t") + phrase_in_words(*phrase);
     return "ok " + done;

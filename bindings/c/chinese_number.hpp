@@ -911,13 +911,12 @@ inline Numbers find_quantities(std::string_view text, Wanted wanted = {}) {
 }
 
 /* Finds the phrases of a text, and its expressions that are in no phrase: dates, times of day,
- * durations, ranges, scores, halves and lengths. There are none if the bytes are not UTF-8. The first
- * phrase of a text:
+ * durations, ranges, scores, halves and lengths. There are none if the bytes are not UTF-8.
  *
- *     for (const Item &item : find_phrases(text))
- *         if (const auto *phrase = std::get_if<Phrase>(&item))
- *             if (const auto *date = phrase->value ? std::get_if<Date>(&*phrase->value) : nullptr)
- *                 use(*date); // of 二零二六年一月五日: 2026, 1, 5 */
+ *     for (const Item item : find_phrases(text))
+ *         if (const auto *phrase = std::get_if<Phrase>(&item); phrase && phrase->value)
+ *             if (const auto *date = std::get_if<Date>(&*phrase->value))
+ *                 use(*date); // 2026, 1, 5 for 二零二六年一月五日 */
 inline Phrases find_phrases(std::string_view text, Wanted wanted = {}) {
     return {text, wanted, cn_find_next_phrase};
 }
