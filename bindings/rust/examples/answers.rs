@@ -12,7 +12,7 @@ use chinese_number::{
     number_message, quantities_to_figures, quantity_message, replace_quantities,
     signed_amount_to_chinese, text_to_figures, yuan_to_fen, AmountForm, BillDate, ChineseCase,
     ChineseCountMethod, ChineseToNumber, ChineseVariant, ClockTime, Doubt, Fault, Figures, Found,
-    Hint, Included, Input, Integer, Language, NumberToChinese, Numbers, PartialDate, Phrase,
+    Hint, Included, Input, Integer, Item, Language, NumberToChinese, Numbers, PartialDate, Phrase,
     PhraseValue, Quantity, QuantityForm, Repair, Style, Wanted, Way,
 };
 
@@ -269,7 +269,7 @@ fn phrases(text: &str) -> String {
         let value = it.value.map_or(String::from("-"), value);
         format!("{} {} {} {value}", kind.to_lowercase(), state.to_lowercase(), it.text)
     };
-    let found = find_phrases(text, Wanted::EVERYDAY).filter_map(|item| item.phrase());
+    let found = find_phrases(text, Wanted::EVERYDAY).filter_map(Item::phrase);
     format!("ok {}", found.map(told).collect::<Vec<_>>().join("\t"))
 }
 
