@@ -24,7 +24,7 @@ fn values_of_dates() {
         ("二零二六年一月", Some(2026), Some(1), None),
         ("二零二六年", Some(2026), None, None),
         ("一月五日", None, Some(1), Some(5)),
-        ("一一五年三月二十日", Some(115), Some(3), Some(20)),
+        ("115年3月20日", Some(115), Some(3), Some(20)),
     ] {
         let date = PartialDate { year, month, day };
         assert_eq!(value(text), Some(PhraseValue::PartialDate(date)), "{text}");
@@ -102,7 +102,6 @@ fn in_figures() {
     let included = Included { doubtful: true, ..Included::NONE };
     let doubtful = Figures { included, ..Figures::DEFAULT };
     assert_eq!(write("五到八折", doubtful), "5到8折");
-    let many = "三到五万元，".repeat(1_000);
-    let expanded = Figures { style: Style::Expanded, ..Figures::DEFAULT };
-    assert_eq!(write(&many, expanded), "30000到50000元，".repeat(1_000));
+    let many = write(&"三到五百万亿，".repeat(1_000), Figures::DEFAULT);
+    assert!(many == "300万亿到500万亿，".repeat(1_000));
 }
