@@ -1,5 +1,5 @@
 -- What the calls that find phrases and read ranges write and return.
-use Rattle.std.specs.Prelude.{◌≡◌, ℕ, ◌+◌, ◌*◌, Bool, ◌&&◌, List, length, take, drop, map, Option, Some, None, IsCharBoundary, slice_get}
+use Rattle.std.specs.Prelude.{◌≡◌, ℕ, ◌+◌, ◌*◌, Bool, List, length, take, drop, map, Option, Some, None, IsCharBoundary, slice_get}
 use Rattle.std.specs.Bool.{MatchBool}
 use Rattle.std.specs.Str.{is_utf8}
 use Rattle.chinese_number.specs.declared.Wanted.{Wanted}
@@ -94,8 +94,15 @@ TellsRange (Some range) status low high =
 TellsRange None status low high =
     (status ≡ CN_INCORRECT) × (low ≡ no_quantity 0 0) × (high ≡ no_quantity 0 0)
 
+-- nothing is written, since one of the ends is not UTF-8
+abbrev pub TellsNoText : ℕ → Quantity → Quantity → Type 0
+TellsNoText status low high =
+    (status ≡ CN_NOT_UTF8) × (low ≡ no_quantity 0 0) × (high ≡ no_quantity 0 0)
+
 -- the result of reading the two ends of a range
 abbrev pub IsRangeRead : List ℕ → List ℕ → ℕ → Quantity → Quantity → Type 0
 IsRangeRead first second status low high =
-    MatchBool (is_utf8 first && is_utf8 second) (TellsRange (range_of first second) status low high)
-    ((status ≡ CN_NOT_UTF8) × (low ≡ no_quantity 0 0) × (high ≡ no_quantity 0 0))
+    MatchBool (is_utf8 first)
+    (MatchBool (is_utf8 second) (TellsRange (range_of first second) status low high)
+    (TellsNoText status low high))
+    (TellsNoText status low high)

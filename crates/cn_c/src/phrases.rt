@@ -7,6 +7,7 @@ ghost use Rattle.cn_replace.specs.Chains.{IsPart};
 ghost use Rattle.cn_c.specs.Codes.{units, uppers};
 ghost use Rattle.cn_c.specs.Finds.{Fills, wanted_of};
 ghost use Rattle.cn_c.specs.Phrases.{FindsPhrases, IsPhraseFound, IsRangeRead, TellsRange, kind_code, phrase_told, state_code};
+ghost use Rattle.cn_phrase.specs.Ranges.{range_of};
 
 use crate::codes::{unit_of, upper_of};
 use crate::flags::flags_and_doubt;
@@ -189,6 +190,13 @@ fn tell_range(range: Option<Range>, low: &mut Quantity, high: &mut Quantity) -> 
     }
 }
 
+// Reads the two ends of a range.
+fn read_range(first: &str, second: &str, low: &mut Quantity, high: &mut Quantity) -> u32
+    ensures { TellsRange (range_of first.now second.now) result low.new high.new }
+{
+    tell_range(range_of(first, second), low, high)
+}
+
 /// Reads the two ends of a range, which are the text before its link and the text after it. Units and a
 /// percent sign that count for both ends do. The status is NOT_UTF8 if either is not UTF-8, and
 /// INCORRECT if they are not a range: one is no quantity, or the second is not greater.
@@ -203,10 +211,13 @@ pub extern "C" fn chinese_range_read(
 ) -> u32
     ensures { IsRangeRead first.now second.now result low.new high.new }
 {
-    let (Some(first), Some(second)) = (utf8_text(first), utf8_text(second)) else {
-        *low = NOTHING;
-        *high = NOTHING;
+    *low = NOTHING;
+    *high = NOTHING;
+    let Some(first) = utf8_text(first) else {
         return NOT_UTF8;
     };
-    tell_range(range_of(first, second), low, high)
+    match utf8_text(second) {
+        Some(second) => read_range(first, second, low, high),
+        None => NOT_UTF8,
+    }
 }
