@@ -160,7 +160,7 @@ def report(said):
     without, with_phrases = rows.values()
     for *row, meant in sentences():
         without.append((*row, next(answers)))
-        with_phrases.append((*row, next(answers)))
+        with_phrases.append((*row[:2], "-", *row[3:], next(answers)))
         values["corpus.tsv"].update(judged_values(row[3], meant, next(answers), next(answers)))
     for hand, genre, *row, meant in sentences("phrases"):
         with_phrases.append((hand, genre, "-", *row, next(answers)))
