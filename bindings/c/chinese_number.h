@@ -1,7 +1,7 @@
 /* The C binding of the proved library chinese_number, for C99 and later. It prints and reads
- * Chinese numerals for whole numbers and exact quantities, finds and replaces them in a text, and
- * prints and reads amounts of money and dates in capitals, and amounts in figures. It says what may
- * follow a text, and why a text is refused, in three languages.
+ * Chinese numerals for whole numbers and exact quantities, finds and replaces them in a text, also in
+ * phrases such as dates and times, and prints and reads amounts of money and dates in capitals, and
+ * amounts in figures. It says what may follow a text, and why a text is refused, in three languages.
  * chinese_number.hpp has classes over it for C++17.
  *
  * The calls chinese_.. are the proved ones: texts are bytes, and choices are codes. The calls
@@ -18,10 +18,10 @@
  * The caller must ensure the following, since nothing tests it:
  * - No pointer is NULL, not even for an empty text, buffer or array. (cn_.. accept NULL for a text
  *   or a buffer of length 0.)
- * - A text and a buffer have as many bytes as their length says, and an array has `most` spans: at
- *   most PTRDIFF_MAX bytes.
- * - What a call writes (the buffer `room`, *length, *reading, *quantity, the spans, *count) does
- *   not overlap any other argument.
+ * - A text and a buffer have as many bytes as their length says, and an array has `most` spans or
+ *   phrases: at most PTRDIFF_MAX bytes.
+ * - What a call writes (the buffer `room`, *length, *reading, *quantity, *low, *high, the spans, the
+ *   phrases, *count) does not overlap any other argument.
  * - Nothing else writes to the arguments before the call returns.
  *
  * All names begin with chinese_, cn_ or CN_. */
@@ -905,13 +905,18 @@ static inline cn_fault cn_explain_quantity(const char *text, size_t text_length,
     return CN_AS(cn_fault, fault);
 }
 
+/* The status of a search for one span or phrase. */
+static inline cn_status cn_status_of_next(uint32_t status, size_t count) {
+    return status == CN_DONE && count == 0 ? CN_NONE : CN_AS(cn_status, status);
+}
+
 /* Returns the status of a search for one span. If none is found, the span becomes zeros. */
 static inline cn_status cn_next(uint32_t status, size_t count, cn_span *span) {
-    if (count != 0)
-        return CN_DONE;
-    span->start = span->end = 0;
-    span->flags = 0;
-    return status == CN_DONE ? CN_NONE : CN_AS(cn_status, status);
+    if (count == 0) {
+        span->start = span->end = 0;
+        span->flags = 0;
+    }
+    return cn_status_of_next(status, count);
 }
 
 /* Finds the next number of a text in char after span->end; with a span of zeros, the first number.
@@ -935,6 +940,40 @@ CN_NODISCARD static inline cn_status cn_find_next_quantity(const char *text, siz
         ? chinese_quantity_find(bytes, text_length, 0, upper, greatest, span, 1, &count)
         : chinese_quantity_find_utf8(bytes, text_length, from, upper, greatest, span, 1, &count);
     return cn_next(status, count, span);
+}
+
+/* Finds the next phrase after phrase->end, or the next expression that is in no phrase, likewise. */
+CN_NODISCARD static inline cn_status cn_find_next_phrase(const char *text, size_t text_length, uint32_t upper,
+                                                         cn_unit greatest, cn_phrase *phrase) {
+    const cn_phrase none = {0, 0, 0, 0, 0, 0, 0, 0, 0, 0};
+    const uint8_t *bytes = cn_bytes(text, text_length);
+    size_t from = phrase->end, count = 0;
+    uint32_t status = from == 0
+        ? chinese_phrase_find(bytes, text_length, 0, upper, greatest, phrase, 1, &count)
+        : chinese_phrase_find_utf8(bytes, text_length, from, upper, greatest, phrase, 1, &count);
+    if (count == 0)
+        *phrase = none;
+    return cn_status_of_next(status, count);
+}
+
+/* The span of a phrase, or of an expression that cn_find_next_phrase found. */
+static inline cn_span cn_span_of(const cn_phrase *phrase) {
+    cn_span span;
+    span.start = phrase->start;
+    span.end = phrase->end;
+    span.flags = phrase->flags;
+    return span;
+}
+
+/* Reads the two ends of a range that a search found in this text, with chinese_range_read. Returns
+ * CN_INCORRECT if the phrase is refused or is no range. */
+CN_NODISCARD static inline cn_status cn_read_range(const char *text, const cn_phrase *range, cn_quantity *low,
+                                                   cn_quantity *high) {
+    const uint8_t *first = cn_bytes(text, range->end) + range->start;
+    size_t length = range->end - range->start, after_link = range->split == 0 ? 0 : range->split + 1;
+    while (after_link < length && (first[after_link] & 0xC0) == 0x80)
+        after_link++;
+    return CN_AS(cn_status, chinese_range_read(first, range->split, first + after_link, length - after_link, low, high));
 }
 
 /* Why a reader may take the expression at a span for something other than its quantity. */
@@ -1012,6 +1051,17 @@ CN_NODISCARD static inline cn_status cn_quantities_to_figures(const char *text, 
     size_t most = cn_most_of_text(room_length);
     uint32_t status = chinese_quantities_to_figures(cn_bytes(text, text_length), text_length, upper, greatest, method,
                                                     options, cn_room(room, room_length, &none), most, length);
+    return cn_ended(status, room, room_length, *length);
+}
+
+/* chinese_text_to_figures for a text in char, into a buffer of char, likewise. */
+CN_NODISCARD static inline cn_status cn_text_to_figures(const char *text, size_t text_length, uint32_t upper,
+                                                        cn_unit greatest, cn_way method, uint32_t options,
+                                                        char *room, size_t room_length, size_t *length) {
+    uint8_t none;
+    size_t most = cn_most_of_text(room_length);
+    uint32_t status = chinese_text_to_figures(cn_bytes(text, text_length), text_length, upper, greatest, method, options,
+                                              cn_room(room, room_length, &none), most, length);
     return cn_ended(status, room, room_length, *length);
 }
 

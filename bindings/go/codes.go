@@ -311,7 +311,7 @@ const (
 const TooLong Status = 4294967295
 
 // The words of Input, in the order of the codes.
-var inputs = []string{
+var wordsOfInput = []string{
 	"amount",
 	"signed_amount",
 	"typed_amount",
@@ -321,7 +321,7 @@ var inputs = []string{
 }
 
 // The words of Change, in the order of the codes.
-var changes = []string{
+var wordsOfChange = []string{
 	"none",
 	"insert",
 	"replace",
@@ -329,7 +329,7 @@ var changes = []string{
 }
 
 // The words of Fault, in the order of the codes.
-var faults = []string{
+var wordsOfFault = []string{
 	"none",
 	"empty",
 	"too_large",
@@ -350,8 +350,30 @@ var faults = []string{
 }
 
 // The words of Language, in the order of the codes.
-var languages = []string{
+var wordsOfLanguage = []string{
 	"en",
 	"zh-Hans",
 	"zh-Hant",
+}
+
+// The words of PhraseKind, in the order of the codes.
+var wordsOfPhraseKind = []string{
+	"expression",
+	"date",
+	"years",
+	"months",
+	"days",
+	"time",
+	"duration",
+	"half",
+	"length",
+	"score",
+	"range",
+}
+
+// The words of PhraseState, in the order of the codes.
+var wordsOfPhraseState = []string{
+	"certain",
+	"doubtful",
+	"refused",
 }

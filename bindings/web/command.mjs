@@ -12,7 +12,8 @@ import {
   AmountError, DateError, KINDS, LANGUAGES, METHODS, NumeralError, VERSION, WAYS,
   chineseToAmountAsTypedBigInt, chineseToAmountBigInt, chineseToDate,
   chineseToSignedAmountAsTypedBigInt, chineseToSignedAmountBigInt, dateToChinese, findNumbers,
-  findQuantities, quantitiesToFigures, signedAmountToChinese, toBigInt, toChinese, yuanToFenBigInt,
+  findQuantities, quantitiesToFigures, signedAmountToChinese, textToFigures, toBigInt, toChinese,
+  yuanToFenBigInt,
 } from './chinese-number.mjs';
 import { Misuse, Refused, Table, linesOfTable, refusalOf, shown } from './table.mjs';
 
@@ -46,8 +47,8 @@ usage: chinese-number amount [--traditional] [--currency] [--yuan 圆] [--closin
                             NUMBER...
        chinese-number find [--all] [--method any]
        chinese-number find --numbers [--all] [--kind u128] [--way any]
-       chinese-number replace [--all] [--method any] [--about] [--one-character] [--doubtful]
-                              [--expanded] [--canonical] [WORD...]
+       chinese-number replace [--phrases] [--all] [--method any] [--about] [--one-character]
+                              [--doubtful] [--expanded] [--canonical] [WORD...]
        chinese-number --help | --version
 
 amount   converts yuan to capitals, 1409.50 to 壹仟肆佰零玖元伍角整, and capitals to yuan
@@ -77,6 +78,8 @@ find     writes LINE:CHARACTER TEXT NUMBER for each quantity in standard input, 
    --numbers        finds whole numbers instead: 3 and 5万 in 3.5万
 replace  writes the arguments, or standard input, with their numerals in figures, 市值三点五亿元 as
          市值3.5亿元
+   --phrases        includes dates, times, durations, ranges, scores and lengths: 一月五日下午三点半
+                    becomes 1月5日下午3点半
    --about          includes approximate numbers, as in 三百多
    --one-character  includes numbers of one Chinese character, as in 一般
    --doubtful       includes numbers that may mean something else, as 五一
@@ -135,12 +138,13 @@ const COMMANDS = {
   },
   replace: {
     options: {
-      all: FLAG, method: METHOD, about: FLAG, 'one-character': FLAG, doubtful: FLAG,
+      phrases: FLAG, all: FLAG, method: METHOD, about: FLAG, 'one-character': FLAG, doubtful: FLAG,
       expanded: FLAG, canonical: FLAG,
     },
-    run: ({ all, 'one-character': oneCharacter, ...options }, words, language) => {
+    run: ({ phrases, all, 'one-character': oneCharacter, ...options }, words, language) => {
       const choices = { ...options, ...wantedBy(all), oneCharacter };
-      const anew = (text) => quantitiesToFigures(text, choices);
+      const call = phrases ? textToFigures : quantitiesToFigures;
+      const anew = (text) => call(text, choices);
       return words.length ? answerEach(words, language, anew) : replaceInInput(anew);
     },
   },

@@ -1,19 +1,21 @@
-"""Compares the library with the model in text.py on random texts.
+"""Compares the library with the models in text.py and phrases.py on random texts.
 
 Usage: python3 tests/models/compare.py COUNT [SEED]
 
 It needs the Python module, as `pip install ./bindings/python` installs it. A text is made of pieces of
 numerals and of what is around numbers in a text, or of a sentence of tests/corpus.tsv in which some
 characters are changed. What is found in it, with values, flags and doubts, and what it becomes in
-figures, by random options, have to be the same.
+figures, by random options, have to be the same; and so do its phrases with their kinds, and what it
+becomes in figures with them.
 """
 import random
 import sys
 from pathlib import Path
 
+import phrases as of_phrases
 import text as model
 
-CORPUS = Path(__file__).resolve().parent.parent / "corpus.tsv"
+TESTS = Path(__file__).resolve().parent.parent
 PIECES = (
     list("零〇一二两兩三四五六七八九0123456789０１２３４５６７８９") * 2
     + list("十百千万萬亿億兆个個") * 3
@@ -21,13 +23,16 @@ PIECES = (
     + "分之 分之 百分之 零下 几 数 多 好几 小时 分钟 千瓦 千克 兆字节 双十一 十二指肠 三十六计".split()
     + "进制 项 划线 号 室 级 早上 下午 度 倍 个人 三个亿 两千 一百 二十 五 km GB a _ : / A-1".split()
     + list("的人在，。\n") * 2
+    + "下午 晚上 凌晨 周 星期 早 年 月 日 点 分 秒 半 刻 个半小时 小时 分钟 比 米 度 到 至 : - / 2026年 三月".split()
 )
 OPTIONS = ("about", "one_character", "doubtful", "canonical")
 
 
 def sentences():
-    rows = CORPUS.read_text(encoding="utf-8").splitlines()
-    return [row.split("\t")[3] for row in rows if not row.startswith("# ")]
+    for name, column in (("corpus.tsv", 3), ("phrases.tsv", 2)):
+        for row in (TESTS / name).read_text(encoding="utf-8").splitlines():
+            if not row.startswith("# "):
+                yield row.split("\t")[column]
 
 
 def random_text(source, known):
@@ -58,6 +63,30 @@ def found_by_model(string):
         yield it.start, it.end, quantity, it.is_about, it.is_one_character, it.doubt
 
 
+# The kinds of phrases in the model, by those of the library; `dates` is for both.
+KINDS = {"months": "dates", "days": "dates"}
+
+
+def phrases_by_library(library, string):
+    for it in library.find_phrases(string):
+        if isinstance(it, library.Phrase):
+            kind = KINDS.get(it.kind.value, it.kind.value)
+            yield it.start, it.end, kind, it.state.value
+        else:
+            yield it.start, it.end, "expression", "certain"
+
+
+def difference_of_phrases(library, string):
+    left = list(phrases_by_library(library, string))
+    right = of_phrases.described(string)
+    if left != right:
+        return f"{string!r}\n  library {left}\n  model   {right}"
+    left, right = library.text_to_figures(string), of_phrases.text_to_figures(string)
+    if left != right:
+        return f"{string!r}\n  library {left!r}\n  model   {right!r}"
+    return None
+
+
 def difference(library, source, known):
     """What differs on a random text, in words; None if nothing does."""
     string = random_text(source, known)
@@ -69,11 +98,11 @@ def difference(library, source, known):
     right = model.to_figures(string, style="expanded" if expanded else "kept", **chosen)
     if left != right:
         return f"{string!r} {chosen} expanded={expanded}\n  library {left!r}\n  model   {right!r}"
-    return None
+    return difference_of_phrases(library, string)
 
 
 def differences(library, count, seed):
-    source, known = random.Random(seed), sentences()
+    source, known = random.Random(seed), list(sentences())
     found = (difference(library, source, known) for _ in range(count))
     return [it for it in found if it]
 

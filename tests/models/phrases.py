@@ -676,6 +676,8 @@ class Item(NamedTuple):
     text: str
     new: Optional[str]
     is_one_character: bool
+    kind: str = "expression"
+    state: str = "certain"
 
 
 def new_phrase(line: Line, phrase: Phrase) -> Optional[str]:
@@ -692,6 +694,12 @@ def new_phrase(line: Line, phrase: Phrase) -> Optional[str]:
     return "".join(pieces) + line.text[end : phrase.end]
 
 
+def state_of(phrase: Phrase) -> str:
+    if phrase.value is None:
+        return "refused"
+    return "doubtful" if phrase.doubt else "certain"
+
+
 def items_of(line: Line, expressions: List[Found]) -> List[Item]:
     """The phrases of a text, and its expressions that are in none."""
     items, taken = [], set()
@@ -699,11 +707,9 @@ def items_of(line: Line, expressions: List[Found]) -> List[Item]:
         start = phrase.start
         if is_cut(next(iter(phrase.parts.values()))):
             start = WEEKDAY.search(line.text[: start - 1]).start()
-        text = line.text[start : phrase.end]
-        new = new_phrase(line, phrase)
-        items.append(
-            Item(start, phrase.end, text, new and line.text[start : phrase.start] + new, False)
-        )
+        text, new = line.text[start : phrase.end], new_phrase(line, phrase)
+        new = new and line.text[start : phrase.start] + new
+        items.append(Item(start, phrase.end, text, new, False, phrase.kind, state_of(phrase)))
         taken.update(part.index for part in phrase.parts.values())
     for index, found in enumerate(expressions):
         if index not in taken:
@@ -717,3 +723,9 @@ def text_to_figures(text: str) -> str:
     line, expressions = Line(text), numbers.find_quantities(text)
     items = items_of(line, expressions)
     return numbers.put_in_chains(line, items, [it.new for it in items])
+
+
+def described(text: str) -> List[Tuple[int, int, str, str]]:
+    """The items of a text: their places, kinds and states."""
+    line, expressions = Line(text), numbers.find_quantities(text)
+    return [(it.start, it.end, it.kind, it.state) for it in items_of(line, expressions)]

@@ -78,26 +78,6 @@ _DoubtWord = Literal[
     "range",
 ]
 
-_PhraseKindWord = Literal[
-    "expression",
-    "date",
-    "years",
-    "months",
-    "days",
-    "time",
-    "duration",
-    "half",
-    "length",
-    "score",
-    "range",
-]
-
-_PhraseStateWord = Literal[
-    "certain",
-    "doubtful",
-    "refused",
-]
-
 _InputWord = Literal[
     "amount",
     "signed_amount",
