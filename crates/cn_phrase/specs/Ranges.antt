@@ -156,13 +156,19 @@ units_of (c ∷ text) = if list_all is_great (c ∷ text) then c ∷ text else u
 abbrev pub before_units : List ℕ → List ℕ
 before_units text = characters_before text (units_of text)
 
--- the units at the end of the second text count for the first too: that has none, and is less than
--- what is before them
+-- a quantity is there, and is above 0
+abbrev pub is_positive : Option Quantity → Bool
+is_positive (Some q) = int_lt (pos 0) q.numerator
+is_positive None = false
+
+-- the units at the end of the second text count for the first too: that has none, is above 0, and is
+-- less than what is before them
 abbrev pub counts_for_both : List ℕ → List ℕ → Bool
 counts_for_both low high =
     is_short high && (not (list_any is_great (chars low))
+    && (is_positive (result_ok (quantity_answer TenThousand low))
     && are_less (result_ok (quantity_answer TenThousand low))
-    (result_ok (quantity_answer TenThousand (encode_utf8_all (before_units (chars high))))))
+    (result_ok (quantity_answer TenThousand (encode_utf8_all (before_units (chars high)))))))
 
 abbrev pub shared_units : List ℕ → List ℕ → List ℕ
 shared_units low high =

@@ -6,7 +6,7 @@ ghost use Rattle.cn_find.specs.Spans.{in_front, span_of};
 ghost use Rattle.cn_quantity.specs.Reading.{quantity_answer};
 ghost use Rattle.cn_replace.specs.KeptNumbers.{and_text};
 ghost use Rattle.cn_replace.specs.Private.{PutsText};
-ghost use Rattle.cn_phrase.specs.Ranges.{are_less, are_plain, before_units, begins_sign, begins_zero, counts_for_both, end_text, ends_of, ends_sign, goes_on, have_both_figures, is_as_soon, is_end, is_less, is_link, is_linked, is_number, high_text, is_percent, is_percent_alone, is_range, is_short, is_word, low_text, more_of_high, more_of_low, product, quantity_with, range_of, range_text, shared_units, units_of};
+ghost use Rattle.cn_phrase.specs.Ranges.{are_less, are_plain, before_units, begins_sign, begins_zero, counts_for_both, end_text, ends_of, ends_sign, goes_on, have_both_figures, is_as_soon, is_end, is_less, is_link, is_linked, is_number, high_text, is_percent, is_percent_alone, is_positive, is_range, is_short, is_word, low_text, more_of_high, more_of_low, product, quantity_with, range_of, range_text, shared_units, units_of};
 ghost use Rattle.cn_phrase.specs.Suffix.{EndsWith};
 
 use crate::word::is_one_of;
@@ -230,12 +230,23 @@ fn before_units(text: &str) -> &str
     before_rest(text, units_of(text))
 }
 
+// Whether a quantity is there, and is above 0.
+fn is_positive(quantity: Option<Quantity>) -> bool
+    ensures { result ≡ is_positive quantity }
+{
+    match quantity {
+        Some(quantity) => quantity.numerator > 0,
+        None => false,
+    }
+}
+
 // Whether the units at the end of the second text count for the first too.
 fn counts_for_both(low: &str, high: &str) -> bool
     ensures { result ≡ counts_for_both low.now high.now }
 {
     is_short(high)
         && !any(UnitFrom { least: Unit::Bai }, low)
+        && is_positive(quantity_of(low))
         && are_less(quantity_of(low), quantity_of(before_units(high)))
 }
 
