@@ -133,7 +133,7 @@ def is_year_before_month(text: str) -> bool:
     """Y before 月 is more: figures that do not begin with 0, or a numeral by units."""
     if are_figures(text, 1, 4):
         return ascii_of(text[0]) != "0"
-    return not are_digits(text) and is_up_to(numeral_value(text), 9999)
+    return numbers.is_numeral(text) and is_up_to(numeral_value(text), 9999)
 
 
 def is_of_letter(text: Text, slot: Slot) -> bool:
@@ -141,8 +141,8 @@ def is_of_letter(text: Text, slot: Slot) -> bool:
     if slot.letter in "Yy":
         if is_year(slot.text) or (slot.letter == "y" and is_year_before_month(slot.text)):
             return True
-        is_about = numbers.is_about(text.line, slot.start, slot.end)
-        return len(slot.text) == 2 and are_digits(slot.text) and not is_about
+        is_pair = len(slot.text) == 2 and are_digits(slot.text)
+        return is_pair and not numbers.is_about(text.line, slot.start, slot.end)
     return bool(slot.text) and SHAPES[slot.letter](slot.text)
 
 
