@@ -209,9 +209,8 @@ def time_forms() -> Iterator[Form]:
             yield form("time", "H", DIAN, "Z", half_day=True)
         yield form("time", "H", DIAN, "半", half_day=half_day)
         yield form("time", "H", DIAN, "Q", "刻", half_day=half_day)
-        for colon in COLON.split(" "):
-            yield form("time", "H", colon, "X", colon, "X", half_day=half_day)
-            yield form("time", "H", colon, "X", half_day=half_day)
+        yield form("time", "H", COLON, "X", COLON, "X", half_day=half_day)
+        yield form("time", "H", COLON, "X", half_day=half_day)
         yield form("time", "H", DIAN, half_day=half_day, is_linked=not half_day)
 
 
