@@ -6,11 +6,11 @@ phrase is looked for at each character of a text from the left, outside of what 
 form is a list of steps: slots, with the letters of RULES, and words. The model of expressions is
 text.py.
 
-Where RULES leaves two readings, these are taken: a slot has figures or numerals and not both, begins
-where it is looked for even after a figure, and is a whole number, so not misread; MM and SS are two
-figures, and other letters beside colons and bars figures or numerals as anywhere; a colon may be full-width; a
-digit that a score begins with is 0 only if another follows; a year of two digits is itself and not one
-of a century; what ends a range is no slot before a letter, so measures may follow it; and units that
+Where RULES leaves two readings, these are taken: a slot has figures or numerals and not both, may
+begin after a figure, and is a whole number, so not misread; MM and SS are two figures, and other
+letters beside colons and bars figures or numerals as anywhere; a colon may be full-width; a number
+of a score begins with 0 only if another figure follows; a year of two digits is itself and not one of
+a century; the end of a range is no slot before a letter, so measures may follow it; and units that
 are too large for 128 bits refuse a range.
 """
 
