@@ -1,671 +1,587 @@
-"""A model of phrases in a text: dates, times of day, durations, ranges, scores, halves and lengths.
+"""A reference model of phrases in a text: dates, times of day, durations, halves, lengths, scores and
+ranges.
 
-A phrase is a row of a table: expressions of the text in slots, with fixed words before, between and
-after them. The model of expressions is text.py.
+It was written from the section 'Phrases in a text' of docs/RULES.md by somebody who saw no code. A
+phrase is looked for at each character of a text from the left, outside of what is found already. A
+form is a list of steps: slots, with the letters of RULES, and words. The model of expressions is
+text.py.
+
+Where RULES leaves two readings, these are taken: a slot has figures or numerals and not both, may
+begin after a figure, and is a whole number, so not misread; MM and SS are two figures, and other
+letters beside colons and bars figures or numerals as anywhere; a colon may be full-width; a number
+of a score begins with 0 only if another figure follows; a year of two digits is itself and not one of
+a century; the end of a range is no slot before a letter, so measures may follow it; and units that
+are too large for 128 bits refuse a range.
 """
 
 import re
 from fractions import Fraction
-from typing import Callable, List, NamedTuple, Optional, Tuple
+from itertools import takewhile
+from typing import Callable, Dict, Iterator, List, NamedTuple, Optional, Tuple, Union
 
 import text as numbers
-from text import FIGURES, Found, Line, has_figure, is_chinese_digit, is_figure, is_han, is_letter
+from text import LINKS, Found, Line, has_figure, is_chinese_digit, is_figure, is_letter
 
-LINKS = numbers.LINKS
-DAYS = (31, 28, 31, 30, 31, 30, 31, 31, 30, 31, 30, 31)
-HALF_DAY = re.compile("(?:凌晨|清晨|早晨|[上中下正]午|傍晚|[今明昨当當][晚早]|[深半午]夜|[早晚]上|[夜晚][里裡间間]|午[后後]|早|晚) ?$")
-WEEKDAY = re.compile("(?:周|週|星期|[礼禮]拜)$")
-
-
-class Part(NamedTuple):
-    """An expression, or what is left of one after the digit of a weekday."""
-
-    start: int
-    end: int
-    text: str
-    found: Found
-    index: int
+SLOT_CHARS = frozenset("零〇一二两兩三四五六七八九十百")
+DAYS_OF_MONTHS = (31, 28, 31, 30, 31, 30, 31, 31, 30, 31, 30, 31)
 
 
 class Slot(NamedTuple):
-    words: Tuple[str, ...]  # the words between the slot before and this one
-    role: str
-    shape: Callable[[Part], bool]
+    """A letter of a form, with its place in the text."""
+
+    letter: str
+    start: int
+    end: int
+    text: str
 
 
-class Row(NamedTuple):
-    kind: str
-    slots: List[Slot]
-    tails: Tuple[str, ...] = ("",)
-    lead: str = ""  # "half day": a word of half a day is before the first slot
-    weak: bool = False
-    not_before: str = ""
+class Text(NamedTuple):
+    """A text with its expressions."""
+
+    line: Line
+    by_start: Dict[int, Found]
+    inside: frozenset  # the places at which an expression goes on
+
+    def at(self, i: int) -> str:
+        return self.line.at(i)
 
 
 class Phrase(NamedTuple):
     kind: str
     start: int
     end: int
-    parts: dict  # by role
-    words: List[str]  # the lead, the words between the slots, and the tail
-    weak: bool
-    value: object = None  # None: refused
-    doubt: Optional[str] = None
+    slots: List[Slot]
+    words: str  # the words of the form, and of the half of a day, without blanks
+    is_refused: bool = False
+    is_doubtful: bool = False
 
 
-# ---- Shapes ----------------------------------------------------------------------------------
+# ---- The letters of the forms ----------------------------------------------------------------
 
 
-def ascii_of(text):
-    return "".join(FIGURES.get(c, c) for c in text)
+def ascii_of(text: str) -> str:
+    return "".join(numbers.FIGURES.get(c, c) for c in text)
 
 
-def figures_like(pattern):
-    return lambda part: re.fullmatch(pattern, ascii_of(part.text)) is not None
+def are_figures(text: str, least: int, most: int) -> bool:
+    return least <= len(text) <= most and all(is_figure(c) for c in text)
 
 
-def are_digits(text):
+def are_digits(text: str) -> bool:
+    """Chinese digits alone."""
     return all(is_chinese_digit(c) for c in text)
 
 
-def whole_of(part) -> Optional[int]:
-    """The whole number of a part, without a sign."""
-    answer = numbers.quantity(part.text)
-    if answer is None or answer.denominator != 1 or numbers.signed(part.text)[0]:
-        return None
-    return answer.numerator
+def numeral_value(text: str) -> Optional[int]:
+    """The whole number of a numeral without figures."""
+    return None if has_figure(text) else numbers.whole_number(text)
 
 
-def is_count(part):
-    """One or two figures, or a numeral of tens and ones."""
-    if figures_like("[0-9]{1,2}")(part):
+def is_up_to(value: Optional[int], most: int) -> bool:
+    return value is not None and value <= most
+
+
+def is_count(text: str) -> bool:
+    """One or two figures, or a numeral up to 99 without two digits side by side."""
+    if are_figures(text, 1, 2):
         return True
-    text = part.text
-    if has_figure(text) or whole_of(part) is None or whole_of(part) > 99:
+    has_pair = any(is_chinese_digit(a) and is_chinese_digit(b) for a, b in zip(text, text[1:]))
+    return not has_pair and is_up_to(numeral_value(text), 99)
+
+
+def is_zero_and_digit(text: str) -> bool:
+    """Z: 零 or 〇 and a digit."""
+    return len(text) == 2 and text[0] in "零〇" and is_chinese_digit(text[1])
+
+
+def is_clock(text: str) -> bool:
+    """H, M and S in a time."""
+    return is_count(text) or is_zero_and_digit(text)
+
+
+def is_bare_minute(text: str) -> bool:
+    """B."""
+    return len(text) > 1 and is_count(text)
+
+
+def is_two_figures(text: str) -> bool:
+    return are_figures(text, 2, 2)
+
+
+def is_one_digit(text: str) -> bool:
+    """Q: a digit."""
+    return are_figures(text, 1, 1) or (len(text) == 1 and are_digits(text))
+
+
+def is_decimals(text: str) -> bool:
+    """F: one or two digits of one kind."""
+    return are_figures(text, 1, 2) or (1 <= len(text) <= 2 and are_digits(text))
+
+
+def is_number(text: str) -> bool:
+    """N: a whole number up to 999, as a count, three figures, or a numeral with 百."""
+    if is_count(text) or are_figures(text, 3, 3):
+        return True
+    return "百" in text and is_up_to(numeral_value(text), 999)
+
+
+def is_year(text: str) -> bool:
+    """Y of four: figures or Chinese digits, the first 1 or 2."""
+    if len(text) != 4 or numbers.digit_of(ascii_of(text[0])) not in (1, 2):
         return False
-    return len(text) == 1 or not are_digits(text)
+    return are_figures(text, 4, 4) or are_digits(text)
 
 
-def is_clock(part):
-    """A count, or 零 and a digit."""
-    return is_count(part) or is_zero_digit(part)
+def is_year_before_month(text: str) -> bool:
+    """Y before 月 is more: figures that do not begin with 0, or a numeral by units."""
+    if are_figures(text, 1, 4):
+        return ascii_of(text[0]) != "0"
+    return numbers.is_numeral(text) and is_up_to(numeral_value(text), 9999)
 
 
-def is_zero_digit(part):
-    return len(part.text) == 2 and part.text[0] in "零〇" and are_digits(part.text)
+def is_of_letter(text: Text, slot: Slot) -> bool:
+    """A slot has the shape of its letter."""
+    if slot.letter in "Yy":
+        if is_year(slot.text) or (slot.letter == "y" and is_year_before_month(slot.text)):
+            return True
+        is_pair = len(slot.text) == 2 and are_digits(slot.text)
+        return is_pair and not numbers.is_about(text.line, slot.start, slot.end)
+    return bool(slot.text) and SHAPES[slot.letter](slot.text)
 
 
-def is_bare_minute(part):
-    if figures_like("[0-5][0-9]")(part) or is_zero_digit(part):
-        return True
-    return is_count(part) and not has_figure(part.text) and len(part.text) > 1
+# The letters of RULES; y is Y before 月, m, d and s are M, D and S in times, X is MM and SS.
+SHAPES: Dict[str, Callable[[str], bool]] = dict(
+    M=is_count,
+    D=is_count,
+    S=is_count,
+    m=is_clock,
+    s=is_clock,
+    H=is_clock,
+    B=is_bare_minute,
+    Z=is_zero_and_digit,
+    Q=is_one_digit,
+    X=is_two_figures,
+    N=is_number,
+    F=is_decimals,
+)
+
+# ---- The table of forms ----------------------------------------------------------------------
+
+RI, DIAN, GE, LINK = "日 号 號", "点 點", "个 個", " ".join(LINKS)
+AFTER_HALF = "半小时 半小時 半钟头 半鐘頭 半月 半星期 半礼拜 半禮拜 半世纪 半世紀"
+BEFORE_HALF = "年 天 周 週 岁 歲 斤 里 吨 噸 倍 米 度"
+HOURS, COLON = "小时 小時", ": ："
+
+Step = Union[str, Tuple[str, ...]]  # a letter, or words
 
 
-def is_year(part):
-    """Four figures or Chinese digits, the first of them 1 or 2."""
-    if figures_like("[12][0-9]{3}")(part):
-        return True
-    return len(part.text) == 4 and are_digits(part.text) and part.text[0] in "一二"
+class Form(NamedTuple):
+    kind: str
+    steps: List[Step]
+    is_linked: bool = False
+    has_half_day: bool = False
 
 
-def is_short_year(part):
-    """Two Chinese digits that are not approximate."""
-    return len(part.text) == 2 and are_digits(part.text) and not part.found.is_about
+def form(kind: str, *steps: str, is_linked: bool = False, half_day: bool = False) -> Form:
+    """A form: steps of one letter are slots, others are words, with blanks between choices."""
+    parts = [it if it in SHAPES or it in "Yy" else tuple(it.split(" ")) for it in steps]
+    return Form(kind, parts, is_linked, half_day)
 
 
-def is_alone_year(part):
-    return is_year(part) or is_short_year(part)
-
-
-def is_era_year(part):
-    """Any year before a month."""
-    if is_alone_year(part) or figures_like("[1-9][0-9]{0,3}")(part):
-        return True
-    return whole_of(part) is not None and 1 <= whole_of(part) <= 9999 and not are_digits(part.text)
-
-
-def is_number(part):
-    answer = numbers.quantity(part.text)
-    return answer is not None and answer.form in ("whole", "decimal")
-
-
-def is_whole(part):
-    return whole_of(part) is not None
-
-
-def is_any(part):
-    return numbers.quantity(part.text) is not None
-
-
-def is_decimals(part):
-    """One or two digits after the metre."""
-    return figures_like("[0-9]{1,2}")(part) or (len(part.text) <= 2 and are_digits(part.text))
-
-
-def is_digit(part):
-    return len(part.text) == 1 and (is_figure(part.text) or is_chinese_digit(part.text))
-
-
-HOUR_AND_MINUTE = re.compile("([^点點]{1,3})[点點]([零〇][一二三四五六七八九]|[二三四五]?十[一二三四五六七八九]?)")
-
-
-def is_hour_and_minute(part):
-    """An hour, 点 and 零 with a digit, which a reader of quantities takes for a decimal."""
-    if part.found.doubt != "time":
-        return False
-    return HOUR_AND_MINUTE.fullmatch(part.text) is not None
-
-
-# ---- The table -------------------------------------------------------------------------------
-
-NIAN, YUE, RI = ("年",), ("月",), ("日", "号", "號")
-DIAN, SHI = ("点", "點"), ("点", "點", "时", "時")
-HOURS = tuple(a + b for a in ("", "个", "個") for b in ("小时", "小時", "钟头", "鐘頭"))
-MINUTES = ("分", "分钟", "分鐘")
-COLON = (":", "：")
-AFTER_HALF = ("小时", "小時", "钟头", "鐘頭", "月", "星期", "礼拜", "禮拜", "世纪", "世紀")
-BEFORE_HALF = "年天周週岁歲斤里吨噸倍米度"
-
-
-def rows():
-    def slots(*triples):
-        return [Slot(*triple) for triple in triples]
-
-    first = ()
-    yield Row(
-        "date",
-        slots((first, "year", is_era_year), (NIAN, "month", is_count), (YUE, "day", is_count)),
-        RI,
-    )
-    yield Row(
-        "date", slots((first, "year", is_era_year), (NIAN, "month", is_count)), YUE, not_before="初"
-    )
-    yield Row("date", slots((first, "month", is_count), (YUE, "day", is_count)), RI)
-    yield Row("date", slots((first, "year", is_alone_year)), NIAN)
+def date_forms() -> Iterator[Form]:
+    yield form("date", "y", "年", "M", "月", "D", RI)
+    yield form("date", "y", "年", "M", "月")
+    yield form("date", "M", "月", "D", RI)
+    yield form("date", "Y", "年")
     for bar in "-/":
-        yield Row(
-            "date",
-            slots(
-                (first, "year", is_year),
-                ((bar,), "month", figures_like("[0-9]{1,2}")),
-                ((bar,), "day", figures_like("[0-9]{1,2}")),
-            ),
-            not_before="-/.:0123456789",
-        )
-    years = slots((first, "from", is_year), (tuple(LINKS), "to", is_year))
-    yield Row("years", years, NIAN)
-    for words in (YUE, RI):
-        both = tuple(a + b for a in words for b in LINKS)
-        yield Row(
-            "dates", slots((first, "from", is_count), (both + tuple(LINKS), "to", is_count)), words
-        )
-    yield Row("date", slots((first, "month", is_count)), YUE, weak=True)
-    yield Row("date", slots((first, "day", is_count)), RI, weak=True)
-    for lead in ("half day", ""):
-        yield Row(
-            "time",
-            slots(
-                (first, "hour", is_clock), (SHI, "minute", is_clock), (("分",), "second", is_clock)
-            ),
-            ("秒",),
-            lead,
-        )
-        yield Row(
-            "time",
-            slots((first, "hour", is_clock), (SHI, "minute", is_clock)),
-            ("分",),
-            lead,
-            not_before="之钟鐘",
-        )
-        yield Row(
-            "time",
-            slots((first, "hour", is_clock), (DIAN, "minute", is_bare_minute)),
-            ("",),
-            lead,
-            not_before="分",
-        )
-        yield Row("time", slots((first, "hour", is_clock)), tuple(it + "半" for it in DIAN), lead)
-        yield Row(
-            "time", slots((first, "hour", is_clock), (DIAN, "quarter", is_digit)), ("刻",), lead
-        )
-        yield Row("time", slots((first, "both", is_hour_and_minute)), ("",), lead)
-        for colon in COLON:
-            minute, second = ((colon,), "minute", figures_like("[0-9]{2}")), (
-                (colon,),
-                "second",
-                figures_like("[0-9]{2}"),
-            )
-            hour = (first, "hour", figures_like("[0-9]{1,2}"))
-            yield Row("time", slots(hour, minute, second), ("",), lead, not_before=":：.0123456789")
-            yield Row("time", slots(hour, minute), ("",), lead, not_before=":：.0123456789")
-    yield Row("time", slots((first, "hour", is_clock)), SHI, "half day")
-    yield Row("time", slots((first, "hour", is_clock)), SHI, weak=True)
-    yield Row(
-        "duration",
-        slots(
-            (first, "hours", is_whole), (HOURS, "minutes", is_count), (MINUTES, "seconds", is_count)
-        ),
-        ("秒", "秒钟", "秒鐘"),
-    )
-    yield Row("duration", slots((first, "hours", is_whole), (HOURS, "minutes", is_count)), MINUTES)
-    yield Row(
-        "duration",
-        slots((first, "minutes", is_whole), (MINUTES, "seconds", is_count)),
-        ("秒", "秒钟", "秒鐘"),
-    )
-    halves = tuple(ge + "半" + word for ge in "个個" for word in AFTER_HALF)
-    yield Row("half", slots((first, "number", is_whole)), halves)
-    yield Row(
-        "half",
-        slots((first, "number", is_whole)),
-        tuple(it + "半" for it in BEFORE_HALF),
-        not_before="载載夜天年",
-    )
+        yield form("date", "Y", bar, "M", bar, "D")
+    yield form("date", "M", "月", is_linked=True)
+    yield form("date", "D", RI, is_linked=True)
+    yield form("years", "Y", LINK, "Y", "年")
+    for letter, words in (("M", "月"), ("D", RI)):
+        yield form("dates", letter, words, LINK, letter, words)
+        yield form("dates", letter, LINK, letter, words)
+
+
+def time_forms() -> Iterator[Form]:
+    for half_day in (True, False):
+        yield form("time", "H", DIAN, "m", "分", "s", "秒", half_day=half_day)
+        yield form("time", "H", DIAN, "m", "分", half_day=half_day)
+        yield form("time", "H", DIAN, "B", half_day=half_day)
+        if half_day:
+            yield form("time", "H", DIAN, "Z", half_day=True)
+        yield form("time", "H", DIAN, "半", half_day=half_day)
+        yield form("time", "H", DIAN, "Q", "刻", half_day=half_day)
+        yield form("time", "H", COLON, "X", COLON, "X", half_day=half_day)
+        yield form("time", "H", COLON, "X", half_day=half_day)
+        yield form("time", "H", DIAN, half_day=half_day, is_linked=not half_day)
+
+
+def other_forms() -> Iterator[Form]:
+    yield form("duration", "N", HOURS, "M", "分", "S", "秒")
+    yield form("duration", "N", HOURS, "M", "分")
+    yield form("duration", "N", "分", "S", "秒")
+    yield form("half", "N", GE, AFTER_HALF)
+    yield form("half", "N", BEFORE_HALF, "半")
     for unit in "米度秒":
-        yield Row(
-            "length",
-            slots((first, "number", is_whole), ((unit,), "rest", is_decimals)),
-            not_before="年月日点點人个個分秒米度",
-        )
-    yield Row("score", slots((first, "left", is_whole), (("比",), "right", is_whole)))
-    for colon in COLON:
-        yield Row(
-            "score",
-            slots((first, "left", is_whole), ((colon,), "right", is_whole)),
-            not_before=":：.0123456789",
-        )
-    yield Row("range", slots((first, "low", is_any), (tuple(LINKS), "high", is_any)))
+        yield form("length", "N", unit, "F")
+    yield form("score", "N", "比", "N")
+    yield form("score", "N", COLON, "N")
 
 
-ROWS = list(rows())
+FORMS = [*date_forms(), *time_forms(), *other_forms()]
+
+# ---- Words of half a day, and weekdays -------------------------------------------------------
+
+HALF_DAY = re.compile("[凌清早]晨|[上中下正]午|傍晚|[今明昨当當][晚早]|[深半午]夜|[早晚]上|[夜晚][里裡间間]|午[后後]|[早晚]")
+WEEKDAY = re.compile("(?:[周週]|星期|[礼禮]拜)[一二三四五六1-6１-６]")
 
 
-# ---- Finding ---------------------------------------------------------------------------------
+def ends_of_half_day(text: Text, start: int) -> Iterator[int]:
+    """The ends of W at a place."""
+    for words in (HALF_DAY, WEEKDAY):
+        found = words.match(text.line.text, start)
+        if found:
+            yield found.end()
 
 
-def parts_of(line: Line, expressions: List[Found]) -> List[Part]:
-    parts = []
-    for index, found in enumerate(expressions):
-        start = found.start
-        if is_weekday_and_hour(line, found):
-            start += 1
-        parts.append(Part(start, found.end, line.text[start : found.end], found, index))
-    return parts
+# ---- A form at a place -----------------------------------------------------------------------
 
 
-def is_weekday_and_hour(line: Line, found: Found) -> bool:
-    """The first digit is that of a weekday, and an hour follows: 周五九点."""
-    if (
-        len(found.text) < 2
-        or found.text[0] not in "一二三四五六"
-        or not WEEKDAY.search(line.text[: found.start])
-    ):
+def places_after(text: Text, end: int, is_first: bool) -> Iterator[int]:
+    """Where the next step may begin: one blank may be beside a figure."""
+    yield end
+    beside = is_figure(text.at(end - 1)) or is_figure(text.at(end + 1))
+    if not is_first and text.at(end) == " " and beside:
+        yield end + 1
+
+
+def slot_at(text: Text, letter: str, start: int) -> Slot:
+    """The longest stretch of the characters of slots."""
+    rest = text.line.text[start:]
+    stretch = "".join(takewhile(lambda c: is_figure(c) or c in SLOT_CHARS, rest))
+    return Slot(letter, start, start + len(stretch), stretch)
+
+
+def fits(
+    text: Text, steps: List[Step], end: int, is_first: bool
+) -> Iterator[Tuple[int, List[Slot], str]]:
+    """The ends of some steps from a place on, with their slots and words."""
+    if not steps:
+        yield end, [], ""
+        return
+    for start in places_after(text, end, is_first):
+        if isinstance(steps[0], str):
+            slot = slot_at(text, steps[0], start)
+            if is_of_letter(text, slot):
+                for last, slots, words in fits(text, steps[1:], slot.end, False):
+                    yield last, [slot] + slots, words
+            continue
+        for word in steps[0]:
+            if text.line.text.startswith(word, start):
+                for last, slots, words in fits(text, steps[1:], start + len(word), False):
+                    yield last, slots, word + words
+
+
+def phrases_of_form(text: Text, it: Form, start: int) -> Iterator[Phrase]:
+    """The phrases of a form that begin at a place."""
+    if it.has_half_day:
+        for end in ends_of_half_day(text, start):
+            word = text.line.text[start:end]
+            for last, slots, words in fits(text, it.steps, end, False):
+                is_early = word in ("早", "晚") and slots[0].text == "一" and words[0] in "点點"
+                if not is_early:
+                    yield Phrase(it.kind, start, last, slots, word + words)
+    elif start in text.by_start:
+        for last, slots, words in fits(text, it.steps, start, True):
+            yield Phrase(it.kind, start, last, slots, words)
+
+
+# ---- What is no phrase -----------------------------------------------------------------------
+
+
+def is_letter_or_bar(c: str) -> bool:
+    return is_letter(c) or c == "_"
+
+
+def ends_with_slot(phrase: Phrase) -> bool:
+    return phrase.slots[-1].end == phrase.end
+
+
+def is_no_date(text: Text, phrase: Phrase) -> bool:
+    before, after = text.at(phrase.start - 1), text.at(phrase.end)
+    if phrase.words in ("--", "//"):
+        return before in "-/." or after in "-/.:"
+    if phrase.words == "年":
+        return before in "第周週每"
+    return phrase.words == "年月" and after == "初"
+
+
+def is_no_clock(text: Text, phrase: Phrase) -> bool:
+    """A time with colons."""
+    if not re.search("[:：]", phrase.words):
         return False
-    return line.at(found.end) in "点點时時" or found.doubt == "time"
+    return text.at(phrase.start - 1) in ":：/.-" or text.at(phrase.end) in ":：."
 
 
-def longest(words, text, at, skips):
-    """The longest of some words that is there, after one blank if a figure is before it."""
-    best = None
-    for skip in (0, 1) if skips else (0,):
-        if skip and text[at : at + 1] != " ":
-            continue
-        for word in words:
-            end = at + skip + len(word)
-            if text.startswith(word, at + skip) and not (skip and not word):
-                if best is None or end > best[1]:
-                    best = word, end
-    return best
+def is_no_half(text: Text, phrase: Phrase) -> bool:
+    return phrase.words in ("年半", "天半") and text.at(phrase.end) in "载載夜天年"
 
 
-def fits(line: Line, parts: List[Part], i: int, row: Row, taken: int) -> Optional[Phrase]:
-    text, start, words = line.text, parts[i].start, [""]
-    if row.lead:
-        lead = HALF_DAY.search(text[taken:start])
-        if lead is None:
-            return None
-        start -= len(lead.group())
-        words = [lead.group().rstrip()]
-        if words[0] in ("早", "晚") and parts[i].text == "一":
-            return None
-    used, roles, end = [], {}, 0
-    for k, slot in enumerate(row.slots):
-        if i + k >= len(parts):
-            return None
-        part = parts[i + k]
-        if k:
-            gap = text[end : part.start]
-            if is_figure(text[end - 1]) and gap.startswith(" "):
-                gap = gap[1:]
-            if is_figure(part.text[0]) and gap.endswith(" "):
-                gap = gap[:-1]
-            if gap not in slot.words:
-                return None
-            words.append(gap)
-        if not slot.shape(part):
-            return None
-        roles[slot.role] = part
-        end = part.end
-    tail = longest(row.tails, text, end, is_figure(text[end - 1]))
-    if tail is None or text[tail[1] : tail[1] + 1] in tuple(row.not_before):
-        return None
-    return Phrase(row.kind, start, tail[1], roles, words + [tail[0]], row.weak)
+def is_no_length(text: Text, phrase: Phrase) -> bool:
+    return text.at(phrase.end) in "年月日点點人个個分秒米度"
 
 
-def phrases(line: Line, expressions: List[Found]) -> List[Phrase]:
-    parts, found, i, taken = parts_of(line, expressions), [], 0, 0
-    while i < len(parts):
-        best = best_at(line, parts, i, taken)
-        if best is None:
-            taken, i = parts[i].end, i + 1
-        else:
-            found.append(best)
-            taken, i = best.end, i + len(best.parts)
-    return found
+def is_no_score(text: Text, phrase: Phrase) -> bool:
+    if phrase.words not in (":", "："):
+        return False
+    if text.at(phrase.start - 1) in ':：-/.[("%,，' or text.at(phrase.end) in "])-/%:：.":
+        return True
+    return any(
+        are_figures(it.text, 3, 3) or (len(it.text) > 1 and ascii_of(it.text)[0] == "0")
+        for it in phrase.slots
+    )
 
 
-def is_cut(part: Part) -> bool:
-    """A weekday is directly before it."""
-    return part.start != part.found.start
+NO_PHRASES: Dict[str, Callable[[Text, Phrase], bool]] = dict(
+    date=is_no_date, time=is_no_clock, half=is_no_half, length=is_no_length, score=is_no_score
+)
 
 
-def best_at(line, parts, i, taken):
-    best = None
-    for row in ROWS:
-        phrase = fits(line, parts, i, row, taken)
-        judged = phrase and judge(line, phrase)
-        if judged is None or (row.weak and not is_linked(line, parts, i, judged)):
-            continue
-        if best is None or (judged.end, -judged.start) > (best.end, -best.start):
-            best = judged
-    return best
-
-
-def is_linked(line, parts, i, phrase) -> bool:
-    """An hour, a month or a day by itself belongs to a date, or to another one by a link."""
-    before = line.text[: phrase.start]
+def is_linked(text: Text, phrase: Phrase) -> bool:
+    """A linked form is directly after a link, or, of an hour, has another hour beside it."""
+    before = text.line.text[: phrase.start]
     if phrase.kind == "date":
         return re.search(f"[月日号號][{LINKS}]$", before) is not None
-    if is_cut(parts[i]) or re.search(f"[日号號] ?$|[点點时時半分刻][{LINKS}]$", before):
+    if re.search(f"[点點时時半分刻][{LINKS}]$|[日号號]$", before):
         return True
-    if line.at(phrase.end) not in LINKS or i + 1 >= len(parts):
+    if text.at(phrase.end) not in LINKS:
         return False
-    between = line.text[phrase.end + 1 : parts[i + 1].start]
-    if between and not HALF_DAY.fullmatch(between):
+    starts = [phrase.end + 1, *ends_of_half_day(text, phrase.end + 1)]
+    hour: List[Step] = ["H", ("点", "點")]
+    return any(True for start in starts for _ in fits(text, hour, start, False))
+
+
+def is_phrase(text: Text, phrase: Phrase) -> bool:
+    if phrase.end in text.inside or is_letter_or_bar(text.at(phrase.start - 1)):
         return False
-    return is_clock(parts[i + 1]) and line.at(parts[i + 1].end) in SHI
+    if ends_with_slot(phrase) and is_letter_or_bar(text.at(phrase.end)):
+        return False
+    is_no = NO_PHRASES.get(phrase.kind)
+    return is_no is None or not is_no(text, phrase)
+
+
+def form_at(text: Text, start: int) -> Optional[Phrase]:
+    """The longest form at a place, of equal ones the first of the table."""
+    best: Optional[Phrase] = None
+    for it in FORMS:
+        for phrase in phrases_of_form(text, it, start):
+            if best is not None and phrase.end <= best.end:
+                continue
+            if is_phrase(text, phrase) and not (it.is_linked and not is_linked(text, phrase)):
+                best = phrase
+    return best and judged(text, best)
 
 
 # ---- Values ----------------------------------------------------------------------------------
 
-REFUSED = object()
+
+def value_of(slot: Slot) -> int:
+    """The number of a slot."""
+    value = numbers.figures_value(slot.text) if has_figure(slot.text) else None
+    return value if value is not None else numbers.whole_number(slot.text) or 0
 
 
-def judge(line: Line, phrase: Phrase) -> Optional[Phrase]:
-    """The phrase with its value; None if it is no phrase."""
-    if touches(line, phrase):
-        return None
-    value = JUDGES[phrase.kind](line, phrase)
-    if value is None:
-        return None
-    if value is REFUSED or any(part.found.is_about for part in phrase.parts.values()):
-        return phrase
-    doubt = DOUBTS.get(phrase.kind, lambda line, phrase: None)(line, phrase)
-    return phrase._replace(value=value, doubt=doubt)
+def is_leap(year: int) -> bool:
+    return year % 4 == 0 and (year % 100 != 0 or year % 400 == 0)
 
 
-def touches(line: Line, phrase: Phrase) -> bool:
-    """A letter or an underscore is beside it, and not a measure."""
-    before, after = line.at(phrase.start - 1), line.at(phrase.end)
-    end = phrase.end
-    while is_letter(line.at(end)):
-        end += 1
-    is_measure = line.text[phrase.end : end] in numbers.MEASURES and not line.is_figure(end)
-    return (
-        is_letter(before)
-        or before == "_"
-        or ((is_letter(after) or after == "_") and not is_measure)
-    )
-
-
-def wholes(phrase):
-    return {role: whole_of(part) for role, part in phrase.parts.items() if role != "both"}
-
-
-def days_of(year, month):
-    if month == 2 and (
-        year is None or year < 100 or (year % 4 == 0 and (year % 100 or year % 400 == 0))
-    ):
-        return 29
-    return DAYS[month - 1]
-
-
-def date_of(line, phrase):
-    value = wholes(phrase)
-    year, month, day = value.get("year"), value.get("month"), value.get("day")
-    before = line.at(phrase.start - 1)
-    if "-" in phrase.words or "/" in phrase.words:
-        if before in "-/.":
-            return None
-    elif before in "第周週每" and month is None:
-        return None
+def is_refused_date(phrase: Phrase) -> bool:
+    values = {it.letter.upper(): value_of(it) for it in phrase.slots}
+    year, month, day = values.get("Y"), values.get("M"), values.get("D")
     if month is not None and not 1 <= month <= 12:
-        return REFUSED
-    if day is not None and not 1 <= day <= (days_of(year, month) if month else 31):
-        return REFUSED
-    return year, month, day
+        return True
+    days = 31 if month is None else DAYS_OF_MONTHS[month - 1]
+    if month == 2 and (year is None or is_leap(year)):
+        days = 29
+    return day is not None and not 1 <= day <= days
 
 
-def years_of(line, phrase):
-    value = wholes(phrase)
-    return (value["from"], value["to"]) if value["from"] < value["to"] else REFUSED
+def is_refused_pair(phrase: Phrase) -> bool:
+    """Dates: two years, months or days."""
+    first, second = (value_of(it) for it in phrase.slots)
+    most = {"M": 12, "D": 31}.get(phrase.slots[0].letter)
+    return first >= second or (most is not None and not 1 <= first <= second <= most)
 
 
-def dates_of(line, phrase):
-    value, unit = wholes(phrase), phrase.words[-1]
-    if not 1 <= value["from"] < value["to"] <= (12 if unit == "月" else 31):
-        return REFUSED
-    return value["from"], value["to"]
-
-
-def time_of(line, phrase):
-    if "both" in phrase.parts:
-        hour, minute = re.split("[点點]", phrase.parts["both"].text)
-        hour = numbers.whole_number(hour)
-        minute = numbers.whole_number(minute.lstrip("零〇"))
-        value = {"hour": hour, "minute": minute}
-    else:
-        value = wholes(phrase)
-    hour, minute, second = value["hour"], value.get("minute", 0), value.get("second", 0)
-    if "半" in phrase.words[-1]:
+def is_refused_time(phrase: Phrase) -> bool:
+    hour, minute, second, *_ = [value_of(it) for it in phrase.slots] + [0, 0]
+    if phrase.words.endswith("刻"):
+        minute *= 15
+    if phrase.words.endswith("半"):
         minute = 30
-    if "quarter" in value:
-        minute = 15 * value["quarter"]
-    before = line.at(phrase.start - 1)
-    if phrase.words[1] in COLON and before in ":：/.-":
+    return minute > 59 or second > 59 or (hour, minute, second) > (24, 0, 0)
+
+
+def is_refused_duration(phrase: Phrase) -> bool:
+    return any(value_of(it) > 59 for it in phrase.slots[1:])
+
+
+REFUSALS: Dict[str, Callable[[Phrase], bool]] = dict(
+    date=is_refused_date,
+    years=is_refused_pair,
+    dates=is_refused_pair,
+    time=is_refused_time,
+    duration=is_refused_duration,
+)
+
+
+def is_doubtful(text: Text, phrase: Phrase) -> bool:
+    """A year that may be a number of years, or one of an era."""
+    if phrase.kind != "date" or phrase.slots[0].letter not in "Yy":
+        return False
+    year = phrase.slots[0].text
+    if phrase.words == "年" and has_figure(year) and ascii_of(year).endswith("00"):
+        return text.at(phrase.end) in "前来來历歷间間"
+    return re.search("[十百]", year) is not None
+
+
+def judged(text: Text, phrase: Phrase) -> Phrase:
+    is_refused = REFUSALS.get(phrase.kind, lambda phrase: False)(phrase)
+    return phrase._replace(is_refused=is_refused, is_doubtful=is_doubtful(text, phrase))
+
+
+# ---- Ranges ----------------------------------------------------------------------------------
+
+
+def ends_of_range(text: Text, start: int) -> Optional[Tuple[Found, str, Found]]:
+    """E link E: two expressions that are quantities."""
+    first = text.by_start.get(start)
+    if first is None or first.quantity is None:
         return None
-    if hour is None or minute is None or hour > 24 or minute > 59 or second > 59:
-        return REFUSED
-    if hour == 24 and (minute or second):
-        return REFUSED
-    return hour, minute, second, phrase.words[0]
-
-
-def duration_of(line, phrase):
-    value = wholes(phrase)
-    least = {"seconds": 59, "minutes": 59, "months": 11, "hours": 23}
-    smallest = list(value)[1:]
-    if any(value[role] > least[role] for role in smallest):
-        return REFUSED
-    return value
-
-
-def half_of(line, phrase):
-    return Fraction(wholes(phrase)["number"]) + Fraction(1, 2)
-
-
-def length_of(line, phrase):
-    rest = phrase.parts["rest"]
-    return Fraction(wholes(phrase)["number"]) + Fraction(
-        int(digits_text(rest.text)), 10 ** len(rest.text)
-    )
-
-
-def score_of(line, phrase):
-    value, before, after = wholes(phrase), line.at(phrase.start - 1), line.at(phrase.end)
-    if phrase.words[1] in COLON:
-        left, right = phrase.parts["left"].text, phrase.parts["right"].text
-        if before in ':：-/.[("%,，' or after in "])-/%":
-            return None
-        if not all(re.fullmatch("0|[1-9][0-9]?", ascii_of(it)) for it in (left, right)):
-            return None
-    return value["left"], value["right"]
-
-
-def fraction_of(part):
-    answer = numbers.quantity(part.text)
-    return Fraction(answer.numerator, answer.denominator)
-
-
-def units_at_end(text):
-    at = len(text)
-    while at and numbers.rank_of(text[at - 1]) >= 2:
-        at -= 1
-    return text[:at], text[at:]
-
-
-def shared_of(phrase) -> Optional[str]:
-    """What counts for both ends of a range: a percent sign, or the units at its end."""
-    low, high = phrase.parts["low"], phrase.parts["high"]
-    forms = [numbers.quantity(it.text).form for it in (low, high)]
-    if forms.count("percent") == 1:
-        return "%"
-    head, units = units_at_end(high.text)
-    if not units or not head or any(numbers.rank_of(c) >= 2 for c in low.text):
-        return None
-    answer = numbers.quantity(head)
-    if answer is None or not fraction_of(low) < Fraction(answer.numerator, answer.denominator):
-        return None
-    return units
-
-
-def range_of(line, phrase):
-    low, high, link = phrase.parts["low"], phrase.parts["high"], phrase.words[1]
-    before, after = line.at(phrase.start - 1), line.at(phrase.end)
-    in_words = link in "到至"
-    ends = [numbers.quantity(it.text) for it in (low, high)]
-    if any(it.form == "fraction" or it.numerator < 0 for it in ends):
-        return None
-    if numbers.clings(line, phrase.start, phrase.end):
-        return None
-    if low.found.is_about or high.found.is_about:
-        return None
-    if high.text[0] in "正+＋负負-−－" and not in_words:
-        return None
-    if not in_words:
-        if has_figure(low.text) != has_figure(high.text):
-            return None
-        if any(re.match("0[0-9]", ascii_of(it.text)) for it in (low, high)):
-            return None
-        if is_figure(before) or before in "-/.:：~=+^*×_$#@" or after in "-/~:：=+^*×_\\":
-            return None
-    elif low.text == "一" and after in "点點时時月日号號":
-        return None
-    x, y, shared = fraction_of(low), fraction_of(high), shared_of(phrase)
-    if shared == "%":
-        forms = [numbers.quantity(it.text).form for it in (low, high)]
-        x, y = (x, y / 100) if forms[0] == "percent" else (x / 100, y)
-    elif shared:
-        product = numbers.units_product(shared, numbers.TEN_THOUSAND)
-        if product is None:
-            return REFUSED
-        x *= product
-    if not x < y:
-        return REFUSED if in_words else None
-    return x, y
-
-
-JUDGES = {
-    "date": date_of,
-    "years": years_of,
-    "dates": dates_of,
-    "time": time_of,
-    "duration": duration_of,
-    "half": half_of,
-    "length": length_of,
-    "score": score_of,
-    "range": range_of,
-}
-
-
-def doubt_of_date(line, phrase):
-    """A year in figures that ends with 00 may be a number of years: 1000年前; one with 十 or 百 is of an
-    era."""
-    if "month" in phrase.parts and "year" in phrase.parts:
-        return "era" if re.search("[十百]", phrase.parts["year"].text) else None
-    if list(phrase.parts) == ["year"] and phrase.parts["year"].text.endswith("00"):
-        return "years" if line.at(phrase.end) in "前来來历歷间間" else None
+    for place in places_after(text, first.end, False):
+        if text.at(place) in LINKS:
+            for second_start in places_after(text, place + 1, False):
+                second = text.by_start.get(second_start)
+                if second is not None and second.quantity is not None:
+                    return first, text.at(place), second
     return None
 
 
-def doubt_of_range(line, phrase):
-    """A share of a price: 五到八折."""
-    return "part" if line.at(phrase.end) in "折成" else None
+def is_no_range(text: Text, first: Found, link: str, second: Found) -> bool:
+    before, after = text.at(first.start - 1), text.at(second.end)
+    for end in (first, second):
+        if end.is_about or end.quantity.form == numbers.FRACTION or end.quantity.numerator < 0:
+            return True
+    if is_letter_or_bar(before) or numbers.clings(text.line, first.start, second.end):
+        return True
+    if link in "到至":
+        return first.text == "一" and after in "点點时時月日号號"
+    if second.text[0] in numbers.PLUS or second.text[0] in numbers.MINUS:
+        return True
+    if has_figure(first.text) != has_figure(second.text):
+        return True
+    if any(re.match("0[0-9]", ascii_of(end.text)) for end in (first, second)):
+        return True
+    return is_figure(before) or before in "-/.:：~=+^*×_$#@" or after in "-/~:：=+^*×_\\"
 
 
-DOUBTS = {"date": doubt_of_date, "range": doubt_of_range}
+def units_at_end(text: str) -> str:
+    """The units from 百 up at the end of a text."""
+    units = takewhile(lambda c: numbers.rank_of(c) >= 2, reversed(text))
+    return "".join(units)[::-1]
+
+
+def ratio_of(quantity: numbers.Quantity) -> Fraction:
+    return Fraction(quantity.numerator, quantity.denominator)
+
+
+def shared_units(first: Found, second: Found) -> str:
+    """The units of the second end of a range that count for the first too."""
+    units = units_at_end(second.text)
+    head = numbers.quantity(second.text[: len(second.text) - len(units)])
+    if not units or head is None or units_at_end(first.text):
+        return ""
+    return units if 0 < ratio_of(first.quantity) < ratio_of(head) else ""
+
+
+def shares_percent(first: Found, second: Found) -> bool:
+    return (first.quantity.form == numbers.PERCENT) != (second.quantity.form == numbers.PERCENT)
+
+
+def percent_of(end: Found) -> Fraction:
+    ratio = ratio_of(end.quantity)
+    return ratio if end.quantity.form == numbers.PERCENT else ratio / 100
+
+
+def values_of_range(first: Found, second: Found) -> Optional[Tuple[Fraction, Fraction]]:
+    """The two numbers, or None where they are too large."""
+    if shares_percent(first, second):
+        return percent_of(first), percent_of(second)
+    units = shared_units(first, second)
+    product = numbers.units_product(units, numbers.TEN_THOUSAND)
+    if product is None:
+        return None
+    return ratio_of(first.quantity) * product, ratio_of(second.quantity)
+
+
+def range_at(text: Text, start: int) -> Optional[Phrase]:
+    ends = ends_of_range(text, start)
+    if ends is None or is_no_range(text, *ends):
+        return None
+    first, link, second = ends
+    values = values_of_range(first, second)
+    is_refused = values is None or values[0] >= values[1]
+    if is_refused and link not in "到至":
+        return None
+    slots = [Slot("E", it.start, it.end, it.text) for it in (first, second)]
+    is_part = text.at(second.end) in "折成"
+    return Phrase("range", first.start, second.end, slots, link, is_refused, is_part)
 
 
 # ---- In figures ------------------------------------------------------------------------------
 
 
-def digits_text(text):
-    return numbers.ascii_figures(text)
+def new_end(first: Found, second: Found, end: Found) -> Optional[str]:
+    """The new text of an end of a range, with what counts for it."""
+    if shares_percent(first, second):
+        new = numbers.kept_text(end.text)
+        return new if new is None or end.quantity.form == numbers.PERCENT else new + "%"
+    units = shared_units(first, second) if end == first else ""
+    return numbers.kept_text(end.text + units)
 
 
-def new_part(phrase: Phrase, role: str, part: Part) -> Optional[str]:
+def new_slot(text: Text, phrase: Phrase, slot: Slot) -> Optional[str]:
     """The new text of a slot."""
-    text = part.text
     if phrase.kind == "range":
-        return new_end(phrase, role, part)
-    if phrase.kind == "half" and len(text) == 1:
+        first, second = (text.by_start[it.start] for it in phrase.slots)
+        return new_end(first, second, text.by_start[slot.start])
+    if has_figure(slot.text) or slot.letter == "Q":
+        return slot.text
+    if are_digits(slot.text):
+        return numbers.ascii_figures(slot.text)
+    return numbers.kept_text(slot.text)
+
+
+def new_phrase(text: Text, phrase: Phrase) -> Optional[str]:
+    """The new text of a phrase, or None if it stays."""
+    if phrase.is_refused or phrase.is_doubtful:
         return None
-    if has_figure(text) or role == "quarter":
-        return text
-    if role == "both":
-        hour, minute = re.split("[点點]", text)
-        point = text[len(hour)]
-        new = digits_text(minute) if minute[0] in "零〇" else numbers.kept_text(minute)
-        return f"{numbers.kept_text(hour)}{point}{new}"
-    if are_digits(text):
-        return digits_text(text)
-    return numbers.kept_text(text)
+    if phrase.kind == "range" and all(has_figure(it.text) for it in phrase.slots):
+        return None
+    if phrase.kind == "half" and numbers.is_one_character(phrase.slots[0].text):
+        return None
+    pieces, end = [], phrase.start
+    for slot in phrase.slots:
+        new = new_slot(text, phrase, slot)
+        if new is None:
+            return None
+        pieces += [text.line.text[end : slot.start], new]
+        end = slot.end
+    return "".join(pieces) + text.line.text[end : phrase.end]
 
 
-def new_end(phrase: Phrase, role: str, part: Part) -> Optional[str]:
-    low, high = phrase.parts["low"], phrase.parts["high"]
-    if has_figure(low.text) and has_figure(high.text):
-        return part.text
-    shared, new = shared_of(phrase), numbers.kept_text(part.text)
-    if shared == "%":
-        return new if new.endswith("%") else new + "%"
-    if shared and role == "low":
-        great = "".join(c for c in shared if numbers.rank_of(c) >= 4)
-        value = fraction_of(low) * numbers.units_product(
-            shared[: len(shared) - len(great)], numbers.TEN_THOUSAND
-        )
-        return new_number(value) + great
-    return new
-
-
-def new_number(value: Fraction) -> str:
-    if value.denominator == 1:
-        return str(value.numerator)
-    digits = 0
-    while (value * 10**digits).denominator != 1:
-        digits += 1
-    scaled = int(value * 10**digits)
-    return f"{scaled // 10**digits}.{scaled % 10**digits:0{digits}d}"
+# ---- The items of a text ---------------------------------------------------------------------
 
 
 class Item(NamedTuple):
@@ -680,52 +596,55 @@ class Item(NamedTuple):
     state: str = "certain"
 
 
-def new_phrase(line: Line, phrase: Phrase) -> Optional[str]:
-    """The new text of a phrase."""
-    if phrase.value is None or phrase.doubt is not None:
-        return None
-    pieces, end = [], phrase.start
-    for role, part in phrase.parts.items():
-        new = new_part(phrase, role, part)
-        if new is None:
-            return None
-        pieces += [line.text[end : part.start], new]
-        end = part.end
-    return "".join(pieces) + line.text[end : phrase.end]
-
-
 def state_of(phrase: Phrase) -> str:
-    if phrase.value is None:
+    if phrase.is_refused:
         return "refused"
-    return "doubtful" if phrase.doubt else "certain"
+    return "doubtful" if phrase.is_doubtful else "certain"
 
 
-def items_of(line: Line, expressions: List[Found]) -> List[Item]:
-    """The phrases of a text, and its expressions that are in none."""
-    items, taken = [], set()
-    for phrase in phrases(line, expressions):
-        start = phrase.start
-        if is_cut(next(iter(phrase.parts.values()))):
-            start = WEEKDAY.search(line.text[: start - 1]).start()
-        text, new = line.text[start : phrase.end], new_phrase(line, phrase)
-        new = new and line.text[start : phrase.start] + new
-        items.append(Item(start, phrase.end, text, new, False, phrase.kind, state_of(phrase)))
-        taken.update(part.index for part in phrase.parts.values())
-    for index, found in enumerate(expressions):
-        if index not in taken:
-            new = numbers.new_text(line, found)
-            items.append(Item(found.start, found.end, found.text, new, found.is_one_character))
-    return sorted(items)
+def phrase_at(text: Text, start: int) -> Optional[Phrase]:
+    """The longest form at a place, or else a range."""
+    return form_at(text, start) or range_at(text, start)
+
+
+def item_at(text: Text, start: int) -> Optional[Item]:
+    phrase = phrase_at(text, start)
+    if phrase is not None:
+        written = text.line.text[start : phrase.end]
+        new = new_phrase(text, phrase)
+        return Item(start, phrase.end, written, new, False, phrase.kind, state_of(phrase))
+    found = text.by_start.get(start)
+    if found is None:
+        return None
+    new = numbers.new_text(text.line, found)
+    return Item(start, found.end, found.text, new, found.is_one_character)
+
+
+def text_of(string: str) -> Text:
+    found = numbers.find_quantities(string)
+    inside = frozenset(i for it in found for i in range(it.start + 1, it.end))
+    return Text(Line(string), {it.start: it for it in found}, inside)
+
+
+def items_of(text: Text) -> List[Item]:
+    """The items of a text, from the left."""
+    items: List[Item] = []
+    place = 0
+    while place < len(text.line.text):
+        item = item_at(text, place)
+        if item is not None:
+            items.append(item)
+        place = place + 1 if item is None else item.end
+    return items
 
 
 def text_to_figures(text: str) -> str:
     """Numerals and phrases in figures, in the kept style."""
-    line, expressions = Line(text), numbers.find_quantities(text)
-    items = items_of(line, expressions)
-    return numbers.put_in_chains(line, items, [it.new for it in items])
+    known = text_of(text)
+    items = items_of(known)
+    return numbers.put_in_chains(known.line, items, [it.new for it in items])
 
 
 def described(text: str) -> List[Tuple[int, int, str, str]]:
     """The items of a text: their places, kinds and states."""
-    line, expressions = Line(text), numbers.find_quantities(text)
-    return [(it.start, it.end, it.kind, it.state) for it in items_of(line, expressions)]
+    return [(it.start, it.end, it.kind, it.state) for it in items_of(text_of(text))]
