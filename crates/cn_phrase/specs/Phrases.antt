@@ -11,7 +11,7 @@ use Rattle.cn_phrase.specs.declared.phrase.Match.{Match}
 use Rattle.cn_phrase.specs.declared.piece.Numbers.{Numbers}
 use Rattle.cn_phrase.specs.declared.word.Word.TheVariants as word
 use Rattle.cn_phrase.specs.Forms.{pieces_of}
-use Rattle.cn_phrase.specs.Pieces.{pieces_read}
+use Rattle.cn_phrase.specs.Pieces.{is_numeral, pieces_read}
 use Rattle.cn_phrase.specs.Ranges.{is_link}
 use Rattle.cn_phrase.specs.Words.{after_word}
 
@@ -90,12 +90,14 @@ may_be_alone other front rest = true
 abbrev pub is_name : ℕ → Bool
 is_name c = is_ascii_alphabetic c || char_set_contains (codes "_") c
 
--- a form that was read is a phrase, given the characters before it
+-- a form that was read is a phrase, given the characters before it: no letter and no character of a
+-- number is directly before it, so that 两点半 is none in 3两点半
 abbrev pub is_bare_phrase : List ℕ → Form → List ℕ → Bool
 is_bare_phrase front form rest =
     not (begins is_name front)
+    && (not (begins is_numeral front)
     && (not (begins (λ c. char_set_contains (refused_before form) c) front)
-    && may_be_alone form front rest)
+    && may_be_alone form front rest))
 
 abbrev pub is_phrase_by : Lead → List ℕ → Form → List ℕ → Bool
 is_phrase_by Bare front form rest = is_bare_phrase front form rest

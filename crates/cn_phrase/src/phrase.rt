@@ -13,7 +13,7 @@ use crate::piece::{Numbers, Numeral, Progress, read_pieces, without_blank};
 use crate::range::is_link;
 use crate::word::{Word, is_one_of};
 use cn_core::split_first_char;
-use cn_replace::pieces::{Figure, begins, split_leading, split_nearest};
+use cn_replace::pieces::{Figure, begins, ends, split_leading, split_nearest};
 
 /// What is before the first number of a phrase.
 #[derive(Debug, Copy, Clone, PartialEq, Eq)]
@@ -172,6 +172,7 @@ fn is_phrase(before: &str, found: Match<'_>) -> bool
         return true;
     }
     !ends_with_name(before)
+        && !ends(Numeral, before)
         && !ends_with(refused_before(found.form), before)
         && may_be_alone(found.form, before, found.rest)
 }
