@@ -1,7 +1,9 @@
 -- Words that begin or end with a number but do not mean it.
-use Rattle.std.specs.Prelude.{ℕ, Bool, true, false, ◌&&◌, ◌||◌, ◌==◌, List, [], ◌∷◌, codes}
-use Rattle.std.specs.Char.{char_set_contains}
+use Rattle.std.specs.Prelude.{ℕ, ◌-◌, Bool, true, false, ◌&&◌, ◌||◌, ◌==◌, List, [], ◌∷◌, codes, if◌then◌else◌}
+use Rattle.std.specs.Char.{char_set_contains, is_ascii_alphabetic}
+use Rattle.cn_core.specs.FigureCharacters.{is_figure}
 use Rattle.cn_find.specs.Belongs.{begins_with, first_then}
+use Rattle.cn_find.specs.Expressions.{is_han}
 
 -- the text consists of exactly these characters
 abbrev pub is_exactly : List ℕ → List ℕ → Bool
@@ -94,6 +96,52 @@ ends_word front text =
 abbrev pub begins_word : List ℕ → List ℕ → Bool
 begins_word text after = is_named_group text after || (is_title text after || is_saying text after)
 
--- the number between these texts is part of a word
+-- a Chinese era ends the text: 康熙, 雍正, 乾隆, 嘉庆, 嘉靖, 道光, 咸丰, 元丰, 同治, 顺治, 光绪, 宣统, 正统, 洪武, 建武,
+-- 永乐, 万历, 大历, 庆历, 崇祯, 贞观, 开元, 天宝
+abbrev pub ends_era : List ℕ → Bool
+ends_era front =
+    begins_with_two (codes "熙") (codes "康") front
+    || (begins_with_two (codes "正") (codes "雍") front
+    || (begins_with_two (codes "隆") (codes "乾") front
+    || (begins_with_two (codes "庆慶靖") (codes "嘉") front
+    || (begins_with_two (codes "光") (codes "道") front
+    || (begins_with_two (codes "丰豐") (codes "咸元") front
+    || (begins_with_two (codes "治") (codes "同顺順") front
+    || (begins_with_two (codes "绪緒") (codes "光") front
+    || (begins_with_two (codes "统統") (codes "宣正") front
+    || (begins_with_two (codes "武") (codes "洪建") front
+    || (begins_with_two (codes "乐樂") (codes "永") front
+    || (begins_with_two (codes "历曆") (codes "万萬大庆慶") front
+    || (begins_with_two (codes "祯禎") (codes "崇") front
+    || (begins_with_two (codes "观觀") (codes "贞貞") front
+    || (begins_with_two (codes "元") (codes "开開") front
+    || begins_with_two (codes "宝寶") (codes "天") front))))))))))))))
+
+-- a title can have the character: it is a Chinese character, a figure, a letter or one of a few signs
+abbrev pub is_of_title : ℕ → Bool
+is_of_title c =
+    is_han c || (is_figure c || (is_ascii_alphabetic c || char_set_contains (codes " ,，、-.") c))
+
+-- 《 is among this many characters before a number, and only characters of a title are nearer
+abbrev pub is_title_open : ℕ → List ℕ → Bool
+is_title_open most [] = false
+is_title_open most (c ∷ front) =
+    if most == 0 then false
+    else (if char_set_contains (codes "《") c then true
+    else (if is_of_title c then is_title_open (most - 1) front else false))
+
+-- an era ends the text, or the calendar of the moon: 农历, 阴历, 旧历, 夏历, 藏历, 老历
+abbrev pub ends_old_calendar : List ℕ → Bool
+ends_old_calendar front =
+    ends_era front || begins_with_two (codes "历曆") (codes "农農阴陰旧舊夏藏老") front
+
+-- the number between these texts is in a title between 《 and 》, which began at most 40 characters before
+-- it, or is the year of an era
+abbrev pub is_of_history : List ℕ → List ℕ → Bool
+is_of_history front after =
+    is_title_open 40 front || (begins_with (codes "年") after && ends_era front)
+
+-- the number between these texts is part of a word or a title, or the year of an era
 abbrev pub is_of_word : List ℕ → List ℕ → List ℕ → Bool
-is_of_word front text after = ends_word front text || begins_word text after
+is_of_word front text after =
+    ends_word front text || (is_of_history front after || begins_word text after)

@@ -4,10 +4,10 @@ ghost use Rattle.std.specs.Char.{char_set_contains};
 ghost use Rattle.cn_find.specs.Belongs.{begins_with};
 ghost use Rattle.cn_find.specs.Spans.{in_front};
 ghost use Rattle.cn_find.specs.Private.{may_begin_word};
-ghost use Rattle.cn_find.specs.Words.{begins_with_two, begins_word, ends_word, is_exactly, is_named_group, is_of_word, is_saying, is_saying_of_tens, is_ten_thousand, is_title, is_word_by_itself};
+ghost use Rattle.cn_find.specs.Words.{begins_with_two, begins_word, ends_era, ends_old_calendar, ends_word, is_exactly, is_named_group, is_of_history, is_of_title, is_of_word, is_saying, is_saying_of_tens, is_ten_thousand, is_title, is_title_open, is_word_by_itself};
 
-use crate::expressions::{first_is, last_is, split_nearest};
-use cn_core::split_first_char;
+use crate::expressions::{first_is, is_han, last_is, split_nearest};
+use cn_core::{is_figure, split_first_char};
 
 // Whether a character is one of a set.
 fn is_one_of(set: &[char], c: char) -> bool
@@ -152,6 +152,89 @@ fn ends_word(before: &str, text: &str) -> bool
     }
 }
 
+// Whether a Chinese era ends the text.
+fn ends_era(before: &str) -> bool
+    ensures { result ≡ ends_era (in_front before.now) }
+{
+    let Some((c, front)) = split_nearest(before) else {
+        return false;
+    };
+    match c {
+        '熙' => ends_with(&['康'], front),
+        '正' => ends_with(&['雍'], front),
+        '隆' => ends_with(&['乾'], front),
+        '庆' | '慶' | '靖' => ends_with(&['嘉'], front),
+        '光' => ends_with(&['道'], front),
+        '丰' | '豐' => ends_with(&['咸', '元'], front),
+        '治' => ends_with(&['同', '顺', '順'], front),
+        '绪' | '緒' => ends_with(&['光'], front),
+        '统' | '統' => ends_with(&['宣', '正'], front),
+        '武' => ends_with(&['洪', '建'], front),
+        '乐' | '樂' => ends_with(&['永'], front),
+        '历' | '曆' => ends_with(&['万', '萬', '大', '庆', '慶'], front),
+        '祯' | '禎' => ends_with(&['崇'], front),
+        '观' | '觀' => ends_with(&['贞', '貞'], front),
+        '元' => ends_with(&['开', '開'], front),
+        '宝' | '寶' => ends_with(&['天'], front),
+        _ => false,
+    }
+}
+
+// How many characters before a number are searched for the start of a title.
+const TITLE: usize = 40;
+
+// Whether a title can have the character: it is a Chinese character, a figure, a letter or one of a few
+// signs.
+fn is_of_title(c: char) -> bool
+    ensures { result ≡ is_of_title c }
+{
+    is_han(c)
+        || is_figure(c)
+        || c.is_ascii_alphabetic()
+        || is_one_of(&[' ', ',', '，', '、', '-', '.'], c)
+}
+
+/// Whether a title between 《 and 》 has begun before the end of the text, and has not ended.
+pub fn is_title_open(before: &str) -> bool
+    ensures { result ≡ is_title_open 40 (in_front before.now) }
+{
+    let mut rest = before;
+    let mut left = TITLE;
+    'looking: while let Some((c, front)) = split_nearest(rest) {
+        if left == 0 {
+            return false;
+        }
+        if is_one_of(&['《'], c) {
+            return true;
+        }
+        if !is_of_title(c) {
+            return false;
+        }
+        rest = front;
+        left -= 1;
+    }
+    false
+}
+
+/// Whether a year after this text is one of an era, or a day after it one of the moon's calendar.
+pub fn ends_old_calendar(before: &str) -> bool
+    ensures { result ≡ ends_old_calendar (in_front before.now) }
+{
+    ends_era(before)
+        || ends_with_two(
+            &['历', '曆'],
+            &['农', '農', '阴', '陰', '旧', '舊', '夏', '藏', '老'],
+            before,
+        )
+}
+
+// Whether a number between these texts is the year of an era, or is in a title.
+fn is_of_history(before: &str, after: &str) -> bool
+    ensures { result ≡ is_of_history (in_front before.now) (chars after.now) }
+{
+    is_title_open(before) || (begins_with(&['年'], after) && ends_era(before))
+}
+
 fn begins_word(text: &str, after: &str) -> bool
     ensures { result ≡ begins_word (chars text.now) (chars after.now) }
 {
@@ -173,10 +256,12 @@ fn may_begin_word(text: &str) -> bool
 }
 
 /// Whether a number between these texts is part of a word, as 十二 of 十二指肠 and 十一 of 双十一
-/// are.
+/// are, part of a title, or the year of an era.
 #[tactic(auto, using(crate::proofs::WordStarts::begins_none))]
 pub fn is_of_word(before: &str, text: &str, after: &str) -> bool
     ensures { result ≡ is_of_word (in_front before.now) (chars text.now) (chars after.now) }
 {
-    ends_word(before, text) || (may_begin_word(text) && begins_word(text, after))
+    ends_word(before, text)
+        || is_of_history(before, after)
+        || (may_begin_word(text) && begins_word(text, after))
 }

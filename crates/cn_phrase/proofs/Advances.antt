@@ -77,6 +77,7 @@ slot-first form.YearMonthDay = refl
 slot-first form.YearMonth = refl
 slot-first form.MonthDay = refl
 slot-first form.Year = refl
+slot-first form.PartOfMonth = refl
 slot-first form.DashDate = refl
 slot-first form.SlashDate = refl
 slot-first form.Years = refl

@@ -1,6 +1,7 @@
--- A text that fails the quick tests begins no form.
-use Rattle.std.proofs.Common.{◌≡◌, ℕ, ◌==◌, Bool, true, false, ◌&&◌, ◌||◌, if◌then◌else◌, arith, List, [], ◌∷◌, codes, Option, Some, None, refl, sym, ap, ◌∙◌}
+-- The forms that a text cannot begin, by its first characters, are not read.
+use Rattle.std.proofs.Common.{◌≡◌, ℕ, ◌==◌, Bool, true, false, ◌&&◌, ◌||◌, if◌then◌else◌, cond, filter, arith, List, [], ◌∷◌, codes, Option, Some, None, refl, sym, ap, ◌∙◌}
 use Rattle.std.proofs.lemmas.Bool.Decides.{nat_tests}
+use Rattle.std.specs.Char.{char_set_contains}
 use Rattle.std.specs.Option.{option_and_then}
 use Rattle.cn_core.specs.FigureCharacters.{is_figure}
 use Rattle.cn_find.proofs.Unwanted.{outside}
@@ -15,9 +16,9 @@ use Rattle.cn_phrase.specs.declared.shape.Shape.{Shape}
 use Rattle.cn_phrase.specs.declared.word.Word.{Word}
 use Rattle.cn_phrase.specs.declared.word.Word.TheVariants as word
 use Rattle.cn_phrase.specs.Forms.{pieces_of}
-use Rattle.cn_phrase.specs.Phrases.{after_lead, clock_forms, form_read, further, furthest, is_blank}
+use Rattle.cn_phrase.specs.Phrases.{after_lead, all_forms, clock_forms, form_read, further, furthest, is_blank, phrase_read}
 use Rattle.cn_phrase.specs.Pieces.{Reading, is_numeral, pieces_read, slot_read, with_number, without_blank}
-use Rattle.cn_phrase.specs.Private.{is_second, may_begin, may_lead}
+use Rattle.cn_phrase.specs.Private.{firsts, forms_at, forms_before, forms_with, has_first, may_lead}
 use Rattle.cn_phrase.specs.Shapes.{value_of}
 use Rattle.cn_phrase.specs.Words.{after_any, after_half_day, after_hour_word, after_one, after_weekday, after_word}
 use Rattle.cn_phrase.proofs.Advances.{empty-none}
@@ -29,11 +30,12 @@ is_after_first word.Miao = false
 is_after_first word.Half = false
 is_after_first word.Ke = false
 is_after_first word.Seconds = false
+is_after_first word.PartOfMonth = false
 is_after_first word.HalfDay = false
 is_after_first word.Weekday = false
 is_after_first other = true
 
-module _ (c : ℕ) (text : List ℕ) (e : is_second c ≡ false) where
+module _ (c : ℕ) (text : List ℕ) where
   any-same : (these : List ℕ) → after_one these (c ∷ text) ≡ None
       → after_any these (c ∷ text) ≡ c ∷ text
   any-same these none = ap (λ (o : Option (List ℕ)). elim o [
@@ -41,27 +43,31 @@ module _ (c : ℕ) (text : List ℕ) (e : is_second c ≡ false) where
     | Some rest ↦ rest
   ]) none
 
-  word-none : (w : Word) → is_after_first w ≡ true → after_word w (c ∷ text) ≡ None
-  unfolding is_second
-  word-none word.Nian is = rw (outside is_second (codes "年") c refl e) refl
-  word-none word.Yue is = rw (outside is_second (codes "月") c refl e) refl
-  word-none word.Ri is = rw (outside is_second (codes "日号號") c refl e) refl
-  word-none word.Dian is = rw (outside is_second (codes "点點") c refl e) refl
-  word-none word.Shi is = rw (outside is_second (codes "点點时時") c refl e) refl
-  word-none word.Colon is = rw (outside is_second (codes ":：") c refl e) refl
-  word-none word.Dash is = rw (outside is_second (codes "-") c refl e) refl
-  word-none word.Slash is = rw (outside is_second (codes "/") c refl e) refl
-  word-none word.Bi is = rw (outside is_second (codes "比") c refl e) refl
-  word-none word.Mi is = rw (outside is_second (codes "米度秒") c refl e) refl
-  word-none word.Link is = rw (outside is_second (codes "到至~～－–—〜-") c refl e) refl
-  word-none word.Hours is =
-      ap after_hour_word (any-same (codes "个個") (rw (outside is_second (codes "个個") c refl e) refl))
-      ∙ rw (outside is_second (codes "小") c refl e, outside is_second (codes "钟鐘") c refl e) refl
-  word-none word.Minutes is = rw (outside is_second (20998 ∷ []) c refl e) refl
-  word-none word.HalfOf is = rw (outside is_second (codes "个個") c refl e) refl
-  word-none word.HalfAfter is =
-      rw (outside is_second (codes "年天周週岁歲斤里吨噸倍米度") c refl e) refl
-  word-none other is = cc
+  -- no word of hours begins with another character
+  hours-none : char_set_contains (firsts word.Hours) c ≡ false → after_word word.Hours (c ∷ text) ≡ None
+  hours-none e =
+      let within : ℕ → Bool = char_set_contains (firsts word.Hours) in
+      ap after_hour_word (any-same (codes "个個") (rw (outside within (codes "个個") c refl e) refl))
+      ∙ rw (outside within (codes "小") c refl e, outside within (codes "钟鐘") c refl e) refl
+
+  word-none : (w : Word) → is_after_first w ≡ true → char_set_contains (firsts w) c ≡ false
+      → after_word w (c ∷ text) ≡ None
+  word-none word.Nian is e = rw e refl
+  word-none word.Yue is e = rw e refl
+  word-none word.Ri is e = rw e refl
+  word-none word.Dian is e = rw e refl
+  word-none word.Shi is e = rw e refl
+  word-none word.Colon is e = rw e refl
+  word-none word.Dash is e = rw e refl
+  word-none word.Slash is e = rw e refl
+  word-none word.Bi is e = rw e refl
+  word-none word.Mi is e = rw e refl
+  word-none word.Link is e = rw e refl
+  word-none word.Hours is e = hours-none e
+  word-none word.Minutes is e = rw e refl
+  word-none word.HalfOf is e = rw e refl
+  word-none word.HalfAfter is e = rw e refl
+  word-none other is e = cc
 
 word-nothing : (w : Word) → is_after_first w ≡ true → after_word w [] ≡ None
 word-nothing word.Nian is = refl
@@ -81,10 +87,21 @@ word-nothing word.HalfOf is = refl
 word-nothing word.HalfAfter is = refl
 word-nothing other is = cc
 
-not-after : (w : Word) (text : List ℕ) → is_after_first w ≡ true → begins is_second text ≡ false
-    → after_word w text ≡ None
-not-after w [] is e = word-nothing w is
-not-after w (c ∷ text) is e = word-none c text e w is
+-- the first word of these pieces, after a number, can begin a text by its first character
+abbrev has_next : List ℕ → List Piece → Bool
+has_next [] pieces = false
+has_next (c ∷ text) pieces = has_first c pieces
+
+not-after : (s : Shape) (w : Word) (pieces : List Piece) (text : List ℕ) → is_after_first w ≡ true
+    → has_next text (Slot s ∷ Fixed w ∷ pieces) ≡ false → after_word w text ≡ None
+not-after s w pieces [] is e = word-nothing w is
+not-after s w pieces (c ∷ text) is e = word-none c text w is e
+
+-- these pieces can begin with a text, by its first characters
+abbrev fits : List ℕ → List Piece → Bool
+fits text pieces =
+    begins is_numeral text
+    && has_next (without_blank (begins is_figure text) (after_leading is_numeral text)) pieces
 
 -- what is read of a form at its start
 abbrev start : List ℕ → Reading
@@ -117,6 +134,7 @@ each-begins form.YearMonthDay = refl
 each-begins form.YearMonth = refl
 each-begins form.MonthDay = refl
 each-begins form.Year = refl
+each-begins form.PartOfMonth = refl
 each-begins form.DashDate = refl
 each-begins form.SlashDate = refl
 each-begins form.Years = refl
@@ -149,11 +167,12 @@ no-leading : (text : List ℕ) → begins is_numeral text ≡ false → leading 
 no-leading [] e = refl
 no-leading (c ∷ text) e = rw e refl
 
-module _ (text : List ℕ) (none : may_begin text ≡ false) (no_blank : begins is_blank text ≡ false) where
-  -- there is no number, or no such character after it
+module _ (text : List ℕ) (no_blank : begins is_blank text ≡ false) where
+  -- there is no number, or no such word after it
   slot-word : (s : Shape) (w : Word) (pieces : List Piece) → is_after_first w ≡ true
+      → fits text (Slot s ∷ Fixed w ∷ pieces) ≡ false
       → pieces_read (Slot s ∷ Fixed w ∷ pieces) (start text) ≡ None
-  slot-word s w pieces is =
+  slot-word s w pieces is none =
       ap read (no-blank text no_blank) ∙ by (value_of s (leading is_numeral text)) refl where
         next : List ℕ
         next = without_blank (begins is_figure text) (after_leading is_numeral text)
@@ -172,12 +191,13 @@ module _ (text : List ℕ) (none : may_begin text ≡ false) (no_blank : begins 
           rest = after_leading is_numeral text;
         })
 
-        no-word : (n : ℕ) → begins is_second next ≡ false → after n ≡ None
-        no-word n e = rw (not-after w next is e) refl
+        no-word : (n : ℕ) → has_next next (Slot s ∷ Fixed w ∷ pieces) ≡ false → after n ≡ None
+        no-word n e = rw (not-after s w pieces next is e) refl
 
         with-number : (n : ℕ) (b : Bool) → begins is_numeral text ≡ b
             → value_of s (leading is_numeral text) ≡ Some n → after n ≡ None
-        with-number n true e f = no-word n (sym (ap (λ b. b && begins is_second next) e) ∙ none)
+        with-number n true e f =
+            no-word n (sym (ap (λ b. b && has_next next (Slot s ∷ Fixed w ∷ pieces)) e) ∙ none)
         with-number n false e f =
             let nothing : None ≡ Some n =
             sym (ap (value_of s) (no-leading text e) ∙ empty-none s) ∙ f in cc
@@ -186,13 +206,10 @@ module _ (text : List ℕ) (none : may_begin text ≡ false) (no_blank : begins 
         by None e = rw e refl
         by (Some n) e = rw e (with-number n (begins is_numeral text) refl e)
 
-  pieces-none : (pieces : List Piece) → are_of_form pieces ≡ true
+  pieces-none : (pieces : List Piece) → are_of_form pieces ≡ true → fits text pieces ≡ false
       → pieces_read pieces (start text) ≡ None
-  pieces-none (Slot s ∷ Fixed w ∷ pieces) is = slot-word s w pieces is
-  pieces-none other is = cc
-
-  forms-none : (f : Form) → pieces_read (pieces_of f) (start text) ≡ None
-  forms-none f = pieces-none (pieces_of f) (each-begins f)
+  pieces-none (Slot s ∷ Fixed w ∷ pieces) is none = slot-word s w pieces is none
+  pieces-none other is none = cc
 
 -- no form is read, so none is the furthest
 furthest-none : (front text : List ℕ) (lead : Lead) (forms : List Form)
@@ -201,13 +218,46 @@ furthest-none front text lead [] none = refl
 furthest-none front text lead (f ∷ forms) none =
     rw (none f, furthest-none front text lead forms none) refl
 
-pub nothing_begins : (front text : List ℕ) (forms : List Form) → may_begin text ≡ false
-    → furthest front text Bare forms ≡ None
-nothing_begins front text forms none = furthest-none front text Bare forms
-    (λ f. by f (begins is_blank text) refl) where
-      by : (f : Form) (b : Bool) → begins is_blank text ≡ b → form_read Bare f text ≡ None
-      by f true e = rw e refl
-      by f false e = rw e (rw (forms-none text none e f) refl)
+-- the forms that are not read can be left out
+furthest-filter : (front text : List ℕ) (lead : Lead) (p : Form → Bool) (forms : List Form)
+    → ((f : Form) → p f ≡ false → form_read lead f text ≡ None)
+    → furthest front text lead (filter p forms) ≡ furthest front text lead forms
+furthest-filter front text lead p [] none = refl
+furthest-filter front text lead p (f ∷ forms) none =
+    by (p f) refl (furthest-filter front text lead p forms none) where
+      by : (b : Bool) → p f ≡ b
+          → furthest front text lead (filter p forms) ≡ furthest front text lead forms
+          → furthest front text lead (cond b (f ∷ filter p forms) (filter p forms))
+          ≡ further (phrase_read front text lead f) (furthest front text lead forms)
+      by true e others = ap (further (phrase_read front text lead f)) others
+      by false e others = rw (none f e) others
+
+forms-fit : (text : List ℕ) → forms_at text ≡ filter (λ f. fits text (pieces_of f)) all_forms
+unfolding forms_with
+forms-fit text =
+    by (begins is_numeral text) (without_blank (begins is_figure text) (after_leading is_numeral text))
+  where
+    by : (b : Bool) (next : List ℕ) → (if b then forms_before next else [])
+        ≡ filter (λ f. b && has_next next (pieces_of f)) all_forms
+    by false next = refl
+    by true [] = refl
+    by true (c ∷ next) = refl
+
+pub no_others_begin : (front text : List ℕ)
+    → furthest front text Bare (forms_at text) ≡ furthest front text Bare all_forms
+no_others_begin front text = ap (furthest front text Bare) (forms-fit text)
+    ∙ furthest-filter front text Bare (λ f. fits text (pieces_of f)) all_forms
+    (λ f none. by f none (begins is_blank text) refl) where
+      by : (f : Form) → fits text (pieces_of f) ≡ false → (b : Bool) → begins is_blank text ≡ b
+          → form_read Bare f text ≡ None
+      by f none true e = rw e refl
+      by f none false e = rw e (rw (pieces-none text e (pieces_of f) (each-begins f) none) refl)
+
+pub none-begins : (front text : List ℕ) → begins is_numeral text ≡ false
+    → furthest front text Bare all_forms ≡ None
+none-begins front text e =
+    let none : forms_at text ≡ [] = rw e refl in
+    sym (no_others_begin front text) ∙ ap (furthest front text Bare) none
 
 pub nothing_leads : (front text : List ℕ) (lead : Lead) (forms : List Form)
     → after_lead lead text ≡ None → furthest front text lead forms ≡ None

@@ -8,10 +8,10 @@ use Rattle.cn_phrase.specs.declared.piece.Piece.{Piece}
 use Rattle.cn_phrase.specs.declared.piece.Piece.TheVariants.{Slot, Fixed, NotBefore, End}
 use Rattle.cn_phrase.specs.declared.word.Word.{Word}
 use Rattle.cn_phrase.specs.declared.word.Word.TheVariants as word
-use Rattle.cn_phrase.specs.Pieces.{Reading, is_numeral, is_refused, piece_read, pieces_read, slot_read, without_blank}
+use Rattle.cn_phrase.specs.Pieces.{Reading, is_numeral, piece_read, pieces_read, refuses, slot_read, without_blank}
 use Rattle.cn_phrase.specs.Shapes.{value_of}
 use Rattle.cn_phrase.specs.Suffix.{EndsWith}
-use Rattle.cn_phrase.specs.Words.{after_any, after_early, after_half_day, after_halved, after_hour_word, after_one, after_two, after_week, after_weekday, after_with_zhong, after_word}
+use Rattle.cn_phrase.specs.Words.{after_any, after_early, after_half_day, after_part_of_month, after_halved, after_hour_word, after_one, after_two, after_week, after_weekday, after_with_zhong, after_word}
 
 pub Ends-self : (text : List ℕ) → EndsWith text text
 Ends-self text = ([], refl)
@@ -81,17 +81,26 @@ leaves-halved text =
     (two-or (codes "礼禮") (codes "拜") text _
     (leaves-two (codes "世") (codes "纪紀") text))))
 
-leaves-early : Leaves after_early
-leaves-early text = if-then (EndsWith text) (EndsWith text) (λ rest. if is_late rest then None
-    else Some rest) (after_one (codes "早晚") text) (leaves-one (codes "早晚") text)
-    (λ rest ends. by (is_late rest) rest ends) where
-      is_late : List ℕ → Bool
-      is_late rest = is_some (after_two (codes "一") (codes "点點") rest)
-
+leaves-unless : (these : List ℕ) (refused : List ℕ → Bool)
+    → Leaves (λ text. option_and_then (λ rest. if refused rest then None else Some rest)
+    (after_one these text))
+leaves-unless these refused text = if-then (EndsWith text) (EndsWith text)
+    (λ rest. if refused rest then None else Some rest) (after_one these text) (leaves-one these text)
+    (λ rest ends. by (refused rest) rest ends) where
       by : (b : Bool) (rest : List ℕ) → EndsWith text rest
           → IfSome (if b then None else Some rest) (EndsWith text)
       by true rest ends = tt
       by false rest ends = ends
+
+leaves-early : Leaves after_early
+leaves-early =
+    leaves-unless (codes "早晚") (λ rest. is_some (after_two (codes "一") (codes "点點") rest))
+
+leaves-part_of_month : Leaves after_part_of_month
+leaves-part_of_month text =
+    one-or (codes "底份末") text _
+    (two-or (codes "上中下") (codes "旬") text _
+    (leaves-unless (codes "初") (λ rest. is_some (after_one (codes "一二三四五六七八九十") rest)) text))
 
 leaves-half_day : Leaves after_half_day
 unfolding after_half_day
@@ -99,7 +108,7 @@ leaves-half_day text =
     two-or (codes "凌清早") (codes "晨") text _
     (two-or (codes "上中下正") (codes "午") text _
     (two-or (codes "傍") (codes "晚") text _
-    (two-or (codes "今明昨当當") (codes "早晚") text _
+    (two-or (codes "今明昨当當") (codes "早晚晨") text _
     (two-or (codes "深半午") (codes "夜") text _
     (two-or (codes "早晚") (codes "上") text _
     (two-or (codes "夜晚") (codes "里裡间間") text _
@@ -162,6 +171,7 @@ leaves-word word.HalfOf =
     leaves-then (after_two (codes "个個") (codes "半")) after_halved
     (leaves-two (codes "个個") (codes "半")) leaves-halved
 leaves-word word.HalfAfter = leaves-two (codes "年天周週岁歲斤里吨噸倍米度") (codes "半")
+leaves-word word.PartOfMonth = leaves-part_of_month
 leaves-word word.HalfDay = leaves-half_day
 leaves-word word.Weekday = leaves-weekday
 
@@ -215,7 +225,7 @@ within-piece text (Fixed w) reading ends =
       by (Some rest) h = Ends-again text reading.rest rest ends
           (Ends-again reading.rest start rest (Ends-blank reading.after_figure reading.rest) h)
 within-piece text (NotBefore guard) reading ends =
-    by (begins (λ c. is_refused guard c) reading.rest) where
+    by (refuses guard reading.rest) where
       by : (b : Bool) → IfSome (if b then None else Some reading) (Within text)
       by true = tt
       by false = ends

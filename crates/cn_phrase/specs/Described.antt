@@ -17,7 +17,7 @@ use Rattle.cn_phrase.specs.declared.value.Time.{Time}
 use Rattle.cn_phrase.specs.declared.value.Value.{Value}
 use Rattle.cn_phrase.specs.declared.value.Value.TheVariants as value
 use Rattle.cn_phrase.specs.Hours.{hour_of_day}
-use Rattle.cn_phrase.specs.InText.{is_doubtful, is_of_tenths}
+use Rattle.cn_phrase.specs.InText.{is_doubtful, is_range_doubtful}
 use Rattle.cn_phrase.specs.Items.{Item, phrase, range, item_at}
 use Rattle.cn_phrase.specs.Phrases.{Found}
 use Rattle.cn_phrase.specs.Ranges.{Ends, range_of}
@@ -32,6 +32,7 @@ kind_of form.YearMonthDay = kind.Date
 kind_of form.YearMonth = kind.Date
 kind_of form.MonthDay = kind.Date
 kind_of form.Year = kind.Date
+kind_of form.PartOfMonth = kind.Date
 kind_of form.DashDate = kind.Date
 kind_of form.SlashDate = kind.Date
 kind_of form.LinkedMonth = kind.Date
@@ -103,13 +104,13 @@ described_as kind lead text doubtful (Some v) =
     record { kind = kind; state = state_of doubtful; numbers = of_value lead text v; split = 0 }
 
 -- a phrase with which a text begins
-abbrev pub described_phrase : Found → List ℕ → Described
-described_phrase found text = described_as (kind_of found.form) found.lead text
-    (is_doubtful found text) (value_by found.form found.numbers)
+abbrev pub described_phrase : List ℕ → Found → List ℕ → Described
+described_phrase front found text = described_as (kind_of found.form) found.lead text
+    (is_doubtful front found text) (value_by found.form found.numbers)
 
 abbrev pub range_state : Ends → Option QuantityRange → PhraseState
 range_state ends None = Refused
-range_state ends (Some r) = state_of (is_of_tenths ends)
+range_state ends (Some r) = state_of (is_range_doubtful ends)
 
 abbrev pub described_range : Ends → Described
 described_range ends = record {
@@ -119,15 +120,15 @@ described_range ends = record {
   split = length ends.low.text;
 }
 
--- an item with which a text begins
-abbrev pub described_item : List ℕ → Option Item → Described
-described_item text (Some (phrase found)) = described_phrase found text
-described_item text (Some (range ends)) = described_range ends
-described_item text other =
+-- an item with which a text begins; the characters before it are `front`
+abbrev pub described_item : List ℕ → List ℕ → Option Item → Described
+described_item front text (Some (phrase found)) = described_phrase front found text
+described_item front text (Some (range ends)) = described_range ends
+described_item front text other =
     record { kind = kind.Expression; state = Certain; numbers = numbers 0 0 0 0; split = 0 }
 
 -- an item of a text
 unfoldable pub described : Wanted → Span → Described
 described wanted span =
     let text = chars (span.text ++ span.after) in
-    described_item text (item_at wanted (in_front span.before) text)
+    described_item (in_front span.before) text (item_at wanted (in_front span.before) text)

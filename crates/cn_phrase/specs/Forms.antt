@@ -1,11 +1,12 @@
 -- The forms of phrases: the table of their pieces.
 use Rattle.std.specs.Prelude.{List, [], ◌∷◌}
 use Rattle.cn_phrase.specs.declared.form.Form.{Form}
-use Rattle.cn_phrase.specs.declared.form.Form.TheVariants.{YearMonthDay, YearMonth, MonthDay, Year, DashDate, SlashDate, Years, Months, MonthsTwice, Days, DaysTwice, LinkedMonth, LinkedDay, HourMinuteSecond, HourMinute, HourBare, HourZero, HourHalf, HourQuarter, ColonSecond, ColonMinute, HourAlone, HoursMinutesSeconds, HoursMinutes, MinutesSeconds, HalfOf, HalfAfter, LengthOne, LengthTwo, Score, ColonScore}
+use Rattle.cn_phrase.specs.declared.form.Form.TheVariants.{YearMonthDay, YearMonth, MonthDay, Year, PartOfMonth, DashDate, SlashDate, Years, Months, MonthsTwice, Days, DaysTwice, LinkedMonth, LinkedDay, HourMinuteSecond, HourMinute, HourBare, HourZero, HourHalf, HourQuarter, ColonSecond, ColonMinute, HourAlone, HoursMinutesSeconds, HoursMinutes, MinutesSeconds, HalfOf, HalfAfter, LengthOne, LengthTwo, Score, ColonScore}
 use Rattle.cn_phrase.specs.declared.piece.Piece.{Piece}
 use Rattle.cn_phrase.specs.declared.piece.Piece.TheVariants.{Slot, Fixed, NotBefore}
-use Rattle.cn_phrase.specs.declared.piece.Guard.TheVariants.{Lunar, MoreMinutes, Name, OfClock, OfDate, OfHalf, OfLength, OfScore, Share}
+use Rattle.cn_phrase.specs.declared.piece.Guard.TheVariants.{Lunar, Prime, MoreMinutes, Name, OfClock, OfDate, OfHalf, OfLength, OfScore, Share}
 use Rattle.cn_phrase.specs.declared.shape.Shape.TheVariants as shape
+use Rattle.cn_phrase.specs.declared.word.Word.TheVariants as word
 use Rattle.cn_phrase.specs.declared.word.Word.TheVariants.{Bi, Colon, Dash, Dian, Fen, Half, HalfAfter, HalfOf, Hours, Ke, Link, Mi, Miao, Minutes, Nian, Ri, Seconds, Shi, Slash, Yue}
 
 -- the pieces of a form
@@ -17,13 +18,15 @@ pieces_of YearMonth =
 pieces_of MonthDay =
     Slot shape.Count ∷ Fixed Yue ∷ Slot shape.Count ∷ Fixed Ri ∷ []
 pieces_of Year =
-    Slot shape.FullYear ∷ Fixed Nian ∷ []
+    Slot shape.FullYear ∷ Fixed Nian ∷ NotBefore Prime ∷ []
+pieces_of PartOfMonth =
+    Slot shape.Count ∷ Fixed Yue ∷ Fixed word.PartOfMonth ∷ []
 pieces_of DashDate =
     Slot shape.Year ∷ Fixed Dash ∷ Slot shape.FewFigures ∷ Fixed Dash ∷ Slot shape.FewFigures ∷ NotBefore OfDate ∷ []
 pieces_of SlashDate =
     Slot shape.Year ∷ Fixed Slash ∷ Slot shape.FewFigures ∷ Fixed Slash ∷ Slot shape.FewFigures ∷ NotBefore OfDate ∷ []
 pieces_of Years =
-    Slot shape.Year ∷ Fixed Link ∷ Slot shape.Year ∷ Fixed Nian ∷ []
+    Slot shape.FullYear ∷ Fixed Link ∷ Slot shape.FullYear ∷ Fixed Nian ∷ []
 pieces_of Months =
     Slot shape.Count ∷ Fixed Link ∷ Slot shape.Count ∷ Fixed Yue ∷ []
 pieces_of MonthsTwice =

@@ -20,7 +20,7 @@ half_of (c ∷ d ∷ text) =
     else (if char_set_contains (codes "午") c
     then (if char_set_contains (codes "夜") d then Night else Afternoon)
     else (if char_set_contains (codes "今明昨当當") c
-    then (if char_set_contains (codes "早") d then Morning else Evening)
+    then (if char_set_contains (codes "早晨") d then Morning else Evening)
     else (if char_set_contains (codes "深半夜") c then Night else Evening))))))
 
 -- the hour of 24, of an hour from 1 to 12 in a part of the day; none if it is not known

@@ -8,19 +8,24 @@ use Rattle.cn_core.specs.FigureCharacters.{is_figure}
 use Rattle.cn_find.specs.declared.wanted.Wanted.{Wanted}
 use Rattle.cn_find.specs.Flags.{is_one_character}
 use Rattle.cn_find.specs.Spans.{Span, in_front}
+use Rattle.cn_find.specs.Words.{begins_with_two, ends_old_calendar, is_title_open}
 use Rattle.cn_replace.specs.declared.options.Figures.{Figures}
 use Rattle.cn_replace.specs.declared.options.Included.{Included}
 use Rattle.cn_replace.specs.Chains.{in_chains}
 use Rattle.cn_replace.specs.InFigures.{figures_for}
-use Rattle.cn_replace.specs.Pieces.{begins, leading}
+use Rattle.cn_replace.specs.Pieces.{after_leading, begins, leading}
 use Rattle.cn_phrase.specs.declared.form.Form.{Form}
 use Rattle.cn_phrase.specs.declared.form.Form.TheVariants as form
+use Rattle.cn_phrase.specs.declared.phrase.Lead.{Lead}
+use Rattle.cn_phrase.specs.declared.phrase.Lead.TheVariants.{Bare}
+use Rattle.cn_phrase.specs.declared.word.Word.TheVariants as word
 use Rattle.cn_phrase.specs.Forms.{pieces_of}
 use Rattle.cn_phrase.specs.Items.{Item, phrase, range, expression, item_at, items}
 use Rattle.cn_phrase.specs.Phrases.{Found, after_lead}
 use Rattle.cn_phrase.specs.Pieces.{is_numeral}
 use Rattle.cn_phrase.specs.Ranges.{Ends, range_of, range_text}
 use Rattle.cn_phrase.specs.Values.{value_by}
+use Rattle.cn_phrase.specs.Words.{after_word}
 use Rattle.cn_phrase.specs.Written.{passed_text, pieces_text}
 
 -- a year in figures that ends with 00, before 前, 来, 历 or 间: it may be a number of years
@@ -34,21 +39,61 @@ may_be_years other year text rest = false
 abbrev pub has_unit : List ℕ → Bool
 has_unit number = list_any (λ c. char_set_contains (codes "十百") c) number
 
--- a date whose year has 十 or 百, such as 民国二十六年七月七日: it is one of an era, whose dates stay in
--- characters
-abbrev pub is_of_era : Form → List ℕ → Bool
-is_of_era form.YearMonthDay text = has_unit (leading is_numeral text)
-is_of_era form.YearMonth text = has_unit (leading is_numeral text)
-is_of_era other text = false
+-- a date, not only of a month or a day, and not in figures with signs
+abbrev pub is_of_year : Form → Bool
+is_of_year form.YearMonthDay = true
+is_of_year form.YearMonth = true
+is_of_year other = false
 
--- a phrase that begins with this text may mean something else, or is one of an era
-abbrev pub is_doubtful : Found → List ℕ → Bool
-is_doubtful found text =
-    may_be_years found.form found.numbers.last text found.rest || is_of_era found.form text
+abbrev pub is_of_calendar : Form → Bool
+is_of_calendar form.MonthDay = true
+is_of_calendar form.Year = true
+is_of_calendar form.PartOfMonth = true
+is_of_calendar other = is_of_year other
+
+-- 民國 is directly before the text: in Taiwan its years are those of every day
+abbrev pub follows_republic : List ℕ → Bool
+follows_republic front = begins_with_two (codes "國") (codes "民") front
+
+-- a date whose year is one character or has 十 or 百, such as 民国二十六年七月七日: it is one of an era, whose
+-- dates stay in characters
+abbrev pub is_of_era : List ℕ → Form → List ℕ → Bool
+is_of_era front form text =
+    is_of_year form
+    && (not (follows_republic front)
+    && (has_unit (leading is_numeral text) || is_one_character (leading is_numeral text)))
+
+-- a date of an era, or of the calendar of the moon
+abbrev pub is_of_old_calendar : List ℕ → Form → List ℕ → Bool
+is_of_old_calendar front form text =
+    is_of_era front form text || (is_of_calendar form && ends_old_calendar front)
+
+abbrev pub is_minute : Form → Lead → Bool
+is_minute form.HourMinute Bare = true
+is_minute other lead = false
+
+-- an hour with 点 and a minute of one character, as in 十四点六分: it may be a decimal
+abbrev pub may_be_decimal : Found → List ℕ → Bool
+may_be_decimal found text =
+    is_minute found.form found.lead
+    && option_map_or (λ rest. is_one_character (leading is_numeral rest))
+    (after_word word.Dian (after_leading is_numeral text)) false
+
+-- a phrase that begins with this text may mean something else, is a date of another calendar, or is in a
+-- title
+abbrev pub is_doubtful : List ℕ → Found → List ℕ → Bool
+is_doubtful front found text =
+    may_be_years found.form found.numbers.last text found.rest
+    || (is_of_old_calendar front found.form text
+    || (may_be_decimal found text || is_title_open 40 front))
 
 -- a range before 折 or 成: its numbers are tenths
 abbrev pub is_of_tenths : Ends → Bool
 is_of_tenths ends = begins (λ c. char_set_contains (codes "折成") c) ends.rest
+
+-- a range of tenths, or one in a title
+abbrev pub is_range_doubtful : Ends → Bool
+is_range_doubtful ends = is_of_tenths ends || is_title_open 40 (in_front ends.low.before)
 
 abbrev pub is_half : Form → Bool
 is_half form.HalfOf = true
@@ -61,15 +106,15 @@ is_short_half form text = is_half form && is_one_character (leading is_numeral t
 
 -- a phrase that begins with this text is written in figures: it has a value, and if it is doubtful, or
 -- a half after one character, phrases of that kind are included
-abbrev pub is_phrase_included : Included → Found → List ℕ → Bool
-is_phrase_included included found text =
+abbrev pub is_phrase_included : Included → List ℕ → Found → List ℕ → Bool
+is_phrase_included included front found text =
     is_some (value_by found.form found.numbers)
-    && ((included.doubtful || not (is_doubtful found text))
+    && ((included.doubtful || not (is_doubtful front found text))
     && (included.one_character || not (is_short_half found.form text)))
 
 abbrev pub is_range_included : Included → Ends → Bool
 is_range_included included ends =
-    is_some (range_of ends.low.text ends.high.text) && (included.doubtful || not (is_of_tenths ends))
+    is_some (range_of ends.low.text ends.high.text) && (included.doubtful || not (is_range_doubtful ends))
 
 -- the text of a phrase with its numbers in figures
 abbrev pub phrase_text : Found → List ℕ → List ℕ
@@ -81,9 +126,9 @@ phrase_text found text = option_map_or (λ start. passed_text text start
     })) (after_lead found.lead text) []
 
 -- the new text of a phrase, if it has one
-abbrev pub phrase_new : Included → Found → List ℕ → Option (List ℕ)
-phrase_new included found text =
-    if is_phrase_included included found text then Some (phrase_text found text) else None
+abbrev pub phrase_new : Included → List ℕ → Found → List ℕ → Option (List ℕ)
+phrase_new included front found text =
+    if is_phrase_included included front found text then Some (phrase_text found text) else None
 
 -- the new text of a range, if it has one
 abbrev pub range_new : Included → Ends → Option (List ℕ)
@@ -92,7 +137,8 @@ range_new included ends = if is_range_included included ends then range_text end
 -- the new text of an item that begins with this text
 abbrev pub item_text : ChineseCountMethod → Figures → Span → List ℕ → Option Item → Option (List ℕ)
 item_text method options span text None = None
-item_text method options span text (Some (phrase found)) = phrase_new options.included found text
+item_text method options span text (Some (phrase found)) =
+    phrase_new options.included (in_front span.before) found text
 item_text method options span text (Some (range ends)) = range_new options.included ends
 item_text method options span text (Some (expression rest)) = figures_for method options span
 

@@ -1,7 +1,8 @@
 -- The phrase that begins at a place of a text.
-use Rattle.std.specs.Prelude.{ℕ, nat_lt, Bool, true, false, not, ◌&&◌, ◌||◌, List, [], ◌∷◌, length, codes, chars, encode_utf8_all, Option, Some, None, is_some, if◌then◌else◌}
+use Rattle.std.specs.Prelude.{ℕ, nat_lt, ◌==◌, Bool, true, false, not, ◌&&◌, ◌||◌, List, [], ◌∷◌, length, codes, chars, encode_utf8_all, Option, Some, None, is_some, if◌then◌else◌}
 use Rattle.std.specs.Char.{char_set_contains, is_ascii_alphabetic}
 use Rattle.std.specs.Option.{option_and_then, option_map, option_map_or}
+use Rattle.cn_find.specs.Words.{begins_with_two}
 use Rattle.cn_replace.specs.Pieces.{begins}
 use Rattle.cn_phrase.specs.declared.form.Form.{Form}
 use Rattle.cn_phrase.specs.declared.form.Form.TheVariants as form
@@ -72,40 +73,63 @@ goes_on_with_hour rest = option_map_or (λ after.
     is_some (form_read Bare form.HourAlone after) || is_some (form_read HalfDay form.HourAlone after))
     (after_word word.Link rest) false
 
--- an hour by itself is a time: it is after a day, or linked to another time
-abbrev pub is_linked_hour : List ℕ → List ℕ → Bool
-is_linked_hour front rest =
-    begins (λ c. char_set_contains (codes "日号號") c) front
-    || (follows_link (codes "点點时時半分刻") front || goes_on_with_hour rest)
+-- a day such as 明天 is directly before the text
+abbrev pub follows_day : List ℕ → Bool
+follows_day [] = false
+follows_day (c ∷ front) =
+    char_set_contains (codes "天") c
+    && begins (λ d. char_set_contains (codes "今明昨后後前当當每") d) front
+
+-- an hour by itself is a time: it is after a day, or linked to another time, or 钟 is after it. After
+-- 今天 the hour is not 1: 一点 is a little in 今天一点都不冷
+abbrev pub is_linked_hour : ℕ → List ℕ → List ℕ → Bool
+is_linked_hour hour front rest =
+    begins (λ c. char_set_contains (codes "钟鐘") c) rest
+    || (begins (λ c. char_set_contains (codes "日号號") c) front
+    || ((follows_day front && not (hour == 1))
+    || (follows_link (codes "点點时時半分刻") front || goes_on_with_hour rest)))
 
 -- a form by itself is a phrase: most are; a month or a day only after a date and a link, an hour only
 -- if it is linked. An hour with 零 and a digit is not: it may be a decimal
-abbrev pub may_be_alone : Form → List ℕ → List ℕ → Bool
-may_be_alone form.LinkedMonth front rest = follows_link (codes "月日号號") front
-may_be_alone form.LinkedDay front rest = follows_link (codes "月日号號") front
-may_be_alone form.HourAlone front rest = is_linked_hour front rest
-may_be_alone form.HourZero front rest = false
-may_be_alone other front rest = true
+abbrev pub may_be_alone : Form → ℕ → List ℕ → List ℕ → Bool
+may_be_alone form.LinkedMonth last front rest = follows_link (codes "月日号號") front
+may_be_alone form.LinkedDay last front rest = follows_link (codes "月日号號") front
+may_be_alone form.HourAlone last front rest = is_linked_hour last front rest
+may_be_alone form.HourZero last front rest = false
+may_be_alone other last front rest = true
 
 abbrev pub is_name : ℕ → Bool
 is_name c = is_ascii_alphabetic c || char_set_contains (codes "_") c
 
--- a form that was read is a phrase, given the characters before it: no letter and no character of a
--- number is directly before it, so that 两点半 is none in 3两点半
-abbrev pub is_bare_phrase : List ℕ → Form → List ℕ → Bool
-is_bare_phrase front form rest =
-    not (begins is_name front)
-    && (not (begins is_numeral front)
-    && (not (begins (λ c. char_set_contains (refused_before form) c) front)
-    && may_be_alone form front rest))
+-- the character ends a number
+abbrev pub is_number_end : ℕ → Bool
+is_number_end c = is_numeral c || char_set_contains (codes "千仟万萬亿億") c
 
-abbrev pub is_phrase_by : Lead → List ℕ → Form → List ℕ → Bool
-is_phrase_by Bare front form rest = is_bare_phrase front form rest
-is_phrase_by HalfDay front form rest = true
-is_phrase_by Weekday front form rest = true
+-- a weekday is directly before the text
+abbrev pub follows_weekday : List ℕ → Bool
+follows_weekday [] = false
+follows_weekday (c ∷ front) =
+    char_set_contains (codes "一二三四五六") c
+    && (begins (λ d. char_set_contains (codes "周週") d) front
+    || (begins_with_two (codes "期") (codes "星") front
+    || begins_with_two (codes "拜") (codes "礼禮") front))
+
+-- a form that was read is a phrase, given the characters before it: no letter and no character of a
+-- number is directly before it, so that 两点半 is none in 3两点半, but it may be after a weekday
+abbrev pub is_bare_phrase : List ℕ → Found → Bool
+is_bare_phrase front found =
+    not (begins is_name front)
+    && ((not (begins is_number_end front) || follows_weekday front)
+    && (not (begins (λ c. char_set_contains (refused_before found.form) c) front)
+    && may_be_alone found.form found.numbers.last front found.rest))
+
+abbrev pub is_phrase_by : Lead → List ℕ → Found → Bool
+is_phrase_by Bare front found = is_bare_phrase front found
+is_phrase_by HalfDay front found = true
+is_phrase_by Weekday front found = true
 
 abbrev pub is_phrase : List ℕ → Found → Bool
-is_phrase front found = is_phrase_by found.lead front found.form found.rest
+is_phrase front found = is_phrase_by found.lead front found
 
 -- the forms of times of day, before which a word of half a day or a weekday can be
 abbrev pub clock_forms : List Form
@@ -116,7 +140,7 @@ clock_forms =
 -- all forms, in the order of the table
 abbrev pub all_forms : List Form
 all_forms =
-    form.YearMonthDay ∷ form.YearMonth ∷ form.MonthDay ∷ form.Year ∷ form.DashDate ∷
+    form.YearMonthDay ∷ form.YearMonth ∷ form.MonthDay ∷ form.Year ∷ form.PartOfMonth ∷ form.DashDate ∷
     form.SlashDate ∷ form.Years ∷ form.Months ∷ form.MonthsTwice ∷ form.Days ∷ form.DaysTwice ∷
     form.LinkedMonth ∷ form.LinkedDay ∷ form.HourMinuteSecond ∷ form.HourMinute ∷ form.HourBare ∷ form.HourZero ∷
     form.HourHalf ∷ form.HourQuarter ∷ form.ColonSecond ∷ form.ColonMinute ∷ form.HourAlone ∷

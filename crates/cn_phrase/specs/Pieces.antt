@@ -7,7 +7,7 @@ use Rattle.cn_replace.specs.Pieces.{after_leading, begins, leading}
 use Rattle.cn_phrase.specs.declared.piece.Piece.{Piece}
 use Rattle.cn_phrase.specs.declared.piece.Piece.TheVariants.{Slot, Fixed, NotBefore, End}
 use Rattle.cn_phrase.specs.declared.piece.Guard.{Guard}
-use Rattle.cn_phrase.specs.declared.piece.Guard.TheVariants.{Lunar, OfDate, Share, MoreMinutes, OfClock, OfHalf, OfLength, OfScore, Name}
+use Rattle.cn_phrase.specs.declared.piece.Guard.TheVariants.{Lunar, Prime, OfDate, Share, MoreMinutes, OfClock, OfHalf, OfLength, OfScore, Name}
 use Rattle.cn_phrase.specs.declared.piece.Numbers.{Numbers}
 use Rattle.cn_phrase.specs.declared.piece.Progress.{Progress}
 use Rattle.cn_phrase.specs.Shapes.{value_of}
@@ -50,18 +50,31 @@ is_name guard = false
 unfoldable pub refused_by : Guard → List ℕ
 refused_by Lunar = codes "初"
 refused_by OfDate = codes "-/.:"
-refused_by Share = codes "之钟鐘"
+refused_by Prime = codes "华華"
+refused_by Share = codes "钟鐘"
 refused_by MoreMinutes = codes "分几幾多元米度倍吨噸克升%％‰万萬亿億千"
 refused_by OfClock = codes ":：."
 refused_by OfHalf = codes "载載夜天年"
-refused_by OfLength = codes "年月日点點人个個分秒米度几幾多"
+refused_by OfLength =
+    codes "年月日点點人个個分秒米度几幾多重層层关關种種次间間位条條名项項只隻元块塊倍级級楼樓座套台臺辆輛张張本天周週岁歲斤里"
 refused_by OfScore = codes "点點.年月日万萬千亿億"
 refused_by Name = codes "_"
 
--- the character may not come after a form; a name has letters too
-abbrev pub is_refused : Guard → ℕ → Bool
-is_refused guard c =
-    char_set_contains (refused_by guard) c || (is_name guard && is_ascii_alphabetic c)
+abbrev pub is_share : Guard → Bool
+is_share Share = true
+is_share guard = false
+
+-- the character begins the numerator of a share, as 二 in 五分之二 does
+abbrev pub is_numerator : ℕ → Bool
+is_numerator c = is_numeral c || char_set_contains (codes "几幾") c
+
+-- the text may not come after a form; a name has letters too, and a share has 之 and a numerator
+abbrev pub refuses : Guard → List ℕ → Bool
+refuses guard [] = false
+refuses guard (c ∷ rest) =
+    char_set_contains (refused_by guard) c
+    || ((is_name guard && is_ascii_alphabetic c)
+    || (is_share guard && (char_set_contains (codes "之") c && begins is_numerator rest)))
 
 -- the reading of a slot
 abbrev pub slot_read : Numbers → List ℕ → Option ℕ → Option Reading
@@ -80,7 +93,7 @@ piece_read (Fixed word) reading =
     option_map (λ rest. record { numbers = reading.numbers; after_figure = false; rest = rest })
     (after_word word (without_blank reading.after_figure reading.rest))
 piece_read (NotBefore guard) reading =
-    if begins (λ c. is_refused guard c) reading.rest then None else Some reading
+    if refuses guard reading.rest then None else Some reading
 piece_read End reading = Some reading
 
 -- the reading after some pieces

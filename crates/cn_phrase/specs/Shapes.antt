@@ -1,6 +1,7 @@
 -- The numbers that the slots of phrases hold.
-use Rattle.std.specs.Prelude.{ℕ, ◌+◌, ◌*◌, ◌==◌, nat_le, nat_lt, Bool, ◌&&◌, ◌||◌, List, [], ◌∷◌, length, codes, Option, Some, None, if◌then◌else◌}
+use Rattle.std.specs.Prelude.{ℕ, ◌+◌, ◌*◌, ◌==◌, nat_le, nat_lt, Bool, false, ◌&&◌, ◌||◌, List, [], ◌∷◌, length, codes, Option, Some, None, if◌then◌else◌}
 use Rattle.std.specs.Char.{char_set_contains}
+use Rattle.std.specs.List.{list_any}
 use Rattle.std.specs.Option.{option_and_then, option_map, option_or}
 use Rattle.cn_core.specs.Characters.{digit_of}
 use Rattle.cn_core.specs.FigureCharacters.{figure_of}
@@ -137,18 +138,30 @@ abbrev pub few_figures_of : List ℕ → Option ℕ
 few_figures_of (c ∷ []) = figure_of c
 few_figures_of text = two_of figure_of text
 
+-- the number of a text of some shape
+abbrev pub number_of : Shape → List ℕ → Option ℕ
+number_of Year text = year_of text
+number_of FullYear text = full_year_of text
+number_of EraYear text = era_year_of text
+number_of Count text = count_of text
+number_of Clock text = clock_of text
+number_of LongCount text = long_count_of text
+number_of ZeroDigit text = zero_digit_of text
+number_of Small text = small_of text
+number_of OneDigit text = digit_alone_of text
+number_of Quarter text = digit_alone_of text
+number_of TwoDigits text = two_alone_of text
+number_of TwoFigures text = two_of figure_of text
+number_of FewFigures text = few_figures_of text
+
+abbrev pub is_two : ℕ → Bool
+is_two c = char_set_contains (codes "两兩") c
+
+-- 两 is after the first character, but a number can only begin with it
+abbrev pub has_later_two : List ℕ → Bool
+has_later_two [] = false
+has_later_two (c ∷ text) = list_any is_two text
+
 -- the number in a slot
 abbrev pub value_of : Shape → List ℕ → Option ℕ
-value_of Year text = year_of text
-value_of FullYear text = full_year_of text
-value_of EraYear text = era_year_of text
-value_of Count text = count_of text
-value_of Clock text = clock_of text
-value_of LongCount text = long_count_of text
-value_of ZeroDigit text = zero_digit_of text
-value_of Small text = small_of text
-value_of OneDigit text = digit_alone_of text
-value_of Quarter text = digit_alone_of text
-value_of TwoDigits text = two_alone_of text
-value_of TwoFigures text = two_of figure_of text
-value_of FewFigures text = few_figures_of text
+value_of shape text = if has_later_two text then None else number_of shape text

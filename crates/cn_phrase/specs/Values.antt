@@ -67,6 +67,8 @@ value_by form.YearMonth n =
 value_by form.Year n = Some (part_of_date (Some n.last) None None)
 value_by form.LinkedMonth n =
     option_map (λ m. part_of_date None (Some m) None) (month_of n.last)
+value_by form.PartOfMonth n =
+    option_map (λ m. part_of_date None (Some m) None) (month_of n.last)
 value_by form.LinkedDay n =
     option_map (λ d. part_of_date None None (Some d)) (within 1 31 n.last)
 value_by form.Years n = rising Years (Some n.second) (Some n.last)

@@ -3,7 +3,7 @@ use Rattle.std.specs.Prelude.{ℕ, List, [], ◌∷◌, codes, Option, Some, Non
 use Rattle.std.specs.Char.{char_set_contains}
 use Rattle.std.specs.Option.{option_and_then, option_or}
 use Rattle.cn_phrase.specs.declared.word.Word.{Word}
-use Rattle.cn_phrase.specs.declared.word.Word.TheVariants.{Nian, Yue, Ri, Dian, Shi, Fen, Miao, Half, Ke, Colon, Dash, Slash, Bi, Mi, Link, Hours, Minutes, Seconds, HalfOf, HalfAfter, HalfDay, Weekday}
+use Rattle.cn_phrase.specs.declared.word.Word.TheVariants.{Nian, Yue, Ri, Dian, Shi, Fen, Miao, Half, Ke, Colon, Dash, Slash, Bi, Mi, Link, Hours, Minutes, Seconds, HalfOf, HalfAfter, PartOfMonth, HalfDay, Weekday}
 
 -- the text after its first character, if that is one of these
 abbrev pub after_one : List ℕ → List ℕ → Option (List ℕ)
@@ -43,19 +43,31 @@ after_early text =
     option_and_then (λ rest. if is_some (after_two (codes "一") (codes "点點") rest) then None
     else Some rest) (after_one (codes "早晚") text)
 
--- after a word of half a day: 早, 晚; 凌晨, 清晨, 早晨; 上午, 中午, 下午, 正午; 傍晚; 今早, 昨晚; 深夜, 半夜,
+-- after a word of half a day: 早, 晚; 凌晨, 清晨, 早晨; 上午, 中午, 下午, 正午; 傍晚; 今早, 昨晚, 今晨; 深夜, 半夜,
 -- 午夜; 早上, 晚上; 夜里, 晚间; 午后
 unfoldable pub after_half_day : List ℕ → Option (List ℕ)
 after_half_day text =
     option_or (after_two (codes "凌清早") (codes "晨") text)
     (option_or (after_two (codes "上中下正") (codes "午") text)
     (option_or (after_two (codes "傍") (codes "晚") text)
-    (option_or (after_two (codes "今明昨当當") (codes "早晚") text)
+    (option_or (after_two (codes "今明昨当當") (codes "早晚晨") text)
     (option_or (after_two (codes "深半午") (codes "夜") text)
     (option_or (after_two (codes "早晚") (codes "上") text)
     (option_or (after_two (codes "夜晚") (codes "里裡间間") text)
     (option_or (after_two (codes "午") (codes "后後") text)
     (after_early text))))))))
+
+-- after 初, but not before a day of the moon's calendar, such as 初三
+abbrev pub after_beginning : List ℕ → Option (List ℕ)
+after_beginning text =
+    option_and_then (λ rest. if is_some (after_one (codes "一二三四五六七八九十") rest) then None
+    else Some rest) (after_one (codes "初") text)
+
+-- after a part of a month: 底, 份, 末; 上旬, 中旬, 下旬; 初
+abbrev pub after_part_of_month : List ℕ → Option (List ℕ)
+after_part_of_month text =
+    option_or (after_one (codes "底份末") text)
+    (option_or (after_two (codes "上中下") (codes "旬") text) (after_beginning text))
 
 -- after 周, 星期 or 礼拜
 abbrev pub after_week : List ℕ → Option (List ℕ)
@@ -97,5 +109,6 @@ after_word Seconds text = after_with_zhong 31186 text
 after_word HalfOf text =
     option_and_then (λ rest. after_halved rest) (after_two (codes "个個") (codes "半") text)
 after_word HalfAfter text = after_two (codes "年天周週岁歲斤里吨噸倍米度") (codes "半") text
+after_word PartOfMonth text = after_part_of_month text
 after_word HalfDay text = after_half_day text
 after_word Weekday text = after_weekday text

@@ -1,7 +1,7 @@
 // What an item of a text is, in numbers, as other languages get it.
 ghost use Rattle.std.specs.Prelude.{◌≡◌, ◌+◌, ◌≤◌, chars, is_some};
 ghost use Rattle.std.specs.Option.{option_map};
-ghost use Rattle.cn_find.specs.Spans.{span_of};
+ghost use Rattle.cn_find.specs.Spans.{in_front, span_of};
 ghost use Rattle.cn_replace.specs.Chains.{IsPart};
 ghost use Rattle.cn_phrase.specs.Described.{described, described_item, described_phrase, described_range, flag, given_parts, kind_of, number_or, numbers, of_date, of_time, of_value, state_of};
 ghost use Rattle.cn_phrase.specs.Items.{item_of};
@@ -10,8 +10,8 @@ ghost use Rattle.cn_phrase.specs.Ranges.{ends_of};
 
 use crate::form::Form;
 use crate::hour::hour_of_day;
-use crate::in_text::{is_doubtful, is_of_tenths, text_from};
-use crate::items::{Item, item_at};
+use crate::in_text::{is_doubtful, is_range_doubtful, item_for, text_from};
+use crate::items::Item;
 use crate::phrase::{Lead, Match};
 use crate::range::{Ends, range_of};
 use crate::value::{Date, Time, Value};
@@ -100,7 +100,8 @@ fn kind_of(form: Form) -> PhraseKind
 {
     match form {
         Form::YearMonthDay | Form::YearMonth | Form::MonthDay | Form::Year => PhraseKind::Date,
-        Form::DashDate | Form::SlashDate | Form::LinkedMonth | Form::LinkedDay => PhraseKind::Date,
+        Form::DashDate | Form::SlashDate => PhraseKind::Date,
+        Form::PartOfMonth | Form::LinkedMonth | Form::LinkedDay => PhraseKind::Date,
         Form::Years => PhraseKind::Years,
         Form::Months | Form::MonthsTwice => PhraseKind::Months,
         Form::Days | Form::DaysTwice => PhraseKind::Days,
@@ -201,15 +202,15 @@ fn state_of(is_doubtful: bool) -> PhraseState
     }
 }
 
-// A phrase with which a text begins.
-fn described_phrase(found: Match<'_>, text: &str) -> Described
-    ensures { result ≡ described_phrase (found_of found.entry) (chars text.now) }
+// A phrase with which a text begins, after another one.
+fn described_phrase(before: &str, found: Match<'_>, text: &str) -> Described
+    ensures { result ≡ described_phrase (in_front before.now) (found_of found.entry) (chars text.now) }
 {
     let kind = kind_of(found.form);
     match found.form.value(found.numbers) {
         Some(value) => Described {
             kind,
-            state: state_of(is_doubtful(found, text)),
+            state: state_of(is_doubtful(before, found, text)),
             numbers: of_value(found.lead, text, value),
             split: 0,
         },
@@ -227,7 +228,7 @@ fn described_range(ends: Ends<'_>) -> Described
     ensures { result ≡ described_range (ends_of ends.entry) }
 {
     let state = match range_of(ends.low.text, ends.high.text) {
-        Some(_) => state_of(is_of_tenths(ends)),
+        Some(_) => state_of(is_range_doubtful(ends)),
         None => PhraseState::Refused,
     };
     Described {
@@ -238,12 +239,13 @@ fn described_range(ends: Ends<'_>) -> Described
     }
 }
 
-// An item with which a text begins.
-fn described_item(item: Option<Item<'_>>, text: &str) -> Described
-    ensures { result ≡ described_item (chars text.now) (option_map item_of item.entry) }
+// An item with which a text begins, after another one.
+fn described_item(before: &str, item: Option<Item<'_>>, text: &str) -> Described
+    ensures { result ≡ described_item (in_front before.now) (chars text.now)
+        (option_map item_of item.entry) }
 {
     match item {
-        Some(Item::Phrase(found)) => described_phrase(found, text),
+        Some(Item::Phrase(found)) => described_phrase(before, found, text),
         Some(Item::Range(ends)) => described_range(ends),
         _ => Described {
             kind: PhraseKind::Expression,
@@ -255,10 +257,14 @@ fn described_item(item: Option<Item<'_>>, text: &str) -> Described
 }
 
 /// What an item of a text is.
+#[tactic(auto, unfolding(crate::specs::Described::described))]
 pub fn describe_phrase(whole: &str, part: Found<'_>, wanted: Wanted) -> Described
     requires { IsPart whole.now (span_of part) }
     ensures { result ≡ described wanted (span_of part.entry) }
 {
-    let text = text_from(whole, part);
-    described_item(item_at(whole, text, wanted), text)
+    described_item(
+        part.before,
+        item_for(whole, part, wanted),
+        text_from(whole, part),
+    )
 }

@@ -17,6 +17,8 @@ pub enum Form {
     MonthDay,
     /// 2026年
     Year,
+    /// 1月底
+    PartOfMonth,
     /// 2026-01-05
     DashDate,
     /// 2026/1/5
@@ -100,7 +102,16 @@ impl Form {
                 Piece::Slot(Shape::Count),
                 Piece::Fixed(Word::Ri),
             ],
-            Form::Year => &[Piece::Slot(Shape::FullYear), Piece::Fixed(Word::Nian)],
+            Form::PartOfMonth => &[
+                Piece::Slot(Shape::Count),
+                Piece::Fixed(Word::Yue),
+                Piece::Fixed(Word::PartOfMonth),
+            ],
+            Form::Year => &[
+                Piece::Slot(Shape::FullYear),
+                Piece::Fixed(Word::Nian),
+                Piece::NotBefore(Guard::Prime),
+            ],
             Form::DashDate => &[
                 Piece::Slot(Shape::Year),
                 Piece::Fixed(Word::Dash),
@@ -118,9 +129,9 @@ impl Form {
                 Piece::NotBefore(Guard::OfDate),
             ],
             Form::Years => &[
-                Piece::Slot(Shape::Year),
+                Piece::Slot(Shape::FullYear),
                 Piece::Fixed(Word::Link),
-                Piece::Slot(Shape::Year),
+                Piece::Slot(Shape::FullYear),
                 Piece::Fixed(Word::Nian),
             ],
             Form::Months => &[

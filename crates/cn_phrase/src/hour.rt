@@ -53,7 +53,11 @@ fn half_of(text: &str) -> PartOfDay
     } else if is_one_of(&['午'], c) {
         either(is_one_of(&['夜'], d), PartOfDay::Night, PartOfDay::Afternoon)
     } else if is_one_of(&['今', '明', '昨', '当', '當'], c) {
-        either(is_one_of(&['早'], d), PartOfDay::Morning, PartOfDay::Evening)
+        either(
+            is_one_of(&['早', '晨'], d),
+            PartOfDay::Morning,
+            PartOfDay::Evening,
+        )
     } else {
         either(
             is_one_of(&['深', '半', '夜'], c),

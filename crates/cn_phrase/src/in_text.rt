@@ -7,20 +7,20 @@ ghost use Rattle.cn_find.specs.Spans.{in_front, span_of, text_before};
 ghost use Rattle.cn_replace.specs.Chains.{IsPart};
 ghost use Rattle.cn_replace.specs.Pieces.{begins};
 ghost use Rattle.cn_replace.specs.Private.{PutsText};
-ghost use Rattle.cn_phrase.specs.InText.{is_doubtful, is_half, is_of_era, is_of_tenths, is_phrase_included, is_range_included, is_short_half, item_holds, item_text, may_be_years, phrase_new, phrase_text, range_new, text_for_item, text_in_figures};
+ghost use Rattle.cn_phrase.specs.InText.{follows_republic, is_doubtful, is_half, is_minute, is_of_calendar, is_of_era, is_of_old_calendar, is_of_tenths, is_of_year, is_range_doubtful, may_be_decimal, is_phrase_included, is_range_included, is_short_half, item_holds, item_text, may_be_years, phrase_new, phrase_text, range_new, text_for_item, text_in_figures};
 ghost use Rattle.cn_phrase.specs.Items.{item_at, item_of};
 ghost use Rattle.cn_phrase.specs.Phrases.{found_of};
 ghost use Rattle.cn_phrase.specs.Ranges.{ends_of};
 
 use crate::form::Form;
 use crate::items::{Item, item_at, next_item};
-use crate::phrase::Match;
+use crate::phrase::{Lead, Match};
 use crate::piece::{Numbers, Numeral, Progress};
 use crate::range::{Ends, put_range, range_of};
-use crate::word::is_one_of;
+use crate::word::{Word, is_one_of};
 use crate::written::{put_passed, put_pieces};
 use cn_core::{Buffer, ChineseCountMethod, split_first_char};
-use cn_find::{Found, Wanted, is_one_character};
+use cn_find::{Found, Wanted, ends_old_calendar, ends_with_two, is_one_character, is_title_open};
 use cn_replace::chains::put_in_chains;
 use cn_replace::nothing::Nothing;
 use cn_replace::pieces::{CharTest, Figure, any, begins, split_leading};
@@ -66,31 +66,85 @@ impl CharTest for TenOrHundred {
     }
 }
 
-// Whether a date that begins with this text has a year with 十 or 百, and so is one of an era.
-fn is_of_era(form: Form, text: &str) -> bool
-    ensures { result ≡ is_of_era form (chars text.now) }
+fn is_of_year(form: Form) -> bool
+    ensures { result ≡ is_of_year form }
 {
-    match form {
-        Form::YearMonthDay | Form::YearMonth => {
-            let (year, _) = split_leading(Numeral, text);
-            any(TenOrHundred, year)
+    matches!(form, Form::YearMonthDay | Form::YearMonth)
+}
+
+fn is_of_calendar(form: Form) -> bool
+    ensures { result ≡ is_of_calendar form }
+{
+    is_of_year(form) || matches!(form, Form::MonthDay | Form::Year | Form::PartOfMonth)
+}
+
+// Whether a text ends with 民國.
+fn follows_republic(before: &str) -> bool
+    ensures { result ≡ follows_republic (in_front before.now) }
+{
+    ends_with_two(&['國'], &['民'], before)
+}
+
+// Whether a date that begins with this text is one of an era, by its year.
+fn is_of_era(before: &str, form: Form, text: &str) -> bool
+    ensures { result ≡ is_of_era (in_front before.now) form (chars text.now) }
+{
+    let (year, _) = split_leading(Numeral, text);
+    is_of_year(form)
+        && !follows_republic(before)
+        && (any(TenOrHundred, year) || is_one_character(year))
+}
+
+// Whether a date that begins with this text is one of an era, or of the calendar of the moon.
+fn is_of_old_calendar(before: &str, form: Form, text: &str) -> bool
+    ensures { result ≡ is_of_old_calendar (in_front before.now) form (chars text.now) }
+{
+    is_of_era(before, form, text) || (is_of_calendar(form) && ends_old_calendar(before))
+}
+
+fn is_minute(form: Form, lead: Lead) -> bool
+    ensures { result ≡ is_minute form lead }
+{
+    matches!((form, lead), (Form::HourMinute, Lead::Bare))
+}
+
+// Whether a time that begins with this text may be a decimal: its minute is one character.
+fn may_be_decimal(found: Match<'_>, text: &str) -> bool
+    ensures { result ≡ may_be_decimal (found_of found.entry) (chars text.now) }
+{
+    let (_, rest) = split_leading(Numeral, text);
+    match Word::Dian.after(rest) {
+        Some(after) => {
+            let (minute, _) = split_leading(Numeral, after);
+            is_minute(found.form, found.lead) && is_one_character(minute)
         }
-        _ => false,
+        None => false,
     }
 }
 
-/// Whether a phrase that begins with this text may mean something else, or is one of an era.
-pub fn is_doubtful(found: Match<'_>, text: &str) -> bool
-    ensures { result ≡ is_doubtful (found_of found.entry) (chars text.now) }
+/// Whether a phrase that begins with this text, after another text, may mean something else, is a date
+/// of another calendar, or is in a title.
+pub fn is_doubtful(before: &str, found: Match<'_>, text: &str) -> bool
+    ensures { result ≡ is_doubtful (in_front before.now) (found_of found.entry) (chars text.now) }
 {
-    may_be_years(found.form, found.numbers.last, text, found.rest) || is_of_era(found.form, text)
+    may_be_years(found.form, found.numbers.last, text, found.rest)
+        || is_of_old_calendar(before, found.form, text)
+        || may_be_decimal(found, text)
+        || is_title_open(before)
 }
 
-/// Whether a range is one of tenths, before 折 or 成.
-pub fn is_of_tenths(ends: Ends<'_>) -> bool
+// Whether a range is one of tenths, before 折 or 成.
+fn is_of_tenths(ends: Ends<'_>) -> bool
     ensures { result ≡ is_of_tenths (ends_of ends.entry) }
 {
     begins_with(&['折', '成'], ends.high.after)
+}
+
+/// Whether a range is one of tenths, or in a title.
+pub fn is_range_doubtful(ends: Ends<'_>) -> bool
+    ensures { result ≡ is_range_doubtful (ends_of ends.entry) }
+{
+    is_of_tenths(ends) || is_title_open(ends.low.before)
 }
 
 // Whether a form is a half.
@@ -108,12 +162,13 @@ fn is_short_half(form: Form, text: &str) -> bool
     is_half(form) && is_one_character(number)
 }
 
-// Whether a phrase that begins with this text is written in figures.
-fn is_phrase_included(included: Included, found: Match<'_>, text: &str) -> bool
-    ensures { result ≡ is_phrase_included included (found_of found.entry) (chars text.now) }
+// Whether a phrase that begins with this text, after another one, is written in figures.
+fn is_phrase_included(included: Included, before: &str, found: Match<'_>, text: &str) -> bool
+    ensures { result ≡ is_phrase_included included (in_front before.now) (found_of found.entry)
+        (chars text.now) }
 {
     found.form.value(found.numbers).is_some()
-        && (included.doubtful || !is_doubtful(found, text))
+        && (included.doubtful || !is_doubtful(before, found, text))
         && (included.one_character || !is_short_half(found.form, text))
 }
 
@@ -121,7 +176,8 @@ fn is_phrase_included(included: Included, found: Match<'_>, text: &str) -> bool
 fn is_range_included(included: Included, ends: Ends<'_>) -> bool
     ensures { result ≡ is_range_included included (ends_of ends.entry) }
 {
-    range_of(ends.low.text, ends.high.text).is_some() && (included.doubtful || !is_of_tenths(ends))
+    range_of(ends.low.text, ends.high.text).is_some()
+        && (included.doubtful || !is_range_doubtful(ends))
 }
 
 // Writes a phrase that begins with this text, with its numbers in figures.
@@ -153,13 +209,14 @@ fn put_phrase<S: Sink>(sink: &mut S, found: Match<'_>, text: &str) -> Result<(),
 fn put_included<S: Sink>(
     sink: &mut S,
     included: Included,
+    before: &str,
     found: Match<'_>,
     text: &str,
 ) -> Result<bool, S::Error>
     ensures { IfOk result (PutsText S.took sink.old sink.new
-        (phrase_new included (found_of found.entry) (chars text.now))) }
+        (phrase_new included (in_front before.now) (found_of found.entry) (chars text.now))) }
 {
-    if !is_phrase_included(included, found, text) {
+    if !is_phrase_included(included, before, found, text) {
         return Ok(false);
     }
     put_phrase(sink, found, text)?;
@@ -192,6 +249,15 @@ pub fn text_from<'a>(whole: &'a str, part: Found<'_>) -> &'a str
     text
 }
 
+/// The item that a part of a text is.
+pub fn item_for<'a>(whole: &'a str, part: Found<'_>, wanted: Wanted) -> Option<Item<'a>>
+    requires { IsPart whole.now (span_of part) }
+    ensures { option_map item_of result ≡ item_at wanted (in_front part.entry.before.now)
+        (chars (part.entry.text.now ++ part.entry.after.now)) }
+{
+    item_at(whole, text_from(whole, part), wanted)
+}
+
 /// The phrases and expressions of a text, which are written in figures.
 #[derive(Debug, Copy, Clone)]
 pub struct InText {
@@ -216,7 +282,7 @@ impl InText {
         let included = self.replacement.figures.included;
         match item {
             None => Ok(false),
-            Some(Item::Phrase(found)) => put_included(sink, included, found, text),
+            Some(Item::Phrase(found)) => put_included(sink, included, part.before, found, text),
             Some(Item::Range(ends)) => put_range_included(sink, included, ends),
             Some(Item::Expression(_)) => self.replacement.put_known(part, sink),
         }
@@ -224,23 +290,32 @@ impl InText {
 
     // Writes the new text of an item, and returns whether it has one. If not, anything may have been
     // written.
-    fn put_item<S: Sink>(self, sink: &mut S, whole: &str, part: Found<'_>) -> Result<bool, S::Error>
-        requires { IsPart whole.now (span_of part) }
+    fn put_item<S: Sink>(
+        self,
+        sink: &mut S,
+        whole: &str,
+        part: Found<'_>,
+        item: Option<Item<'_>>,
+    ) -> Result<bool, S::Error>
+        requires part { IsPart whole.now (span_of part) }
+        requires item { option_map item_of item ≡ item_at self.wanted (in_front part.before.now)
+            (chars (part.text.now ++ part.after.now)) }
         ensures { IfOk result (PutsText S.took sink.old sink.new
             (text_for_item self.replacement.method self.replacement.figures self.wanted
             (span_of part.entry))) }
     {
-        let text = text_from(whole, part);
-        self.put_known(sink, part, text, item_at(whole, text, self.wanted))
+        self.put_known(sink, part, text_from(whole, part), item)
     }
 
     // Whether an item has a new text.
-    fn is_new(self, whole: &str, part: Found<'_>) -> bool
-        requires { IsPart whole.now (span_of part) }
+    fn is_new(self, whole: &str, part: Found<'_>, item: Option<Item<'_>>) -> bool
+        requires part { IsPart whole.now (span_of part) }
+        requires item { option_map item_of item ≡ item_at self.wanted (in_front part.before.now)
+            (chars (part.text.now ++ part.after.now)) }
         ensures { result ≡ is_some (text_for_item self.replacement.method self.replacement.figures
             self.wanted (span_of part.entry)) }
     {
-        match self.put_item(&mut Nothing {}, whole, part) {
+        match self.put_item(&mut Nothing {}, whole, part, item) {
             Ok(is_new) => is_new,
             Err(never) => match never {},
         }
@@ -263,7 +338,7 @@ impl Rewriting for InText {
 
     #[tactic(auto, unfolding(crate::specs::InText::item_holds))]
     fn holds_others(self, whole: &str, part: Found<'_>) -> bool {
-        !any(Figure, part.text) && !self.is_new(whole, part)
+        !any(Figure, part.text) && !self.is_new(whole, part, item_for(whole, part, self.wanted))
     }
 
     fn put_new<S: Sink>(
@@ -272,10 +347,11 @@ impl Rewriting for InText {
         whole: &str,
         part: Found<'_>,
     ) -> Result<bool, S::Error> {
-        if !self.is_new(whole, part) {
+        let item = item_for(whole, part, self.wanted);
+        if !self.is_new(whole, part, item) {
             return Ok(false);
         }
-        self.put_item(sink, whole, part)
+        self.put_item(sink, whole, part, item)
     }
 }
 

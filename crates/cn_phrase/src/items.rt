@@ -2,18 +2,23 @@
 ghost use Rattle.std.specs.Prelude.{◌≡◌, ◌++◌, ◌∷◌, [], ◌↔◌, chars, drop, IsCharBoundary, IsSome, MatchOption, IfSome};
 ghost use Rattle.std.specs.Iterator.{YieldsFirstBy, item_count};
 ghost use Rattle.std.specs.Option.{option_map};
+ghost use Rattle.cn_core.specs.Mark.{mark_of};
 ghost use Rattle.cn_find.specs.Expressions.{expression_rule};
 ghost use Rattle.cn_find.specs.Spans.{IsPartOf, in_front, run_after, span_of, text_before};
+ghost use Rattle.cn_judge.specs.Marked.{marked};
 ghost use Rattle.cn_replace.specs.Chains.{IsPart};
+ghost use Rattle.cn_replace.specs.Pieces.{begins};
 ghost use Rattle.cn_phrase.specs.Between.{part_between};
 ghost use Rattle.cn_phrase.specs.Items.{ends_whole, item_at, item_of, item_rest, items, items_left, rest_of, whole_phrase};
 ghost use Rattle.cn_phrase.specs.Phrases.{found_of};
+ghost use Rattle.cn_phrase.specs.Private.{may_be_first};
 ghost use Rattle.cn_phrase.specs.Ranges.{ends_of, linked, range_from};
 
-use crate::phrase::{Match, phrase_at};
+use crate::phrase::{Match, may_lead, phrase_at};
 use crate::range::{Ends, is_link, is_range};
-use cn_core::split_first_char;
-use cn_find::{Found, Wanted, expression_after};
+use cn_core::{is_figure, split_first_char};
+use cn_find::{Found, Wanted, expression_after, is_extra};
+use cn_judge::{Mark, split_first_mark};
 use cn_replace::pieces::split_nearest;
 use std::marker::Model;
 
@@ -158,12 +163,37 @@ pub fn item_at<'a>(whole: &'a str, ahead: &'a str, wanted: Wanted) -> Option<Ite
     }
 }
 
+// Whether an item can begin with a character: most fail this quick test.
+fn may_be_first(c: char, mark: Mark) -> bool
+    requires { marked mark ≡ mark_of c }
+    ensures { result ≡ may_be_first c }
+{
+    match mark {
+        Mark::Other => is_figure(c) || is_extra(c) || may_lead(c),
+        _ => true,
+    }
+}
+
+// Whether an item can begin with a text.
+fn may_begin(text: &str) -> bool
+    ensures { result ≡ begins may_be_first (chars text.now) }
+{
+    match split_first_mark(text) {
+        Some((c, mark, _)) => may_be_first(c, mark),
+        None => false,
+    }
+}
+
 // The text after the item that begins with a suffix of a text.
+#[tactic(auto, using(crate::proofs::ItemBeginnings::no_item_begins))]
 fn item_rest<'a>(whole: &'a str, ahead: &'a str, wanted: Wanted) -> Option<&'a str>
     requires { text_before whole.now ahead.now ++ ahead.now ≡ whole.now }
     ensures { option_map (λ rest. chars rest.now) result
         ≡ item_rest wanted (in_front (text_before whole.now ahead.now)) (chars ahead.now) }
 {
+    if !may_begin(ahead) {
+        return None;
+    }
     match item_at(whole, ahead, wanted) {
         Some(item) => Some(item.rest()),
         None => None,

@@ -17,6 +17,6 @@ mod written;
 
 pub use described::{Described, PhraseKind, PhraseNumbers, PhraseState, describe_phrase};
 pub use hour::{PartOfDay, hour_of_day};
-pub use in_text::{InText, is_doubtful, is_of_tenths, put_text_in_figures, text_to_figures};
+pub use in_text::{InText, is_doubtful, is_range_doubtful, put_text_in_figures, text_to_figures};
 pub use shape::Shape;
 pub use word::Word;

@@ -1,19 +1,20 @@
 // The phrase that begins at a place of a text.
-ghost use Rattle.std.specs.Prelude.{◌≡◌, chars};
+ghost use Rattle.std.specs.Prelude.{◌≡◌, chars, codes};
 ghost use Rattle.std.specs.Char.{char_set_contains};
 ghost use Rattle.std.specs.Option.{option_map};
 ghost use Rattle.cn_find.specs.Spans.{in_front};
 ghost use Rattle.cn_replace.specs.Pieces.{begins};
 ghost use Rattle.cn_phrase.specs.declared.phrase.Lead.TheVariants.{Bare, HalfDay, Weekday};
-ghost use Rattle.cn_phrase.specs.Private.{is_second, may_begin, may_lead};
-ghost use Rattle.cn_phrase.specs.Phrases.{after_lead, all_forms, clock_forms, follows_link, form_read, found_of, further, furthest, goes_on_with_hour, is_blank, is_linked_hour, is_name, is_phrase, is_shorter, may_be_alone, phrase_at, phrase_read, refused_before};
+ghost use Rattle.cn_phrase.specs.Private.{forms_at, forms_with, may_lead};
+ghost use Rattle.cn_phrase.specs.Phrases.{after_lead, all_forms, clock_forms, follows_day, follows_link, follows_weekday, form_read, found_of, further, furthest, goes_on_with_hour, is_blank, is_linked_hour, is_name, is_phrase, is_shorter, may_be_alone, phrase_at, phrase_read, refused_before};
 
 use crate::form::Form;
 use crate::piece::{Numbers, Numeral, Progress, read_pieces, without_blank};
 use crate::range::is_link;
 use crate::word::{Word, is_one_of};
 use cn_core::split_first_char;
-use cn_replace::pieces::{Figure, begins, ends, split_leading, split_nearest};
+use cn_find::ends_with_two;
+use cn_replace::pieces::{CharTest, Figure, begins, ends, split_leading, split_nearest};
 
 /// What is before the first number of a phrase.
 #[derive(Debug, Copy, Clone, PartialEq, Eq)]
@@ -133,22 +134,46 @@ fn goes_on_with_hour(rest: &str) -> bool
     }
 }
 
-// Whether an hour by itself is a time: it is after a day, or linked to another time.
-fn is_linked_hour(before: &str, rest: &str) -> bool
-    ensures { result ≡ is_linked_hour (in_front before.now) (chars rest.now) }
+// Whether a text ends with a day such as 明天.
+fn follows_day(before: &str) -> bool
+    ensures { result ≡ follows_day (in_front before.now) }
 {
-    ends_with(&['日', '号', '號'], before)
+    match split_nearest(before) {
+        Some((c, front)) => {
+            is_one_of(&['天'], c) && ends_with(&['今', '明', '昨', '后', '後', '前', '当', '當', '每'], front)
+        }
+        None => false,
+    }
+}
+
+// Whether a text begins with 钟.
+fn begins_clock(rest: &str) -> bool
+    ensures { result ≡ begins (λ c. char_set_contains (codes "钟鐘") c) (chars rest.now) }
+{
+    match split_first_char(rest) {
+        Some((c, _)) => is_one_of(&['钟', '鐘'], c),
+        None => false,
+    }
+}
+
+// Whether an hour by itself is a time: it is after a day, or linked to another time, or 钟 is after it.
+fn is_linked_hour(hour: u16, before: &str, rest: &str) -> bool
+    ensures { result ≡ is_linked_hour hour (in_front before.now) (chars rest.now) }
+{
+    begins_clock(rest)
+        || ends_with(&['日', '号', '號'], before)
+        || (follows_day(before) && hour != 1)
         || follows_link(&['点', '點', '时', '時', '半', '分', '刻'], before)
         || goes_on_with_hour(rest)
 }
 
 // Whether a form by itself is a phrase, between these texts.
-fn may_be_alone(form: Form, before: &str, rest: &str) -> bool
-    ensures { result ≡ may_be_alone form (in_front before.now) (chars rest.now) }
+fn may_be_alone(form: Form, last: u16, before: &str, rest: &str) -> bool
+    ensures { result ≡ may_be_alone form last (in_front before.now) (chars rest.now) }
 {
     match form {
         Form::LinkedMonth | Form::LinkedDay => follows_link(&['月', '日', '号', '號'], before),
-        Form::HourAlone => is_linked_hour(before, rest),
+        Form::HourAlone => is_linked_hour(last, before, rest),
         Form::HourZero => false,
         _ => true,
     }
@@ -164,6 +189,35 @@ fn ends_with_name(before: &str) -> bool
     }
 }
 
+// A character with which a number ends.
+#[derive(Copy, Clone)]
+struct NumberEnd;
+
+impl CharTest for NumberEnd {
+    ghost use Rattle.cn_phrase.specs.Phrases.{is_number_end};
+
+    ghost test = { λ _. is_number_end };
+
+    fn passes(self, c: char) -> bool {
+        Numeral.passes(c) || is_one_of(&['千', '仟', '万', '萬', '亿', '億'], c)
+    }
+}
+
+// Whether a text ends with a weekday.
+fn follows_weekday(before: &str) -> bool
+    ensures { result ≡ follows_weekday (in_front before.now) }
+{
+    match split_nearest(before) {
+        Some((c, front)) => {
+            is_one_of(&['一', '二', '三', '四', '五', '六'], c)
+                && (ends_with(&['周', '週'], front)
+                    || ends_with_two(&['期'], &['星'], front)
+                    || ends_with_two(&['拜'], &['礼', '禮'], front))
+        }
+        None => false,
+    }
+}
+
 // Whether a form that was read is a phrase, after this text.
 fn is_phrase(before: &str, found: Match<'_>) -> bool
     ensures { result ≡ is_phrase (in_front before.now) (found_of found.entry) }
@@ -172,9 +226,9 @@ fn is_phrase(before: &str, found: Match<'_>) -> bool
         return true;
     }
     !ends_with_name(before)
-        && !ends(Numeral, before)
+        && (!ends(NumberEnd, before) || follows_weekday(before))
         && !ends_with(refused_before(found.form), before)
-        && may_be_alone(found.form, before, found.rest)
+        && may_be_alone(found.form, found.numbers.last, before, found.rest)
 }
 
 // The forms of times of day.
@@ -191,45 +245,6 @@ fn clock_forms() -> &'static [Form]
         Form::ColonSecond,
         Form::ColonMinute,
         Form::HourAlone,
-    ]
-}
-
-// All forms, in the order of the table.
-fn all_forms() -> &'static [Form]
-    ensures { result.now ≡ all_forms }
-{
-    &[
-        Form::YearMonthDay,
-        Form::YearMonth,
-        Form::MonthDay,
-        Form::Year,
-        Form::DashDate,
-        Form::SlashDate,
-        Form::Years,
-        Form::Months,
-        Form::MonthsTwice,
-        Form::Days,
-        Form::DaysTwice,
-        Form::LinkedMonth,
-        Form::LinkedDay,
-        Form::HourMinuteSecond,
-        Form::HourMinute,
-        Form::HourBare,
-        Form::HourZero,
-        Form::HourHalf,
-        Form::HourQuarter,
-        Form::ColonSecond,
-        Form::ColonMinute,
-        Form::HourAlone,
-        Form::HoursMinutesSeconds,
-        Form::HoursMinutes,
-        Form::MinutesSeconds,
-        Form::HalfOf,
-        Form::HalfAfter,
-        Form::LengthOne,
-        Form::LengthTwo,
-        Form::Score,
-        Form::ColonScore,
     ]
 }
 
@@ -285,87 +300,72 @@ fn furthest<'a>(before: &str, text: &'a str, lead: Lead, forms: &[Form]) -> Opti
     best
 }
 
-// Whether a form can begin with a text.
-#[tactic(auto, unfolding(crate::specs::Private::is_second))]
-fn is_second(c: char) -> bool
-    ensures { result ≡ is_second c }
+// The forms whose first word can begin with a character.
+#[tactic(auto, unfolding(crate::specs::Private::forms_with))]
+fn forms_with(c: char) -> &'static [Form]
+    ensures { result.now ≡ forms_with c }
 {
-    matches!(
-        c,
-        '年' | '月'
-            | '日'
-            | '号'
-            | '號'
-            | '点'
-            | '點'
-            | '时'
-            | '時'
-            | '分'
-            | ':'
-            | '：'
-            | '-'
-            | '/'
-            | '到'
-            | '至'
-            | '~'
-            | '～'
-            | '－'
-            | '–'
-            | '—'
-            | '〜'
-            | '比'
-            | '个'
-            | '個'
-            | '小'
-            | '钟'
-            | '鐘'
-            | '天'
-            | '周'
-            | '週'
-            | '岁'
-            | '歲'
-            | '斤'
-            | '里'
-            | '吨'
-            | '噸'
-            | '倍'
-            | '米'
-            | '度'
-            | '秒'
-    )
-}
-
-// Whether a character that can come after the first number of a form is next.
-fn begins_second(text: &str) -> bool
-    ensures { result ≡ begins is_second (chars text.now) }
-{
-    match split_first_char(text) {
-        Some((c, _)) => is_second(c),
-        None => false,
+    match c {
+        '年' => &[
+            Form::YearMonthDay,
+            Form::YearMonth,
+            Form::Year,
+            Form::HalfAfter,
+        ],
+        '月' => &[
+            Form::MonthDay,
+            Form::PartOfMonth,
+            Form::MonthsTwice,
+            Form::LinkedMonth,
+        ],
+        '日' | '号' | '號' => &[Form::DaysTwice, Form::LinkedDay],
+        '点' | '點' => &[
+            Form::HourMinuteSecond,
+            Form::HourMinute,
+            Form::HourBare,
+            Form::HourZero,
+            Form::HourHalf,
+            Form::HourQuarter,
+            Form::HourAlone,
+        ],
+        '时' | '時' => &[Form::HourMinuteSecond, Form::HourMinute, Form::HourAlone],
+        ':' | '：' => &[Form::ColonSecond, Form::ColonMinute, Form::ColonScore],
+        '-' => &[Form::DashDate, Form::Years, Form::Months, Form::Days],
+        '/' => &[Form::SlashDate],
+        '到' | '至' => &[Form::Years, Form::Months, Form::Days],
+        '~' | '～' | '－' | '–' | '—' | '〜' => &[Form::Years, Form::Months, Form::Days],
+        '个' | '個' => &[Form::HoursMinutesSeconds, Form::HoursMinutes, Form::HalfOf],
+        '小' | '钟' | '鐘' => &[Form::HoursMinutesSeconds, Form::HoursMinutes],
+        '分' => &[Form::MinutesSeconds],
+        '天' | '周' | '週' | '岁' | '歲' | '斤' | '里' | '吨' | '噸' | '倍' => &[Form::HalfAfter],
+        '米' | '度' => &[Form::HalfAfter, Form::LengthOne, Form::LengthTwo],
+        '秒' => &[Form::LengthOne, Form::LengthTwo],
+        '比' => &[Form::Score],
+        _ => &[],
     }
 }
 
-// Whether a form can begin with a text: most texts fail this quick test.
-fn may_begin(text: &str) -> bool
-    ensures { result ≡ may_begin (chars text.now) }
+// The forms that can begin with a text, by the character after its first number.
+fn forms_at(text: &str) -> &'static [Form]
+    ensures { result.now ≡ forms_at (chars text.now) }
 {
     if !begins(Numeral, text) {
-        return false;
+        return &[];
     }
     let (_, rest) = split_leading(Numeral, text);
-    begins_second(without_blank(begins(Figure, text), rest))
+    match split_first_char(without_blank(begins(Figure, text), rest)) {
+        Some((c, _)) => forms_with(c),
+        None => &[],
+    }
 }
 
 // The furthest of all forms without a word before them.
+#[tactic(auto, using(crate::proofs::Beginnings::no_others_begin))]
 fn bare_at<'a>(before: &str, text: &'a str) -> Option<Match<'a>>
     ensures { option_map found_of result
         ≡ furthest (in_front before.now) (chars text.now) Bare all_forms }
 {
-    if may_begin(text) {
-        furthest(before, text, Lead::Bare, all_forms())
-    } else {
-        None
-    }
+    furthest(before, text, Lead::Bare, forms_at(text))
 }
 
 // The furthest of the forms of times of day after a word.
@@ -380,9 +380,9 @@ fn led_at<'a>(before: &str, text: &'a str, lead: Lead) -> Option<Match<'a>>
     }
 }
 
-// Whether a character can begin a word of half a day or a weekday.
+/// Whether a character can begin a word of half a day or a weekday.
 #[tactic(auto, unfolding(crate::specs::Private::may_lead))]
-fn may_lead(c: char) -> bool
+pub fn may_lead(c: char) -> bool
     ensures { result ≡ may_lead c }
 {
     matches!(

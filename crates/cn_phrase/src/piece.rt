@@ -4,7 +4,7 @@ ghost use Rattle.std.specs.Char.{char_set_contains};
 ghost use Rattle.std.specs.Option.{option_map};
 ghost use Rattle.cn_replace.specs.Pieces.{begins, leading};
 ghost use Rattle.cn_phrase.specs.Shapes.{value_of};
-ghost use Rattle.cn_phrase.specs.Pieces.{is_numeral, piece_read, pieces_read, reading_of, is_refused, refused_by, slot_read, with_number, without_blank};
+ghost use Rattle.cn_phrase.specs.Pieces.{is_numeral, piece_read, pieces_read, reading_of, refused_by, refuses, is_numerator, slot_read, with_number, without_blank};
 
 use crate::shape::Shape;
 use crate::word::{Word, is_one_of};
@@ -16,9 +16,11 @@ use cn_replace::pieces::{CharTest, Figure, begins, split_leading};
 pub enum Guard {
     /// 初: the month is one of the moon.
     Lunar,
+    /// 华: 二八年华 is a word.
+    Prime,
     /// What goes on with a date in figures.
     OfDate,
-    /// 之, 钟: 分 is a share, or 分钟 a duration.
+    /// 钟, or 之 and a number: 分钟 is a duration, and 分 begins a share.
     Share,
     /// What does not follow a minute: the number was a decimal, or goes on.
     MoreMinutes,
@@ -43,7 +45,8 @@ impl Guard {
         match self {
             Guard::Lunar => &['初'],
             Guard::OfDate => &['-', '/', '.', ':'],
-            Guard::Share => &['之', '钟', '鐘'],
+            Guard::Prime => &['华', '華'],
+            Guard::Share => &['钟', '鐘'],
             Guard::MoreMinutes => &[
                 '分', '几', '幾', '多', '元', '米', '度', '倍', '吨', '噸', '克', '升', '%', '％', '‰', '万',
                 '萬', '亿', '億', '千',
@@ -51,7 +54,10 @@ impl Guard {
             Guard::OfClock => &[':', '：', '.'],
             Guard::OfHalf => &['载', '載', '夜', '天', '年'],
             Guard::OfLength => &[
-                '年', '月', '日', '点', '點', '人', '个', '個', '分', '秒', '米', '度', '几', '幾', '多',
+                '年', '月', '日', '点', '點', '人', '个', '個', '分', '秒', '米', '度', '几', '幾', '多', '重',
+                '層', '层', '关', '關', '种', '種', '次', '间', '間', '位', '条', '條', '名', '项', '項', '只',
+                '隻', '元', '块', '塊', '倍', '级', '級', '楼', '樓', '座', '套', '台', '臺', '辆', '輛', '张',
+                '張', '本', '天', '周', '週', '岁', '歲', '斤', '里',
             ],
             Guard::OfScore => &['点', '點', '.', '年', '月', '日', '万', '萬', '千', '亿', '億'],
             Guard::Name => &['_'],
@@ -59,15 +65,27 @@ impl Guard {
     }
 
     // Whether the text begins with what may not come next.
-    fn begins(self, text: &str) -> bool
-        ensures { result ≡ begins (λ c. is_refused self c) (chars text.now) }
+    fn refuses(self, text: &str) -> bool
+        ensures { result ≡ refuses self (chars text.now) }
     {
         match split_first_char(text) {
-            Some((c, _)) => {
-                is_one_of(self.refused(), c) || (self == Guard::Name && c.is_ascii_alphabetic())
+            Some((c, rest)) => {
+                is_one_of(self.refused(), c)
+                    || (self == Guard::Name && c.is_ascii_alphabetic())
+                    || (self == Guard::Share && is_one_of(&['之'], c) && begins_numerator(rest))
             }
             None => false,
         }
+    }
+}
+
+// Whether the text begins with the numerator of a share, such as 二 of 五分之二.
+fn begins_numerator(text: &str) -> bool
+    ensures { result ≡ begins is_numerator (chars text.now) }
+{
+    match split_first_char(text) {
+        Some((c, _)) => Numeral.passes(c) || is_one_of(&['几', '幾'], c),
+        None => false,
     }
 }
 
@@ -196,7 +214,7 @@ impl Piece {
                 })
             }
             Piece::NotBefore(guard) => {
-                if guard.begins(progress.rest) {
+                if guard.refuses(progress.rest) {
                     None
                 } else {
                     Some(progress)

@@ -2,9 +2,11 @@
 ghost use Rattle.std.specs.Prelude.{◌≡◌, ◌==◌, ◌<◌, ◌∷◌, ◌+◌, ◌*◌, [], ℕ, Option, None, Some, chars, if◌then◌else◌, IfSome};
 ghost use Rattle.std.specs.Option.{option_and_then};
 ghost use Rattle.cn_core.specs.FigureCharacters.{figure_of};
-ghost use Rattle.cn_phrase.specs.Shapes.{after_hundred, are_about, chinese_digit, clock_of, count_of, counting_digit, digit_alone_of, era_year_of, few_figures_of, four_digits, full_year_of, hundred_of, hundreds, is_hundred, is_ten, is_zero, long_count_of, short_year_of, small_of, three_figures_of, two_alone_of, two_digits, two_of, value_of, year_of, zero_digit_of};
+ghost use Rattle.cn_phrase.specs.Shapes.{after_hundred, are_about, chinese_digit, clock_of, count_of, counting_digit, digit_alone_of, era_year_of, few_figures_of, four_digits, full_year_of, has_later_two, hundred_of, hundreds, is_hundred, is_ten, is_zero, long_count_of, number_of, short_year_of, small_of, three_figures_of, two_alone_of, two_digits, two_of, value_of, year_of, zero_digit_of};
 
+use crate::word::is_one_of;
 use cn_core::{digit_of, figure_of, split_first_char};
+use cn_replace::pieces::{CharTest, any};
 
 /// What a number in a slot of a phrase can be.
 #[derive(Debug, Copy, Clone, PartialEq, Eq)]
@@ -419,10 +421,45 @@ fn few_figures_of(text: &str) -> Option<u8>
     }
 }
 
+// 两, with which a number can only begin.
+#[derive(Copy, Clone)]
+struct Two;
+
+impl CharTest for Two {
+    ghost use Rattle.cn_phrase.specs.Shapes.{is_two};
+
+    ghost test = { λ _. is_two };
+
+    fn passes(self, c: char) -> bool {
+        is_one_of(&['两', '兩'], c)
+    }
+}
+
+// Whether 两 is after the first character of a text.
+fn has_later_two(text: &str) -> bool
+    ensures { result ≡ has_later_two (chars text.now) }
+{
+    match split_first_char(text) {
+        Some((_, rest)) => any(Two, rest),
+        None => false,
+    }
+}
+
 impl Shape {
-    /// The number of a text, if it has this shape.
+    /// The number of a text, if it has this shape and 两 is at most its first character.
     pub fn value_of(self, text: &str) -> Option<u16>
         ensures { result ≡ value_of self (chars text.now) }
+    {
+        if has_later_two(text) {
+            None
+        } else {
+            self.number_of(text)
+        }
+    }
+
+    // The number of a text of this shape.
+    fn number_of(self, text: &str) -> Option<u16>
+        ensures { result ≡ number_of self (chars text.now) }
     {
         match self {
             Shape::Year => year_of(text),

@@ -181,7 +181,11 @@ impl Form {
             Form::MonthDay => date_of(None, 0, n.second, n.last),
             Form::YearMonth => Some(part_of_date(Some(n.second), Some(month_of(n.last)?), None)),
             Form::Year => Some(part_of_date(Some(n.last), None, None)),
-            Form::LinkedMonth => Some(part_of_date(None, Some(month_of(n.last)?), None)),
+            Form::LinkedMonth | Form::PartOfMonth => Some(part_of_date(
+                None,
+                Some(month_of(n.last)?),
+                None,
+            )),
             Form::LinkedDay => Some(part_of_date(None, None, Some(within(1, 31, n.last)?))),
             Form::Years => years_of(n.second, n.last),
             Form::Months | Form::MonthsTwice => months_of(n.second, n.last),

@@ -2,7 +2,7 @@
 ghost use Rattle.std.specs.Prelude.{◌≡◌, chars};
 ghost use Rattle.std.specs.Char.{char_set_contains};
 ghost use Rattle.std.specs.Option.{option_map};
-ghost use Rattle.cn_phrase.specs.Words.{after_any, after_early, after_half_day, after_halved, after_hour_word, after_one, after_two, after_week, after_weekday, after_with_zhong, after_word};
+ghost use Rattle.cn_phrase.specs.Words.{after_any, after_beginning, after_early, after_half_day, after_halved, after_hour_word, after_one, after_part_of_month, after_two, after_week, after_weekday, after_with_zhong, after_word};
 
 use cn_core::split_first_char;
 
@@ -49,6 +49,8 @@ pub enum Word {
     HalfOf,
     /// A unit and 半, such as 年半
     HalfAfter,
+    /// A part of a month, such as 底
+    PartOfMonth,
     /// A word of half a day, such as 下午
     HalfDay,
     /// A weekday, such as 周五
@@ -149,7 +151,7 @@ fn after_half_day(text: &str) -> Option<&str>
     if let Some(rest) = after_two(&['傍'], &['晚'], text) {
         return Some(rest);
     }
-    if let Some(rest) = after_two(&['今', '明', '昨', '当', '當'], &['早', '晚'], text) {
+    if let Some(rest) = after_two(&['今', '明', '昨', '当', '當'], &['早', '晚', '晨'], text) {
         return Some(rest);
     }
     if let Some(rest) = after_two(&['深', '半', '午'], &['夜'], text) {
@@ -165,6 +167,31 @@ fn after_half_day(text: &str) -> Option<&str>
         return Some(rest);
     }
     after_early(text)
+}
+
+// The text after 初, but not before a day of the moon's calendar, such as 初三.
+fn after_beginning(text: &str) -> Option<&str>
+    ensures { option_map (λ rest. chars rest.now) result ≡ after_beginning (chars text.now) }
+{
+    let rest = after_one(&['初'], text)?;
+    if after_one(&['一', '二', '三', '四', '五', '六', '七', '八', '九', '十'], rest).is_some() {
+        None
+    } else {
+        Some(rest)
+    }
+}
+
+// The text after a part of a month.
+fn after_part_of_month(text: &str) -> Option<&str>
+    ensures { option_map (λ rest. chars rest.now) result ≡ after_part_of_month (chars text.now) }
+{
+    if let Some(rest) = after_one(&['底', '份', '末'], text) {
+        return Some(rest);
+    }
+    if let Some(rest) = after_two(&['上', '中', '下'], &['旬'], text) {
+        return Some(rest);
+    }
+    after_beginning(text)
 }
 
 // The text after 周, 星期 or 礼拜.
@@ -230,6 +257,7 @@ impl Word {
                 &['半'],
                 text,
             ),
+            Word::PartOfMonth => after_part_of_month(text),
             Word::HalfDay => after_half_day(text),
             Word::Weekday => after_weekday(text),
         }

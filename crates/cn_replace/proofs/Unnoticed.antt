@@ -1,6 +1,6 @@
 -- An expression sees no further than a character that is neither named nor noticed: its new text is
 -- the same as where the text ends at that character, or begins after it.
-use Rattle.std.proofs.Common.{◌≡◌, ℕ, Bool, true, false, ◌||◌, ◌==◌, List, [], ◌∷◌, ◌++◌, reverse, chars, codes, encode_utf8_all, Option, Some, None, is_some, if◌then◌else◌, refl, ap}
+use Rattle.std.proofs.Common.{◌≡◌, ℕ, ◌-◌, Bool, true, false, ◌&&◌, ◌||◌, ◌==◌, List, [], ◌∷◌, ◌++◌, reverse, chars, codes, encode_utf8_all, Option, Some, None, is_some, if◌then◌else◌, refl, ap}
 use Rattle.std.specs.Char.{char_set_contains, is_ascii_alphabetic}
 use Rattle.std.proofs.Math.Bool.{and-false}
 use Rattle.cn_core.specs.declared.method.ChineseCountMethod.{ChineseCountMethod}
@@ -16,7 +16,7 @@ use Rattle.cn_find.specs.Spans.{Span}
 use Rattle.cn_find.specs.Belongs.{begins_with}
 use Rattle.cn_find.specs.Parting.{is_named}
 use Rattle.cn_find.specs.Ranges.{amount_of, are_ends, is_end_of_range, is_first_end, is_of_amount, is_range_link, is_second_end}
-use Rattle.cn_find.specs.Words.{is_of_word}
+use Rattle.cn_find.specs.Words.{begins_word, ends_era, ends_word, is_of_title, is_title_open}
 use Rattle.cn_find.proofs.Extra.{neither}
 use Rattle.cn_find.proofs.Unwanted.{outside}
 use Rattle.cn_replace.specs.declared.options.Figures.{Figures}
@@ -55,10 +55,11 @@ IsUnseen-of c unnamed unnoticed =
     }
 
 -- a doubt by the characters before an expression, the nearest first, and those after it
-abbrev doubt-by : List ℕ → List ℕ → List ℕ → Bool → Option Doubt
-doubt-by front text after is_end =
+abbrev doubt-by : Bool → List ℕ → List ℕ → List ℕ → Bool → Option Doubt
+doubt-by in_title front text after is_end =
     if is_part text after then Some Part
-    else (if is_of_word front text after then Some Word
+    else (if ends_word front text || ((in_title || (begins_with (codes "年") after && ends_era front))
+    || begins_word text after) then Some Word
     else (if is_doubtful_list front text after then Some Digits
     else (if is_term text after then Some Term
     else (if is_time front text after then Some Time
@@ -66,20 +67,34 @@ doubt-by front text after is_end =
 
 -- such a character, and any others further away
 module _ (c : ℕ) (u : IsUnseen c) (more : List ℕ) where
-  doubt-after : (front text : List ℕ) (is_end : Bool) (xs : List ℕ)
-      → doubt-by front text (xs ++ c ∷ more) is_end ≡ doubt-by front text xs is_end
+  doubt-after : (in_title : Bool) (front text : List ℕ) (is_end : Bool) (xs : List ℕ)
+      → doubt-by in_title front text (xs ++ c ∷ more) is_end ≡ doubt-by in_title front text xs is_end
   unfolding is_named is_noticed is_han digit_of
-  doubt-after front text is_end [] = simp (u.other)
-  doubt-after front text is_end (x ∷ []) = simp (u.other, and-false)
-  doubt-after front text is_end (x ∷ y ∷ []) = simp (u.other, and-false)
-  doubt-after front text is_end (x ∷ y ∷ z ∷ xs) = refl
+  doubt-after in_title front text is_end [] = simp (u.other)
+  doubt-after in_title front text is_end (x ∷ []) = simp (u.other, and-false)
+  doubt-after in_title front text is_end (x ∷ y ∷ []) = simp (u.other, and-false)
+  doubt-after in_title front text is_end (x ∷ y ∷ z ∷ xs) = refl
 
-  doubt-before : (text after : List ℕ) (is_end : Bool) (xs : List ℕ)
-      → doubt-by (xs ++ c ∷ more) text after is_end ≡ doubt-by xs text after is_end
+  doubt-before : (in_title : Bool) (text after : List ℕ) (is_end : Bool) (xs : List ℕ)
+      → doubt-by in_title (xs ++ c ∷ more) text after is_end ≡ doubt-by in_title xs text after is_end
   unfolding is_named is_noticed is_han
-  doubt-before text after is_end [] = simp (u.other)
-  doubt-before text after is_end (x ∷ []) = simp (u.other)
-  doubt-before text after is_end (x ∷ y ∷ xs) = refl
+  doubt-before in_title text after is_end [] = simp (u.other, and-false)
+  doubt-before in_title text after is_end (x ∷ []) = simp (u.other, and-false)
+  doubt-before in_title text after is_end (x ∷ y ∷ xs) = refl
+
+  no-title : (n : ℕ) → is_title_open n (c ∷ more) ≡ false
+  unfolding is_named is_noticed is_han is_extra is_tens tens_of digit_of binds_minus
+  no-title n = by (n == 0) where
+    by : (b : Bool) → (if b then false else (if char_set_contains (codes "《") c then true
+        else (if is_of_title c then is_title_open (n - 1) more else false))) ≡ false
+    by true = refl
+    by false = simp (u.other, u.han, u.figure, u.letter)
+
+  title-same : (n : ℕ) (xs : List ℕ) → is_title_open n (xs ++ c ∷ more) ≡ is_title_open n xs
+  title-same n [] = no-title n
+  title-same n (x ∷ xs) = ap (λ b. if n == 0 then false
+      else (if char_set_contains (codes "《") x then true else (if is_of_title x then b else false)))
+      (title-same (n - 1) xs)
 
   no-amount : is_of_amount c ≡ false
   unfolding is_of_amount is_named is_noticed is_han is_extra is_tens tens_of digit_of rank_of binds_minus
@@ -164,7 +179,8 @@ module _ (c : ℕ) (u : IsUnseen c) (more : List ℕ) where
     e,
     estimate-after (chars span.after),
     is_end-after span.text (chars span.after),
-    doubt-after (reverse (chars span.before)) (chars span.text)
+    doubt-after (is_title_open 40 (reverse (chars span.before))) (reverse (chars span.before))
+        (chars span.text)
         (is_end_of_range span.before span.text span.after) (chars span.after),
     clings-same (chars span.after),
     measure-same (chars span.after),
@@ -179,7 +195,8 @@ module _ (c : ℕ) (u : IsUnseen c) (more : List ℕ) where
     e,
     estimate-before (reverse (chars span.before)),
     is_end-before span.text (reverse (chars span.before)),
-    doubt-before (chars span.text) (chars span.after)
+    title-same 40 (reverse (chars span.before)),
+    doubt-before (is_title_open 40 (reverse (chars span.before))) (chars span.text) (chars span.after)
         (is_end_of_range span.before span.text span.after) (reverse (chars span.before)),
     clings-same (reverse (chars span.before)),
   )

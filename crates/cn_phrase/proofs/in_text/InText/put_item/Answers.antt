@@ -8,6 +8,6 @@ pub returns : goal.returns
 unfolding text_for_item
 returns g c = if_puts g.S.Sink.took _ _ _ _ _
     (ap (item_text c.args.self.replacement.method c.args.self.replacement.figures
-    (span_of c.args.part) (chars c.text_from-text.result.now)) c.item_at.ensures
-    ∙ rw (c.text_from-text.ensures.before, c.text_from-text.ensures.text) refl)
+    (span_of c.args.part) (chars c.text_from.result.now)) c.requires.item
+    ∙ rw c.text_from.ensures.text refl)
     c.put_known.ensures
