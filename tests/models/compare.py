@@ -10,6 +10,9 @@ becomes in figures with them.
 """
 import random
 import sys
+from datetime import date, time, timedelta
+from decimal import Decimal
+from fractions import Fraction
 from pathlib import Path
 
 import phrases as of_phrases
@@ -67,23 +70,54 @@ def found_by_model(string):
 KINDS = {"months": "dates", "days": "dates"}
 
 
+def plain(value):
+    """The value of a phrase, as the model has it; of a time whose hour of 24 is known, just that."""
+    if isinstance(value, time):
+        return value.hour, value.minute, value.second
+    if isinstance(value, timedelta):
+        return value // timedelta(seconds=1)
+    if isinstance(value, date) or type(value).__name__ == "PartialDate":
+        return value.year, value.month, value.day
+    if type(value).__name__ == "ClockTime":
+        hour = value.hour_of_day or f"{value.hour}?"
+        return hour, value.minute, value.second
+    if isinstance(value, Decimal):
+        return Fraction(value)
+    if isinstance(value, tuple) and not isinstance(value[0], int):
+        return tuple(Fraction(it.numerator, it.denominator) for it in value)
+    return value
+
+
 def phrases_by_library(library, string):
     for it in library.find_phrases(string):
         if isinstance(it, library.Phrase):
             kind = KINDS.get(it.kind.value, it.kind.value)
-            yield it.start, it.end, kind, it.state.value
+            yield it.start, it.end, kind, it.state.value, plain(it.value)
         else:
-            yield it.start, it.end, "expression", "certain"
+            yield it.start, it.end
 
 
-def difference_of_phrases(library, string):
-    left = list(phrases_by_library(library, string))
-    right = of_phrases.described(string)
+def phrases_by_model(string):
+    for it in of_phrases.find_phrases(string):
+        if not isinstance(it, of_phrases.Phrase):
+            yield it.start, it.end
+            continue
+        value, state = it.value, "doubtful" if it.is_doubtful else "certain"
+        if it.kind == "time" and value:
+            hour, minute, second, of_day = value
+            value = f"{hour}?" if of_day is None else of_day, minute, second
+        yield it.start, it.end, it.kind, "refused" if value is None else state, value
+
+
+def difference_of_phrases(library, string, chosen, expanded):
+    left, right = list(phrases_by_library(library, string)), list(phrases_by_model(string))
     if left != right:
         return f"{string!r}\n  library {left}\n  model   {right}"
-    left, right = library.text_to_figures(string), of_phrases.text_to_figures(string)
+    left = library.text_to_figures(string, expanded=expanded, **chosen)
+    style = "expanded" if expanded else "kept"
+    right = of_phrases.text_to_figures(string, style=style, **chosen)
     if left != right:
-        return f"{string!r}\n  library {left!r}\n  model   {right!r}"
+        return f"{string!r} {chosen} expanded={expanded}\n  library {left!r}\n  model   {right!r}"
     return None
 
 
@@ -98,7 +132,7 @@ def difference(library, source, known):
     right = model.to_figures(string, style="expanded" if expanded else "kept", **chosen)
     if left != right:
         return f"{string!r} {chosen} expanded={expanded}\n  library {left!r}\n  model   {right!r}"
-    return difference_of_phrases(library, string)
+    return difference_of_phrases(library, string, chosen, expanded)
 
 
 def differences(library, count, seed):
