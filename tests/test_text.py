@@ -1,5 +1,6 @@
 """Compares the numbers found in random texts with the model of the rules in tests/models; its head
 says how it was written. `python3 tests/models/compare.py 1000000` tries more texts."""
+import random
 import sys
 
 from running import TOP
@@ -13,5 +14,7 @@ def test_model(of_c_source, monkeypatch):
     monkeypatch.setattr(sys, "dont_write_bytecode", True)
     import compare
 
+    source = random.Random(SEED)
     with module_over(of_c_source) as library:
-        assert compare.differences(library, COUNT, SEED) == []
+        texts = compare.random_texts(COUNT, source)
+        assert compare.differences(library, source, texts) == []

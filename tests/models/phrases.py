@@ -16,7 +16,7 @@ are too large for 128 bits refuse a range.
 
 import re
 from fractions import Fraction
-from itertools import takewhile
+from functools import lru_cache
 from typing import Callable, Dict, FrozenSet, Iterator, List, NamedTuple, Optional, Tuple, Union
 
 import text as numbers
@@ -45,6 +45,7 @@ class Text(NamedTuple):
 
     line: Line
     by_start: Dict[int, Found]
+    slot_ends: List[int]  # where the stretch of characters of slots ends, from each place on
     ends: FrozenSet[int]
     inside: FrozenSet[int]  # the places at which an expression goes on
 
@@ -59,6 +60,7 @@ class Phrase(NamedTuple):
     text: str
     slots: List[Slot]
     words: str  # the words of the form, without blanks
+    is_linked: bool = False  # a linked form
     half_day: str = ""
     value: Optional[Value] = None  # None if it is refused
     is_doubtful: bool = False
@@ -86,8 +88,11 @@ def are_digits(text: str) -> bool:
 
 
 def numeral_value(text: str) -> Optional[int]:
-    """The whole number of a numeral without figures."""
-    return None if has_figure(text) else numbers.whole_number(text)
+    """The whole number of a numeral without figures; a numeral may be misread."""
+    if has_figure(text):
+        return None
+    value = numbers.read_by_itself(text)
+    return numbers.whole_number(text) if value is None else value
 
 
 def is_up_to(value: Optional[int], most: int) -> bool:
@@ -152,6 +157,11 @@ def is_year_before_month(text: str) -> bool:
     return numbers.is_numeral(text) and is_up_to(numeral_value(text), 9999)
 
 
+@lru_cache(maxsize=100_000)
+def has_shape(letter: str, text: str) -> bool:
+    return bool(text) and SHAPES[letter](text)
+
+
 def is_of_letter(text: Text, slot: Slot) -> bool:
     """A slot has the shape of its letter."""
     if slot.letter in "Yy":
@@ -159,7 +169,7 @@ def is_of_letter(text: Text, slot: Slot) -> bool:
             return True
         is_pair = len(slot.text) == 2 and are_digits(slot.text)
         return is_pair and not numbers.is_about(text.line, slot.start, slot.end)
-    return bool(slot.text) and SHAPES[slot.letter](slot.text)
+    return has_shape(slot.letter, slot.text)
 
 
 # The letters of RULES; y is Y before 月, m, d and s are M, D and S in times, X is MM and SS.
@@ -249,6 +259,8 @@ def other_forms() -> Iterator[Form]:
 
 
 FORMS = [*date_forms(), *time_forms(), *other_forms()]
+WITH_HALF_DAY = [it for it in FORMS if it.has_half_day]
+WITHOUT_HALF_DAY = [it for it in FORMS if not it.has_half_day]
 
 # ---- Words of half a day, and weekdays -------------------------------------------------------
 
@@ -277,9 +289,8 @@ def places_after(text: Text, end: int, is_first: bool) -> Iterator[int]:
 
 def slot_at(text: Text, letter: str, start: int) -> Slot:
     """The longest stretch of the characters of slots."""
-    rest = text.line.text[start:]
-    stretch = "".join(takewhile(is_slot_char, rest))
-    return Slot(letter, start, start + len(stretch), stretch)
+    end = text.slot_ends[start]
+    return Slot(letter, start, end, text.line.text[start:end])
 
 
 def fits(
@@ -302,20 +313,27 @@ def fits(
                     yield last, slots, word + words
 
 
-def phrases_of_form(text: Text, it: Form, start: int) -> Iterator[Phrase]:
-    """The phrases of a form that begin at a place."""
-    string = text.line.text
-    if it.has_half_day:
-        for end in ends_of_half_day(text, start):
-            word = string[start:end]
-            for last, slots, words in fits(text, it.steps, end, False):
-                is_early = word in ("早", "晚") and slots[0].text == "一" and words[0] in "点點"
-                if it.allows(slots) and not is_early:
-                    yield Phrase(it.kind, start, last, string[start:last], slots, words, word)
-    elif start in text.by_start:
-        for last, slots, words in fits(text, it.steps, start, True):
-            if it.allows(slots):
-                yield Phrase(it.kind, start, last, string[start:last], slots, words)
+def phrases_after_word(text: Text, start: int, end: int) -> Iterator[Phrase]:
+    """The phrases with a word of half a day, or a weekday, at a place."""
+    word = text.line.text[start:end]
+    for it in WITH_HALF_DAY:
+        for last, slots, words in fits(text, it.steps, end, False):
+            is_early = word in ("早", "晚") and slots[0].text == "一" and words[0] in "点點"
+            if it.allows(slots) and not is_early:
+                written = text.line.text[start:last]
+                yield Phrase(it.kind, start, last, written, slots, words, it.is_linked, word)
+
+
+def phrases_from(text: Text, start: int) -> Iterator[Phrase]:
+    """The phrases that begin at a place, whether they are allowed there or not."""
+    for end in ends_of_half_day(text, start):
+        yield from phrases_after_word(text, start, end)
+    if start in text.by_start:
+        for it in WITHOUT_HALF_DAY:
+            for last, slots, words in fits(text, it.steps, start, True):
+                if it.allows(slots):
+                    written = text.line.text[start:last]
+                    yield Phrase(it.kind, start, last, written, slots, words, it.is_linked)
 
 
 # ---- What is no phrase -----------------------------------------------------------------------
@@ -372,7 +390,7 @@ NO_PHRASES: Dict[str, Callable[[Text, Phrase], bool]] = dict(
 
 def is_linked(text: Text, phrase: Phrase) -> bool:
     """A linked form is directly after a link, or, of an hour, has another hour beside it."""
-    before = text.line.text[: phrase.start]
+    before = text.at(phrase.start - 2) + text.at(phrase.start - 1)
     if phrase.kind == "date":
         return re.search(f"[月日号號][{LINKS}]$", before) is not None
     if re.search(f"[点點时時半分刻][{LINKS}]$|[日号號]$", before):
@@ -399,12 +417,11 @@ def is_phrase(text: Text, phrase: Phrase) -> bool:
 def form_at(text: Text, start: int) -> Optional[Phrase]:
     """The longest form at a place, of equal ones the first of the table."""
     best: Optional[Phrase] = None
-    for it in FORMS:
-        for phrase in phrases_of_form(text, it, start):
-            if best is not None and phrase.end <= best.end:
-                continue
-            if is_phrase(text, phrase) and not (it.is_linked and not is_linked(text, phrase)):
-                best = phrase
+    for phrase in phrases_from(text, start):
+        if best is not None and phrase.end <= best.end:
+            continue
+        if is_phrase(text, phrase) and (not phrase.is_linked or is_linked(text, phrase)):
+            best = phrase
     return best and judged(text, best)
 
 
@@ -415,7 +432,7 @@ def value_of(slot: Slot) -> int:
     """The number of a slot."""
     if all(is_figure(c) or is_chinese_digit(c) for c in slot.text):
         return int(numbers.ascii_figures(slot.text))
-    return numbers.whole_number(slot.text) or 0
+    return numeral_value(slot.text) or 0
 
 
 def is_leap(year: int) -> bool:
@@ -437,7 +454,9 @@ def date_value(phrase: Phrase) -> Optional[Value]:
 def dates_value(phrase: Phrase) -> Optional[Value]:
     """The first and the last year, month or day."""
     first, second = (value_of(it) for it in phrase.slots)
-    return (first, second) if first < second else None
+    most = {"M": 12, "D": 31}.get(phrase.slots[0].letter)
+    are_of_calendar = most is None or 1 <= first <= second <= most
+    return (first, second) if first < second and are_of_calendar else None
 
 
 def hour_of_day(hour: int, words: str) -> Optional[int]:
@@ -553,46 +572,46 @@ def is_no_range(text: Text, first: Found, link: str, second: Found) -> bool:
     return is_figure(before) or before in "-/.:：~=+^*×_$#@" or after in "-/~:：=+^*×_\\"
 
 
-def units_at_end(text: str) -> str:
-    """The units from 百 up at the end of a text."""
-    units = takewhile(lambda c: numbers.rank_of(c) >= 2, reversed(text))
-    return "".join(units)[::-1]
-
-
 def ratio_of(quantity: numbers.Quantity) -> Fraction:
     return Fraction(quantity.numerator, quantity.denominator)
 
 
+def is_multiplier(c: str) -> bool:
+    return numbers.rank_of(c) >= 2
+
+
 def shared_units(first: Found, second: Found) -> str:
     """The units of the second end of a range that count for the first too."""
-    units = units_at_end(second.text)
-    head = numbers.quantity(second.text[: len(second.text) - len(units)])
-    if not units or head is None or units_at_end(first.text):
+    if any(is_multiplier(c) for c in first.text):
         return ""
-    return units if 0 < ratio_of(first.quantity) < ratio_of(head) else ""
+    head = second.text
+    while head and is_multiplier(head[-1]):
+        head = head[:-1]
+    before = numbers.quantity(head)
+    if before is None or not 0 < ratio_of(first.quantity) < ratio_of(before):
+        return ""
+    return second.text[len(head) :]
 
 
 def shares_percent(first: Found, second: Found) -> bool:
     return (first.quantity.form == numbers.PERCENT) != (second.quantity.form == numbers.PERCENT)
 
 
-def percent_of(end: Found) -> Fraction:
-    ratio = ratio_of(end.quantity)
-    return ratio if end.quantity.form == numbers.PERCENT else ratio / 100
+def value_of_end(text: str, is_percentage: bool) -> Optional[Fraction]:
+    """The number of an end of a range, with what counts for it."""
+    quantity = numbers.quantity(text)
+    if quantity is None or len(text.encode()) > 48:
+        return None
+    is_divided = is_percentage and quantity.form != numbers.PERCENT
+    return ratio_of(quantity) / (100 if is_divided else 1)
 
 
 def values_of_range(first: Found, second: Found) -> Optional[Tuple[Fraction, Fraction]]:
-    """The two numbers, or None if they do not rise, are too long or too large."""
-    units = shared_units(first, second)
-    if any(len(it.encode()) > 48 for it in (first.text + units, second.text)):
-        return None
-    product = numbers.units_product(units, numbers.TEN_THOUSAND)
-    if product is None:
-        return None
-    values = ratio_of(first.quantity) * product, ratio_of(second.quantity)
-    if shares_percent(first, second):
-        values = percent_of(first), percent_of(second)
-    return values if values[0] < values[1] else None
+    """The two numbers, or None if they do not rise, or are too long or no quantities."""
+    is_percentage = shares_percent(first, second)
+    start = value_of_end(first.text + shared_units(first, second), is_percentage)
+    end = value_of_end(second.text, is_percentage)
+    return None if start is None or end is None or start >= end else (start, end)
 
 
 def range_at(text: Text, start: int) -> Optional[Phrase]:
@@ -606,7 +625,9 @@ def range_at(text: Text, start: int) -> Optional[Phrase]:
     slots = [Slot("E", it.start, it.end, it.text) for it in (first, second)]
     is_part = text.at(second.end) in "折成"
     written = text.line.text[first.start : second.end]
-    return Phrase("range", first.start, second.end, written, slots, link, "", values, is_part)
+    return Phrase(
+        "range", first.start, second.end, written, slots, link, value=values, is_doubtful=is_part
+    )
 
 
 # ---- In figures ------------------------------------------------------------------------------
@@ -673,33 +694,37 @@ def text_of(string: str) -> Text:
     found = numbers.find_quantities(string)
     inside = frozenset(i for it in found for i in range(it.start + 1, it.end))
     ends = frozenset(it.end for it in found)
-    return Text(Line(string), {it.start: it for it in found}, ends, inside)
+    slot_ends = list(range(len(string) + 2))
+    for i in reversed(range(len(string))):
+        if is_slot_char(string[i]):
+            slot_ends[i] = slot_ends[i + 1]
+    return Text(Line(string), {it.start: it for it in found}, slot_ends, ends, inside)
 
 
-def items_of(text: Text) -> List[Item]:
-    """The items of a text, from the left."""
-    items: List[Item] = []
-    place = 0
-    while place < len(text.line.text):
+@lru_cache(maxsize=1)
+def items_of(string: str) -> Tuple[Text, List[Item]]:
+    """A text, and its items from the left."""
+    text, place, items = text_of(string), 0, []
+    while place < len(string):
         item = phrase_at(text, place) or text.by_start.get(place)
         if item is not None:
             items.append(item)
         place = place + 1 if item is None else item.end
-    return items
+    return text, items
 
 
 def find_phrases(string: str) -> List[Item]:
-    return items_of(text_of(string))
+    return items_of(string)[1]
+
+
+def new_text(text: Text, item: Item, options: Options) -> Optional[str]:
+    if isinstance(item, Phrase):
+        return new_phrase(text, item, options)
+    return numbers.new_text(text.line, item, options)
 
 
 def text_to_figures(string: str, **chosen: bool) -> str:
     """Numerals and phrases in figures, phrases in the kept style."""
-    text, options = text_of(string), Options(**chosen)
-    items = items_of(text)
-    news = [
-        new_phrase(text, it, options)
-        if isinstance(it, Phrase)
-        else numbers.new_text(text.line, it, options)
-        for it in items
-    ]
+    text, items = items_of(string)
+    news = [new_text(text, it, Options(**chosen)) for it in items]
     return numbers.put_in_chains(text.line, items, news)
