@@ -392,8 +392,8 @@ def is_linked(text: Text, phrase: Phrase) -> bool:
     """A linked form is directly after a link, or, of an hour, has another hour beside it."""
     before = text.at(phrase.start - 2) + text.at(phrase.start - 1)
     if phrase.kind == "date":
-        return re.search(f"[月日号號][{LINKS}]$", before) is not None
-    if re.search(f"[点點时時半分刻][{LINKS}]$|[日号號]$", before):
+        return re.fullmatch(f"[月日号號][{LINKS}]", before) is not None
+    if re.fullmatch(f"[点點时時半分刻][{LINKS}]|.[日号號]", before, re.DOTALL):
         return True
     if text.at(phrase.end) not in LINKS:
         return False
