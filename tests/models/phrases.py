@@ -6,12 +6,14 @@ phrase is looked for at each character of a text from the left, outside of what 
 form is a list of steps: slots, with the letters of RULES, and words. The model of expressions is
 text.py.
 
-Where RULES leaves two readings, these are taken: a slot has figures or numerals and not both, may
-begin after a figure, and is a whole number, so not misread; MM and SS are two figures, and other
-letters beside colons and bars figures or numerals as anywhere; a colon may be full-width; a number
-of a score begins with 0 only if another figure follows; a year of two digits is itself and not one of
-a century; the end of a range is no slot before a letter, so measures may follow it; and units that
-are too large for 128 bits refuse a range.
+Where RULES leaves two readings, these are taken: a slot has figures or numerals and not both; a whole
+number with 百 may have a bare ten; what begins with a word of half a day may be directly after a letter
+or a character of slots; a weekday has a digit from 1 to 6, also a figure; if the longest form is no
+phrase, a shorter one may be; a link is no `-` between slots; what is said of Y-M-D, H:MM and N米F holds
+for Y/M/D, H:MM:SS and the other lengths; 早 and 晚 are part of no phrase only before the words 一点; from a
+month to another, and from a day, both are of the calendar; the end of a range is no slot before a
+letter, so measures may follow it; units count for a first end without units anywhere, and with them it
+is a quantity, or the range is refused.
 """
 
 import re
@@ -404,9 +406,9 @@ def is_linked(text: Text, phrase: Phrase) -> bool:
 
 def is_phrase(text: Text, phrase: Phrase) -> bool:
     before, after = text.at(phrase.start - 1), text.at(phrase.end)
-    if phrase.end in text.inside or is_letter_or_bar(before):
+    if phrase.end in text.inside:
         return False
-    if is_slot_char(before) and not phrase.half_day:
+    if not phrase.half_day and (is_letter_or_bar(before) or is_slot_char(before)):
         return False
     if ends_with_slot(phrase) and (is_letter_or_bar(after) or phrase.end not in text.ends):
         return False
