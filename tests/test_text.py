@@ -47,9 +47,9 @@ def assert_found(library, written):
     """Texts are found whole, parted by commas, with their values; in figures too, which are the second
     of each entry."""
     texts, figures, values = zip(*written)
-    in_figures = "，".join(figures)
-    for line, parts in {"，".join(texts): texts, in_figures: figures}.items():
-        assert library.text_to_figures(line) == in_figures
+    text, in_figures = "，".join(texts), "，".join(figures)
+    assert library.text_to_figures(text) == in_figures
+    for line, parts in {text: texts, in_figures: figures}.items():
         found = [(it.text, it.value) for it in library.find_phrases(line)]
         assert found == list(zip(parts, values))
         assert all(type(it) is type(value) for (_, it), value in zip(found, values))

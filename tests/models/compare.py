@@ -56,13 +56,14 @@ def random_texts(count, source):
 
 
 def lines_of(paths):
-    """The lines of files with a Han character, each once, in pieces of 1000 characters."""
+    """The lines of files that have a Han character, each once, in pieces of 1000 characters."""
     known = set()
     for path in paths:
         for line in Path(path).read_text(encoding="utf-8", errors="replace").splitlines():
-            if line not in known and any(map(model.is_han, line)):
-                known.add(line)
-                yield from (line[i : i + 1000] for i in range(0, len(line), 1000))
+            for piece in (line[i : i + 1000] for i in range(0, len(line), 1000)):
+                if piece not in known and any(map(model.is_han, piece)):
+                    known.add(piece)
+                    yield piece
 
 
 def options(source):
