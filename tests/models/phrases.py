@@ -27,7 +27,6 @@ from text import LINKS, Found, Line, Options, has_figure, is_chinese_digit, is_f
 SLOT_CHARS = frozenset("零〇一二两兩三四五六七八九十百")
 DAYS_OF_MONTHS = (31, 28, 31, 30, 31, 30, 31, 31, 30, 31, 30, 31)
 
-
 # The parts of a date or a time, two numbers, or one; None for a part that is not given or not known.
 Number = Union[int, Fraction]
 Value = Union[Tuple[Optional[Number], ...], Number]
