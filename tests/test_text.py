@@ -133,9 +133,11 @@ def test_minutes(library):
     """Of a day, with a word of half a day, or without one at hours that need none."""
     day = [(datetime.min + timedelta(minutes=it)).time() for it in range(24 * 60)]
     for word, hours in HALF_DAYS.items():
+        written = []
         for its in (it for it in day if it.hour in hours):
             hour = its.hour if not word else its.hour % 12 or 12
-            assert_found(library, [(*it, its) for it in written_time(word, hour, its.minute)])
+            written += [(*it, its) for it in written_time(word, hour, its.minute)]
+        assert_found(library, written)
 
 
 def test_minutes_without_half(library):
