@@ -47,12 +47,17 @@ def assert_found(library, written):
     """Texts are found whole, parted by commas, with their values; in figures too, which are the second
     of each entry."""
     texts, figures, values = zip(*written)
-    text, in_figures = "，".join(texts), "，".join(figures)
-    assert library.text_to_figures(text) == in_figures
-    for line, parts in {text: texts, in_figures: figures}.items():
-        found = [(it.text, it.value) for it in library.find_phrases(line)]
+    for parts in {texts, figures}:
+        found = [(it.text, it.value) for it in library.find_phrases("，".join(parts))]
         assert found == list(zip(parts, values))
         assert all(type(it) is type(value) for (_, it), value in zip(found, values))
+
+
+def assert_in_figures(library, written):
+    """The same, and the library writes the texts in figures."""
+    assert_found(library, written)
+    texts, figures, _ = zip(*written)
+    assert library.text_to_figures("，".join(texts)) == "，".join(figures)
 
 
 ZEROS_AND_DAYS = list(product("〇零", "日号"))
@@ -66,20 +71,22 @@ def days(year):
 
 def test_days(library):
     """Of 2000 to 2399, after which the calendar repeats; years take turns in their zeros and in what is
-    after the day."""
+    after the day. The library writes those of the first 100 years in figures, which takes longest.
+    """
     for year in range(2000, 2400):
-        zero, day = ZEROS_AND_DAYS[year % 4]
+        zero, day = ZEROS_AND_DAYS[sum(divmod(year, 4)) % 4]
         its = digits(year).replace("〇", zero)
         texts = [f"{its}年{numeral(it.month)}月{numeral(it.day)}{day}" for it in days(year)]
         figures = [f"{year}年{it.month}月{it.day}{day}" for it in days(year)]
-        assert_found(library, list(zip(texts, figures, days(year))))
+        is_found = assert_in_figures if year < 2100 else assert_found
+        is_found(library, list(zip(texts, figures, days(year))))
 
 
 def test_days_in_figures(library):
     for year in range(2000, 2012):
         for form in FORMS:
             texts = [it.strftime(form) for it in days(year)]
-            assert_found(library, list(zip(texts, texts, days(year))))
+            assert_in_figures(library, list(zip(texts, texts, days(year))))
 
 
 # The hours of 24 at which a word of half a day is said, with an hour up to 12.
@@ -137,7 +144,7 @@ def test_minutes(library):
         for its in (it for it in day if it.hour in hours):
             hour = its.hour if not word else its.hour % 12 or 12
             written += [(*it, its) for it in written_time(word, hour, its.minute)]
-        assert_found(library, written)
+        assert_in_figures(library, written)
 
 
 def test_minutes_without_half(library):
@@ -145,8 +152,8 @@ def test_minutes_without_half(library):
     for hour in range(1, 13):
         for minute in range(60):
             its = library.ClockTime(hour, minute)
-            assert_found(library, [(*it, its) for it in written_time("", hour, minute)])
+            assert_in_figures(library, [(*it, its) for it in written_time("", hour, minute)])
     for word in ("晚上", "夜里", "半夜", "午夜", "今晚"):
         for minute in range(60):
             its = time(0, minute) if minute else library.ClockTime(12, hour_of_day=24)
-            assert_found(library, [(*it, its) for it in written_time(word, 12, minute)])
+            assert_in_figures(library, [(*it, its) for it in written_time(word, 12, minute)])
