@@ -6,24 +6,30 @@ phrase is looked for at each character of a text from the left, outside of what 
 form is a list of steps: slots, with the letters of RULES, and words. The model of expressions is
 text.py.
 
-Where RULES leaves two readings, these are taken: a slot has figures or numerals and not both, may
-begin after a figure, and is a whole number, so not misread; MM and SS are two figures, and other
-letters beside colons and bars figures or numerals as anywhere; a colon may be full-width; a number
-of a score begins with 0 only if another figure follows; a year of two digits is itself and not one of
-a century; the end of a range is no slot before a letter, so measures may follow it; and units that
-are too large for 128 bits refuse a range.
+Where RULES leaves two readings, these are taken: a slot has figures or numerals and not both; a whole
+number with 百 may have a bare ten; what begins with a word of half a day may be directly after a letter
+or a character of slots; a weekday has a digit from 1 to 6, also a figure; if the longest form is no
+phrase, a shorter one may be; a link is no `-` between slots; what is said of Y-M-D, H:MM and N米F holds
+for Y/M/D, H:MM:SS and the other lengths; 早 and 晚 are part of no phrase only before the words 一点; from a
+month to another, and from a day, both are of the calendar; the end of a range is no slot before a
+letter, so measures may follow it; units count for a first end without units anywhere, and with them it
+is a quantity, or the range is refused.
 """
 
 import re
 from fractions import Fraction
-from itertools import takewhile
-from typing import Callable, Dict, Iterator, List, NamedTuple, Optional, Tuple, Union
+from functools import lru_cache
+from typing import Callable, Dict, FrozenSet, Iterator, List, NamedTuple, Optional, Tuple, Union
 
 import text as numbers
-from text import LINKS, Found, Line, has_figure, is_chinese_digit, is_figure, is_letter
+from text import LINKS, Found, Line, Options, has_figure, is_chinese_digit, is_figure, is_letter
 
 SLOT_CHARS = frozenset("零〇一二两兩三四五六七八九十百")
 DAYS_OF_MONTHS = (31, 28, 31, 30, 31, 30, 31, 31, 30, 31, 30, 31)
+
+# The parts of a date or a time, two numbers, or one; None for a part that is not given or not known.
+Number = Union[int, Fraction]
+Value = Union[Tuple[Optional[Number], ...], Number]
 
 
 class Slot(NamedTuple):
@@ -40,7 +46,9 @@ class Text(NamedTuple):
 
     line: Line
     by_start: Dict[int, Found]
-    inside: frozenset  # the places at which an expression goes on
+    slot_ends: List[int]  # where the stretch of characters of slots ends, from each place on
+    ends: FrozenSet[int]
+    inside: FrozenSet[int]  # the places at which an expression goes on
 
     def at(self, i: int) -> str:
         return self.line.at(i)
@@ -50,10 +58,18 @@ class Phrase(NamedTuple):
     kind: str
     start: int
     end: int
+    text: str
     slots: List[Slot]
-    words: str  # the words of the form, and of the half of a day, without blanks
-    is_refused: bool = False
+    words: str  # the words of the form, without blanks
+    is_linked: bool = False  # a linked form
+    half_day: str = ""
+    value: Optional[Value] = None  # None if it is refused
     is_doubtful: bool = False
+    is_one_character: bool = False
+
+
+def is_slot_char(c: str) -> bool:
+    return is_figure(c) or c in SLOT_CHARS
 
 
 # ---- The letters of the forms ----------------------------------------------------------------
@@ -73,8 +89,11 @@ def are_digits(text: str) -> bool:
 
 
 def numeral_value(text: str) -> Optional[int]:
-    """The whole number of a numeral without figures."""
-    return None if has_figure(text) else numbers.whole_number(text)
+    """The whole number of a numeral without figures; a numeral may be misread."""
+    if has_figure(text):
+        return None
+    value = numbers.read_by_itself(text)
+    return numbers.whole_number(text) if value is None else value
 
 
 def is_up_to(value: Optional[int], most: int) -> bool:
@@ -139,6 +158,11 @@ def is_year_before_month(text: str) -> bool:
     return numbers.is_numeral(text) and is_up_to(numeral_value(text), 9999)
 
 
+@lru_cache(maxsize=100_000)
+def has_shape(letter: str, text: str) -> bool:
+    return bool(text) and SHAPES[letter](text)
+
+
 def is_of_letter(text: Text, slot: Slot) -> bool:
     """A slot has the shape of its letter."""
     if slot.letter in "Yy":
@@ -146,7 +170,7 @@ def is_of_letter(text: Text, slot: Slot) -> bool:
             return True
         is_pair = len(slot.text) == 2 and are_digits(slot.text)
         return is_pair and not numbers.is_about(text.line, slot.start, slot.end)
-    return bool(slot.text) and SHAPES[slot.letter](slot.text)
+    return has_shape(slot.letter, slot.text)
 
 
 # The letters of RULES; y is Y before 月, m, d and s are M, D and S in times, X is MM and SS.
@@ -167,10 +191,11 @@ SHAPES: Dict[str, Callable[[str], bool]] = dict(
 
 # ---- The table of forms ----------------------------------------------------------------------
 
-RI, DIAN, GE, LINK = "日 号 號", "点 點", "个 個", " ".join(LINKS)
+RI, DIAN, DIAN_OR_SHI, LINK = "日 号 號", "点 點", "点 點 时 時", " ".join(LINKS)
+GE, HOURS = "个 個", "小时 小時 钟头 鐘頭 个小时 個小時 个钟头 個鐘頭"
+MINUTES, SECONDS, COLON = "分 分钟 分鐘", "秒 秒钟 秒鐘", ": ："
 AFTER_HALF = "半小时 半小時 半钟头 半鐘頭 半月 半星期 半礼拜 半禮拜 半世纪 半世紀"
 BEFORE_HALF = "年 天 周 週 岁 歲 斤 里 吨 噸 倍 米 度"
-HOURS, COLON = "小时 小時", ": ："
 
 Step = Union[str, Tuple[str, ...]]  # a letter, or words
 
@@ -180,12 +205,17 @@ class Form(NamedTuple):
     steps: List[Step]
     is_linked: bool = False
     has_half_day: bool = False
+    has_figures_alone: bool = False
+
+    def allows(self, slots: List[Slot]) -> bool:
+        return not self.has_figures_alone or all(are_figures(it.text, 1, 4) for it in slots)
 
 
 def form(kind: str, *steps: str, is_linked: bool = False, half_day: bool = False) -> Form:
     """A form: steps of one letter are slots, others are words, with blanks between choices."""
     parts = [it if it in SHAPES or it in "Yy" else tuple(it.split(" ")) for it in steps]
-    return Form(kind, parts, is_linked, half_day)
+    has_figures_alone = any(it in ("-", "/", COLON) for it in steps)
+    return Form(kind, parts, is_linked, half_day, has_figures_alone)
 
 
 def date_forms() -> Iterator[Form]:
@@ -205,8 +235,8 @@ def date_forms() -> Iterator[Form]:
 
 def time_forms() -> Iterator[Form]:
     for half_day in (True, False):
-        yield form("time", "H", DIAN, "m", "分", "s", "秒", half_day=half_day)
-        yield form("time", "H", DIAN, "m", "分", half_day=half_day)
+        yield form("time", "H", DIAN_OR_SHI, "m", "分", "s", "秒", half_day=half_day)
+        yield form("time", "H", DIAN_OR_SHI, "m", "分", half_day=half_day)
         yield form("time", "H", DIAN, "B", half_day=half_day)
         if half_day:
             yield form("time", "H", DIAN, "Z", half_day=True)
@@ -214,13 +244,13 @@ def time_forms() -> Iterator[Form]:
         yield form("time", "H", DIAN, "Q", "刻", half_day=half_day)
         yield form("time", "H", COLON, "X", COLON, "X", half_day=half_day)
         yield form("time", "H", COLON, "X", half_day=half_day)
-        yield form("time", "H", DIAN, half_day=half_day, is_linked=not half_day)
+        yield form("time", "H", DIAN_OR_SHI, half_day=half_day, is_linked=not half_day)
 
 
 def other_forms() -> Iterator[Form]:
-    yield form("duration", "N", HOURS, "M", "分", "S", "秒")
-    yield form("duration", "N", HOURS, "M", "分")
-    yield form("duration", "N", "分", "S", "秒")
+    yield form("duration", "N", HOURS, "M", MINUTES, "S", SECONDS)
+    yield form("duration", "N", HOURS, "M", MINUTES)
+    yield form("duration", "N", MINUTES, "S", SECONDS)
     yield form("half", "N", GE, AFTER_HALF)
     yield form("half", "N", BEFORE_HALF, "半")
     for unit in "米度秒":
@@ -230,6 +260,8 @@ def other_forms() -> Iterator[Form]:
 
 
 FORMS = [*date_forms(), *time_forms(), *other_forms()]
+WITH_HALF_DAY = [it for it in FORMS if it.has_half_day]
+WITHOUT_HALF_DAY = [it for it in FORMS if not it.has_half_day]
 
 # ---- Words of half a day, and weekdays -------------------------------------------------------
 
@@ -258,9 +290,8 @@ def places_after(text: Text, end: int, is_first: bool) -> Iterator[int]:
 
 def slot_at(text: Text, letter: str, start: int) -> Slot:
     """The longest stretch of the characters of slots."""
-    rest = text.line.text[start:]
-    stretch = "".join(takewhile(lambda c: is_figure(c) or c in SLOT_CHARS, rest))
-    return Slot(letter, start, start + len(stretch), stretch)
+    end = text.slot_ends[start]
+    return Slot(letter, start, end, text.line.text[start:end])
 
 
 def fits(
@@ -283,18 +314,27 @@ def fits(
                     yield last, slots, word + words
 
 
-def phrases_of_form(text: Text, it: Form, start: int) -> Iterator[Phrase]:
-    """The phrases of a form that begin at a place."""
-    if it.has_half_day:
-        for end in ends_of_half_day(text, start):
-            word = text.line.text[start:end]
-            for last, slots, words in fits(text, it.steps, end, False):
-                is_early = word in ("早", "晚") and slots[0].text == "一" and words[0] in "点點"
-                if not is_early:
-                    yield Phrase(it.kind, start, last, slots, word + words)
-    elif start in text.by_start:
-        for last, slots, words in fits(text, it.steps, start, True):
-            yield Phrase(it.kind, start, last, slots, words)
+def phrases_after_word(text: Text, start: int, end: int) -> Iterator[Phrase]:
+    """The phrases with a word of half a day, or a weekday, at a place."""
+    word = text.line.text[start:end]
+    for it in WITH_HALF_DAY:
+        for last, slots, words in fits(text, it.steps, end, False):
+            is_early = word in ("早", "晚") and slots[0].text == "一" and words[0] in "点點"
+            if it.allows(slots) and not is_early:
+                written = text.line.text[start:last]
+                yield Phrase(it.kind, start, last, written, slots, words, it.is_linked, word)
+
+
+def phrases_from(text: Text, start: int) -> Iterator[Phrase]:
+    """The phrases that begin at a place, whether they are allowed there or not."""
+    for end in ends_of_half_day(text, start):
+        yield from phrases_after_word(text, start, end)
+    if start in text.by_start:
+        for it in WITHOUT_HALF_DAY:
+            for last, slots, words in fits(text, it.steps, start, True):
+                if it.allows(slots):
+                    written = text.line.text[start:last]
+                    yield Phrase(it.kind, start, last, written, slots, words, it.is_linked)
 
 
 # ---- What is no phrase -----------------------------------------------------------------------
@@ -317,55 +357,59 @@ def is_no_date(text: Text, phrase: Phrase) -> bool:
     return phrase.words == "年月" and after == "初"
 
 
-def is_no_clock(text: Text, phrase: Phrase) -> bool:
-    """A time with colons."""
-    if not re.search("[:：]", phrase.words):
-        return False
-    return text.at(phrase.start - 1) in ":：/.-" or text.at(phrase.end) in ":：."
+def is_no_time(text: Text, phrase: Phrase) -> bool:
+    before, after = text.at(phrase.start - 1), text.at(phrase.end)
+    if re.search("[:：]", phrase.words):
+        return before in ":：/.-" or after in ":：."
+    if re.fullmatch(".分", phrase.words):
+        return after in "之钟鐘"
+    is_bare = phrase.slots[-1].letter in "BZ"
+    return is_bare and after in "分几幾多元米度倍吨噸克升%％‰万萬亿億千"
 
 
 def is_no_half(text: Text, phrase: Phrase) -> bool:
-    return phrase.words in ("年半", "天半") and text.at(phrase.end) in "载載夜天年"
+    return text.at(phrase.end) in "载載夜天年"
 
 
 def is_no_length(text: Text, phrase: Phrase) -> bool:
-    return text.at(phrase.end) in "年月日点點人个個分秒米度"
+    return text.at(phrase.end) in "年月日点點人个個分秒米度几幾多"
 
 
 def is_no_score(text: Text, phrase: Phrase) -> bool:
-    if phrase.words not in (":", "："):
-        return False
-    if text.at(phrase.start - 1) in ':：-/.[("%,，' or text.at(phrase.end) in "])-/%:：.":
+    before, after = text.at(phrase.start - 1), text.at(phrase.end)
+    if phrase.words == "比":
+        return after in "点點.年月日万萬千亿億"
+    if before in ':：-/.[("%,，' or after in ":：.":
         return True
-    return any(
-        are_figures(it.text, 3, 3) or (len(it.text) > 1 and ascii_of(it.text)[0] == "0")
-        for it in phrase.slots
-    )
+    return any(len(it.text) > 2 for it in phrase.slots)
 
 
 NO_PHRASES: Dict[str, Callable[[Text, Phrase], bool]] = dict(
-    date=is_no_date, time=is_no_clock, half=is_no_half, length=is_no_length, score=is_no_score
+    date=is_no_date, time=is_no_time, half=is_no_half, length=is_no_length, score=is_no_score
 )
 
 
 def is_linked(text: Text, phrase: Phrase) -> bool:
     """A linked form is directly after a link, or, of an hour, has another hour beside it."""
-    before = text.line.text[: phrase.start]
+    before = text.at(phrase.start - 2) + text.at(phrase.start - 1)
     if phrase.kind == "date":
-        return re.search(f"[月日号號][{LINKS}]$", before) is not None
-    if re.search(f"[点點时時半分刻][{LINKS}]$|[日号號]$", before):
+        return re.fullmatch(f"[月日号號][{LINKS}]", before) is not None
+    if re.fullmatch(f"[点點时時半分刻][{LINKS}]|.[日号號]", before, re.DOTALL):
         return True
     if text.at(phrase.end) not in LINKS:
         return False
     starts = [phrase.end + 1, *ends_of_half_day(text, phrase.end + 1)]
-    hour: List[Step] = ["H", ("点", "點")]
+    hour: List[Step] = ["H", tuple(DIAN_OR_SHI.split())]
     return any(True for start in starts for _ in fits(text, hour, start, False))
 
 
 def is_phrase(text: Text, phrase: Phrase) -> bool:
-    if phrase.end in text.inside or is_letter_or_bar(text.at(phrase.start - 1)):
+    before, after = text.at(phrase.start - 1), text.at(phrase.end)
+    if phrase.end in text.inside:
         return False
-    if ends_with_slot(phrase) and is_letter_or_bar(text.at(phrase.end)):
+    if not phrase.half_day and (is_letter_or_bar(before) or is_slot_char(before)):
+        return False
+    if ends_with_slot(phrase) and (is_letter_or_bar(after) or phrase.end not in text.ends):
         return False
     is_no = NO_PHRASES.get(phrase.kind)
     return is_no is None or not is_no(text, phrase)
@@ -374,12 +418,11 @@ def is_phrase(text: Text, phrase: Phrase) -> bool:
 def form_at(text: Text, start: int) -> Optional[Phrase]:
     """The longest form at a place, of equal ones the first of the table."""
     best: Optional[Phrase] = None
-    for it in FORMS:
-        for phrase in phrases_of_form(text, it, start):
-            if best is not None and phrase.end <= best.end:
-                continue
-            if is_phrase(text, phrase) and not (it.is_linked and not is_linked(text, phrase)):
-                best = phrase
+    for phrase in phrases_from(text, start):
+        if best is not None and phrase.end <= best.end:
+            continue
+        if is_phrase(text, phrase) and (not phrase.is_linked or is_linked(text, phrase)):
+            best = phrase
     return best and judged(text, best)
 
 
@@ -388,51 +431,96 @@ def form_at(text: Text, start: int) -> Optional[Phrase]:
 
 def value_of(slot: Slot) -> int:
     """The number of a slot."""
-    value = numbers.figures_value(slot.text) if has_figure(slot.text) else None
-    return value if value is not None else numbers.whole_number(slot.text) or 0
+    if all(is_figure(c) or is_chinese_digit(c) for c in slot.text):
+        return int(numbers.ascii_figures(slot.text))
+    return numeral_value(slot.text) or 0
 
 
 def is_leap(year: int) -> bool:
     return year % 4 == 0 and (year % 100 != 0 or year % 400 == 0)
 
 
-def is_refused_date(phrase: Phrase) -> bool:
+def date_value(phrase: Phrase) -> Optional[Value]:
+    """The year, the month and the day."""
     values = {it.letter.upper(): value_of(it) for it in phrase.slots}
     year, month, day = values.get("Y"), values.get("M"), values.get("D")
     if month is not None and not 1 <= month <= 12:
-        return True
+        return None
     days = 31 if month is None else DAYS_OF_MONTHS[month - 1]
     if month == 2 and (year is None or is_leap(year)):
         days = 29
-    return day is not None and not 1 <= day <= days
+    return (year, month, day) if day is None or 1 <= day <= days else None
 
 
-def is_refused_pair(phrase: Phrase) -> bool:
-    """Dates: two years, months or days."""
+def dates_value(phrase: Phrase) -> Optional[Value]:
+    """The first and the last year, month or day."""
     first, second = (value_of(it) for it in phrase.slots)
     most = {"M": 12, "D": 31}.get(phrase.slots[0].letter)
-    return first >= second or (most is not None and not 1 <= first <= second <= most)
+    are_of_calendar = most is None or 1 <= first <= second <= most
+    return (first, second) if first < second and are_of_calendar else None
 
 
-def is_refused_time(phrase: Phrase) -> bool:
+def hour_of_day(hour: int, words: str) -> Optional[int]:
+    """The hour of 24, by the word of half a day, if it is known."""
+    if hour == 0 or hour > 12:
+        return hour
+    if not HALF_DAY.match(words):
+        return None
+    if words in ("下午", "午后", "午後"):
+        return hour + 12 if hour <= 11 else hour
+    if words in ("中午", "正午"):
+        return hour + 12 if hour <= 2 else hour
+    if "晚" in words and hour <= 4:
+        return None
+    if "晚" in words or "夜" in words:
+        return hour + 12 if hour >= 5 else hour
+    return 0 if words == "凌晨" and hour == 12 else hour
+
+
+def time_value(phrase: Phrase) -> Optional[Value]:
+    """The hour, the minute and the second, and the hour of 24."""
     hour, minute, second, *_ = [value_of(it) for it in phrase.slots] + [0, 0]
     if phrase.words.endswith("刻"):
         minute *= 15
     if phrase.words.endswith("半"):
         minute = 30
-    return minute > 59 or second > 59 or (hour, minute, second) > (24, 0, 0)
+    if minute > 59 or second > 59 or (hour, minute, second) > (24, 0, 0):
+        return None
+    of_day = hour_of_day(hour, phrase.half_day)
+    return hour, minute, second, 0 if of_day == 24 and (minute or second) else of_day
 
 
-def is_refused_duration(phrase: Phrase) -> bool:
-    return any(value_of(it) > 59 for it in phrase.slots[1:])
+def duration_value(phrase: Phrase) -> Optional[Value]:
+    """Seconds."""
+    values = [value_of(it) for it in phrase.slots]
+    units = (60, 1) if phrase.words[0] == "分" else (3600, 60, 1)
+    return None if max(values[1:]) > 59 else sum(a * b for a, b in zip(values, units))
 
 
-REFUSALS: Dict[str, Callable[[Phrase], bool]] = dict(
-    date=is_refused_date,
-    years=is_refused_pair,
-    dates=is_refused_pair,
-    time=is_refused_time,
-    duration=is_refused_duration,
+def half_value(phrase: Phrase) -> Optional[Value]:
+    return value_of(phrase.slots[0]) + Fraction(1, 2)
+
+
+def length_value(phrase: Phrase) -> Optional[Value]:
+    whole, decimals = phrase.slots
+    digits = numbers.ascii_figures(decimals.text)
+    return value_of(whole) + Fraction(int(digits), 10 ** len(digits))
+
+
+def score_value(phrase: Phrase) -> Optional[Value]:
+    first, second = phrase.slots
+    return value_of(first), value_of(second)
+
+
+VALUES: Dict[str, Callable[[Phrase], Optional[Value]]] = dict(
+    date=date_value,
+    years=dates_value,
+    dates=dates_value,
+    time=time_value,
+    duration=duration_value,
+    half=half_value,
+    length=length_value,
+    score=score_value,
 )
 
 
@@ -447,25 +535,22 @@ def is_doubtful(text: Text, phrase: Phrase) -> bool:
 
 
 def judged(text: Text, phrase: Phrase) -> Phrase:
-    is_refused = REFUSALS.get(phrase.kind, lambda phrase: False)(phrase)
-    return phrase._replace(is_refused=is_refused, is_doubtful=is_doubtful(text, phrase))
+    value = VALUES[phrase.kind](phrase)
+    return phrase._replace(value=value, is_doubtful=is_doubtful(text, phrase))
 
 
 # ---- Ranges ----------------------------------------------------------------------------------
 
 
 def ends_of_range(text: Text, start: int) -> Optional[Tuple[Found, str, Found]]:
-    """E link E: two expressions that are quantities."""
+    """E link E: two expressions that are quantities, without blanks between."""
     first = text.by_start.get(start)
-    if first is None or first.quantity is None:
+    if first is None or first.quantity is None or text.at(first.end) not in LINKS:
         return None
-    for place in places_after(text, first.end, False):
-        if text.at(place) in LINKS:
-            for second_start in places_after(text, place + 1, False):
-                second = text.by_start.get(second_start)
-                if second is not None and second.quantity is not None:
-                    return first, text.at(place), second
-    return None
+    second = text.by_start.get(first.end + 1)
+    if second is None or second.quantity is None:
+        return None
+    return first, text.at(first.end), second
 
 
 def is_no_range(text: Text, first: Found, link: str, second: Found) -> bool:
@@ -473,7 +558,9 @@ def is_no_range(text: Text, first: Found, link: str, second: Found) -> bool:
     for end in (first, second):
         if end.is_about or end.quantity.form == numbers.FRACTION or end.quantity.numerator < 0:
             return True
-    if is_letter_or_bar(before) or numbers.clings(text.line, first.start, second.end):
+    if is_letter_or_bar(before) or is_slot_char(before):
+        return True
+    if numbers.clings(text.line, first.start, second.end):
         return True
     if link in "到至":
         return first.text == "一" and after in "点點时時月日号號"
@@ -486,43 +573,46 @@ def is_no_range(text: Text, first: Found, link: str, second: Found) -> bool:
     return is_figure(before) or before in "-/.:：~=+^*×_$#@" or after in "-/~:：=+^*×_\\"
 
 
-def units_at_end(text: str) -> str:
-    """The units from 百 up at the end of a text."""
-    units = takewhile(lambda c: numbers.rank_of(c) >= 2, reversed(text))
-    return "".join(units)[::-1]
-
-
 def ratio_of(quantity: numbers.Quantity) -> Fraction:
     return Fraction(quantity.numerator, quantity.denominator)
 
 
+def is_multiplier(c: str) -> bool:
+    return numbers.rank_of(c) >= 2
+
+
 def shared_units(first: Found, second: Found) -> str:
     """The units of the second end of a range that count for the first too."""
-    units = units_at_end(second.text)
-    head = numbers.quantity(second.text[: len(second.text) - len(units)])
-    if not units or head is None or units_at_end(first.text):
+    if any(is_multiplier(c) for c in first.text):
         return ""
-    return units if 0 < ratio_of(first.quantity) < ratio_of(head) else ""
+    head = second.text
+    while head and is_multiplier(head[-1]):
+        head = head[:-1]
+    before = numbers.quantity(head)
+    if before is None or not 0 < ratio_of(first.quantity) < ratio_of(before):
+        return ""
+    return second.text[len(head) :]
 
 
 def shares_percent(first: Found, second: Found) -> bool:
     return (first.quantity.form == numbers.PERCENT) != (second.quantity.form == numbers.PERCENT)
 
 
-def percent_of(end: Found) -> Fraction:
-    ratio = ratio_of(end.quantity)
-    return ratio if end.quantity.form == numbers.PERCENT else ratio / 100
+def value_of_end(text: str, is_percentage: bool) -> Optional[Fraction]:
+    """The number of an end of a range, with what counts for it."""
+    quantity = numbers.quantity(text)
+    if quantity is None or len(text.encode()) > 48:
+        return None
+    is_divided = is_percentage and quantity.form != numbers.PERCENT
+    return ratio_of(quantity) / (100 if is_divided else 1)
 
 
 def values_of_range(first: Found, second: Found) -> Optional[Tuple[Fraction, Fraction]]:
-    """The two numbers, or None where they are too large."""
-    if shares_percent(first, second):
-        return percent_of(first), percent_of(second)
-    units = shared_units(first, second)
-    product = numbers.units_product(units, numbers.TEN_THOUSAND)
-    if product is None:
-        return None
-    return ratio_of(first.quantity) * product, ratio_of(second.quantity)
+    """The two numbers, or None if they do not rise, or are too long or no quantities."""
+    is_percentage = shares_percent(first, second)
+    start = value_of_end(first.text + shared_units(first, second), is_percentage)
+    end = value_of_end(second.text, is_percentage)
+    return None if start is None or end is None or start >= end else (start, end)
 
 
 def range_at(text: Text, start: int) -> Optional[Phrase]:
@@ -531,12 +621,14 @@ def range_at(text: Text, start: int) -> Optional[Phrase]:
         return None
     first, link, second = ends
     values = values_of_range(first, second)
-    is_refused = values is None or values[0] >= values[1]
-    if is_refused and link not in "到至":
+    if values is None and link not in "到至":
         return None
     slots = [Slot("E", it.start, it.end, it.text) for it in (first, second)]
     is_part = text.at(second.end) in "折成"
-    return Phrase("range", first.start, second.end, slots, link, is_refused, is_part)
+    written = text.line.text[first.start : second.end]
+    return Phrase(
+        "range", first.start, second.end, written, slots, link, value=values, is_doubtful=is_part
+    )
 
 
 # ---- In figures ------------------------------------------------------------------------------
@@ -563,13 +655,18 @@ def new_slot(text: Text, phrase: Phrase, slot: Slot) -> Optional[str]:
     return numbers.kept_text(slot.text)
 
 
-def new_phrase(text: Text, phrase: Phrase) -> Optional[str]:
+def stays(phrase: Phrase, options: Options) -> bool:
+    if phrase.value is None or (phrase.is_doubtful and not options.doubtful):
+        return True
+    if phrase.kind == "range":
+        return all(has_figure(it.text) for it in phrase.slots)
+    is_one_character = numbers.is_one_character(phrase.slots[0].text)
+    return phrase.kind == "half" and is_one_character and not options.one_character
+
+
+def new_phrase(text: Text, phrase: Phrase, options: Options) -> Optional[str]:
     """The new text of a phrase, or None if it stays."""
-    if phrase.is_refused or phrase.is_doubtful:
-        return None
-    if phrase.kind == "range" and all(has_figure(it.text) for it in phrase.slots):
-        return None
-    if phrase.kind == "half" and numbers.is_one_character(phrase.slots[0].text):
+    if stays(phrase, options):
         return None
     pieces, end = [], phrase.start
     for slot in phrase.slots:
@@ -583,68 +680,52 @@ def new_phrase(text: Text, phrase: Phrase) -> Optional[str]:
 
 # ---- The items of a text ---------------------------------------------------------------------
 
-
-class Item(NamedTuple):
-    """A phrase, or an expression that is in none."""
-
-    start: int
-    end: int
-    text: str
-    new: Optional[str]
-    is_one_character: bool
-    kind: str = "expression"
-    state: str = "certain"
-
-
-def state_of(phrase: Phrase) -> str:
-    if phrase.is_refused:
-        return "refused"
-    return "doubtful" if phrase.is_doubtful else "certain"
+Item = Union[Phrase, Found]  # a phrase, or an expression that is in none
 
 
 def phrase_at(text: Text, start: int) -> Optional[Phrase]:
-    """The longest form at a place, or else a range."""
-    return form_at(text, start) or range_at(text, start)
-
-
-def item_at(text: Text, start: int) -> Optional[Item]:
-    phrase = phrase_at(text, start)
-    if phrase is not None:
-        written = text.line.text[start : phrase.end]
-        new = new_phrase(text, phrase)
-        return Item(start, phrase.end, written, new, False, phrase.kind, state_of(phrase))
-    found = text.by_start.get(start)
-    if found is None:
-        return None
-    new = numbers.new_text(text.line, found)
-    return Item(start, found.end, found.text, new, found.is_one_character)
+    """The longest form at a place, of equal ones the first of the table."""
+    form, range_ = form_at(text, start), range_at(text, start)
+    if form is None or range_ is None:
+        return form or range_
+    return range_ if range_.end > form.end else form
 
 
 def text_of(string: str) -> Text:
     found = numbers.find_quantities(string)
     inside = frozenset(i for it in found for i in range(it.start + 1, it.end))
-    return Text(Line(string), {it.start: it for it in found}, inside)
+    ends = frozenset(it.end for it in found)
+    slot_ends = list(range(len(string) + 2))
+    for i in reversed(range(len(string))):
+        if is_slot_char(string[i]):
+            slot_ends[i] = slot_ends[i + 1]
+    return Text(Line(string), {it.start: it for it in found}, slot_ends, ends, inside)
 
 
-def items_of(text: Text) -> List[Item]:
-    """The items of a text, from the left."""
-    items: List[Item] = []
-    place = 0
-    while place < len(text.line.text):
-        item = item_at(text, place)
+@lru_cache(maxsize=1)
+def items_of(string: str) -> Tuple[Text, List[Item]]:
+    """A text, and its items from the left."""
+    text, place, items = text_of(string), 0, []
+    while place < len(string):
+        item = phrase_at(text, place) or text.by_start.get(place)
         if item is not None:
             items.append(item)
         place = place + 1 if item is None else item.end
-    return items
+    return text, items
 
 
-def text_to_figures(text: str) -> str:
-    """Numerals and phrases in figures, in the kept style."""
-    known = text_of(text)
-    items = items_of(known)
-    return numbers.put_in_chains(known.line, items, [it.new for it in items])
+def find_phrases(string: str) -> List[Item]:
+    return items_of(string)[1]
 
 
-def described(text: str) -> List[Tuple[int, int, str, str]]:
-    """The items of a text: their places, kinds and states."""
-    return [(it.start, it.end, it.kind, it.state) for it in items_of(text_of(text))]
+def new_text(text: Text, item: Item, options: Options) -> Optional[str]:
+    if isinstance(item, Phrase):
+        return new_phrase(text, item, options)
+    return numbers.new_text(text.line, item, options)
+
+
+def text_to_figures(string: str, **chosen: bool) -> str:
+    """Numerals and phrases in figures, phrases in the kept style."""
+    text, items = items_of(string)
+    news = [new_text(text, it, Options(**chosen)) for it in items]
+    return numbers.put_in_chains(text.line, items, news)

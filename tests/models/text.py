@@ -14,6 +14,7 @@ canonical figures lift only the first reason to stay.
 """
 
 import re
+from functools import lru_cache
 from typing import Callable, Dict, List, NamedTuple, Optional, Tuple
 
 U128_MAX = 2**128 - 1
@@ -204,6 +205,7 @@ def first_misread(text: str) -> Optional[int]:
     return next((p for p in range(len(text)) if misread_at(text, p)), None)
 
 
+@lru_cache(maxsize=100_000)
 def whole_number(text: str, exponents: Exponents = TEN_THOUSAND) -> Optional[int]:
     """`WholeNumber.whole_answer`: read, or the sum of two parts at a bare ten."""
     p = first_misread(text)
@@ -393,6 +395,7 @@ def unsigned_quantity(text: str, has_sign: bool, exponents: Exponents) -> Option
     return value and Quantity(*value, WHOLE if value[1] == 1 else DECIMAL)
 
 
+@lru_cache(maxsize=100_000)
 def quantity(string: str, exponents: Exponents = TEN_THOUSAND) -> Optional[Quantity]:
     """`chinese_to_quantity`: the quantity of a string, or None where it is refused."""
     sign, text = signed(text_of(string))
@@ -664,6 +667,7 @@ def parts_expressions(a: str, b: str) -> bool:
     return is_figure(b) and (is_chinese_digit(a) or a in "廿卅") and a not in "零〇"
 
 
+@lru_cache(maxsize=1)
 def find_quantities(text: str) -> List[Found]:
     """The expressions of a text."""
     line = Line(text)
