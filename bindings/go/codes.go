@@ -123,13 +123,13 @@ type Doubt uint32
 const (
 	// There is no reason.
 	NoDoubt Doubt = 0
-	// It is part of a word: 十二 of 十二指肠, 十一 of 双十一.
+	// It is part of a word or a title, or the year of an era: 十二 of 十二指肠, 十一 of 双十一, 四十一 of 乾隆四十一年.
 	DoubtWord Doubt = 1
-	// It is two or three Chinese digits, or more in rising order: 五一, 一二三四.
+	// It is two or three Chinese digits, or more in rising order, or two numbers: 五一, 一二三四, 十五十六.
 	DoubtDigits Doubt = 2
 	// It is part of a term: 负二 of 负二项, 十六 of 十六进制.
 	DoubtTerm Doubt = 3
-	// It is part of an expression with 折, 成 or 半: 八五 of 八五折, 一 of 一个半.
+	// It is part of an expression with 折, 成, 半 or 分之几: 八五 of 八五折, 一 of 一个半.
 	DoubtPart Doubt = 4
 	// It may be a time: 三点五 of 下午三点五, 十点零五.
 	DoubtTime Doubt = 5

@@ -11,9 +11,9 @@ use crate::rule::SearchRule;
 use cn_core::split_first_char;
 use cn_judge::{Mark, mark_of, split_first_mark, split_first_three};
 
-// The part of a text before its suffix `rest`.
+/// The part of a text before its suffix `rest`.
 #[inline(always)]
-fn text_before<'a>(whole: &'a str, rest: &'a str) -> &'a str
+pub fn text_before<'a>(whole: &'a str, rest: &'a str) -> &'a str
     requires { text_before whole.now rest.now ++ rest.now ≡ whole.now }
     ensures { result.now ≡ text_before whole.now rest.now }
 {

@@ -9,8 +9,8 @@ ghost use Rattle.cn_find.specs.Words.{begins_with_two, begins_word, ends_era, en
 use crate::expressions::{first_is, is_han, last_is, split_nearest};
 use cn_core::{is_figure, split_first_char};
 
-// Whether a character is one of a set.
-fn is_one_of(set: &[char], c: char) -> bool
+/// Whether a character is one of a set.
+pub fn is_one_of(set: &[char], c: char) -> bool
     ensures { result ≡ char_set_contains set.now c }
 {
     match set.split_first() {

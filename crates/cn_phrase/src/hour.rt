@@ -4,8 +4,8 @@ ghost use Rattle.cn_phrase.specs.Hours.{half_of, hour_in, hour_by, hour_of_day, 
 
 use crate::phrase::Lead;
 use crate::value::Time;
-use crate::word::is_one_of;
 use cn_core::split_first_char;
+use cn_find::is_one_of;
 
 /// A part of the day that a word names.
 #[derive(Debug, Copy, Clone, PartialEq, Eq)]

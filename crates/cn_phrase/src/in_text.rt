@@ -17,10 +17,12 @@ use crate::items::{Item, item_at, next_item};
 use crate::phrase::{Lead, Match};
 use crate::piece::{Numbers, Numeral, Progress};
 use crate::range::{Ends, put_range, range_of};
-use crate::word::{Word, is_one_of};
+use crate::word::Word;
 use crate::written::{put_passed, put_pieces};
 use cn_core::{Buffer, ChineseCountMethod, split_first_char};
-use cn_find::{Found, Wanted, ends_old_calendar, ends_with_two, is_one_character, is_title_open};
+use cn_find::{
+    Found, Wanted, ends_old_calendar, ends_with_two, is_one_character, is_one_of, is_title_open,
+};
 use cn_replace::chains::put_in_chains;
 use cn_replace::nothing::Nothing;
 use cn_replace::pieces::{CharTest, Figure, any, begins, split_leading};

@@ -17,7 +17,7 @@ ghost use Rattle.cn_phrase.specs.Ranges.{ends_of, linked, range_from};
 use crate::phrase::{Match, may_lead, phrase_at};
 use crate::range::{Ends, is_link, is_range};
 use cn_core::{is_figure, split_first_char};
-use cn_find::{Found, Wanted, expression_after, is_extra};
+use cn_find::{Found, Wanted, expression_after, is_extra, text_before};
 use cn_judge::{Mark, split_first_mark};
 use cn_replace::pieces::split_nearest;
 use std::marker::Model;
@@ -44,15 +44,6 @@ impl<'a> Item<'a> {
             Item::Expression(rest) => rest,
         }
     }
-}
-
-// The part of a text before its suffix `rest`.
-fn text_before<'a>(whole: &'a str, rest: &'a str) -> &'a str
-    requires { text_before whole.now rest.now ++ rest.now ≡ whole.now }
-    ensures { result.now ≡ text_before whole.now rest.now }
-{
-    let (before, _) = whole.split_at(whole.len() - rest.len());
-    before
 }
 
 // The part of a text between two of its suffixes.

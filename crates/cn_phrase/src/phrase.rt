@@ -11,9 +11,9 @@ ghost use Rattle.cn_phrase.specs.Phrases.{after_lead, all_forms, clock_forms, fo
 use crate::form::Form;
 use crate::piece::{Numbers, Numeral, Progress, read_pieces, without_blank};
 use crate::range::is_link;
-use crate::word::{Word, is_one_of};
+use crate::word::Word;
 use cn_core::split_first_char;
-use cn_find::ends_with_two;
+use cn_find::{ends_with_two, is_one_of};
 use cn_replace::pieces::{CharTest, Figure, begins, ends, split_leading, split_nearest};
 
 /// What is before the first number of a phrase.
@@ -333,7 +333,8 @@ fn forms_with(c: char) -> &'static [Form]
         '-' => &[Form::DashDate, Form::Years, Form::Months, Form::Days],
         '/' => &[Form::SlashDate],
         '到' | '至' => &[Form::Years, Form::Months, Form::Days],
-        '~' | '～' | '－' | '–' | '—' | '〜' => &[Form::Years, Form::Months, Form::Days],
+        '~' | '～' | '－' => &[Form::Years, Form::Months, Form::Days],
+        '–' | '—' | '〜' => &[Form::Years, Form::Months, Form::Days],
         '个' | '個' => &[Form::HoursMinutesSeconds, Form::HoursMinutes, Form::HalfOf],
         '小' | '钟' | '鐘' => &[Form::HoursMinutesSeconds, Form::HoursMinutes],
         '分' => &[Form::MinutesSeconds],

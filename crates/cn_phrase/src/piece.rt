@@ -7,8 +7,9 @@ ghost use Rattle.cn_phrase.specs.Shapes.{value_of};
 ghost use Rattle.cn_phrase.specs.Pieces.{is_numeral, piece_read, pieces_read, reading_of, refused_by, refuses, is_numerator, slot_read, with_number, without_blank};
 
 use crate::shape::Shape;
-use crate::word::{Word, is_one_of};
+use crate::word::Word;
 use cn_core::{is_figure, split_first_char};
+use cn_find::is_one_of;
 use cn_replace::pieces::{CharTest, Figure, begins, split_leading};
 
 /// What may not come after a form.

@@ -9,9 +9,8 @@ ghost use Rattle.cn_replace.specs.Private.{PutsText};
 ghost use Rattle.cn_phrase.specs.Ranges.{are_less, are_plain, before_units, begins_sign, begins_zero, counts_for_both, end_text, ends_of, ends_sign, goes_on, have_both_figures, is_as_soon, is_end, is_less, is_link, is_linked, is_number, high_text, is_percent, is_percent_alone, is_positive, is_range, is_short, is_word, low_text, more_of_high, more_of_low, product, quantity_with, range_of, range_text, shared_units, units_of};
 ghost use Rattle.cn_phrase.specs.Suffix.{EndsWith};
 
-use crate::word::is_one_of;
 use cn_core::{Buffer, ChineseCountMethod, Unit, is_figure, split_first_char};
-use cn_find::Found;
+use cn_find::{Found, is_one_of};
 use cn_quantity::{Quantity, QuantityForm, chinese_to_quantity};
 use cn_replace::Sink;
 use cn_replace::clings::clings;

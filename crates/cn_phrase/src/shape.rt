@@ -4,8 +4,8 @@ ghost use Rattle.std.specs.Option.{option_and_then};
 ghost use Rattle.cn_core.specs.FigureCharacters.{figure_of};
 ghost use Rattle.cn_phrase.specs.Shapes.{after_hundred, are_about, chinese_digit, clock_of, count_of, counting_digit, digit_alone_of, era_year_of, few_figures_of, four_digits, full_year_of, has_later_two, hundred_of, hundreds, is_hundred, is_ten, is_zero, long_count_of, number_of, short_year_of, small_of, three_figures_of, two_alone_of, two_digits, two_of, value_of, year_of, zero_digit_of};
 
-use crate::word::is_one_of;
 use cn_core::{digit_of, figure_of, split_first_char};
+use cn_find::is_one_of;
 use cn_replace::pieces::{CharTest, any};
 
 /// What a number in a slot of a phrase can be.

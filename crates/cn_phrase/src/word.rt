@@ -5,6 +5,7 @@ ghost use Rattle.std.specs.Option.{option_map};
 ghost use Rattle.cn_phrase.specs.Words.{after_any, after_beginning, after_early, after_half_day, after_halved, after_hour_word, after_one, after_part_of_month, after_two, after_week, after_weekday, after_with_zhong, after_word};
 
 use cn_core::split_first_char;
+use cn_find::is_one_of;
 
 /// A word of phrases; most can be written in several ways.
 #[derive(Debug, Copy, Clone, PartialEq, Eq)]
@@ -55,16 +56,6 @@ pub enum Word {
     HalfDay,
     /// A weekday, such as 周五
     Weekday,
-}
-
-/// Whether a character is one of a set.
-pub fn is_one_of(set: &[char], c: char) -> bool
-    ensures { result ≡ char_set_contains set.now c }
-{
-    match set.split_first() {
-        Some((first, others)) => *first == c || is_one_of(others, c),
-        None => false,
-    }
 }
 
 // The text after its first character, if that is one of these.
