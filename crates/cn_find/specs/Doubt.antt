@@ -35,16 +35,6 @@ do_rise (c ∷ text) = is_up_to_first (digit_of c) text && do_rise text
 abbrev pub counts : ℕ → Bool
 counts c = is_chinese_digit c && not (char_set_contains (codes "零〇") c)
 
-abbrev pub is_one_that_counts : List ℕ → Bool
-is_one_that_counts text = first_then counts (λ others. nat_le (length others) 0) text
-
-abbrev pub is_zero_and_digit : List ℕ → Bool
-is_zero_and_digit text = first_then (char_set_contains (codes "零〇")) is_one_that_counts text
-
--- the text is a number of three digits of which only the second is a zero, as in 三零二
-abbrev pub is_of_room : List ℕ → Bool
-is_of_room text = first_then counts is_zero_and_digit text
-
 -- the text begins with a digit and 十
 abbrev pub begins_tens : List ℕ → Bool
 begins_tens text = first_then is_chinese_digit (begins_with (codes "十")) text
@@ -54,22 +44,24 @@ abbrev pub has_two_tens : List ℕ → Bool
 has_two_tens [] = false
 has_two_tens (c ∷ text) = (char_set_contains (codes "十") c && begins_tens text) || has_two_tens text
 
--- the text may be a list: it is two or three Chinese digits, of which not only the second is a zero, or
--- more that do not begin with 零 or 〇 and of which none is smaller than the one before it
+-- the text may be a list: it is two or three Chinese digits, or more that do not begin with 零 or
+-- 〇 and of which none is smaller than the one before it
 abbrev pub may_be_list : List ℕ → Bool
 may_be_list text =
     are_chinese_digits text
-    && (nat_le 2 (length text) && (not (is_of_room text) && (nat_le (length text) 3
-    || (do_rise text && not (begins_with (codes "零〇") text)))))
+    && (nat_le 2 (length text) && (nat_le (length text) 3
+    || (do_rise text && not (begins_with (codes "零〇") text))))
 
 -- the text names a year or a room, or the minutes of a time: 年 without 级, or one of 号室房,
--- follows it; or it begins with 零 or 〇 after 点, 分 or 时 and before 分 or 秒
+-- follows it; or it is after a building, such as 楼; or it begins with 零 or 〇 after 点, 分 or 时 and
+-- before 分 or 秒
 abbrev pub are_of_name : List ℕ → List ℕ → List ℕ → Bool
 are_of_name front text after =
     begins_without (codes "年") (codes "级級") after
     || (begins_with (codes "号號室房") after
+    || (begins_with (codes "楼樓栋棟座幢") front
     || (begins_with (codes "零〇") text
-    && (begins_with (codes "点點分时時") front && begins_with (codes "分秒") after)))
+    && (begins_with (codes "点點分时時") front && begins_with (codes "分秒") after))))
 
 -- the text is two numbers, or may be a list and is not such a name
 abbrev pub is_doubtful_list : List ℕ → List ℕ → List ℕ → Bool

@@ -17,7 +17,7 @@ begins_with_two first second text =
     first_then (char_set_contains first) (begins_with second) text
 
 -- the number and the text after it begin with one of these: 十二指肠, 十二生肖, 十二月党; 十八般,
--- 十八大, 十八罗汉, 十八层地狱; 十九大, 二十大; 十一假期, 十一长假, 十一黄金周
+-- 十八大, 十八罗汉, 十八层地狱; 十九大, 二十大; 十一放假, 十一假期, 十一长假, 十一黄金周
 abbrev pub is_named_group : List ℕ → List ℕ → Bool
 is_named_group text after =
     (is_exactly (codes "十二") text
@@ -31,9 +31,10 @@ is_named_group text after =
     || (((is_exactly (codes "十九") text || is_exactly (codes "二十") text)
     && begins_with (codes "大") after)
     || (is_exactly (codes "十一") text
-    && (begins_with_two (codes "假") (codes "期") after
+    && (begins_with (codes "放") after
+    || (begins_with_two (codes "假") (codes "期") after
     || (begins_with_two (codes "长長") (codes "假") after
-    || begins_with_two (codes "黄黃") (codes "金") after)))))
+    || begins_with_two (codes "黄黃") (codes "金") after))))))
 
 -- the number and the text after it begin with one of these: 三十六计, 七十二变, 七十二行,
 -- 三百六十行, 二十四史, 二十四节气, 二十八宿, 十三陵, 十三妹, 一千零一夜, 二八年华

@@ -2,7 +2,7 @@
 ghost use Rattle.std.specs.Prelude.{◌≡◌, ◌||◌, ◌&&◌, false, true, codes, chars, is_some, List, ℕ, Option, nat_le, length};
 ghost use Rattle.std.specs.Char.{char_set_contains};
 ghost use Rattle.cn_core.specs.Characters.{digit_of};
-ghost use Rattle.cn_find.specs.Doubt.{are_chinese_digits, are_of_name, begins_hour, begins_plenum, begins_second, begins_some_shares, begins_tens, begins_twenties, begins_without, counts, do_rise, doubt_of, ends_hour, ends_part_of_day, ends_zero_minutes, has_point, has_two_tens, is_clock_with_zero, is_doubtful_list, is_hour, is_hundredth, is_of_room, is_one_that_counts, is_part, is_term, is_time, is_up_to_first, is_zero_and_digit, may_be_list};
+ghost use Rattle.cn_find.specs.Doubt.{are_chinese_digits, are_of_name, begins_hour, begins_plenum, begins_second, begins_some_shares, begins_tens, begins_twenties, begins_without, counts, do_rise, doubt_of, ends_hour, ends_part_of_day, ends_zero_minutes, has_point, has_two_tens, is_clock_with_zero, is_doubtful_list, is_hour, is_hundredth, is_part, is_term, is_time, is_up_to_first, may_be_list};
 ghost use Rattle.cn_find.specs.Spans.{in_front};
 
 use crate::belongs::is_chinese_digit;
@@ -18,8 +18,7 @@ pub enum Doubt {
     /// 《第二十二条军规》, 四十一 of 乾隆四十一年.
     Word,
     /// It is two or three Chinese digits, or more of which none is smaller than the one before it,
-    /// and so may be a list: 五一, 一二三四; but not if the second of three is 零, as in 三零二. Or it
-    /// is two numbers: 十五十六.
+    /// and so may be a list: 五一, 一二三四; or it is two numbers: 十五十六.
     Digits,
     /// It is part of a term: 负二 of 负二项, 十六 of 十六进制.
     Term,
@@ -87,27 +86,6 @@ fn do_rise(text: &str) -> bool
     true
 }
 
-// Whether the text is a number of three digits of which only the second is a zero.
-fn is_of_room(text: &str) -> bool
-    ensures { result ≡ is_of_room (chars text.now) }
-{
-    split_first_char(text).is_some_and(|(c, others)| counts(c) && is_zero_and_digit(others))
-}
-
-fn is_zero_and_digit(text: &str) -> bool
-    ensures { result ≡ is_zero_and_digit (chars text.now) }
-{
-    split_first_char(text).is_some_and(|(c, others)| {
-        matches!(c, '零' | '〇') && is_one_that_counts(others)
-    })
-}
-
-fn is_one_that_counts(text: &str) -> bool
-    ensures { result ≡ is_one_that_counts (chars text.now) }
-{
-    split_first_char(text).is_some_and(|(c, others)| counts(c) && has_at_most(0, others))
-}
-
 // Whether the text begins with a digit and 十.
 fn begins_tens(text: &str) -> bool
     ensures { result ≡ begins_tens (chars text.now) }
@@ -135,7 +113,6 @@ fn may_be_list(text: &str) -> bool
 {
     are_chinese_digits(text)
         && !has_at_most(1, text)
-        && !is_of_room(text)
         && (has_at_most(3, text) || (do_rise(text) && !begins_with(&['零', '〇'], text)))
 }
 
@@ -144,6 +121,7 @@ fn are_of_name(before: &str, text: &str, after: &str) -> bool
 {
     begins_without(&['年'], &['级', '級'], after)
         || begins_with(&['号', '號', '室', '房'], after)
+        || ends_with(&['楼', '樓', '栋', '棟', '座', '幢'], before)
         || (begins_with(&['零', '〇'], text)
             && ends_with(&['点', '點', '分', '时', '時'], before)
             && begins_with(&['分', '秒'], after))

@@ -74,7 +74,8 @@ fn is_named_group(text: &str, after: &str) -> bool
         || ((is_exactly(&['十', '九'], text) || is_exactly(&['二', '十'], text))
             && begins_with(&['大'], after))
         || (is_exactly(&['十', '一'], text)
-            && (begins_with_two(&['假'], &['期'], after)
+            && (begins_with(&['放'], after)
+                || begins_with_two(&['假'], &['期'], after)
                 || begins_with_two(&['长', '長'], &['假'], after)
                 || begins_with_two(&['黄', '黃'], &['金'], after)))
 }
