@@ -610,6 +610,21 @@ def comma_joins(line: Line, i: int) -> bool:
     return 1 <= i - j <= 3 and line.at(j) not in "0０" and line.at(j - 1) not in ",.．"
 
 
+def sign_joins(line: Line, i: int) -> bool:
+    c, before, after = line.at(i), line.at(i - 1), line.at(i + 1)
+    if c in "负負":
+        if line.is_numeric(i - 1) or before in "正非背揹肩担擔抱胜勝辜欺自不":
+            return False
+        return line.is_numeric(i + 1)
+    if c in "-−－":
+        if line.is_numeric(i - 1) or is_letter(before) or before in "%％‰)]}_.．/\\-−－":
+            return False
+        return is_figure(after) or (after in "¥￥" and line.is_figure(i + 2))
+    if c in "¥￥":
+        return before in "-−－" and sign_joins(line, i - 1) and is_figure(after)
+    return False
+
+
 def joins(line: Line, i: int) -> bool:
     """A character that is no numeral character belongs to an expression."""
     c, before, after = line.at(i), line.at(i - 1), line.at(i + 1)
@@ -645,17 +660,7 @@ def joins(line: Line, i: int) -> bool:
         if after == "一" and not (line.is_numeric(i + 2) or line.at(i + 2) in "度点點摄攝℃"):
             return False
         return is_figure(after) or (line.is_wanted(i + 1) and (after in DIGITS or after == "十"))
-    if c in "负負":
-        if line.is_numeric(i - 1) or before in "正非背揹肩担擔抱胜勝辜欺自不":
-            return False
-        return line.is_numeric(i + 1)
-    if c in "-−－":
-        if line.is_numeric(i - 1) or is_letter(before) or before in "%％‰)]}_.．/\\-−－":
-            return False
-        return is_figure(after) or (after in "¥￥" and line.is_figure(i + 2))
-    if c in "¥￥":
-        return before in "-−－" and joins(line, i - 1) and is_figure(after)
-    return False
+    return sign_joins(line, i)
 
 
 def parts_expressions(a: str, b: str) -> bool:
