@@ -11,8 +11,8 @@ before a 两 that is not its first character; a part of a month is a word and no
 follow it; a link is no `-` between slots; two Chinese digits are no year before an ASCII `-` or `/` alone;
 what is said of Y-M-D, H:MM and N米F holds for Y/M/D, H:MM:SS and the other lengths; 早 and 晚 are part of no
 phrase only before the words 一点; a date is directly after an era, 农历 and so on, or 民國, which is in this
-script only; a range begins without W; with the units that count for it, its first
-end is a quantity, or the range is refused.
+script only; a range begins without W; with the units that count for it, its first end is a quantity, or
+the range is refused.
 """
 
 import re
