@@ -6,14 +6,13 @@ phrase is looked for at each character of a text from the left, outside of what 
 form is a list of steps: slots, with the letters of RULES, and words. The model of expressions is
 text.py.
 
-Where RULES leaves two readings, these are taken: a slot has figures or numerals and not both; a whole
-number with 百 may have a bare ten; what begins with a word of half a day may be directly after a letter
-or a character of slots; a weekday has a digit from 1 to 6, also a figure; if the longest form is no
-phrase, a shorter one may be; a link is no `-` between slots; what is said of Y-M-D, H:MM and N米F holds
-for Y/M/D, H:MM:SS and the other lengths; 早 and 晚 are part of no phrase only before the words 一点; from a
-month to another, and from a day, both are of the calendar; the end of a range is no slot before a
-letter, so measures may follow it; units count for a first end without units anywhere, and with them it
-is a quantity, or the range is refused.
+Where RULES leaves two readings, these are taken: a slot has figures or numerals and not both; it ends
+before a 两 that is not its first character; a part of a month is a word and no slot, so a letter may
+follow it; a link is no `-` between slots; two Chinese digits are no year before an ASCII `-` or `/` alone;
+what is said of Y-M-D, H:MM and N米F holds for Y/M/D, H:MM:SS and the other lengths; 早 and 晚 are part of no
+phrase only before the words 一点; a date is directly after an era, 农历 and so on, or 民國, which is in this
+script only; a range begins without W; with the units that count for it, its first end is a quantity, or
+the range is refused.
 """
 
 import re
@@ -24,7 +23,7 @@ from typing import Callable, Dict, FrozenSet, Iterator, List, NamedTuple, Option
 import text as numbers
 from text import LINKS, Found, Line, Options, has_figure, is_chinese_digit, is_figure, is_letter
 
-SLOT_CHARS = frozenset("零〇一二两兩三四五六七八九十百")
+SLOT_CHARS, ONLY_FIRST = frozenset("零〇一二两兩三四五六七八九十百"), frozenset("两兩")
 DAYS_OF_MONTHS = (31, 28, 31, 30, 31, 30, 31, 31, 30, 31, 30, 31)
 
 # The parts of a date or a time, two numbers, or one; None for a part that is not given or not known.
@@ -68,6 +67,10 @@ class Phrase(NamedTuple):
     is_one_character: bool = False
 
 
+NONZERO = "[一二两兩三四五六七八九]"
+COUNT = re.compile(f"[零〇]|{NONZERO}|{NONZERO}?十{NONZERO}?")
+
+
 def is_slot_char(c: str) -> bool:
     return is_figure(c) or c in SLOT_CHARS
 
@@ -96,16 +99,9 @@ def numeral_value(text: str) -> Optional[int]:
     return numbers.whole_number(text) if value is None else value
 
 
-def is_up_to(value: Optional[int], most: int) -> bool:
-    return value is not None and value <= most
-
-
 def is_count(text: str) -> bool:
-    """One or two figures, or a numeral up to 99 without two digits side by side."""
-    if are_figures(text, 1, 2):
-        return True
-    has_pair = any(is_chinese_digit(a) and is_chinese_digit(b) for a, b in zip(text, text[1:]))
-    return not has_pair and is_up_to(numeral_value(text), 99)
+    """One or two figures, one Chinese digit, or 十 with digits around it or not."""
+    return are_figures(text, 1, 2) or COUNT.fullmatch(text) is not None
 
 
 def is_zero_and_digit(text: str) -> bool:
@@ -138,10 +134,14 @@ def is_decimals(text: str) -> bool:
 
 
 def is_number(text: str) -> bool:
-    """N: a whole number up to 999, as a count, three figures, or a numeral with 百."""
-    if is_count(text) or are_figures(text, 3, 3):
+    """N: a whole number up to 999."""
+    if are_figures(text, 3, 3):
+        return ascii_of(text[0]) != "0"
+    if is_count(text):
         return True
-    return "百" in text and is_up_to(numeral_value(text), 999)
+    rest, is_tens = text[2:], len(text) > 3 and COUNT.fullmatch(text[2:]) is not None
+    has_hundreds = re.match(f"{NONZERO}百", text) is not None
+    return has_hundreds and (not rest or is_zero_and_digit(rest) or is_tens)
 
 
 def is_year(text: str) -> bool:
@@ -149,13 +149,6 @@ def is_year(text: str) -> bool:
     if len(text) != 4 or numbers.digit_of(ascii_of(text[0])) not in (1, 2):
         return False
     return are_figures(text, 4, 4) or are_digits(text)
-
-
-def is_year_before_month(text: str) -> bool:
-    """Y before 月 is more: figures that do not begin with 0, or a numeral by units."""
-    if are_figures(text, 1, 4):
-        return ascii_of(text[0]) != "0"
-    return numbers.is_numeral(text) and is_up_to(numeral_value(text), 9999)
 
 
 @lru_cache(maxsize=100_000)
@@ -166,9 +159,9 @@ def has_shape(letter: str, text: str) -> bool:
 def is_of_letter(text: Text, slot: Slot) -> bool:
     """A slot has the shape of its letter."""
     if slot.letter in "Yy":
-        if is_year(slot.text) or (slot.letter == "y" and is_year_before_month(slot.text)):
+        if is_year(slot.text) or (slot.letter == "y" and has_shape("N", slot.text)):
             return True
-        is_pair = len(slot.text) == 2 and are_digits(slot.text)
+        is_pair = len(slot.text) == 2 and are_digits(slot.text) and text.at(slot.end) not in "-/"
         return is_pair and not numbers.is_about(text.line, slot.start, slot.end)
     return has_shape(slot.letter, slot.text)
 
@@ -196,6 +189,7 @@ GE, HOURS = "个 個", "小时 小時 钟头 鐘頭 个小时 個小時 个钟�
 MINUTES, SECONDS, COLON = "分 分钟 分鐘", "秒 秒钟 秒鐘", ": ："
 AFTER_HALF = "半小时 半小時 半钟头 半鐘頭 半月 半星期 半礼拜 半禮拜 半世纪 半世紀"
 BEFORE_HALF = "年 天 周 週 岁 歲 斤 里 吨 噸 倍 米 度"
+PART_OF_MONTH = "底 份 末 上旬 中旬 下旬 初"
 
 Step = Union[str, Tuple[str, ...]]  # a letter, or words
 
@@ -223,6 +217,7 @@ def date_forms() -> Iterator[Form]:
     yield form("date", "y", "年", "M", "月")
     yield form("date", "M", "月", "D", RI)
     yield form("date", "Y", "年")
+    yield form("date", "M", "月", PART_OF_MONTH)
     for bar in "-/":
         yield form("date", "Y", bar, "M", bar, "D")
     yield form("date", "M", "月", is_linked=True)
@@ -265,8 +260,8 @@ WITHOUT_HALF_DAY = [it for it in FORMS if not it.has_half_day]
 
 # ---- Words of half a day, and weekdays -------------------------------------------------------
 
-HALF_DAY = re.compile("[凌清早]晨|[上中下正]午|傍晚|[今明昨当當][晚早]|[深半午]夜|[早晚]上|[夜晚][里裡间間]|午[后後]|[早晚]")
-WEEKDAY = re.compile("(?:[周週]|星期|[礼禮]拜)[一二三四五六1-6１-６]")
+HALF_DAY = re.compile("[凌清早]晨|[上中下正]午|傍晚|[今明昨当當][晚早晨]|[深半午]夜|[早晚]上|[夜晚][里裡间間]|午[后後]|[早晚]")
+WEEKDAY = re.compile("(?:[周週]|星期|[礼禮]拜)[一二三四五六]")
 
 
 def ends_of_half_day(text: Text, start: int) -> Iterator[int]:
@@ -340,6 +335,9 @@ def phrases_from(text: Text, start: int) -> Iterator[Phrase]:
 # ---- What is no phrase -----------------------------------------------------------------------
 
 
+AFTER_NO_LENGTH = frozenset("年月日点點人个個分秒米度几幾多重層层關关種种次間间位條条名項项隻只元塊块倍級级樓楼座套臺台輛辆張张本天週周歲岁斤里")
+
+
 def is_letter_or_bar(c: str) -> bool:
     return is_letter(c) or c == "_"
 
@@ -353,7 +351,9 @@ def is_no_date(text: Text, phrase: Phrase) -> bool:
     if phrase.words in ("--", "//"):
         return before in "-/." or after in "-/.:"
     if phrase.words == "年":
-        return before in "第周週每"
+        return before in "第周週每" or after in "华華"
+    if phrase.words == "月初":
+        return after in "一二三四五六七八九十"
     return phrase.words == "年月" and after == "初"
 
 
@@ -362,17 +362,19 @@ def is_no_time(text: Text, phrase: Phrase) -> bool:
     if re.search("[:：]", phrase.words):
         return before in ":：/.-" or after in ":：."
     if re.fullmatch(".分", phrase.words):
-        return after in "之钟鐘"
+        then = text.at(phrase.end + 1)
+        is_numerator = after == "之" and (is_slot_char(then) or then in "几幾")
+        return after in "钟鐘" or is_numerator
     is_bare = phrase.slots[-1].letter in "BZ"
     return is_bare and after in "分几幾多元米度倍吨噸克升%％‰万萬亿億千"
 
 
 def is_no_half(text: Text, phrase: Phrase) -> bool:
-    return text.at(phrase.end) in "载載夜天年"
+    return phrase.words.endswith("半") and text.at(phrase.end) in "载載夜天年"
 
 
 def is_no_length(text: Text, phrase: Phrase) -> bool:
-    return text.at(phrase.end) in "年月日点點人个個分秒米度几幾多"
+    return text.at(phrase.end) in AFTER_NO_LENGTH
 
 
 def is_no_score(text: Text, phrase: Phrase) -> bool:
@@ -389,12 +391,24 @@ NO_PHRASES: Dict[str, Callable[[Text, Phrase], bool]] = dict(
 )
 
 
+def is_within(text: Text, start: int) -> bool:
+    """What begins at a place, without W, is part of a word or a number."""
+    before = text.at(start - 1)
+    if is_slot_char(before):
+        return not any(WEEKDAY.fullmatch(text.line.text, i, start) for i in (start - 2, start - 3))
+    return is_letter_or_bar(before) or before in "千仟万萬亿億"
+
+
 def is_linked(text: Text, phrase: Phrase) -> bool:
     """A linked form is directly after a link, or, of an hour, has another hour beside it."""
     before = text.at(phrase.start - 2) + text.at(phrase.start - 1)
     if phrase.kind == "date":
         return re.fullmatch(f"[月日号號][{LINKS}]", before) is not None
     if re.fullmatch(f"[点點时時半分刻][{LINKS}]|.[日号號]", before, re.DOTALL):
+        return True
+    if text.at(phrase.end) in "钟鐘":
+        return True
+    if before[1] == "天" and before[0] in "今明昨后後前当當每" and value_of(phrase.slots[0]) != 1:
         return True
     if text.at(phrase.end) not in LINKS:
         return False
@@ -404,10 +418,8 @@ def is_linked(text: Text, phrase: Phrase) -> bool:
 
 
 def is_phrase(text: Text, phrase: Phrase) -> bool:
-    before, after = text.at(phrase.start - 1), text.at(phrase.end)
-    if phrase.end in text.inside:
-        return False
-    if not phrase.half_day and (is_letter_or_bar(before) or is_slot_char(before)):
+    after = text.at(phrase.end)
+    if phrase.end in text.inside or (not phrase.half_day and is_within(text, phrase.start)):
         return False
     if ends_with_slot(phrase) and (is_letter_or_bar(after) or phrase.end not in text.ends):
         return False
@@ -524,14 +536,34 @@ VALUES: Dict[str, Callable[[Phrase], Optional[Value]]] = dict(
 )
 
 
+OF_MOON = frozenset("农農阴陰旧舊夏藏老")
+
+
+def is_of_other_calendar(text: Text, phrase: Phrase) -> bool:
+    """A date by the years of an era, or by the moon."""
+    head, year = text.line.text[: phrase.start], phrase.slots[0].text
+    has_year = phrase.words.startswith("年月")
+    is_of_era = re.search("[十百]", year) is not None or numbers.is_one_character(year)
+    if has_year and is_of_era and not head.endswith("民國"):
+        return True
+    is_of_moon = text.at(phrase.start - 1) in "历曆" and text.at(phrase.start - 2) in OF_MOON
+    return is_of_moon or numbers.is_after_era(text.line, phrase.start)
+
+
 def is_doubtful(text: Text, phrase: Phrase) -> bool:
-    """A year that may be a number of years, or one of an era."""
-    if phrase.kind != "date" or phrase.slots[0].letter not in "Yy":
-        return False
-    year = phrase.slots[0].text
-    if phrase.words == "年" and has_figure(year) and ascii_of(year).endswith("00"):
-        return text.at(phrase.end) in "前来來历歷间間"
-    return re.search("[十百]", year) is not None
+    """It may mean something else, or stays in characters by the standard."""
+    first, last, after = phrase.slots[0], phrase.slots[-1], text.at(phrase.end)
+    if numbers.is_in_title(text.line, phrase.start):
+        return True
+    if phrase.kind == "range":
+        return after in "折成"
+    if phrase.kind == "date" and phrase.words == "年" and has_figure(first.text):
+        if ascii_of(first.text).endswith("00") and after in "前来來历歷间間":
+            return True
+    if phrase.kind == "date" and not re.search("[-/]", phrase.words) and not phrase.is_linked:
+        return is_of_other_calendar(text, phrase)
+    is_of_minute = phrase.kind == "time" and re.fullmatch("[点點]分", phrase.words)
+    return bool(is_of_minute) and not phrase.half_day and numbers.is_one_character(last.text)
 
 
 def judged(text: Text, phrase: Phrase) -> Phrase:
@@ -558,9 +590,7 @@ def is_no_range(text: Text, first: Found, link: str, second: Found) -> bool:
     for end in (first, second):
         if end.is_about or end.quantity.form == numbers.FRACTION or end.quantity.numerator < 0:
             return True
-    if is_letter_or_bar(before) or is_slot_char(before):
-        return True
-    if numbers.clings(text.line, first.start, second.end):
+    if is_within(text, first.start) or numbers.clings(text.line, first.start, second.end):
         return True
     if link in "到至":
         return first.text == "一" and after in "点點时時月日号號"
@@ -624,11 +654,9 @@ def range_at(text: Text, start: int) -> Optional[Phrase]:
     if values is None and link not in "到至":
         return None
     slots = [Slot("E", it.start, it.end, it.text) for it in (first, second)]
-    is_part = text.at(second.end) in "折成"
     written = text.line.text[first.start : second.end]
-    return Phrase(
-        "range", first.start, second.end, written, slots, link, value=values, is_doubtful=is_part
-    )
+    phrase = Phrase("range", first.start, second.end, written, slots, link, value=values)
+    return phrase._replace(is_doubtful=is_doubtful(text, phrase))
 
 
 # ---- In figures ------------------------------------------------------------------------------
@@ -698,7 +726,8 @@ def text_of(string: str) -> Text:
     slot_ends = list(range(len(string) + 2))
     for i in reversed(range(len(string))):
         if is_slot_char(string[i]):
-            slot_ends[i] = slot_ends[i + 1]
+            goes_on = i + 1 < len(string) and string[i + 1] not in ONLY_FIRST
+            slot_ends[i] = slot_ends[i + 1] if goes_on else i + 1
     return Text(Line(string), {it.start: it for it in found}, slot_ends, ends, inside)
 
 

@@ -610,6 +610,21 @@ def comma_joins(line: Line, i: int) -> bool:
     return 1 <= i - j <= 3 and line.at(j) not in "0０" and line.at(j - 1) not in ",.．"
 
 
+def sign_joins(line: Line, i: int) -> bool:
+    c, before, after = line.at(i), line.at(i - 1), line.at(i + 1)
+    if c in "负負":
+        if line.is_numeric(i - 1) or before in "正非背揹肩担擔抱胜勝辜欺自不":
+            return False
+        return line.is_numeric(i + 1)
+    if c in "-−－":
+        if line.is_numeric(i - 1) or is_letter(before) or before in "%％‰)]}_.．/\\-−－":
+            return False
+        return is_figure(after) or (after in "¥￥" and line.is_figure(i + 2))
+    if c in "¥￥":
+        return before in "-−－" and sign_joins(line, i - 1) and is_figure(after)
+    return False
+
+
 def joins(line: Line, i: int) -> bool:
     """A character that is no numeral character belongs to an expression."""
     c, before, after = line.at(i), line.at(i - 1), line.at(i + 1)
@@ -645,17 +660,7 @@ def joins(line: Line, i: int) -> bool:
         if after == "一" and not (line.is_numeric(i + 2) or line.at(i + 2) in "度点點摄攝℃"):
             return False
         return is_figure(after) or (line.is_wanted(i + 1) and (after in DIGITS or after == "十"))
-    if c in "负負":
-        if line.is_numeric(i - 1) or before in "正非背揹肩担擔抱胜勝辜欺自不":
-            return False
-        return line.is_numeric(i + 1)
-    if c in "-−－":
-        if line.is_numeric(i - 1) or is_letter(before) or before in "%％‰)]}_.．/\\-−－":
-            return False
-        return is_figure(after) or (after in "¥￥" and line.is_figure(i + 2))
-    if c in "¥￥":
-        return before in "-−－" and joins(line, i - 1) and is_figure(after)
-    return False
+    return sign_joins(line, i)
 
 
 def parts_expressions(a: str, b: str) -> bool:
@@ -697,12 +702,22 @@ WORDS = [
     |五十|步笑 |十五|个吊 |十万|火急 |十万八千|里 |二百五| |亿万| 双|十一| 双|十二| 年|三十| 初|一十五| |一千|道一 千道|一万|
     """.split()
 ]
-SIMPLE = str.maketrans("腸黨羅漢層長黃計變華個雙萬億臘節氣", "肠党罗汉层长黄计变华个双万亿腊节气")
+ERAS = tuple(
+    """
+    康熙 雍正 乾隆 嘉庆 嘉靖 道光 咸丰 元丰 同治 顺治 光绪 宣统 正统 洪武 建武 永乐 万历 大历 庆历 崇祯 贞观 开元 天宝
+    """.split()
+)
+SIMPLE = str.maketrans(
+    "腸黨羅漢層長黃計變華個雙萬億臘節氣慶豐順緒統樂曆歷禎貞觀開寶",
+    "肠党罗汉层长黄计变华个双万亿腊节气庆丰顺绪统乐历历祯贞观开宝",
+)
+BETWEEN_IN_TITLE = frozenset(" ,，、-.")
 HALVED = "个個倍天岁歲里年月日号號點点时時分秒刻元圆圓块塊角毛度米斤两兩"
 LINKS = "到至~～－–—〜-"
-CHINESE_DIGITS = re.compile(f"{_D}+")
-HOUR = re.compile("[一二两兩三四五六七八九]|十[一二两兩三四五六七八九]?|[二两兩]十|二十[一二三四]")
-TIME = re.compile(f"([^点點]{{1,3}})[点點]([零〇]?)({_D})")
+CHINESE_DIGITS, TWO_TENS = re.compile(f"{_D}+"), re.compile(f"十{_D}十")
+_HOUR = "[一二两兩三四五六七八九]|十[一二两兩三四五六七八九]?|[二两兩]十|二十[一二三四]"
+TIME = re.compile(f"(?:{_HOUR})[点點]")
+TIME_WITH_ZERO = re.compile(f"(?:{_HOUR})[点點][零〇](?![零〇]){_D}")
 
 
 def is_part(line: Line, start: int, end: int) -> bool:
@@ -711,10 +726,31 @@ def is_part(line: Line, start: int, end: int) -> bool:
         return True
     if after == "成" and len(text) <= 2 and CHINESE_DIGITS.fullmatch(text):
         return True
+    if after == "分" and then == "之" and line.at(end + 2) in "几幾":
+        return True
+    value = quantity(text) if after in "秒毫厘釐克" and "百" in text else None
+    if value is not None and value.form == PERCENT:
+        return True
     return after in HALVED and then == "半"
 
 
+def is_in_title(line: Line, start: int) -> bool:
+    """《 is among the 40 characters before a place, with nothing but what titles have between."""
+    for c in reversed(line.text[max(0, start - 40) : start]):
+        if c == "《":
+            return True
+        if not (is_han(c) or is_figure(c) or is_letter(c) or c in BETWEEN_IN_TITLE):
+            return False
+    return False
+
+
+def is_after_era(line: Line, start: int) -> bool:
+    return line.text[:start].translate(SIMPLE).endswith(ERAS)
+
+
 def is_word(line: Line, start: int, end: int) -> bool:
+    if is_in_title(line, start) or (line.at(end) == "年" and is_after_era(line, start)):
+        return True
     text = line.text.translate(SIMPLE)
     head, tail = text[:start], text[end:]
     if re.search("亿萬|億万", line.text[start:end]):
@@ -729,9 +765,13 @@ def is_word(line: Line, start: int, end: int) -> bool:
 
 def is_digits(line: Line, start: int, end: int) -> bool:
     text = line.text[start:end]
+    if TWO_TENS.search(text):
+        return True
     if not CHINESE_DIGITS.fullmatch(text) or len(text) < 2:
         return False
     values = [DIGITS[c] for c in text]
+    if len(values) == 3 and [it == 0 for it in values] == [False, True, False]:
+        return False
     if len(values) > 3 and (values[0] == 0 or any(b < a for a, b in zip(values, values[1:]))):
         return False
     after = line.at(end)
@@ -752,14 +792,10 @@ def is_term(line: Line, start: int, end: int) -> bool:
 
 
 def is_time(line: Line, start: int, end: int) -> bool:
-    found = TIME.fullmatch(line.text[start:end])
-    if found is None or DIGITS[found.group(3)] == 0:
-        return False
-    if not HOUR.fullmatch(found.group(1)):
-        return False
-    if found.group(2) and line.at(end) not in "元米度倍吨噸克升":
+    text, head = line.text[start:end], line.text[:start]
+    if TIME.match(text) and head.endswith((*"午晨早晚夜", "早上", "晚上")):
         return True
-    return line.at(start - 1) in "午晨早晚夜" or line.text[:start].endswith(("早上", "晚上"))
+    return TIME_WITH_ZERO.fullmatch(text) is not None and line.at(end) not in "元米度倍吨噸克升"
 
 
 def whole_part(q: Quantity) -> int:
