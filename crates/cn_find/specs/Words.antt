@@ -121,7 +121,7 @@ ends_era front =
 -- a title can have the character: it is a Chinese character, a figure, a letter or one of a few signs
 abbrev pub is_of_title : ℕ → Bool
 is_of_title c =
-    is_han c || (is_figure c || (is_ascii_alphabetic c || char_set_contains (codes " ,，、-.") c))
+    is_han c || (is_figure c || (is_ascii_alphabetic c || char_set_contains (codes " ,，、-.〇") c))
 
 -- 《 is among this many characters before a number, and only characters of a title are nearer
 abbrev pub is_title_open : ℕ → List ℕ → Bool

@@ -49,8 +49,8 @@ pub fn ends_with_two(first: &[char], second: &[char], before: &str) -> bool
     split_nearest(before).is_some_and(|(c, front)| is_one_of(first, c) && ends_with(second, front))
 }
 
-// Whether the text consists of exactly these characters.
-fn is_exactly(these: &[char], text: &str) -> bool
+/// Whether the text consists of exactly these characters.
+pub fn is_exactly(these: &[char], text: &str) -> bool
     ensures { result ≡ is_exactly these.now (chars text.now) }
 {
     match (these.split_first(), split_first_char(text)) {
@@ -192,7 +192,7 @@ fn is_of_title(c: char) -> bool
     is_han(c)
         || is_figure(c)
         || c.is_ascii_alphabetic()
-        || is_one_of(&[' ', ',', '，', '、', '-', '.'], c)
+        || is_one_of(&[' ', ',', '，', '、', '-', '.', '〇'], c)
 }
 
 /// Whether a title between 《 and 》 has begun before the end of the text, and has not ended.

@@ -4,7 +4,7 @@ use Rattle.cn_phrase.specs.declared.form.Form.{Form}
 use Rattle.cn_phrase.specs.declared.form.Form.TheVariants.{YearMonthDay, YearMonth, MonthDay, Year, PartOfMonth, DashDate, SlashDate, Years, Months, MonthsTwice, Days, DaysTwice, LinkedMonth, LinkedDay, HourMinuteSecond, HourMinute, HourBare, HourZero, HourHalf, HourQuarter, ColonSecond, ColonMinute, HourAlone, HoursMinutesSeconds, HoursMinutes, MinutesSeconds, HalfOf, HalfAfter, LengthOne, LengthTwo, Score, ColonScore}
 use Rattle.cn_phrase.specs.declared.piece.Piece.{Piece}
 use Rattle.cn_phrase.specs.declared.piece.Piece.TheVariants.{Slot, Fixed, NotBefore}
-use Rattle.cn_phrase.specs.declared.piece.Guard.TheVariants.{Lunar, Prime, MoreMinutes, Name, OfClock, OfDate, OfHalf, OfLength, OfScore, Share}
+use Rattle.cn_phrase.specs.declared.piece.Guard.TheVariants.{Lunar, Prime, MoreMinutes, Name, Number, OfClock, OfDate, OfHalf, OfLength, OfScore, Share}
 use Rattle.cn_phrase.specs.declared.shape.Shape.TheVariants as shape
 use Rattle.cn_phrase.specs.declared.word.Word.TheVariants as word
 use Rattle.cn_phrase.specs.declared.word.Word.TheVariants.{Bi, Colon, Dash, Dian, Fen, Half, HalfAfter, HalfOf, Hours, Ke, Link, Mi, Miao, Minutes, Nian, Ri, Seconds, Shi, Slash, Yue}
@@ -56,7 +56,7 @@ pieces_of ColonSecond =
 pieces_of ColonMinute =
     Slot shape.FewFigures ∷ Fixed Colon ∷ Slot shape.TwoFigures ∷ NotBefore OfClock ∷ NotBefore Name ∷ []
 pieces_of HourAlone =
-    Slot shape.Clock ∷ Fixed Shi ∷ []
+    Slot shape.Clock ∷ Fixed Shi ∷ NotBefore Number ∷ []
 pieces_of HoursMinutesSeconds =
     Slot shape.Small ∷ Fixed Hours ∷ Slot shape.Count ∷ Fixed Minutes ∷ Slot shape.Count ∷ Fixed Seconds ∷ []
 pieces_of HoursMinutes =

@@ -72,10 +72,10 @@ abbrev pub is_minute : Form → Lead → Bool
 is_minute form.HourMinute Bare = true
 is_minute other lead = false
 
--- an hour with 点 and a minute of one character, as in 十四点六分: it may be a decimal
-abbrev pub may_be_decimal : Found → List ℕ → Bool
-may_be_decimal found text =
-    is_minute found.form found.lead
+-- an hour with 点 and a minute of one character, as in 十四点六分, not after a day: it may be a decimal
+abbrev pub may_be_decimal : List ℕ → Found → List ℕ → Bool
+may_be_decimal front found text =
+    (is_minute found.form found.lead && not (begins (λ c. char_set_contains (codes "日号號") c) front))
     && option_map_or (λ rest. is_one_character (leading is_numeral rest))
     (after_word word.Dian (after_leading is_numeral text)) false
 
@@ -85,7 +85,7 @@ abbrev pub is_doubtful : List ℕ → Found → List ℕ → Bool
 is_doubtful front found text =
     may_be_years found.form found.numbers.last text found.rest
     || (is_of_old_calendar front found.form text
-    || (may_be_decimal found text || is_title_open 40 front))
+    || (may_be_decimal front found text || is_title_open 40 front))
 
 -- a range before 折 or 成: its numbers are tenths
 abbrev pub is_of_tenths : Ends → Bool

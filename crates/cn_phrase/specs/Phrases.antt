@@ -80,11 +80,18 @@ follows_day (c ∷ front) =
     char_set_contains (codes "天") c
     && begins (λ d. char_set_contains (codes "今明昨后後前当當每") d) front
 
--- an hour by itself is a time: it is after a day, or linked to another time, or 钟 is after it. After
--- 今天 the hour is not 1: 一点 is a little in 今天一点都不冷
+-- what is after an hour, such as 钟, 前 or 左右, makes it a time; but 前提 does not
+abbrev pub begins_clock : List ℕ → Bool
+begins_clock rest =
+    begins (λ c. char_set_contains (codes "钟鐘") c) rest
+    || ((begins (λ c. char_set_contains (codes "前") c) rest && not (begins_with_two (codes "前") (codes "提") rest))
+    || (begins_with_two (codes "左以之") (codes "右前后後") rest))
+
+-- an hour by itself is a time: it is after a day, or linked to another time, or what is after it makes it
+-- one. After 今天 the hour is not 1: 一点 is a little in 今天一点都不冷
 abbrev pub is_linked_hour : ℕ → List ℕ → List ℕ → Bool
 is_linked_hour hour front rest =
-    begins (λ c. char_set_contains (codes "钟鐘") c) rest
+    begins_clock rest
     || (begins (λ c. char_set_contains (codes "日号號") c) front
     || ((follows_day front && not (hour == 1))
     || (follows_link (codes "点點时時半分刻") front || goes_on_with_hour rest)))

@@ -7,7 +7,7 @@ use Rattle.cn_replace.specs.Pieces.{after_leading, begins, leading}
 use Rattle.cn_phrase.specs.declared.piece.Piece.{Piece}
 use Rattle.cn_phrase.specs.declared.piece.Piece.TheVariants.{Slot, Fixed, NotBefore, End}
 use Rattle.cn_phrase.specs.declared.piece.Guard.{Guard}
-use Rattle.cn_phrase.specs.declared.piece.Guard.TheVariants.{Lunar, Prime, OfDate, Share, MoreMinutes, OfClock, OfHalf, OfLength, OfScore, Name}
+use Rattle.cn_phrase.specs.declared.piece.Guard.TheVariants.{Lunar, Prime, Number, OfDate, Share, MoreMinutes, OfClock, OfHalf, OfLength, OfScore, Name}
 use Rattle.cn_phrase.specs.declared.piece.Numbers.{Numbers}
 use Rattle.cn_phrase.specs.declared.piece.Progress.{Progress}
 use Rattle.cn_phrase.specs.Shapes.{value_of}
@@ -51,6 +51,7 @@ unfoldable pub refused_by : Guard → List ℕ
 refused_by Lunar = codes "初"
 refused_by OfDate = codes "-/.:"
 refused_by Prime = codes "华華"
+refused_by Number = codes "零〇一二两兩三四五六七八九十百"
 refused_by Share = codes "钟鐘"
 refused_by MoreMinutes = codes "分几幾多元米度倍吨噸克升%％‰万萬亿億千"
 refused_by OfClock = codes ":：."

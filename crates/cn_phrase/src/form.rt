@@ -218,7 +218,11 @@ impl Form {
                 Piece::NotBefore(Guard::OfClock),
                 Piece::NotBefore(Guard::Name),
             ],
-            Form::HourAlone => &[Piece::Slot(Shape::Clock), Piece::Fixed(Word::Shi)],
+            Form::HourAlone => &[
+                Piece::Slot(Shape::Clock),
+                Piece::Fixed(Word::Shi),
+                Piece::NotBefore(Guard::Number),
+            ],
             Form::HoursMinutesSeconds => &[
                 Piece::Slot(Shape::Small),
                 Piece::Fixed(Word::Hours),

@@ -14,7 +14,7 @@ ghost use Rattle.cn_phrase.specs.Ranges.{ends_of};
 
 use crate::form::Form;
 use crate::items::{Item, item_at, next_item};
-use crate::phrase::{Lead, Match};
+use crate::phrase::{Lead, Match, begins_with, ends_with};
 use crate::piece::{Numbers, Numeral, Progress};
 use crate::range::{Ends, put_range, range_of};
 use crate::word::Word;
@@ -28,16 +28,6 @@ use cn_replace::nothing::Nothing;
 use cn_replace::pieces::{CharTest, Figure, any, begins, split_leading};
 use cn_replace::{Figures, InFigures, Included, Replacement, Rewriting, Sink};
 use std::alloc::{AllocError, Global};
-
-// Whether a text begins with one of these characters.
-fn begins_with(these: &[char], text: &str) -> bool
-    ensures { result ≡ begins (λ c. char_set_contains these.now c) (chars text.now) }
-{
-    match split_first_char(text) {
-        Some((c, _)) => is_one_of(these, c),
-        None => false,
-    }
-}
 
 // Whether a year may be a number of years.
 fn may_be_years(form: Form, year: u16, text: &str, rest: &str) -> bool
@@ -110,15 +100,19 @@ fn is_minute(form: Form, lead: Lead) -> bool
     matches!((form, lead), (Form::HourMinute, Lead::Bare))
 }
 
-// Whether a time that begins with this text may be a decimal: its minute is one character.
-fn may_be_decimal(found: Match<'_>, text: &str) -> bool
-    ensures { result ≡ may_be_decimal (found_of found.entry) (chars text.now) }
+// Whether a time that begins with this text may be a decimal: its minute is one character, and it is not
+// after a day.
+fn may_be_decimal(before: &str, found: Match<'_>, text: &str) -> bool
+    ensures { result
+        ≡ may_be_decimal (in_front before.now) (found_of found.entry) (chars text.now) }
 {
     let (_, rest) = split_leading(Numeral, text);
     match Word::Dian.after(rest) {
         Some(after) => {
             let (minute, _) = split_leading(Numeral, after);
-            is_minute(found.form, found.lead) && is_one_character(minute)
+            is_minute(found.form, found.lead)
+                && !ends_with(&['日', '号', '號'], before)
+                && is_one_character(minute)
         }
         None => false,
     }
@@ -131,7 +125,7 @@ pub fn is_doubtful(before: &str, found: Match<'_>, text: &str) -> bool
 {
     may_be_years(found.form, found.numbers.last, text, found.rest)
         || is_of_old_calendar(before, found.form, text)
-        || may_be_decimal(found, text)
+        || may_be_decimal(before, found, text)
         || is_title_open(before)
 }
 

@@ -1,19 +1,19 @@
 // The phrase that begins at a place of a text.
-ghost use Rattle.std.specs.Prelude.{◌≡◌, chars, codes};
+ghost use Rattle.std.specs.Prelude.{◌≡◌, chars};
 ghost use Rattle.std.specs.Char.{char_set_contains};
 ghost use Rattle.std.specs.Option.{option_map};
 ghost use Rattle.cn_find.specs.Spans.{in_front};
 ghost use Rattle.cn_replace.specs.Pieces.{begins};
 ghost use Rattle.cn_phrase.specs.declared.phrase.Lead.TheVariants.{Bare, HalfDay, Weekday};
 ghost use Rattle.cn_phrase.specs.Private.{forms_at, forms_with, may_lead};
-ghost use Rattle.cn_phrase.specs.Phrases.{after_lead, all_forms, clock_forms, follows_day, follows_link, follows_weekday, form_read, found_of, further, furthest, goes_on_with_hour, is_blank, is_linked_hour, is_name, is_phrase, is_shorter, may_be_alone, phrase_at, phrase_read, refused_before};
+ghost use Rattle.cn_phrase.specs.Phrases.{after_lead, all_forms, begins_clock, clock_forms, follows_day, follows_link, follows_weekday, form_read, found_of, further, furthest, goes_on_with_hour, is_blank, is_linked_hour, is_name, is_phrase, is_shorter, may_be_alone, phrase_at, phrase_read, refused_before};
 
 use crate::form::Form;
 use crate::piece::{Numbers, Numeral, Progress, read_pieces, without_blank};
 use crate::range::is_link;
 use crate::word::Word;
 use cn_core::split_first_char;
-use cn_find::{ends_with_two, is_one_of};
+use cn_find::{begins_with_two, ends_with_two, is_one_of};
 use cn_replace::pieces::{CharTest, Figure, begins, ends, split_leading, split_nearest};
 
 /// What is before the first number of a phrase.
@@ -101,8 +101,8 @@ fn refused_before(form: Form) -> &'static [char]
     }
 }
 
-// Whether the last character of a text is one of these.
-fn ends_with(these: &[char], before: &str) -> bool
+/// Whether the last character of a text is one of these.
+pub fn ends_with(these: &[char], before: &str) -> bool
     ensures { result ≡ begins (λ c. char_set_contains these.now c) (in_front before.now) }
 {
     match split_nearest(before) {
@@ -146,14 +146,23 @@ fn follows_day(before: &str) -> bool
     }
 }
 
-// Whether a text begins with 钟.
-fn begins_clock(rest: &str) -> bool
-    ensures { result ≡ begins (λ c. char_set_contains (codes "钟鐘") c) (chars rest.now) }
+/// Whether a text begins with one of these characters.
+pub fn begins_with(these: &[char], rest: &str) -> bool
+    ensures { result ≡ begins (λ c. char_set_contains these.now c) (chars rest.now) }
 {
     match split_first_char(rest) {
-        Some((c, _)) => is_one_of(&['钟', '鐘'], c),
+        Some((c, _)) => is_one_of(these, c),
         None => false,
     }
+}
+
+// Whether what is after an hour makes it a time.
+fn begins_clock(rest: &str) -> bool
+    ensures { result ≡ begins_clock (chars rest.now) }
+{
+    begins_with(&['钟', '鐘'], rest)
+        || (begins_with(&['前'], rest) && !begins_with_two(&['前'], &['提'], rest))
+        || begins_with_two(&['左', '以', '之'], &['右', '前', '后', '後'], rest)
 }
 
 // Whether an hour by itself is a time: it is after a day, or linked to another time, or 钟 is after it.

@@ -21,6 +21,8 @@ pub enum Guard {
     Prime,
     /// What goes on with a date in figures.
     OfDate,
+    /// A Chinese number: the hour may be a decimal.
+    Number,
     /// 钟, or 之 and a number: 分钟 is a duration, and 分 begins a share.
     Share,
     /// What does not follow a minute: the number was a decimal, or goes on.
@@ -47,6 +49,9 @@ impl Guard {
             Guard::Lunar => &['初'],
             Guard::OfDate => &['-', '/', '.', ':'],
             Guard::Prime => &['华', '華'],
+            Guard::Number => &[
+                '零', '〇', '一', '二', '两', '兩', '三', '四', '五', '六', '七', '八', '九', '十', '百',
+            ],
             Guard::Share => &['钟', '鐘'],
             Guard::MoreMinutes => &[
                 '分', '几', '幾', '多', '元', '米', '度', '倍', '吨', '噸', '克', '升', '%', '％', '‰', '万',

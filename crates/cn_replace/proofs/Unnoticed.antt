@@ -20,7 +20,7 @@ use Rattle.cn_find.specs.Words.{begins_word, ends_era, ends_word, is_of_title, i
 use Rattle.cn_find.proofs.Extra.{neither}
 use Rattle.cn_find.proofs.Unwanted.{outside}
 use Rattle.cn_replace.specs.declared.options.Figures.{Figures}
-use Rattle.cn_replace.specs.InFigures.{figures_for, may_change}
+use Rattle.cn_replace.specs.InFigures.{begins_unit, figures_for, may_change}
 use Rattle.cn_replace.specs.Clings.{begins_measure, clings, clings_to, is_bound, is_bridge}
 use Rattle.cn_replace.specs.Joined.{begins_counter, is_between, is_counter, is_hour, is_length, is_link, is_of_amount as is_amount_unit, is_of_date, is_of_word as is_of_one, is_operation, joins, joins_three}
 use Rattle.cn_replace.specs.Parting.{is_noticed}
@@ -95,6 +95,12 @@ module _ (c : ℕ) (u : IsUnseen c) (more : List ℕ) where
   title-same n (x ∷ xs) = ap (λ b. if n == 0 then false
       else (if char_set_contains (codes "《") x then true else (if is_of_title x then b else false)))
       (title-same (n - 1) xs)
+
+  unit-after : (xs : List ℕ) → begins_unit (xs ++ c ∷ more) ≡ begins_unit xs
+  unfolding is_named is_noticed is_han
+  unit-after [] = simp (u.other)
+  unit-after (x ∷ []) = simp (u.other, and-false)
+  unit-after (x ∷ y ∷ xs) = refl
 
   no-amount : is_of_amount c ≡ false
   unfolding is_of_amount is_named is_noticed is_han is_extra is_tens tens_of digit_of rank_of binds_minus
@@ -177,6 +183,7 @@ module _ (c : ℕ) (u : IsUnseen c) (more : List ℕ) where
   unfolding figures_for may_change clings
   told-after method options span after e = rw (
     e,
+    unit-after (chars span.after),
     estimate-after (chars span.after),
     is_end-after span.text (chars span.after),
     doubt-after (is_title_open 40 (reverse (chars span.before))) (reverse (chars span.before))
