@@ -6,9 +6,9 @@ phrase is looked for at each character of a text from the left, outside of what 
 form is a list of steps: slots, with the letters of RULES, and words. The model of expressions is
 text.py.
 
-Where RULES leaves two readings, these are taken: a slot has figures or numerals and not both; it ends
-before a 两 that is not its first character; a part of a month is a word and no slot, so a letter may
-follow it; a link is no `-` between slots; two Chinese digits are no year before an ASCII `-` or `/` alone;
+Where RULES leaves two readings, these are taken: a slot has figures or numerals and not both; a phrase
+with a slot that has no value is refused; a part of a month is a word and no slot, so a letter may follow
+it; a link is no `-` between slots; two Chinese digits are no year before an ASCII `-` or `/` alone;
 what is said of Y-M-D, H:MM and N米F holds for Y/M/D, H:MM:SS and the other lengths; 早 and 晚 are part of no
 phrase only before the words 一点; a date is directly after an era, 农历 and so on, or 民國, which is in this
 script only; a range begins without W; with the units that count for it, its first end is a quantity, or
@@ -18,12 +18,23 @@ the range is refused.
 import re
 from fractions import Fraction
 from functools import lru_cache
-from typing import Callable, Dict, FrozenSet, Iterator, List, NamedTuple, Optional, Tuple, Union
+from typing import (
+    Any,
+    Callable,
+    Dict,
+    FrozenSet,
+    Iterator,
+    List,
+    NamedTuple,
+    Optional,
+    Tuple,
+    Union,
+)
 
 import text as numbers
-from text import LINKS, Found, Line, Options, has_figure, is_chinese_digit, is_figure, is_letter
+from text import LINKS, Found, Line, Options, at, has_figure, is_chinese_digit, is_figure, is_letter
 
-SLOT_CHARS, ONLY_FIRST = frozenset("零〇一二两兩三四五六七八九十百"), frozenset("两兩")
+SLOT_CHARS = frozenset("零〇一二两兩三四五六七八九十百")
 DAYS_OF_MONTHS = (31, 28, 31, 30, 31, 30, 31, 31, 30, 31, 30, 31)
 
 # The parts of a date or a time, two numbers, or one; None for a part that is not given or not known.
@@ -207,7 +218,7 @@ class Form(NamedTuple):
 
 def form(kind: str, *steps: str, is_linked: bool = False, half_day: bool = False) -> Form:
     """A form: steps of one letter are slots, others are words, with blanks between choices."""
-    parts = [it if it in SHAPES or it in "Yy" else tuple(it.split(" ")) for it in steps]
+    parts: List[Step] = [it if it in SHAPES or it in "Yy" else tuple(it.split(" ")) for it in steps]
     has_figures_alone = any(it in ("-", "/", COLON) for it in steps)
     return Form(kind, parts, is_linked, half_day, has_figures_alone)
 
@@ -365,6 +376,8 @@ def is_no_time(text: Text, phrase: Phrase) -> bool:
         then = text.at(phrase.end + 1)
         is_numerator = after == "之" and (is_slot_char(then) or then in "几幾")
         return after in "钟鐘" or is_numerator
+    if re.fullmatch("[点點时時]", phrase.words) and len(phrase.slots) == 1:
+        return after in SLOT_CHARS
     is_bare = phrase.slots[-1].letter in "BZ"
     return is_bare and after in "分几幾多元米度倍吨噸克升%％‰万萬亿億千"
 
@@ -399,6 +412,9 @@ def is_within(text: Text, start: int) -> bool:
     return is_letter_or_bar(before) or before in "千仟万萬亿億"
 
 
+AFTER_HOUR = re.compile("[钟鐘]|左右|前(?!提)|[以之][前后後]")
+
+
 def is_linked(text: Text, phrase: Phrase) -> bool:
     """A linked form is directly after a link, or, of an hour, has another hour beside it."""
     before = text.at(phrase.start - 2) + text.at(phrase.start - 1)
@@ -406,7 +422,7 @@ def is_linked(text: Text, phrase: Phrase) -> bool:
         return re.fullmatch(f"[月日号號][{LINKS}]", before) is not None
     if re.fullmatch(f"[点點时時半分刻][{LINKS}]|.[日号號]", before, re.DOTALL):
         return True
-    if text.at(phrase.end) in "钟鐘":
+    if AFTER_HOUR.match(text.line.text, phrase.end):
         return True
     if before[1] == "天" and before[0] in "今明昨后後前当當每" and value_of(phrase.slots[0]) != 1:
         return True
@@ -562,12 +578,15 @@ def is_doubtful(text: Text, phrase: Phrase) -> bool:
             return True
     if phrase.kind == "date" and not re.search("[-/]", phrase.words) and not phrase.is_linked:
         return is_of_other_calendar(text, phrase)
-    is_of_minute = phrase.kind == "time" and re.fullmatch("[点點]分", phrase.words)
-    return bool(is_of_minute) and not phrase.half_day and numbers.is_one_character(last.text)
+    if phrase.kind != "time" or not re.fullmatch("[点點]分", phrase.words):
+        return False
+    is_after = phrase.half_day or text.at(phrase.start - 1) in "日号號"
+    return not is_after and numbers.is_one_character(last.text)
 
 
 def judged(text: Text, phrase: Phrase) -> Phrase:
-    value = VALUES[phrase.kind](phrase)
+    have_values = not any(re.search("[两兩]", it.text[1:]) for it in phrase.slots)
+    value = VALUES[phrase.kind](phrase) if have_values else None
     return phrase._replace(value=value, is_doubtful=is_doubtful(text, phrase))
 
 
@@ -585,10 +604,17 @@ def ends_of_range(text: Text, start: int) -> Optional[Tuple[Found, str, Found]]:
     return first, text.at(first.end), second
 
 
+def quantity_of(end: Found) -> numbers.Quantity:
+    """The quantity of an end of a range, which has one."""
+    assert end.quantity is not None
+    return end.quantity
+
+
 def is_no_range(text: Text, first: Found, link: str, second: Found) -> bool:
     before, after = text.at(first.start - 1), text.at(second.end)
     for end in (first, second):
-        if end.is_about or end.quantity.form == numbers.FRACTION or end.quantity.numerator < 0:
+        quantity = quantity_of(end)
+        if end.is_about or quantity.form == numbers.FRACTION or quantity.numerator < 0:
             return True
     if is_within(text, first.start) or numbers.clings(text.line, first.start, second.end):
         return True
@@ -619,29 +645,33 @@ def shared_units(first: Found, second: Found) -> str:
     while head and is_multiplier(head[-1]):
         head = head[:-1]
     before = numbers.quantity(head)
-    if before is None or not 0 < ratio_of(first.quantity) < ratio_of(before):
+    if before is None or not 0 < ratio_of(quantity_of(first)) < ratio_of(before):
         return ""
     return second.text[len(head) :]
 
 
+def is_percentage(end: Found) -> bool:
+    return quantity_of(end).form == numbers.PERCENT
+
+
 def shares_percent(first: Found, second: Found) -> bool:
-    return (first.quantity.form == numbers.PERCENT) != (second.quantity.form == numbers.PERCENT)
+    return is_percentage(first) != is_percentage(second)
 
 
-def value_of_end(text: str, is_percentage: bool) -> Optional[Fraction]:
+def value_of_end(text: str, has_percent: bool) -> Optional[Fraction]:
     """The number of an end of a range, with what counts for it."""
     quantity = numbers.quantity(text)
     if quantity is None or len(text.encode()) > 48:
         return None
-    is_divided = is_percentage and quantity.form != numbers.PERCENT
+    is_divided = has_percent and quantity.form != numbers.PERCENT
     return ratio_of(quantity) / (100 if is_divided else 1)
 
 
 def values_of_range(first: Found, second: Found) -> Optional[Tuple[Fraction, Fraction]]:
     """The two numbers, or None if they do not rise, or are too long or no quantities."""
-    is_percentage = shares_percent(first, second)
-    start = value_of_end(first.text + shared_units(first, second), is_percentage)
-    end = value_of_end(second.text, is_percentage)
+    has_percent = shares_percent(first, second)
+    start = value_of_end(first.text + shared_units(first, second), has_percent)
+    end = value_of_end(second.text, has_percent)
     return None if start is None or end is None or start >= end else (start, end)
 
 
@@ -666,7 +696,7 @@ def new_end(first: Found, second: Found, end: Found) -> Optional[str]:
     """The new text of an end of a range, with what counts for it."""
     if shares_percent(first, second):
         new = numbers.kept_text(end.text)
-        return new if new is None or end.quantity.form == numbers.PERCENT else new + "%"
+        return new if new is None or is_percentage(end) else new + "%"
     units = shared_units(first, second) if end == first else ""
     return numbers.kept_text(end.text + units)
 
@@ -726,8 +756,7 @@ def text_of(string: str) -> Text:
     slot_ends = list(range(len(string) + 2))
     for i in reversed(range(len(string))):
         if is_slot_char(string[i]):
-            goes_on = i + 1 < len(string) and string[i + 1] not in ONLY_FIRST
-            slot_ends[i] = slot_ends[i + 1] if goes_on else i + 1
+            slot_ends[i] = slot_ends[i + 1] if is_slot_char(at(string, i + 1)) else i + 1
     return Text(Line(string), {it.start: it for it in found}, slot_ends, ends, inside)
 
 
@@ -753,7 +782,7 @@ def new_text(text: Text, item: Item, options: Options) -> Optional[str]:
     return numbers.new_text(text.line, item, options)
 
 
-def text_to_figures(string: str, **chosen: bool) -> str:
+def text_to_figures(string: str, **chosen: Any) -> str:
     """Numerals and phrases in figures, phrases in the kept style."""
     text, items = items_of(string)
     news = [new_text(text, it, Options(**chosen)) for it in items]
