@@ -195,13 +195,15 @@ typedef enum cn_quantity_form CN_OF_CODE {
 typedef enum cn_doubt CN_OF_CODE {
     /* There is no reason. */
     CN_NO_DOUBT = 0,
-    /* It is part of a word: 十二 of 十二指肠, 十一 of 双十一. */
+    /* It is part of a word or a title, or the year of an era: 十二 of 十二指肠, 十一 of 双十一, 四十一 of
+     * 乾隆四十一年. */
     CN_DOUBT_WORD = 1,
-    /* It is two or three Chinese digits, or more in rising order: 五一, 一二三四. */
+    /* It is two or three Chinese digits, or more in rising order, or two numbers: 五一, 一二三四,
+     * 十五十六. */
     CN_DOUBT_DIGITS = 2,
     /* It is part of a term: 负二 of 负二项, 十六 of 十六进制. */
     CN_DOUBT_TERM = 3,
-    /* It is part of an expression with 折, 成 or 半: 八五 of 八五折, 一 of 一个半. */
+    /* It is part of an expression with 折, 成, 半 or 分之几: 八五 of 八五折, 一 of 一个半. */
     CN_DOUBT_PART = 4,
     /* It may be a time: 三点五 of 下午三点五, 十点零五. */
     CN_DOUBT_TIME = 5,
