@@ -6,9 +6,9 @@ phrase is looked for at each character of a text from the left, outside of what 
 form is a list of steps: slots, with the letters of RULES, and words. The model of expressions is
 text.py.
 
-Where RULES leaves two readings, these are taken: a slot has figures or numerals and not both; a phrase
-with a slot that has no value is refused; a part of a month is a word and no slot, so a letter may follow
-it; a link is no `-` between slots; two Chinese digits are no year before an ASCII `-` or `/` alone;
+Where RULES leaves two readings, these are taken: a slot has figures or numerals and not both; one that has
+no value is no letter of a form; a part of a month is a word and no slot, so a letter may follow it; a link
+is no `-` between slots; two Chinese digits are no year before an ASCII `-` or `/` alone;
 what is said of Y-M-D, H:MM and N米F holds for Y/M/D, H:MM:SS and the other lengths; 早 and 晚 are part of no
 phrase only before the words 一点; a date is directly after an era, 农历 and so on, or 民國, which is in this
 script only; a range begins without W; with the units that count for it, its first end is a quantity, or
@@ -169,6 +169,8 @@ def has_shape(letter: str, text: str) -> bool:
 
 def is_of_letter(text: Text, slot: Slot) -> bool:
     """A slot has the shape of its letter."""
+    if re.search("[两兩]", slot.text[1:]):
+        return False
     if slot.letter in "Yy":
         if is_year(slot.text) or (slot.letter == "y" and has_shape("N", slot.text)):
             return True
@@ -585,8 +587,7 @@ def is_doubtful(text: Text, phrase: Phrase) -> bool:
 
 
 def judged(text: Text, phrase: Phrase) -> Phrase:
-    have_values = not any(re.search("[两兩]", it.text[1:]) for it in phrase.slots)
-    value = VALUES[phrase.kind](phrase) if have_values else None
+    value = VALUES[phrase.kind](phrase)
     return phrase._replace(value=value, is_doubtful=is_doubtful(text, phrase))
 
 
