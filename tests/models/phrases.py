@@ -18,6 +18,7 @@ the range is refused.
 import re
 from fractions import Fraction
 from functools import lru_cache
+from itertools import product
 from typing import (
     Any,
     Callable,
@@ -197,11 +198,12 @@ SHAPES: Dict[str, Callable[[str], bool]] = dict(
 
 # ---- The table of forms ----------------------------------------------------------------------
 
-RI, DIAN, DIAN_OR_SHI, LINK = "日 号 號", "点 點", "点 點 时 時", " ".join(LINKS)
-GE, HOURS = "个 個", "小时 小時 钟头 鐘頭 个小时 個小時 个钟头 個鐘頭"
-MINUTES, SECONDS, COLON = "分 分钟 分鐘", "秒 秒钟 秒鐘", ": ："
-AFTER_HALF = "半小时 半小時 半钟头 半鐘頭 半月 半星期 半礼拜 半禮拜 半世纪 半世紀"
-BEFORE_HALF = "年 天 周 週 岁 歲 斤 里 吨 噸 倍 米 度"
+# Words with blanks between choices; each of these characters may be in either script.
+SCRIPTS = {it[0]: it for it in "号號 点點 时時 个個 钟鐘 头頭 礼禮 纪紀 周週 岁歲 吨噸".split()}
+RI, DIAN, DIAN_OR_SHI, LINK, COLON = "日 号", "点", "点 时", " ".join(LINKS), ": ："
+HOURS, MINUTES, SECONDS = "小时 钟头 个小时 个钟头", "分 分钟", "秒 秒钟"
+AFTER_HALF = "半小时 半钟头 半月 半星期 半礼拜 半世纪"
+BEFORE_HALF = "年 天 周 岁 斤 里 吨 倍 米 度"
 PART_OF_MONTH = "底 份 末 上旬 中旬 下旬 初"
 
 Step = Union[str, Tuple[str, ...]]  # a letter, or words
@@ -218,9 +220,15 @@ class Form(NamedTuple):
         return not self.has_figures_alone or all(are_figures(it.text, 1, 4) for it in slots)
 
 
+def choices(words: str) -> Tuple[str, ...]:
+    """The words between blanks, in either script, and with characters of both."""
+    written = (product(*(SCRIPTS.get(c, c) for c in word)) for word in words.split(" "))
+    return tuple("".join(it) for word in written for it in word)
+
+
 def form(kind: str, *steps: str, is_linked: bool = False, half_day: bool = False) -> Form:
-    """A form: steps of one letter are slots, others are words, with blanks between choices."""
-    parts: List[Step] = [it if it in SHAPES or it in "Yy" else tuple(it.split(" ")) for it in steps]
+    """A form: steps of one letter are slots, others are words."""
+    parts: List[Step] = [it if it in SHAPES or it in "Yy" else choices(it) for it in steps]
     has_figures_alone = any(it in ("-", "/", COLON) for it in steps)
     return Form(kind, parts, is_linked, half_day, has_figures_alone)
 
@@ -259,7 +267,7 @@ def other_forms() -> Iterator[Form]:
     yield form("duration", "N", HOURS, "M", MINUTES, "S", SECONDS)
     yield form("duration", "N", HOURS, "M", MINUTES)
     yield form("duration", "N", MINUTES, "S", SECONDS)
-    yield form("half", "N", GE, AFTER_HALF)
+    yield form("half", "N", "个", AFTER_HALF)
     yield form("half", "N", BEFORE_HALF, "半")
     for unit in "米度秒":
         yield form("length", "N", unit, "F")
@@ -431,7 +439,7 @@ def is_linked(text: Text, phrase: Phrase) -> bool:
     if text.at(phrase.end) not in LINKS:
         return False
     starts = [phrase.end + 1, *ends_of_half_day(text, phrase.end + 1)]
-    hour: List[Step] = ["H", tuple(DIAN_OR_SHI.split())]
+    hour: List[Step] = ["H", choices(DIAN_OR_SHI)]
     return any(True for start in starts for _ in fits(text, hour, start, False))
 
 
