@@ -7,7 +7,8 @@ use Rattle.std.specs.Option.{option_map_or}
 use Rattle.cn_core.specs.Characters.{digit_of}
 use Rattle.cn_find.specs.declared.doubt.Doubt.{Doubt}
 use Rattle.cn_find.specs.declared.doubt.Doubt.TheVariants.{Word, Digits, Term, Part, Time, Range}
-use Rattle.cn_find.specs.Belongs.{begins_with, first_then, is_chinese_digit}
+use Rattle.cn_find.specs.Belongs.{begins_with, first_is, first_then, is_chinese_digit}
+use Rattle.cn_find.specs.Expressions.{is_han}
 use Rattle.cn_find.specs.Ranges.{is_end_of_range}
 use Rattle.cn_find.specs.Words.{begins_with_two, is_of_word}
 
@@ -53,13 +54,13 @@ may_be_list text =
     || (do_rise text && not (begins_with (codes "零〇") text))))
 
 -- the text names a year or a room, or the minutes of a time: 年 without 级, or one of 号室房,
--- follows it; or it is after a building, such as 楼; or it begins with 零 or 〇 after 点, 分 or 时 and
+-- follows it, or 办; or it is after a building, such as 楼, or after 号 or 码; or it begins with 零 or 〇 after 点, 分 or 时 and
 -- before 分 or 秒
 abbrev pub are_of_name : List ℕ → List ℕ → List ℕ → Bool
 are_of_name front text after =
     begins_without (codes "年") (codes "级級") after
-    || (begins_with (codes "号號室房") after
-    || (begins_with (codes "楼樓栋棟座幢") front
+    || (begins_with (codes "号號室房办辦") after
+    || (begins_with (codes "楼樓栋棟座幢号號码碼") front
     || (begins_with (codes "零〇") text
     && (begins_with (codes "点點分时時") front && begins_with (codes "分秒") after))))
 
@@ -95,6 +96,21 @@ is_hundredth text after =
 abbrev pub begins_some_shares : List ℕ → Bool
 begins_some_shares after =
     first_then (char_set_contains (codes "分")) (begins_with_two (codes "之") (codes "几幾")) after
+
+-- what is after 条 is no word that 条 counts
+abbrev pub is_end_of_article : List ℕ → Bool
+is_end_of_article others =
+    not (first_is is_han others) || begins_with (codes "第之规規和及与與或至到") others
+
+-- an article of a law, or a national congress or census, goes on with this text
+abbrev pub begins_article : List ℕ → Bool
+begins_article after =
+    first_then (char_set_contains (codes "条條")) is_end_of_article after
+    || begins_with_two (codes "次") (codes "全") after
+
+-- the text is the number of an article after 第, as in 第二百六十四条, or of 第二十次全国代表大会
+abbrev pub is_of_article : List ℕ → List ℕ → Bool
+is_of_article front after = begins_with (codes "第") front && begins_article after
 
 -- the text is part of a phrase with 折, 成, 半 or a share, as in 八五折, 三成, 十五天半, 十六分之几 and
 -- 百分之一秒
@@ -169,6 +185,6 @@ doubt_of before text after =
     if is_part (chars text) (chars after) then Some Part
     else (if is_of_word front (chars text) (chars after) then Some Word
     else (if is_doubtful_list front (chars text) (chars after) then Some Digits
-    else (if is_term (chars text) (chars after) then Some Term
+    else (if is_term (chars text) (chars after) || is_of_article front (chars after) then Some Term
     else (if is_time front (chars text) (chars after) then Some Time
     else (if is_end_of_range before text after then Some Range else None)))))

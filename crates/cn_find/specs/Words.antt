@@ -29,9 +29,9 @@ is_named_group text after =
     || (begins_with_two (codes "罗羅") (codes "汉漢") after
     || begins_with_two (codes "层層") (codes "地") after)))
     || (((is_exactly (codes "十九") text || is_exactly (codes "二十") text)
-    && begins_with (codes "大") after)
+    && (begins_with (codes "大") after || begins_with_two (codes "国國") (codes "集") after))
     || (is_exactly (codes "十一") text
-    && (begins_with (codes "放") after
+    && (begins_with (codes "放回去再出") after
     || (begins_with_two (codes "假") (codes "期") after
     || (begins_with_two (codes "长長") (codes "假") after
     || begins_with_two (codes "黄黃") (codes "金") after))))))
@@ -66,7 +66,7 @@ is_saying_of_tens text after =
     || begins_with_two (codes "年") (codes "河") after))
     || ((is_exactly (codes "四十") text && begins_with_two (codes "不") (codes "惑") after)
     || ((is_exactly (codes "五十") text && begins_with_two (codes "步") (codes "笑") after)
-    || (is_exactly (codes "十五") text && begins_with_two (codes "个個") (codes "吊") after)))
+    || (is_exactly (codes "十五") text && begins_with_two (codes "个個只隻") (codes "吊") after)))
 
 -- the same with those, 十万火急, 十万八千里 and 一千道一万; or the number is 二百五 or 亿万
 abbrev pub is_saying : List ℕ → List ℕ → Bool

@@ -2,11 +2,11 @@
 ghost use Rattle.std.specs.Prelude.{◌≡◌, ◌||◌, ◌&&◌, false, true, codes, chars, is_some, List, ℕ, Option, nat_le, length};
 ghost use Rattle.std.specs.Char.{char_set_contains};
 ghost use Rattle.cn_core.specs.Characters.{digit_of};
-ghost use Rattle.cn_find.specs.Doubt.{are_chinese_digits, are_of_name, begins_hour, begins_plenum, begins_second, begins_some_shares, begins_tens, begins_twenties, begins_without, counts, do_rise, doubt_of, ends_hour, ends_part_of_day, ends_zero_minutes, has_point, has_two_tens, is_clock_with_zero, is_doubtful_list, is_hour, is_hundredth, is_part, is_term, is_time, is_up_to_first, may_be_list};
+ghost use Rattle.cn_find.specs.Doubt.{are_chinese_digits, are_of_name, begins_article, begins_hour, begins_plenum, begins_second, begins_some_shares, begins_tens, begins_twenties, begins_without, counts, do_rise, doubt_of, ends_hour, ends_part_of_day, ends_zero_minutes, has_point, has_two_tens, is_clock_with_zero, is_doubtful_list, is_end_of_article, is_hour, is_hundredth, is_of_article, is_part, is_term, is_time, is_up_to_first, may_be_list};
 ghost use Rattle.cn_find.specs.Spans.{in_front};
 
 use crate::belongs::is_chinese_digit;
-use crate::expressions::split_nearest;
+use crate::expressions::{first_is, is_han, split_nearest};
 use crate::ranges::is_end_of_range;
 use crate::words::{begins_with, begins_with_two, ends_with, ends_with_two, is_of_word};
 use cn_core::{digit_of, split_first_char};
@@ -20,7 +20,8 @@ pub enum Doubt {
     /// It is two or three Chinese digits, or more of which none is smaller than the one before it,
     /// and so may be a list: 五一, 一二三四; or it is two numbers: 十五十六.
     Digits,
-    /// It is part of a term: 负二 of 负二项, 十六 of 十六进制.
+    /// It is part of a term, or the number of an article: 负二 of 负二项, 十六 of 十六进制, 二百六十四 of
+    /// 第二百六十四条.
     Term,
     /// It is part of a phrase with 折, 成, 半 or a share: 八五 of 八五折, 十六 of 十六分之几, 百分之一 of
     /// 百分之一秒.
@@ -120,8 +121,8 @@ fn are_of_name(before: &str, text: &str, after: &str) -> bool
     ensures { result ≡ are_of_name (in_front before.now) (chars text.now) (chars after.now) }
 {
     begins_without(&['年'], &['级', '級'], after)
-        || begins_with(&['号', '號', '室', '房'], after)
-        || ends_with(&['楼', '樓', '栋', '棟', '座', '幢'], before)
+        || begins_with(&['号', '號', '室', '房', '办', '辦'], after)
+        || ends_with(&['楼', '樓', '栋', '棟', '座', '幢', '号', '號', '码', '碼'], before)
         || (begins_with(&['零', '〇'], text)
             && ends_with(&['点', '點', '分', '时', '時'], before)
             && begins_with(&['分', '秒'], after))
@@ -156,6 +157,34 @@ fn begins_plenum(after: &str) -> bool
         return false;
     };
     matches!(c, '届' | '屆') && is_chinese_digit(d) && begins_with(&['中'], others)
+}
+
+// Whether an article of a law, or a national congress or census, goes on with this text.
+fn begins_article(after: &str) -> bool
+    ensures { result ≡ begins_article (chars after.now) }
+{
+    split_first_char(after).is_some_and(|(c, others)| {
+        (matches!(c, '条' | '條') && is_end_of_article(others))
+            || (c == '次' && begins_with(&['全'], others))
+    })
+}
+
+// Whether what is after 条 is no word that 条 counts.
+fn is_end_of_article(others: &str) -> bool
+    ensures { result ≡ is_end_of_article (chars others.now) }
+{
+    !first_is(others, |c| is_han(c))
+        || begins_with(
+            &['第', '之', '规', '規', '和', '及', '与', '與', '或', '至', '到'],
+            others,
+        )
+}
+
+// Whether the text is the number of an article after 第.
+fn is_of_article(before: &str, after: &str) -> bool
+    ensures { result ≡ is_of_article (in_front before.now) (chars after.now) }
+{
+    ends_with(&['第'], before) && begins_article(after)
 }
 
 // The first character after the expression selects the test, so that it is decoded once.
@@ -323,7 +352,7 @@ pub fn doubt_of(before: &str, text: &str, after: &str) -> Option<Doubt>
     if is_doubtful_list(before, text, after) {
         return Some(Doubt::Digits);
     }
-    if is_term(text, after) {
+    if is_term(text, after) || is_of_article(before, after) {
         return Some(Doubt::Term);
     }
     if is_time(before, text, after) {

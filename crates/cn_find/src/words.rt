@@ -72,9 +72,9 @@ fn is_named_group(text: &str, after: &str) -> bool
                 || begins_with_two(&['罗', '羅'], &['汉', '漢'], after)
                 || begins_with_two(&['层', '層'], &['地'], after)))
         || ((is_exactly(&['十', '九'], text) || is_exactly(&['二', '十'], text))
-            && begins_with(&['大'], after))
+            && (begins_with(&['大'], after) || begins_with_two(&['国', '國'], &['集'], after)))
         || (is_exactly(&['十', '一'], text)
-            && (begins_with(&['放'], after)
+            && (begins_with(&['放', '回', '去', '再', '出'], after)
                 || begins_with_two(&['假'], &['期'], after)
                 || begins_with_two(&['长', '長'], &['假'], after)
                 || begins_with_two(&['黄', '黃'], &['金'], after)))
@@ -117,7 +117,7 @@ fn is_saying_of_tens(text: &str, after: &str) -> bool
         && (begins_with_two(&['而'], &['立'], after) || begins_with_two(&['年'], &['河'], after)))
         || (is_exactly(&['四', '十'], text) && begins_with_two(&['不'], &['惑'], after))
         || (is_exactly(&['五', '十'], text) && begins_with_two(&['步'], &['笑'], after))
-        || (is_exactly(&['十', '五'], text) && begins_with_two(&['个', '個'], &['吊'], after))
+        || (is_exactly(&['十', '五'], text) && begins_with_two(&['个', '個', '只', '隻'], &['吊'], after))
 }
 
 fn is_saying(text: &str, after: &str) -> bool

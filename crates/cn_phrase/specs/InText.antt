@@ -1,5 +1,5 @@
 -- A text with its phrases and expressions in figures.
-use Rattle.std.specs.Prelude.{ℕ, ◌%◌, ◌==◌, Bool, true, false, not, ◌&&◌, ◌||◌, List, [], ◌++◌, codes, chars, Option, Some, None, is_some, if◌then◌else◌}
+use Rattle.std.specs.Prelude.{ℕ, ◌%◌, ◌==◌, nat_lt, Bool, true, false, not, ◌&&◌, ◌||◌, List, [], ◌++◌, codes, chars, Option, Some, None, is_some, if◌then◌else◌}
 use Rattle.std.specs.Char.{char_set_contains}
 use Rattle.std.specs.List.{list_any}
 use Rattle.std.specs.Option.{option_map_or}
@@ -72,10 +72,10 @@ abbrev pub is_minute : Form → Lead → Bool
 is_minute form.HourMinute Bare = true
 is_minute other lead = false
 
--- an hour with 点 and a minute of one character, as in 十四点六分, not after a day: it may be a decimal
+-- an hour with 点 and a minute of one digit, as in 十四点六分, not after a day: it may be a decimal
 abbrev pub may_be_decimal : List ℕ → Found → List ℕ → Bool
 may_be_decimal front found text =
-    (is_minute found.form found.lead && not (begins (λ c. char_set_contains (codes "日号號") c) front))
+    (is_minute found.form found.lead && nat_lt found.numbers.last 10 && not (begins (λ c. char_set_contains (codes "日号號") c) front))
     && option_map_or (λ rest. is_one_character (leading is_numeral rest))
     (after_word word.Dian (after_leading is_numeral text)) false
 

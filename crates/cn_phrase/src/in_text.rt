@@ -100,7 +100,7 @@ fn is_minute(form: Form, lead: Lead) -> bool
     matches!((form, lead), (Form::HourMinute, Lead::Bare))
 }
 
-// Whether a time that begins with this text may be a decimal: its minute is one character, and it is not
+// Whether a time that begins with this text may be a decimal: its minute is one digit, and it is not
 // after a day.
 fn may_be_decimal(before: &str, found: Match<'_>, text: &str) -> bool
     ensures { result
@@ -111,6 +111,7 @@ fn may_be_decimal(before: &str, found: Match<'_>, text: &str) -> bool
         Some(after) => {
             let (minute, _) = split_leading(Numeral, after);
             is_minute(found.form, found.lead)
+                && found.numbers.last < 10
                 && !ends_with(&['日', '号', '號'], before)
                 && is_one_character(minute)
         }

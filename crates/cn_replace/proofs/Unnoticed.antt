@@ -9,7 +9,7 @@ use Rattle.cn_core.specs.FigureCharacters.{is_figure, is_wide_figure, tens_of}
 use Rattle.cn_core.proofs.Fronts.{both}
 use Rattle.cn_find.specs.declared.doubt.Doubt.{Doubt}
 use Rattle.cn_find.specs.declared.doubt.Doubt.TheVariants.{Word, Digits, Term, Part, Time, Range}
-use Rattle.cn_find.specs.Doubt.{is_doubtful_list, is_part, is_term, is_time}
+use Rattle.cn_find.specs.Doubt.{is_doubtful_list, is_of_article, is_part, is_term, is_time}
 use Rattle.cn_find.specs.Expressions.{binds_minus, is_extra, is_han, is_tens}
 use Rattle.cn_find.specs.Flags.{begins_estimate}
 use Rattle.cn_find.specs.Spans.{Span}
@@ -61,7 +61,7 @@ doubt-by in_title front text after is_end =
     else (if ends_word front text || ((in_title || (begins_with (codes "年") after && ends_era front))
     || begins_word text after) then Some Word
     else (if is_doubtful_list front text after then Some Digits
-    else (if is_term text after then Some Term
+    else (if is_term text after || is_of_article front after then Some Term
     else (if is_time front text after then Some Time
     else (if is_end then Some Range else None)))))
 
@@ -70,8 +70,8 @@ module _ (c : ℕ) (u : IsUnseen c) (more : List ℕ) where
   doubt-after : (in_title : Bool) (front text : List ℕ) (is_end : Bool) (xs : List ℕ)
       → doubt-by in_title front text (xs ++ c ∷ more) is_end ≡ doubt-by in_title front text xs is_end
   unfolding is_named is_noticed is_han digit_of
-  doubt-after in_title front text is_end [] = simp (u.other)
-  doubt-after in_title front text is_end (x ∷ []) = simp (u.other, and-false)
+  doubt-after in_title front text is_end [] = simp (u.other, and-false)
+  doubt-after in_title front text is_end (x ∷ []) = simp (u.other, u.han, and-false)
   doubt-after in_title front text is_end (x ∷ y ∷ []) = simp (u.other, and-false)
   doubt-after in_title front text is_end (x ∷ y ∷ z ∷ xs) = refl
 
