@@ -591,7 +591,7 @@ def is_doubtful(text: Text, phrase: Phrase) -> bool:
     if phrase.kind != "time" or not re.fullmatch("[点點]分", phrase.words):
         return False
     is_after = phrase.half_day or text.at(phrase.start - 1) in "日号號"
-    return not is_after and numbers.is_one_character(last.text)
+    return not is_after and len(last.text) == 1 and are_digits(last.text)
 
 
 def judged(text: Text, phrase: Phrase) -> Phrase:

@@ -696,10 +696,10 @@ def find_quantities(text: str) -> List[Found]:
 WORDS = [
     tuple(word.split("|"))
     for word in """
-    |十二|指肠 |十二|生肖 |十二|月党 |十八|般 |十八|大 |十八|罗汉 |十八|层地 |十九|大 |二十|大
-    |十一|放 |十一|假期 |十一|长假 |十一|黄金 |三十六|计 |七十二|变 |七十二|行 |三百六十|行 |二十四|史 |二十四|节气
+    |十二|指肠 |十二|生肖 |十二|月党 |十八|般 |十八|大 |十八|罗汉 |十八|层地 |十九|大 |十九|国集 |二十|大 |二十|国集
+    |十一|放 |十一|回 |十一|去 |十一|再 |十一|出 |十一|假期 |十一|长假 |十一|黄金 |三十六|计 |七十二|变 |七十二|行 |三百六十|行 |二十四|史 |二十四|节气
     |二十八|宿 |十三|陵 |十三|妹 |一千零一|夜 |二八|年华 |三十|而立 |三十|年河 |四十|不惑
-    |五十|步笑 |十五|个吊 |十万|火急 |十万八千|里 |二百五| |亿万| 双|十一| 双|十二| 年|三十| 初|一十五| |一千|道一 千道|一万|
+    |五十|步笑 |十五|个吊 |十五|只吊 |十万|火急 |十万八千|里 |二百五| |亿万| 双|十一| 双|十二| 年|三十| 初|一十五| |一千|道一 千道|一万|
     """.split()
 ]
 ERAS = tuple(
@@ -708,8 +708,8 @@ ERAS = tuple(
     """.split()
 )
 SIMPLE = str.maketrans(
-    "腸黨羅漢層長黃計變華個雙萬億臘節氣慶豐順緒統樂曆歷禎貞觀開寶",
-    "肠党罗汉层长黄计变华个双万亿腊节气庆丰顺绪统乐历历祯贞观开宝",
+    "腸黨羅漢層長黃計變華個雙萬億臘節氣國隻慶豐順緒統樂曆歷禎貞觀開寶",
+    "肠党罗汉层长黄计变华个双万亿腊节气国只庆丰顺绪统乐历历祯贞观开宝",
 )
 BETWEEN_IN_TITLE = frozenset(" ,，、-.〇")
 HALVED = "个個倍天岁歲里年月日号號點点时時分秒刻元圆圓块塊角毛度米斤两兩"
@@ -773,22 +773,27 @@ def is_digits(line: Line, start: int, end: int) -> bool:
     if len(values) > 3 and (values[0] == 0 or any(b < a for a, b in zip(values, values[1:]))):
         return False
     before, after = line.at(start - 1), line.at(end)
-    if (after == "年" and line.at(end + 1) not in "级級") or after in "号號室房":
+    if (after == "年" and line.at(end + 1) not in "级級") or after in "号號室房办辦":
         return False
-    if before in "楼樓栋棟座幢":
+    if before in "楼樓栋棟座幢号號码碼":
         return False
     return not (values[0] == 0 and before in "点點分时時" and after in "分秒")
 
 
 def is_term(line: Line, start: int, end: int) -> bool:
-    text, after = line.text[start:end], line.at(end)
+    text, after, then = line.text[start:end], line.at(end), line.at(end + 1)
     if text[0] in "负負" and after in "项項楼樓层層":
         return True
     if re.search("[点點]", text) and after in "划劃线線":
         return True
-    if after in "进進" and line.at(end + 1) in "制位":
+    if after in "进進" and then in "制位":
         return True
-    return after in "届屆" and is_chinese_digit(line.at(end + 1)) and line.at(end + 2) == "中"
+    if line.at(start - 1) == "第":
+        if after + then == "次全":
+            return True
+        if after in "条條" and (not is_han(then) or then in "第之规規和及与與或至到"):
+            return True
+    return after in "届屆" and is_chinese_digit(then) and line.at(end + 2) == "中"
 
 
 def is_time(line: Line, start: int, end: int) -> bool:
