@@ -22,7 +22,7 @@ use Rattle.cn_phrase.specs.declared.word.Word.TheVariants as word
 use Rattle.cn_phrase.specs.Forms.{pieces_of}
 use Rattle.cn_phrase.specs.Items.{Item, phrase, range, expression, item_at, items}
 use Rattle.cn_phrase.specs.Phrases.{Found, after_lead}
-use Rattle.cn_phrase.specs.Pieces.{is_numeral}
+use Rattle.cn_phrase.specs.Pieces.{is_numeral, reading_at}
 use Rattle.cn_phrase.specs.Ranges.{Ends, range_of, range_text}
 use Rattle.cn_phrase.specs.Values.{value_by}
 use Rattle.cn_phrase.specs.Words.{after_word}
@@ -119,11 +119,7 @@ is_range_included included ends =
 -- the text of a phrase with its numbers in figures
 abbrev pub phrase_text : Found → List ℕ → List ℕ
 phrase_text found text = option_map_or (λ start. passed_text text start
-    ++ pieces_text (pieces_of found.form) (record {
-      numbers = record { first = 0; second = 0; last = 0 };
-      after_figure = false;
-      rest = start;
-    })) (after_lead found.lead text) []
+    ++ pieces_text (pieces_of found.form) (reading_at start)) (after_lead found.lead text) []
 
 -- the new text of a phrase, if it has one
 abbrev pub phrase_new : Included → List ℕ → Found → List ℕ → Option (List ℕ)

@@ -10,9 +10,11 @@ use Rattle.cn_phrase.specs.declared.phrase.Lead.{Lead}
 use Rattle.cn_phrase.specs.declared.phrase.Lead.TheVariants.{Bare, HalfDay, Weekday}
 use Rattle.cn_phrase.specs.declared.phrase.Match.{Match}
 use Rattle.cn_phrase.specs.declared.piece.Numbers.{Numbers}
+use Rattle.cn_phrase.specs.declared.piece.Piece.TheVariants.{Slot, Fixed}
+use Rattle.cn_phrase.specs.declared.shape.Shape.TheVariants.{Clock}
 use Rattle.cn_phrase.specs.declared.word.Word.TheVariants as word
 use Rattle.cn_phrase.specs.Forms.{pieces_of}
-use Rattle.cn_phrase.specs.Pieces.{is_numeral, pieces_read}
+use Rattle.cn_phrase.specs.Pieces.{is_numeral, pieces_read, reading_at}
 use Rattle.cn_phrase.specs.Ranges.{is_link}
 use Rattle.cn_phrase.specs.Words.{after_word}
 
@@ -44,11 +46,7 @@ form_read lead form text = option_and_then (λ start. option_map (λ reading. re
   form = form;
   numbers = reading.numbers;
   rest = reading.rest;
-}) (pieces_read (pieces_of form) (record {
-  numbers = record { first = 0; second = 0; last = 0 };
-  after_figure = false;
-  rest = start;
-}))) (after_lead lead text)
+}) (pieces_read (pieces_of form) (reading_at start))) (after_lead lead text)
 
 -- the characters directly after which a form is no phrase
 unfoldable pub refused_before : Form → List ℕ
@@ -67,10 +65,14 @@ follows_link these [] = false
 follows_link these (link ∷ front) =
     is_link link && begins (λ c. char_set_contains these c) front
 
+-- the text begins with an hour
+abbrev pub begins_hour : Lead → List ℕ → Bool
+begins_hour lead text = is_some (option_and_then (λ start.
+    pieces_read (Slot Clock ∷ Fixed word.Shi ∷ []) (reading_at start)) (after_lead lead text))
+
 -- the text goes on with a link and an hour
 abbrev pub goes_on_with_hour : List ℕ → Bool
-goes_on_with_hour rest = option_map_or (λ after.
-    is_some (form_read Bare form.HourAlone after) || is_some (form_read HalfDay form.HourAlone after))
+goes_on_with_hour rest = option_map_or (λ after. begins_hour Bare after || begins_hour HalfDay after)
     (after_word word.Link rest) false
 
 -- a day such as 明天 is directly before the text
@@ -80,12 +82,14 @@ follows_day (c ∷ front) =
     char_set_contains (codes "天") c
     && begins (λ d. char_set_contains (codes "今明昨后後前当當每") d) front
 
--- what is after an hour, such as 钟, 前 or 左右, makes it a time; but 前提 does not
+-- what is after an hour, such as 钟, 前, 左右 or 出发, makes it a time; but 前提 does not
 abbrev pub begins_clock : List ℕ → Bool
 begins_clock rest =
     begins (λ c. char_set_contains (codes "钟鐘") c) rest
     || ((begins (λ c. char_set_contains (codes "前") c) rest && not (begins_with_two (codes "前") (codes "提") rest))
-    || (begins_with_two (codes "左以之") (codes "右前后後") rest))
+    || ((begins_with_two (codes "左以之") (codes "右前后後") rest
+    || begins_with_two (codes "起出开開集") (codes "飞飛发發会會始门門合") rest)
+    || begins (λ c. char_set_contains (codes "就") c) rest))
 
 -- an hour by itself is a time: it is after a day, or linked to another time, or what is after it makes it
 -- one. After 今天 the hour is not 1: 一点 is a little in 今天一点都不冷

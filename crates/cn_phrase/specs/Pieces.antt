@@ -32,6 +32,14 @@ reading_of progress = record {
   rest = chars progress.rest.now;
 }
 
+-- nothing has been read yet of a text
+abbrev pub reading_at : List ℕ → Reading
+reading_at text = record {
+  numbers = record { first = 0; second = 0; last = 0 };
+  after_figure = false;
+  rest = text;
+}
+
 -- the numbers with one more, which is the last; the first of them is forgotten
 abbrev pub with_number : Numbers → ℕ → Numbers
 with_number numbers number = record { first = numbers.second; second = numbers.last; last = number }

@@ -15,7 +15,7 @@ ghost use Rattle.cn_phrase.specs.Ranges.{ends_of};
 use crate::form::Form;
 use crate::items::{Item, item_at, next_item};
 use crate::phrase::{Lead, Match, begins_with, ends_with};
-use crate::piece::{Numbers, Numeral, Progress};
+use crate::piece::{Numeral, Progress};
 use crate::range::{Ends, put_range, range_of};
 use crate::word::Word;
 use crate::written::{put_passed, put_pieces};
@@ -186,20 +186,7 @@ fn put_phrase<S: Sink>(sink: &mut S, found: Match<'_>, text: &str) -> Result<(),
         return Ok(());
     };
     put_passed(sink, text, start)?;
-    let numbers = Numbers {
-        first: 0,
-        second: 0,
-        last: 0,
-    };
-    put_pieces(
-        sink,
-        found.form.pieces(),
-        Progress {
-            numbers,
-            after_figure: false,
-            rest: start,
-        },
-    )
+    put_pieces(sink, found.form.pieces(), Progress::start(start))
 }
 
 // Writes the new text of a phrase, and returns whether it has one.

@@ -6,11 +6,12 @@ ghost use Rattle.cn_find.specs.Spans.{in_front};
 ghost use Rattle.cn_replace.specs.Pieces.{begins};
 ghost use Rattle.cn_phrase.specs.declared.phrase.Lead.TheVariants.{Bare, HalfDay, Weekday};
 ghost use Rattle.cn_phrase.specs.Private.{forms_at, forms_with, may_lead};
-ghost use Rattle.cn_phrase.specs.Phrases.{after_lead, all_forms, begins_clock, clock_forms, follows_day, follows_link, follows_weekday, form_read, found_of, further, furthest, goes_on_with_hour, is_blank, is_linked_hour, is_name, is_phrase, is_shorter, may_be_alone, phrase_at, phrase_read, refused_before};
+ghost use Rattle.cn_phrase.specs.Phrases.{after_lead, all_forms, begins_clock, begins_hour, clock_forms, follows_day, follows_link, follows_weekday, form_read, found_of, further, furthest, goes_on_with_hour, is_blank, is_linked_hour, is_name, is_phrase, is_shorter, may_be_alone, phrase_at, phrase_read, refused_before};
 
 use crate::form::Form;
-use crate::piece::{Numbers, Numeral, Progress, read_pieces, without_blank};
+use crate::piece::{Numbers, Numeral, Piece, Progress, read_pieces, without_blank};
 use crate::range::is_link;
+use crate::shape::Shape;
 use crate::word::Word;
 use cn_core::split_first_char;
 use cn_find::{begins_with_two, ends_with_two, is_one_of};
@@ -66,19 +67,7 @@ fn read_form(lead: Lead, form: Form, text: &str) -> Option<Match<'_>>
     ensures { option_map found_of result ≡ form_read lead form (chars text.now) }
 {
     let start = lead.after(text)?;
-    let numbers = Numbers {
-        first: 0,
-        second: 0,
-        last: 0,
-    };
-    let progress = read_pieces(
-        form.pieces(),
-        Progress {
-            numbers,
-            after_figure: false,
-            rest: start,
-        },
-    )?;
+    let progress = read_pieces(form.pieces(), Progress::start(start))?;
     Some(Match {
         lead,
         form,
@@ -121,15 +110,28 @@ fn follows_link(these: &[char], before: &str) -> bool
     }
 }
 
+// Whether a text begins with an hour.
+fn begins_hour(lead: Lead, text: &str) -> bool
+    ensures { result ≡ begins_hour lead (chars text.now) }
+{
+    match lead.after(text) {
+        Some(start) => {
+            read_pieces(
+                &[Piece::Slot(Shape::Clock), Piece::Fixed(Word::Shi)],
+                Progress::start(start),
+            )
+            .is_some()
+        }
+        None => false,
+    }
+}
+
 // Whether a text goes on with a link and an hour.
 fn goes_on_with_hour(rest: &str) -> bool
     ensures { result ≡ goes_on_with_hour (chars rest.now) }
 {
     match Word::Link.after(rest) {
-        Some(after) => {
-            read_form(Lead::Bare, Form::HourAlone, after).is_some()
-                || read_form(Lead::HalfDay, Form::HourAlone, after).is_some()
-        }
+        Some(after) => begins_hour(Lead::Bare, after) || begins_hour(Lead::HalfDay, after),
         None => false,
     }
 }
@@ -163,6 +165,12 @@ fn begins_clock(rest: &str) -> bool
     begins_with(&['钟', '鐘'], rest)
         || (begins_with(&['前'], rest) && !begins_with_two(&['前'], &['提'], rest))
         || begins_with_two(&['左', '以', '之'], &['右', '前', '后', '後'], rest)
+        || begins_with_two(
+            &['起', '出', '开', '開', '集'],
+            &['飞', '飛', '发', '發', '会', '會', '始', '门', '門', '合'],
+            rest,
+        )
+        || begins_with(&['就'], rest)
 }
 
 // Whether an hour by itself is a time: it is after a day, or linked to another time, or 钟 is after it.

@@ -4,7 +4,7 @@ ghost use Rattle.std.specs.Char.{char_set_contains};
 ghost use Rattle.std.specs.Option.{option_map};
 ghost use Rattle.cn_replace.specs.Pieces.{begins, leading};
 ghost use Rattle.cn_phrase.specs.Shapes.{value_of};
-ghost use Rattle.cn_phrase.specs.Pieces.{is_numeral, piece_read, pieces_read, reading_of, refused_by, refuses, is_numerator, slot_read, with_number, without_blank};
+ghost use Rattle.cn_phrase.specs.Pieces.{is_numeral, piece_read, pieces_read, reading_at, reading_of, refused_by, refuses, is_numerator, slot_read, with_number, without_blank};
 
 use crate::shape::Shape;
 use crate::word::Word;
@@ -136,6 +136,23 @@ pub struct Progress<'a> {
     /// Whether a figure was the last character.
     pub after_figure: bool,
     pub rest: &'a str,
+}
+
+impl<'a> Progress<'a> {
+    /// Nothing has been read yet.
+    pub fn start(text: &'a str) -> Progress<'a>
+        ensures { reading_of result ≡ reading_at (chars text.now) }
+    {
+        Progress {
+            numbers: Numbers {
+                first: 0,
+                second: 0,
+                last: 0,
+            },
+            after_figure: false,
+            rest: text,
+        }
+    }
 }
 
 /// A character that occurs in the number of a slot.

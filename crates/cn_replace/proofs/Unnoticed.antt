@@ -136,6 +136,12 @@ module _ (c : ℕ) (u : IsUnseen c) (more : List ℕ) where
   estimate-before [] = simp (u.other)
   estimate-before (x ∷ xs) = refl
 
+  each-before : (xs : List ℕ)
+      → begins_with (codes "每") (xs ++ c ∷ more) ≡ begins_with (codes "每") xs
+  unfolding is_named is_noticed is_han
+  each-before [] = simp (u.other)
+  each-before (x ∷ xs) = refl
+
   clings-same : (xs : List ℕ) → clings_to (xs ++ c ∷ more) ≡ clings_to xs
   unfolding is_bound is_bridge is_named is_noticed is_han is_extra is_tens tens_of digit_of binds_minus
   clings-same [] = simp (u.other, u.letter, u.figure)
@@ -200,6 +206,7 @@ module _ (c : ℕ) (u : IsUnseen c) (more : List ℕ) where
   unfolding figures_for may_change clings
   told-before method options span before e = rw (
     e,
+    each-before (reverse (chars span.before)),
     estimate-before (reverse (chars span.before)),
     is_end-before span.text (reverse (chars span.before)),
     title-same 40 (reverse (chars span.before)),

@@ -8,7 +8,7 @@ use Rattle.cn_find.specs.declared.doubt.Doubt.TheVariants.{Part}
 use Rattle.cn_find.specs.declared.wanted.Wanted.{Wanted}
 use Rattle.cn_find.specs.Doubt.{doubt_of}
 use Rattle.cn_find.specs.Flags.{is_about, is_one_character}
-use Rattle.cn_find.specs.Spans.{Span, expressions}
+use Rattle.cn_find.specs.Spans.{Span, expressions, in_front}
 use Rattle.cn_find.specs.Belongs.{begins_with}
 use Rattle.cn_find.specs.Words.{begins_with_two, is_exactly}
 use Rattle.cn_quantity.specs.Ratio.{is_fraction}
@@ -34,21 +34,24 @@ is_doubt_included included (Some doubt) = included.doubtful
 -- the text begins with a unit of measure, of money or of time
 abbrev pub begins_unit : List ℕ → Bool
 begins_unit after =
-    begins_with (codes "元米克吨噸升秒度") after
+    begins_with (codes "元米克吨噸升秒度号號岁歲") after
     || (begins_with_two (codes "公厘釐毫千平立") (codes "里斤顷頃尺米克升方") after
     || (begins_with_two (codes "分小") (codes "钟鐘时時") after
     || (begins_with_two (codes "美欧歐日港") (codes "元") after
     || begins_with_two (codes "百") (codes "分") after)))
 
--- an expression is one character that stays: 十 before such a unit does not
-abbrev pub is_short : List ℕ → List ℕ → Bool
-is_short text after = is_one_character text && not (is_exactly (codes "十") text && begins_unit after)
+-- an expression is one character that stays: 十 before such a unit, or after 每, does not. Of the
+-- characters before it the nearest is the first
+abbrev pub is_short : List ℕ → List ℕ → List ℕ → Bool
+is_short front text after =
+    is_one_character text
+    && not (is_exactly (codes "十") text && (begins_unit after || begins_with (codes "每") front))
 
 -- an expression is included: if it is a character that stays, approximate or doubtful, expressions of
 -- that kind are included
 abbrev pub is_included : Included → Span → Bool
 is_included included span =
-    (included.one_character || not (is_short (chars span.text) (chars span.after)))
+    (included.one_character || not (is_short (in_front span.before) (chars span.text) (chars span.after)))
     && ((included.about || not (is_about (chars span.before) (chars span.text) (chars span.after)))
     && is_doubt_included included (doubt_of span.before span.text span.after))
 

@@ -1,6 +1,6 @@
 // The new text of an expression in figures.
 ghost use Rattle.std.specs.Prelude.{◌≡◌, ◌&&◌, ◌||◌, not, chars, is_some, IfOk};
-ghost use Rattle.cn_find.specs.Spans.{span_of};
+ghost use Rattle.cn_find.specs.Spans.{in_front, span_of};
 ghost use Rattle.cn_replace.specs.InFigures.{begins_unit, figures_for, has_unit_or_zero, holds_others, is_again, is_doubt_included, is_in_figures, is_included, is_short, may_change, styled_text, written_text};
 ghost use Rattle.cn_replace.specs.Private.{PutsText};
 
@@ -12,7 +12,7 @@ use crate::numbers::put_read;
 use crate::pieces::{CharTest, Figure, UnitFrom, Zero, any};
 use crate::{Figures, Included, Replacement, Sink, Style};
 use cn_core::{ChineseCountMethod, Unit};
-use cn_find::{Doubt, Found, begins_with, begins_with_two, is_exactly};
+use cn_find::{Doubt, Found, begins_with, begins_with_two, ends_with, is_exactly};
 
 // Whether an expression with this doubt is included.
 fn is_doubt_included(included: Included, doubt: Option<Doubt>) -> bool
@@ -29,22 +29,26 @@ fn is_doubt_included(included: Included, doubt: Option<Doubt>) -> bool
 fn begins_unit(after: &str) -> bool
     ensures { result ≡ begins_unit (chars after.now) }
 {
-    begins_with(&['元', '米', '克', '吨', '噸', '升', '秒', '度'], after)
-        || begins_with_two(
-            &['公', '厘', '釐', '毫', '千', '平', '立'],
-            &['里', '斤', '顷', '頃', '尺', '米', '克', '升', '方'],
-            after,
-        )
-        || begins_with_two(&['分', '小'], &['钟', '鐘', '时', '時'], after)
+    begins_with(
+        &['元', '米', '克', '吨', '噸', '升', '秒', '度', '号', '號', '岁', '歲'],
+        after,
+    ) || begins_with_two(
+        &['公', '厘', '釐', '毫', '千', '平', '立'],
+        &['里', '斤', '顷', '頃', '尺', '米', '克', '升', '方'],
+        after,
+    ) || begins_with_two(&['分', '小'], &['钟', '鐘', '时', '時'], after)
         || begins_with_two(&['美', '欧', '歐', '日', '港'], &['元'], after)
         || begins_with_two(&['百'], &['分'], after)
 }
 
-// Whether an expression is one character that stays: 十 before such a unit does not.
+// Whether an expression is one character that stays: 十 before such a unit, or after 每, does not.
 fn is_short(found: Found<'_>) -> bool
-    ensures { result ≡ is_short (chars found.entry.text.now) (chars found.entry.after.now) }
+    ensures { result ≡ is_short (in_front found.entry.before.now) (chars found.entry.text.now)
+        (chars found.entry.after.now) }
 {
-    found.is_one_character() && !(is_exactly(&['十'], found.text) && begins_unit(found.after))
+    found.is_one_character()
+        && !(is_exactly(&['十'], found.text)
+            && (begins_unit(found.after) || ends_with(&['每'], found.before)))
 }
 
 // Whether an expression is included, given its flags and its doubt.
