@@ -6,9 +6,10 @@ phrase is looked for at each character of a text from the left, outside of what 
 form is a list of steps: slots, with the letters of RULES, and words. The model of expressions is
 text.py.
 
-Where RULES leaves two readings, these are taken: a slot has figures or numerals and not both; one that has
-no value is no letter of a form; a part of a month is a word and no slot, so a letter may follow it; a link
-is no `-` between slots; two Chinese digits are no year before an ASCII `-` or `/` alone;
+Where RULES leaves two readings, these are taken: a year has figures or Chinese digits, not both; the digit
+after 零 or 〇 is a Chinese one; a slot that has no value is no letter of a form; a part of a month is a word
+and no slot, so a letter may follow it; a link is no `-` between slots; two Chinese digits are no year before
+an ASCII `-` or `/` alone;
 what is said of Y-M-D, H:MM and N米F holds for Y/M/D, H:MM:SS and the other lengths; 早 and 晚 are part of no
 phrase only before the words 一点; a date is directly after an era, 农历 and so on, or 民國, which is in this
 script only; a range begins without W; with the units that count for it, its first end is a quantity, or
@@ -151,9 +152,9 @@ def is_number(text: str) -> bool:
         return ascii_of(text[0]) != "0"
     if is_count(text):
         return True
-    rest, is_tens = text[2:], len(text) > 3 and COUNT.fullmatch(text[2:]) is not None
-    has_hundreds = re.match(f"{NONZERO}百", text) is not None
-    return has_hundreds and (not rest or is_zero_and_digit(rest) or is_tens)
+    rest, has_hundreds = text[2:], re.match(f"{NONZERO}百", text) is not None
+    is_rest = not rest or is_zero_and_digit(rest) or (len(rest) > 1 and is_count(rest))
+    return has_hundreds and is_rest
 
 
 def is_year(text: str) -> bool:
@@ -330,13 +331,17 @@ def fits(
                     yield last, slots, word + words
 
 
+def is_adverb(word: str, hour: Slot, words: str) -> bool:
+    """早一点 and 晚一点 are no times."""
+    return word in ("早", "晚") and hour.text == "一" and words[0] in "点點"
+
+
 def phrases_after_word(text: Text, start: int, end: int) -> Iterator[Phrase]:
     """The phrases with a word of half a day, or a weekday, at a place."""
     word = text.line.text[start:end]
     for it in WITH_HALF_DAY:
         for last, slots, words in fits(text, it.steps, end, False):
-            is_early = word in ("早", "晚") and slots[0].text == "一" and words[0] in "点點"
-            if it.allows(slots) and not is_early:
+            if it.allows(slots) and not is_adverb(word, slots[0], words):
                 written = text.line.text[start:last]
                 yield Phrase(it.kind, start, last, written, slots, words, it.is_linked, word)
 
@@ -422,7 +427,18 @@ def is_within(text: Text, start: int) -> bool:
     return is_letter_or_bar(before) or before in "千仟万萬亿億"
 
 
-AFTER_HOUR = re.compile("[钟鐘]|左右|前(?!提)|[以之][前后後]")
+def has_hour(text: Text, start: int) -> bool:
+    """[W]H点 is at a place."""
+    hour: List[Step] = ["H", choices(DIAN_OR_SHI)]
+    for end in (start, *ends_of_half_day(text, start)):
+        word = text.line.text[start:end]
+        for _, slots, words in fits(text, hour, end, False):
+            if not is_adverb(word, slots[0], words):
+                return True
+    return False
+
+
+AFTER_HOUR = re.compile("[钟鐘]|左右|前(?!提)|就|[以之][前后後]|[起出开開集][飞飛发發会會始门門合]")
 
 
 def is_linked(text: Text, phrase: Phrase) -> bool:
@@ -438,9 +454,7 @@ def is_linked(text: Text, phrase: Phrase) -> bool:
         return True
     if text.at(phrase.end) not in LINKS:
         return False
-    starts = [phrase.end + 1, *ends_of_half_day(text, phrase.end + 1)]
-    hour: List[Step] = ["H", choices(DIAN_OR_SHI)]
-    return any(True for start in starts for _ in fits(text, hour, start, False))
+    return has_hour(text, phrase.end + 1)
 
 
 def is_phrase(text: Text, phrase: Phrase) -> bool:
@@ -471,6 +485,9 @@ def value_of(slot: Slot) -> int:
     """The number of a slot."""
     if all(is_figure(c) or is_chinese_digit(c) for c in slot.text):
         return int(numbers.ascii_figures(slot.text))
+    hundreds, tens = slot.text[:2], slot.text[2:]
+    if has_figure(tens):
+        return (numeral_value(hundreds) or 0) + int(ascii_of(tens))
     return numeral_value(slot.text) or 0
 
 

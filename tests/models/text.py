@@ -988,11 +988,13 @@ def are_joined(line: Line, first: Any, second: Any) -> bool:
     return between in CALENDAR or not (second.is_one_character and after in COUNTED)
 
 
-TEN_OF_UNIT = re.compile("十(?:[元米克吨噸升秒度]|[公厘釐毫千平立][里斤顷頃尺米克升方]|[分小][钟鐘时時]|[美欧歐日港]元|百分)")
+TEN_OF_UNIT = re.compile("十(?:[元米克吨噸升秒度号號岁歲]|[公厘釐毫千平立][里斤顷頃尺米克升方]|[分小][钟鐘时時]|[美欧歐日港]元|百分)")
 
 
 def counts_as_one_character(line: Line, e: Found) -> bool:
-    """All that is one character does, but 十 before a unit of measure."""
+    """All that is one character does, but 十 after 每 or before a unit of measure."""
+    if e.text == "十" and line.at(e.start - 1) == "每":
+        return False
     return e.is_one_character and not TEN_OF_UNIT.match(line.text, e.start)
 
 
