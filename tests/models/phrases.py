@@ -384,7 +384,7 @@ def is_no_date(text: Text, phrase: Phrase) -> bool:
 
 
 def is_no_time(text: Text, phrase: Phrase) -> bool:
-    before, after = text.at(phrase.start - 1), text.at(phrase.end)
+    before, after = text.at(phrase.slots[0].start - 1), text.at(phrase.end)
     if re.search("[:：]", phrase.words):
         return before in ":：/.-" or after in ":：."
     if re.fullmatch(".分", phrase.words):
