@@ -6,9 +6,10 @@ phrase is looked for at each character of a text from the left, outside of what 
 form is a list of steps: slots, with the letters of RULES, and words. The model of expressions is
 text.py.
 
-Where RULES leaves two readings, these are taken: a slot has figures or numerals and not both; it ends
-before a 两 that is not its first character; a part of a month is a word and no slot, so a letter may
-follow it; a link is no `-` between slots; two Chinese digits are no year before an ASCII `-` or `/` alone;
+Where RULES leaves two readings, these are taken: a year has figures or Chinese digits, not both; the digit
+after 零 or 〇 is a Chinese one; a slot that has no value is no letter of a form; a part of a month is a word
+and no slot, so a letter may follow it; a link is no `-` between slots; two Chinese digits are no year before
+an ASCII `-` or `/` alone;
 what is said of Y-M-D, H:MM and N米F holds for Y/M/D, H:MM:SS and the other lengths; 早 and 晚 are part of no
 phrase only before the words 一点; a date is directly after an era, 农历 and so on, or 民國, which is in this
 script only; a range begins without W; with the units that count for it, its first end is a quantity, or
@@ -18,12 +19,24 @@ the range is refused.
 import re
 from fractions import Fraction
 from functools import lru_cache
-from typing import Callable, Dict, FrozenSet, Iterator, List, NamedTuple, Optional, Tuple, Union
+from itertools import product
+from typing import (
+    Any,
+    Callable,
+    Dict,
+    FrozenSet,
+    Iterator,
+    List,
+    NamedTuple,
+    Optional,
+    Tuple,
+    Union,
+)
 
 import text as numbers
-from text import LINKS, Found, Line, Options, has_figure, is_chinese_digit, is_figure, is_letter
+from text import LINKS, Found, Line, Options, at, has_figure, is_chinese_digit, is_figure, is_letter
 
-SLOT_CHARS, ONLY_FIRST = frozenset("零〇一二两兩三四五六七八九十百"), frozenset("两兩")
+SLOT_CHARS = frozenset("零〇一二两兩三四五六七八九十百")
 DAYS_OF_MONTHS = (31, 28, 31, 30, 31, 30, 31, 31, 30, 31, 30, 31)
 
 # The parts of a date or a time, two numbers, or one; None for a part that is not given or not known.
@@ -139,9 +152,9 @@ def is_number(text: str) -> bool:
         return ascii_of(text[0]) != "0"
     if is_count(text):
         return True
-    rest, is_tens = text[2:], len(text) > 3 and COUNT.fullmatch(text[2:]) is not None
-    has_hundreds = re.match(f"{NONZERO}百", text) is not None
-    return has_hundreds and (not rest or is_zero_and_digit(rest) or is_tens)
+    rest, has_hundreds = text[2:], re.match(f"{NONZERO}百", text) is not None
+    is_rest = not rest or is_zero_and_digit(rest) or (len(rest) > 1 and is_count(rest))
+    return has_hundreds and is_rest
 
 
 def is_year(text: str) -> bool:
@@ -158,6 +171,8 @@ def has_shape(letter: str, text: str) -> bool:
 
 def is_of_letter(text: Text, slot: Slot) -> bool:
     """A slot has the shape of its letter."""
+    if re.search("[两兩]", slot.text[1:]):
+        return False
     if slot.letter in "Yy":
         if is_year(slot.text) or (slot.letter == "y" and has_shape("N", slot.text)):
             return True
@@ -184,11 +199,12 @@ SHAPES: Dict[str, Callable[[str], bool]] = dict(
 
 # ---- The table of forms ----------------------------------------------------------------------
 
-RI, DIAN, DIAN_OR_SHI, LINK = "日 号 號", "点 點", "点 點 时 時", " ".join(LINKS)
-GE, HOURS = "个 個", "小时 小時 钟头 鐘頭 个小时 個小時 个钟头 個鐘頭"
-MINUTES, SECONDS, COLON = "分 分钟 分鐘", "秒 秒钟 秒鐘", ": ："
-AFTER_HALF = "半小时 半小時 半钟头 半鐘頭 半月 半星期 半礼拜 半禮拜 半世纪 半世紀"
-BEFORE_HALF = "年 天 周 週 岁 歲 斤 里 吨 噸 倍 米 度"
+# Words with blanks between choices; each of these characters may be in either script.
+SCRIPTS = {it[0]: it for it in "号號 点點 时時 个個 钟鐘 头頭 礼禮 纪紀 周週 岁歲 吨噸".split()}
+RI, DIAN, DIAN_OR_SHI, LINK, COLON = "日 号", "点", "点 时", " ".join(LINKS), ": ："
+HOURS, MINUTES, SECONDS = "小时 钟头 个小时 个钟头", "分 分钟", "秒 秒钟"
+AFTER_HALF = "半小时 半钟头 半月 半星期 半礼拜 半世纪"
+BEFORE_HALF = "年 天 周 岁 斤 里 吨 倍 米 度"
 PART_OF_MONTH = "底 份 末 上旬 中旬 下旬 初"
 
 Step = Union[str, Tuple[str, ...]]  # a letter, or words
@@ -205,9 +221,15 @@ class Form(NamedTuple):
         return not self.has_figures_alone or all(are_figures(it.text, 1, 4) for it in slots)
 
 
+def choices(words: str) -> Tuple[str, ...]:
+    """The words between blanks, in either script, and with characters of both."""
+    written = (product(*(SCRIPTS.get(c, c) for c in word)) for word in words.split(" "))
+    return tuple("".join(it) for word in written for it in word)
+
+
 def form(kind: str, *steps: str, is_linked: bool = False, half_day: bool = False) -> Form:
-    """A form: steps of one letter are slots, others are words, with blanks between choices."""
-    parts = [it if it in SHAPES or it in "Yy" else tuple(it.split(" ")) for it in steps]
+    """A form: steps of one letter are slots, others are words."""
+    parts: List[Step] = [it if it in SHAPES or it in "Yy" else choices(it) for it in steps]
     has_figures_alone = any(it in ("-", "/", COLON) for it in steps)
     return Form(kind, parts, is_linked, half_day, has_figures_alone)
 
@@ -246,7 +268,7 @@ def other_forms() -> Iterator[Form]:
     yield form("duration", "N", HOURS, "M", MINUTES, "S", SECONDS)
     yield form("duration", "N", HOURS, "M", MINUTES)
     yield form("duration", "N", MINUTES, "S", SECONDS)
-    yield form("half", "N", GE, AFTER_HALF)
+    yield form("half", "N", "个", AFTER_HALF)
     yield form("half", "N", BEFORE_HALF, "半")
     for unit in "米度秒":
         yield form("length", "N", unit, "F")
@@ -309,13 +331,17 @@ def fits(
                     yield last, slots, word + words
 
 
+def is_adverb(word: str, hour: Slot, words: str) -> bool:
+    """早一点 and 晚一点 are no times."""
+    return word in ("早", "晚") and hour.text == "一" and words[0] in "点點"
+
+
 def phrases_after_word(text: Text, start: int, end: int) -> Iterator[Phrase]:
     """The phrases with a word of half a day, or a weekday, at a place."""
     word = text.line.text[start:end]
     for it in WITH_HALF_DAY:
         for last, slots, words in fits(text, it.steps, end, False):
-            is_early = word in ("早", "晚") and slots[0].text == "一" and words[0] in "点點"
-            if it.allows(slots) and not is_early:
+            if it.allows(slots) and not is_adverb(word, slots[0], words):
                 written = text.line.text[start:last]
                 yield Phrase(it.kind, start, last, written, slots, words, it.is_linked, word)
 
@@ -365,6 +391,8 @@ def is_no_time(text: Text, phrase: Phrase) -> bool:
         then = text.at(phrase.end + 1)
         is_numerator = after == "之" and (is_slot_char(then) or then in "几幾")
         return after in "钟鐘" or is_numerator
+    if re.fullmatch("[点點时時]", phrase.words) and len(phrase.slots) == 1:
+        return after in SLOT_CHARS
     is_bare = phrase.slots[-1].letter in "BZ"
     return is_bare and after in "分几幾多元米度倍吨噸克升%％‰万萬亿億千"
 
@@ -399,6 +427,20 @@ def is_within(text: Text, start: int) -> bool:
     return is_letter_or_bar(before) or before in "千仟万萬亿億"
 
 
+def has_hour(text: Text, start: int) -> bool:
+    """[W]H点 is at a place."""
+    hour: List[Step] = ["H", choices(DIAN_OR_SHI)]
+    for end in (start, *ends_of_half_day(text, start)):
+        word = text.line.text[start:end]
+        for _, slots, words in fits(text, hour, end, False):
+            if not is_adverb(word, slots[0], words):
+                return True
+    return False
+
+
+AFTER_HOUR = re.compile("[钟鐘]|左右|前(?!提)|就|[以之][前后後]|[起出开開集][飞飛发發会會始门門合]")
+
+
 def is_linked(text: Text, phrase: Phrase) -> bool:
     """A linked form is directly after a link, or, of an hour, has another hour beside it."""
     before = text.at(phrase.start - 2) + text.at(phrase.start - 1)
@@ -406,15 +448,13 @@ def is_linked(text: Text, phrase: Phrase) -> bool:
         return re.fullmatch(f"[月日号號][{LINKS}]", before) is not None
     if re.fullmatch(f"[点點时時半分刻][{LINKS}]|.[日号號]", before, re.DOTALL):
         return True
-    if text.at(phrase.end) in "钟鐘":
+    if AFTER_HOUR.match(text.line.text, phrase.end):
         return True
     if before[1] == "天" and before[0] in "今明昨后後前当當每" and value_of(phrase.slots[0]) != 1:
         return True
     if text.at(phrase.end) not in LINKS:
         return False
-    starts = [phrase.end + 1, *ends_of_half_day(text, phrase.end + 1)]
-    hour: List[Step] = ["H", tuple(DIAN_OR_SHI.split())]
-    return any(True for start in starts for _ in fits(text, hour, start, False))
+    return has_hour(text, phrase.end + 1)
 
 
 def is_phrase(text: Text, phrase: Phrase) -> bool:
@@ -445,6 +485,9 @@ def value_of(slot: Slot) -> int:
     """The number of a slot."""
     if all(is_figure(c) or is_chinese_digit(c) for c in slot.text):
         return int(numbers.ascii_figures(slot.text))
+    hundreds, tens = slot.text[:2], slot.text[2:]
+    if has_figure(tens):
+        return (numeral_value(hundreds) or 0) + int(ascii_of(tens))
     return numeral_value(slot.text) or 0
 
 
@@ -562,8 +605,10 @@ def is_doubtful(text: Text, phrase: Phrase) -> bool:
             return True
     if phrase.kind == "date" and not re.search("[-/]", phrase.words) and not phrase.is_linked:
         return is_of_other_calendar(text, phrase)
-    is_of_minute = phrase.kind == "time" and re.fullmatch("[点點]分", phrase.words)
-    return bool(is_of_minute) and not phrase.half_day and numbers.is_one_character(last.text)
+    if phrase.kind != "time" or not re.fullmatch("[点點]分", phrase.words):
+        return False
+    is_after = phrase.half_day or text.at(phrase.start - 1) in "日号號"
+    return not is_after and len(last.text) == 1 and are_digits(last.text)
 
 
 def judged(text: Text, phrase: Phrase) -> Phrase:
@@ -585,10 +630,17 @@ def ends_of_range(text: Text, start: int) -> Optional[Tuple[Found, str, Found]]:
     return first, text.at(first.end), second
 
 
+def quantity_of(end: Found) -> numbers.Quantity:
+    """The quantity of an end of a range, which has one."""
+    assert end.quantity is not None
+    return end.quantity
+
+
 def is_no_range(text: Text, first: Found, link: str, second: Found) -> bool:
     before, after = text.at(first.start - 1), text.at(second.end)
     for end in (first, second):
-        if end.is_about or end.quantity.form == numbers.FRACTION or end.quantity.numerator < 0:
+        quantity = quantity_of(end)
+        if end.is_about or quantity.form == numbers.FRACTION or quantity.numerator < 0:
             return True
     if is_within(text, first.start) or numbers.clings(text.line, first.start, second.end):
         return True
@@ -619,29 +671,33 @@ def shared_units(first: Found, second: Found) -> str:
     while head and is_multiplier(head[-1]):
         head = head[:-1]
     before = numbers.quantity(head)
-    if before is None or not 0 < ratio_of(first.quantity) < ratio_of(before):
+    if before is None or not 0 < ratio_of(quantity_of(first)) < ratio_of(before):
         return ""
     return second.text[len(head) :]
 
 
+def is_percentage(end: Found) -> bool:
+    return quantity_of(end).form == numbers.PERCENT
+
+
 def shares_percent(first: Found, second: Found) -> bool:
-    return (first.quantity.form == numbers.PERCENT) != (second.quantity.form == numbers.PERCENT)
+    return is_percentage(first) != is_percentage(second)
 
 
-def value_of_end(text: str, is_percentage: bool) -> Optional[Fraction]:
+def value_of_end(text: str, has_percent: bool) -> Optional[Fraction]:
     """The number of an end of a range, with what counts for it."""
     quantity = numbers.quantity(text)
     if quantity is None or len(text.encode()) > 48:
         return None
-    is_divided = is_percentage and quantity.form != numbers.PERCENT
+    is_divided = has_percent and quantity.form != numbers.PERCENT
     return ratio_of(quantity) / (100 if is_divided else 1)
 
 
 def values_of_range(first: Found, second: Found) -> Optional[Tuple[Fraction, Fraction]]:
     """The two numbers, or None if they do not rise, or are too long or no quantities."""
-    is_percentage = shares_percent(first, second)
-    start = value_of_end(first.text + shared_units(first, second), is_percentage)
-    end = value_of_end(second.text, is_percentage)
+    has_percent = shares_percent(first, second)
+    start = value_of_end(first.text + shared_units(first, second), has_percent)
+    end = value_of_end(second.text, has_percent)
     return None if start is None or end is None or start >= end else (start, end)
 
 
@@ -666,7 +722,7 @@ def new_end(first: Found, second: Found, end: Found) -> Optional[str]:
     """The new text of an end of a range, with what counts for it."""
     if shares_percent(first, second):
         new = numbers.kept_text(end.text)
-        return new if new is None or end.quantity.form == numbers.PERCENT else new + "%"
+        return new if new is None or is_percentage(end) else new + "%"
     units = shared_units(first, second) if end == first else ""
     return numbers.kept_text(end.text + units)
 
@@ -726,8 +782,7 @@ def text_of(string: str) -> Text:
     slot_ends = list(range(len(string) + 2))
     for i in reversed(range(len(string))):
         if is_slot_char(string[i]):
-            goes_on = i + 1 < len(string) and string[i + 1] not in ONLY_FIRST
-            slot_ends[i] = slot_ends[i + 1] if goes_on else i + 1
+            slot_ends[i] = slot_ends[i + 1] if is_slot_char(at(string, i + 1)) else i + 1
     return Text(Line(string), {it.start: it for it in found}, slot_ends, ends, inside)
 
 
@@ -753,7 +808,7 @@ def new_text(text: Text, item: Item, options: Options) -> Optional[str]:
     return numbers.new_text(text.line, item, options)
 
 
-def text_to_figures(string: str, **chosen: bool) -> str:
+def text_to_figures(string: str, **chosen: Any) -> str:
     """Numerals and phrases in figures, phrases in the kept style."""
     text, items = items_of(string)
     news = [new_text(text, it, Options(**chosen)) for it in items]

@@ -15,7 +15,7 @@ canonical figures lift only the first reason to stay.
 
 import re
 from functools import lru_cache
-from typing import Callable, Dict, List, NamedTuple, Optional, Tuple
+from typing import Any, Callable, Dict, List, NamedTuple, Optional, Sequence, Tuple
 
 U128_MAX = 2**128 - 1
 I128_MAX = 2**127 - 1
@@ -696,10 +696,10 @@ def find_quantities(text: str) -> List[Found]:
 WORDS = [
     tuple(word.split("|"))
     for word in """
-    |十二|指肠 |十二|生肖 |十二|月党 |十八|般 |十八|大 |十八|罗汉 |十八|层地 |十九|大 |二十|大
-    |十一|假期 |十一|长假 |十一|黄金 |三十六|计 |七十二|变 |七十二|行 |三百六十|行 |二十四|史 |二十四|节气
+    |十二|指肠 |十二|生肖 |十二|月党 |十八|般 |十八|大 |十八|罗汉 |十八|层地 |十九|大 |十九|国集 |二十|大 |二十|国集
+    |十一|放 |十一|回 |十一|去 |十一|再 |十一|出 |十一|假期 |十一|长假 |十一|黄金 |三十六|计 |七十二|变 |七十二|行 |三百六十|行 |二十四|史 |二十四|节气
     |二十八|宿 |十三|陵 |十三|妹 |一千零一|夜 |二八|年华 |三十|而立 |三十|年河 |四十|不惑
-    |五十|步笑 |十五|个吊 |十万|火急 |十万八千|里 |二百五| |亿万| 双|十一| 双|十二| 年|三十| 初|一十五| |一千|道一 千道|一万|
+    |五十|步笑 |十五|个吊 |十五|只吊 |十万|火急 |十万八千|里 |二百五| |亿万| 双|十一| 双|十二| 年|三十| 初|一十五| |一千|道一 千道|一万|
     """.split()
 ]
 ERAS = tuple(
@@ -708,10 +708,10 @@ ERAS = tuple(
     """.split()
 )
 SIMPLE = str.maketrans(
-    "腸黨羅漢層長黃計變華個雙萬億臘節氣慶豐順緒統樂曆歷禎貞觀開寶",
-    "肠党罗汉层长黄计变华个双万亿腊节气庆丰顺绪统乐历历祯贞观开宝",
+    "腸黨羅漢層長黃計變華個雙萬億臘節氣國隻慶豐順緒統樂曆歷禎貞觀開寶",
+    "肠党罗汉层长黄计变华个双万亿腊节气国只庆丰顺绪统乐历历祯贞观开宝",
 )
-BETWEEN_IN_TITLE = frozenset(" ,，、-.")
+BETWEEN_IN_TITLE = frozenset(" ,，、-.〇")
 HALVED = "个個倍天岁歲里年月日号號點点时時分秒刻元圆圓块塊角毛度米斤两兩"
 LINKS = "到至~～－–—〜-"
 CHINESE_DIGITS, TWO_TENS = re.compile(f"{_D}+"), re.compile(f"十{_D}十")
@@ -770,25 +770,30 @@ def is_digits(line: Line, start: int, end: int) -> bool:
     if not CHINESE_DIGITS.fullmatch(text) or len(text) < 2:
         return False
     values = [DIGITS[c] for c in text]
-    if len(values) == 3 and [it == 0 for it in values] == [False, True, False]:
-        return False
     if len(values) > 3 and (values[0] == 0 or any(b < a for a, b in zip(values, values[1:]))):
         return False
-    after = line.at(end)
-    if (after == "年" and line.at(end + 1) not in "级級") or after in "号號室房":
+    before, after = line.at(start - 1), line.at(end)
+    if (after == "年" and line.at(end + 1) not in "级級") or after in "号號室房办辦":
         return False
-    return not (values[0] == 0 and line.at(start - 1) in "点點分时時" and after in "分秒")
+    if before in "楼樓栋棟座幢号號码碼":
+        return False
+    return not (values[0] == 0 and before in "点點分时時" and after in "分秒")
 
 
 def is_term(line: Line, start: int, end: int) -> bool:
-    text, after = line.text[start:end], line.at(end)
+    text, after, then = line.text[start:end], line.at(end), line.at(end + 1)
     if text[0] in "负負" and after in "项項楼樓层層":
         return True
     if re.search("[点點]", text) and after in "划劃线線":
         return True
-    if after in "进進" and line.at(end + 1) in "制位":
+    if after in "进進" and then in "制位":
         return True
-    return after in "届屆" and is_chinese_digit(line.at(end + 1)) and line.at(end + 2) == "中"
+    if line.at(start - 1) == "第":
+        if after + then == "次全":
+            return True
+        if after in "条條" and (not is_han(then) or then in "第之规規和及与與或至到"):
+            return True
+    return after in "届屆" and is_chinese_digit(then) and line.at(end + 2) == "中"
 
 
 def is_time(line: Line, start: int, end: int) -> bool:
@@ -971,7 +976,7 @@ def clings(line: Line, start: int, end: int) -> bool:
     return touches(start - 1, start - 2) or (touches(end, end + 1) and not is_measure)
 
 
-def are_joined(line: Line, first: Found, second: Found) -> bool:
+def are_joined(line: Line, first: Any, second: Any) -> bool:
     """`Joined.are_joined`, of two neighbours."""
     between, after = line.text[first.end : second.start], line.at(second.end)
     if JOINED_IN_ANY_CASE.fullmatch(between):
@@ -981,6 +986,16 @@ def are_joined(line: Line, first: Found, second: Found) -> bool:
     if second.text == "一" and is_han(after) and after not in CHARACTERS_ABOVE and after != "的":
         return False
     return between in CALENDAR or not (second.is_one_character and after in COUNTED)
+
+
+TEN_OF_UNIT = re.compile("十(?:[元米克吨噸升秒度号號岁歲]|[公厘釐毫千平立][里斤顷頃尺米克升方]|[分小][钟鐘时時]|[美欧歐日港]元|百分)")
+
+
+def counts_as_one_character(line: Line, e: Found) -> bool:
+    """All that is one character does, but 十 after 每 or before a unit of measure."""
+    if e.text == "十" and line.at(e.start - 1) == "每":
+        return False
+    return e.is_one_character and not TEN_OF_UNIT.match(line.text, e.start)
 
 
 def has_figure(text: str) -> bool:
@@ -1005,7 +1020,9 @@ def stays(line: Line, e: Found, options: Options) -> bool:
             return True
     if e.quantity is None or e.doubt == "part":  # 2
         return True
-    if e.is_about and not options.about or e.is_one_character and not options.one_character:
+    if e.is_about and not options.about:
+        return True
+    if counts_as_one_character(line, e) and not options.one_character:
         return True
     if e.doubt is not None and not options.doubtful:
         return True
@@ -1028,8 +1045,8 @@ def new_text(line: Line, e: Found, options: Options = Options()) -> Optional[str
     return kept_text(e.text) if figures is None else figures
 
 
-def put_in_chains(line: Line, expressions: List[Found], news: List[Optional[str]]) -> str:
-    """The text with new texts, except where an expression holds others: rule 5."""
+def put_in_chains(line: Line, expressions: Sequence[Any], news: List[Optional[str]]) -> str:
+    """The text with new texts, except where an expression, or a phrase, holds others: rule 5."""
     holds = [new is None and not has_figure(e.text) for e, new in zip(expressions, news)]
     joined = [are_joined(line, a, b) for a, b in zip(expressions, expressions[1:])]
     for i, is_joined in enumerate(joined):  # from one to the next, to the right
@@ -1043,7 +1060,7 @@ def put_in_chains(line: Line, expressions: List[Found], news: List[Optional[str]
     return "".join(pieces) + line.text[end:]
 
 
-def to_figures(text: str, **options) -> str:
+def to_figures(text: str, **options: Any) -> str:
     """`quantities_to_figures`: numerals in figures, in the kept or the expanded style."""
     line, expressions = Line(text), find_quantities(text)
     news = [new_text(line, e, Options(**options)) for e in expressions]
