@@ -9,11 +9,10 @@ text.py.
 Where RULES leaves two readings, these are taken: a year has figures or Chinese digits, not both; the digit
 after 零 or 〇 is a Chinese one; a slot that has no value is no letter of a form; a part of a month is a word
 and no slot, so a letter may follow it; a link is no `-` between slots; two Chinese digits are no year before
-an ASCII `-` or `/` alone;
-what is said of Y-M-D, H:MM and N米F holds for Y/M/D, H:MM:SS and the other lengths; 早 and 晚 are part of no
+an ASCII `-` or `/` alone; what is said of Y-M-D, H:MM and N米F holds for Y/M/D, H:MM:SS and the other lengths; 早 and 晚 are part of no
 phrase only before the words 一点; a date is directly after an era, 农历 and so on, or 民國, which is in this
-script only; a range begins without W; with the units that count for it, its first end is a quantity, or
-the range is refused.
+script only; with the units that count for it, the first end of a range is a quantity, or the range is
+refused.
 """
 
 import re
@@ -642,7 +641,7 @@ def is_no_range(text: Text, first: Found, link: str, second: Found) -> bool:
         quantity = quantity_of(end)
         if end.is_about or quantity.form == numbers.FRACTION or quantity.numerator < 0:
             return True
-    if is_within(text, first.start) or numbers.clings(text.line, first.start, second.end):
+    if numbers.clings(text.line, first.start, second.end):
         return True
     if link in "到至":
         return first.text == "一" and after in "点點时時月日号號"

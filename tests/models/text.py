@@ -728,8 +728,7 @@ def is_part(line: Line, start: int, end: int) -> bool:
         return True
     if after == "分" and then == "之" and line.at(end + 2) in "几幾":
         return True
-    value = quantity(text) if after in "秒毫厘釐克" and "百" in text else None
-    if value is not None and value.form == PERCENT:
+    if text.startswith("百分") and after in "秒毫厘釐克":
         return True
     return after in HALVED and then == "半"
 

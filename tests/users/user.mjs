@@ -51,5 +51,5 @@ for (const { CASES, toBigInt, toChinese, toNumber, NumeralError, ...other } of [
     [{ year: 2026, month: 1, day: 5 }, '贰零贰陆年零壹月零伍日']);
   deepEqual(time.value, { hour: 3, minute: 30, second: 0, hourOfDay: 15 });
   deepEqual([range.start, range.end, range.value.map((it) => it.toFigures())],
-    [18, 22, ['30000', '50000']]);
+    [17, 21, ['30000', '50000']]);
 }
