@@ -6,13 +6,13 @@ phrase is looked for at each character of a text from the left, outside of what 
 form is a list of steps: slots, with the letters of RULES, and words. The model of expressions is
 text.py.
 
-Where RULES leaves two readings, these are taken: a year has figures or Chinese digits, not both; the digit
-after 零 or 〇 is a Chinese one; a slot that has no value is no letter of a form; a part of a month is a word
-and no slot, so a letter may follow it; a link is no `-` between slots; two Chinese digits are no year before
-an ASCII `-` or `/` alone; what is said of Y-M-D, H:MM and N米F holds for Y/M/D, H:MM:SS and the other lengths; 早 and 晚 are part of no
-phrase only before the words 一点; a date is directly after an era, 农历 and so on, or 民國, which is in this
-script only; with the units that count for it, the first end of a range is a quantity, or the range is
-refused.
+Where RULES leaves two readings, these are taken: a year has figures or Chinese digits, not both;
+the digit after 零 or 〇 is a Chinese one; a slot that has no value is no letter of a form; a part of
+a month is a word and no slot, so a letter may follow it; a link is no `-` between slots; two
+Chinese digits are no year before an ASCII `-` or `/` alone; what is said of Y-M-D, H:MM and N米F
+holds for Y/M/D, H:MM:SS and the other lengths; 早 and 晚 are part of no phrase only before the words
+一点; a date is directly after an era, 农历 and so on, or 民國, which is in this script only; with the
+units that count for it, the first end of a range is a quantity, or the range is refused.
 """
 
 import re
