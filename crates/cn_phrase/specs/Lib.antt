@@ -9,8 +9,9 @@ pub mod Phrases
 pub mod Suffix
 pub mod Items
 pub mod Written
-pub mod InText
 pub mod Hours
+pub mod Compact
+pub mod InText
 pub mod Described
 pub mod Plain
 pub mod Private

@@ -1,6 +1,7 @@
 //! Finds phrases in a text: dates, times of day, durations, ranges, scores and lengths.
 #![tactic(auto)]
 
+mod compact;
 mod described;
 pub mod form;
 mod hour;

@@ -57,8 +57,8 @@ pub fn put_read<S: Sink>(
     }
 }
 
-// The figure of a digit.
-fn figure_of(digit: u8) -> &'static str
+/// The figure of a digit.
+pub fn figure_of(digit: u8) -> &'static str
     ensures { result.now ≡ take 1 (drop digit (codes "0123456789")) }
 {
     match digit {
