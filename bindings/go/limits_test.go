@@ -478,7 +478,7 @@ var phrases = []struct {
 }{
 	{"二〇二六年三月五日", cn.PhraseKindDate, cn.PhraseStateCertain, cn.Date{2026, 3, 5}},
 	{"二〇二六年三月", cn.PhraseKindDate, 0, cn.PartialDate{true, 2026, 3, 0}},
-	{"一百一十五年三月五日", cn.PhraseKindDate, 0, cn.PartialDate{true, 115, 3, 5}},
+	{"一百一十五年三月五日", cn.PhraseKindDate, cn.PhraseStateDoubtful, cn.PartialDate{true, 115, 3, 5}},
 	{"〇〇年", cn.PhraseKindDate, 0, cn.PartialDate{HasYear: true}},
 	{"二月二十九日", cn.PhraseKindDate, 0, cn.PartialDate{Month: 2, Day: 29}},
 	{"2000年前", cn.PhraseKindDate, cn.PhraseStateDoubtful, cn.PartialDate{true, 2000, 0, 0}},

@@ -6,13 +6,13 @@ phrase is looked for at each character of a text from the left, outside of what 
 form is a list of steps: slots, with the letters of RULES, and words. The model of expressions is
 text.py.
 
-Where RULES leaves two readings, these are taken: a year has figures or Chinese digits, not both; the digit
-after 零 or 〇 is a Chinese one; a slot that has no value is no letter of a form; a part of a month is a word
-and no slot, so a letter may follow it; a link is no `-` between slots; two Chinese digits are no year before
-an ASCII `-` or `/` alone; what is said of Y-M-D, H:MM and N米F holds for Y/M/D, H:MM:SS and the other lengths; 早 and 晚 are part of no
-phrase only before the words 一点; a date is directly after an era, 农历 and so on, or 民國, which is in this
-script only; with the units that count for it, the first end of a range is a quantity, or the range is
-refused.
+Where RULES leaves two readings, these are taken: a year has figures or Chinese digits, not both;
+the digit after 零 or 〇 is a Chinese one; a slot that has no value is no letter of a form; a part of
+a month is a word and no slot, so a letter may follow it; a link is no `-` between slots; two
+Chinese digits are no year before an ASCII `-` or `/` alone; what is said of Y-M-D, H:MM and N米F
+holds for Y/M/D, H:MM:SS and the other lengths; 早 and 晚 are part of no phrase only before the words
+一点; a date is directly after an era, 农历 and so on, or 民國, which is in this script only; with the
+units that count for it, the first end of a range is a quantity, or the range is refused.
 """
 
 import re
@@ -256,8 +256,8 @@ def time_forms() -> Iterator[Form]:
         yield form("time", "H", DIAN, "B", half_day=half_day)
         if half_day:
             yield form("time", "H", DIAN, "Z", half_day=True)
-        yield form("time", "H", DIAN, "半", half_day=half_day)
-        yield form("time", "H", DIAN, "Q", "刻", half_day=half_day)
+        yield form("time", "H", DIAN_OR_SHI, "半", half_day=half_day)
+        yield form("time", "H", DIAN_OR_SHI, "Q", "刻", half_day=half_day)
         yield form("time", "H", COLON, "X", COLON, "X", half_day=half_day)
         yield form("time", "H", COLON, "X", half_day=half_day)
         yield form("time", "H", DIAN_OR_SHI, half_day=half_day, is_linked=not half_day)
@@ -377,13 +377,15 @@ def is_no_date(text: Text, phrase: Phrase) -> bool:
         return before in "-/." or after in "-/.:"
     if phrase.words == "年":
         return before in "第周週每" or after in "华華"
-    if phrase.words == "月初":
-        return after in "一二三四五六七八九十"
+    if phrase.words.startswith("月") and phrase.words != "月" and len(phrase.slots) == 1:
+        if before in "某前上下每同意这這那":
+            return True
+        return phrase.words == "月初" and after in "一二三四五六七八九十"
     return phrase.words == "年月" and after == "初"
 
 
 def is_no_time(text: Text, phrase: Phrase) -> bool:
-    before, after = text.at(phrase.start - 1), text.at(phrase.end)
+    before, after = text.at(phrase.slots[0].start - 1), text.at(phrase.end)
     if re.search("[:：]", phrase.words):
         return before in ":：/.-" or after in ":：."
     if re.fullmatch(".分", phrase.words):
@@ -421,6 +423,8 @@ NO_PHRASES: Dict[str, Callable[[Text, Phrase], bool]] = dict(
 def is_within(text: Text, start: int) -> bool:
     """What begins at a place, without W, is part of a word or a number."""
     before = text.at(start - 1)
+    if numbers.is_after_week(text.line, start):
+        return True
     if is_slot_char(before):
         return not any(WEEKDAY.fullmatch(text.line.text, i, start) for i in (start - 2, start - 3))
     return is_letter_or_bar(before) or before in "千仟万萬亿億"
@@ -437,7 +441,17 @@ def has_hour(text: Text, start: int) -> bool:
     return False
 
 
-AFTER_HOUR = re.compile("[钟鐘]|左右|前(?!提)|就|[以之][前后後]|[起出开開集][飞飛发發会會始门門合]")
+CLOCK = re.compile("[钟鐘](?!情)")
+EVENT = re.compile("左右|[起开開集][飞飛会會门門合]|前(?![提瞻景置期功沿途程面方言卫者夕身线線列锋鋒端台辈輩例兆奏嘱任])")
+
+
+def is_after_day(text: Text, start: int) -> bool:
+    return text.at(start - 1) == "天" and text.at(start - 2) in "今明昨后後前当當每"
+
+
+def is_by_event(text: Text, phrase: Phrase) -> bool:
+    is_counted = text.at(phrase.start - 1) in "这這那哪第几幾差有每最以上"
+    return not is_counted and EVENT.match(text.line.text, phrase.end) is not None
 
 
 def is_linked(text: Text, phrase: Phrase) -> bool:
@@ -447,9 +461,10 @@ def is_linked(text: Text, phrase: Phrase) -> bool:
         return re.fullmatch(f"[月日号號][{LINKS}]", before) is not None
     if re.fullmatch(f"[点點时時半分刻][{LINKS}]|.[日号號]", before, re.DOTALL):
         return True
-    if AFTER_HOUR.match(text.line.text, phrase.end):
+    if CLOCK.match(text.line.text, phrase.end):
         return True
-    if before[1] == "天" and before[0] in "今明昨后後前当當每" and value_of(phrase.slots[0]) != 1:
+    is_day = is_after_day(text, phrase.start) or is_by_event(text, phrase)
+    if is_day and value_of(phrase.slots[0]) != 1:
         return True
     if text.at(phrase.end) not in LINKS:
         return False
@@ -598,7 +613,8 @@ def is_doubtful(text: Text, phrase: Phrase) -> bool:
     if numbers.is_in_title(text.line, phrase.start):
         return True
     if phrase.kind == "range":
-        return after in "折成"
+        doubts = {numbers.doubt_of(text.line, it.start, it.end) for it in phrase.slots}
+        return after in "折成" or not doubts.isdisjoint({"word", "digits", "term", "time"})
     if phrase.kind == "date" and phrase.words == "年" and has_figure(first.text):
         if ascii_of(first.text).endswith("00") and after in "前来來历歷间間":
             return True
@@ -642,6 +658,8 @@ def is_no_range(text: Text, first: Found, link: str, second: Found) -> bool:
         if end.is_about or quantity.form == numbers.FRACTION or quantity.numerator < 0:
             return True
     if numbers.clings(text.line, first.start, second.end):
+        return True
+    if numbers.is_after_week(text.line, first.start):
         return True
     if link in "到至":
         return first.text == "一" and after in "点點时時月日号號"

@@ -711,6 +711,7 @@ SIMPLE = str.maketrans(
     "腸黨羅漢層長黃計變華個雙萬億臘節氣國隻慶豐順緒統樂曆歷禎貞觀開寶",
     "肠党罗汉层长黄计变华个双万亿腊节气国只庆丰顺绪统乐历历祯贞观开宝",
 )
+WEEK = re.compile("(?:[周週]|星期|[礼禮]拜)$")
 BETWEEN_IN_TITLE = frozenset(" ,，、-.〇")
 HALVED = "个個倍天岁歲里年月日号號點点时時分秒刻元圆圓块塊角毛度米斤两兩"
 LINKS = "到至~～－–—〜-"
@@ -744,11 +745,22 @@ def is_in_title(line: Line, start: int) -> bool:
 
 
 def is_after_era(line: Line, start: int) -> bool:
-    return line.text[:start].translate(SIMPLE).endswith(ERAS)
+    head = line.text[:start]
+    return head.endswith("民国") or head.translate(SIMPLE).endswith(ERAS)
+
+
+def is_after_week(line: Line, start: int) -> bool:
+    return WEEK.search(line.text[max(0, start - 2) : start]) is not None
+
+
+def begins_with_weekday(line: Line, start: int, end: int) -> bool:
+    return end - start > 1 and line.at(start) in "一二三四五六" and is_after_week(line, start)
 
 
 def is_word(line: Line, start: int, end: int) -> bool:
     if is_in_title(line, start) or (line.at(end) == "年" and is_after_era(line, start)):
+        return True
+    if begins_with_weekday(line, start, end):
         return True
     text = line.text.translate(SIMPLE)
     head, tail = text[:start], text[end:]
@@ -991,10 +1003,11 @@ TEN_OF_UNIT = re.compile("十(?:[元米克吨噸升秒度号號岁歲]|[公厘�
 
 
 def counts_as_one_character(line: Line, e: Found) -> bool:
-    """All that is one character does, but 十 after 每 or before a unit of measure."""
-    if e.text == "十" and line.at(e.start - 1) == "每":
-        return False
-    return e.is_one_character and not TEN_OF_UNIT.match(line.text, e.start)
+    """All that is one character does, but 十 after 每 or before a unit of measure, if it is no second."""
+    before = line.at(e.start - 1)
+    if e.text != "十" or before in "到至、和与與或":
+        return e.is_one_character
+    return before != "每" and not TEN_OF_UNIT.match(line.text, e.start)
 
 
 def has_figure(text: str) -> bool:

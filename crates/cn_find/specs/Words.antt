@@ -1,5 +1,5 @@
 -- Words that begin or end with a number but do not mean it.
-use Rattle.std.specs.Prelude.{ℕ, ◌-◌, Bool, true, false, ◌&&◌, ◌||◌, ◌==◌, List, [], ◌∷◌, codes, if◌then◌else◌}
+use Rattle.std.specs.Prelude.{ℕ, ◌-◌, nat_lt, length, Bool, true, false, ◌&&◌, ◌||◌, ◌==◌, List, [], ◌∷◌, codes, if◌then◌else◌}
 use Rattle.std.specs.Char.{char_set_contains, is_ascii_alphabetic}
 use Rattle.cn_core.specs.FigureCharacters.{is_figure}
 use Rattle.cn_find.specs.Belongs.{begins_with, first_then}
@@ -98,7 +98,7 @@ abbrev pub begins_word : List ℕ → List ℕ → Bool
 begins_word text after = is_named_group text after || (is_title text after || is_saying text after)
 
 -- a Chinese era ends the text: 康熙, 雍正, 乾隆, 嘉庆, 嘉靖, 道光, 咸丰, 元丰, 同治, 顺治, 光绪, 宣统, 正统, 洪武, 建武,
--- 永乐, 万历, 大历, 庆历, 崇祯, 贞观, 开元, 天宝
+-- 永乐, 万历, 大历, 庆历, 崇祯, 贞观, 开元, 天宝; 民国, but not in traditional characters
 abbrev pub ends_era : List ℕ → Bool
 ends_era front =
     begins_with_two (codes "熙") (codes "康") front
@@ -116,7 +116,8 @@ ends_era front =
     || (begins_with_two (codes "祯禎") (codes "崇") front
     || (begins_with_two (codes "观觀") (codes "贞貞") front
     || (begins_with_two (codes "元") (codes "开開") front
-    || begins_with_two (codes "宝寶") (codes "天") front))))))))))))))
+    || (begins_with_two (codes "宝寶") (codes "天") front
+    || begins_with_two (codes "国") (codes "民") front)))))))))))))))
 
 -- a title can have the character: it is a Chinese character, a figure, a letter or one of a few signs
 abbrev pub is_of_title : ℕ → Bool
@@ -142,7 +143,22 @@ abbrev pub is_of_history : List ℕ → List ℕ → Bool
 is_of_history front after =
     is_title_open 40 front || (begins_with (codes "年") after && ends_era front)
 
--- the number between these texts is part of a word or a title, or the year of an era
+-- 周, 星期 or 礼拜 ends the text
+abbrev pub ends_week : List ℕ → Bool
+ends_week front =
+    begins_with (codes "周週") front
+    || (begins_with_two (codes "期") (codes "星") front
+    || begins_with_two (codes "拜") (codes "礼禮") front)
+
+-- the text begins with a weekday and goes on, as 一十二 does in 周一十二月
+abbrev pub begins_weekday : List ℕ → Bool
+begins_weekday text =
+    first_then (char_set_contains (codes "一二三四五六")) (λ rest. nat_lt 0 (length rest)) text
+
+-- the number between these texts is part of a word or a title, the year of an era, or begins with the day
+-- of a week
 abbrev pub is_of_word : List ℕ → List ℕ → List ℕ → Bool
 is_of_word front text after =
-    ends_word front text || (is_of_history front after || begins_word text after)
+    ends_word front text
+    || ((begins_weekday text && ends_week front)
+    || (is_of_history front after || begins_word text after))

@@ -4,7 +4,7 @@ ghost use Rattle.std.specs.Char.{char_set_contains};
 ghost use Rattle.cn_find.specs.Belongs.{begins_with};
 ghost use Rattle.cn_find.specs.Spans.{in_front};
 ghost use Rattle.cn_find.specs.Private.{may_begin_word};
-ghost use Rattle.cn_find.specs.Words.{begins_with_two, begins_word, ends_era, ends_old_calendar, ends_word, is_exactly, is_named_group, is_of_history, is_of_title, is_of_word, is_saying, is_saying_of_tens, is_ten_thousand, is_title, is_title_open, is_word_by_itself};
+ghost use Rattle.cn_find.specs.Words.{begins_weekday, begins_with_two, begins_word, ends_era, ends_old_calendar, ends_week, ends_word, is_exactly, is_named_group, is_of_history, is_of_title, is_of_word, is_saying, is_saying_of_tens, is_ten_thousand, is_title, is_title_open, is_word_by_itself};
 
 use crate::expressions::{first_is, is_han, last_is, split_nearest};
 use cn_core::{is_figure, split_first_char};
@@ -177,6 +177,7 @@ fn ends_era(before: &str) -> bool
         '观' | '觀' => ends_with(&['贞', '貞'], front),
         '元' => ends_with(&['开', '開'], front),
         '宝' | '寶' => ends_with(&['天'], front),
+        '国' => ends_with(&['民'], front),
         _ => false,
     }
 }
@@ -229,6 +230,24 @@ pub fn ends_old_calendar(before: &str) -> bool
         )
 }
 
+/// Whether the text ends with 周, 星期 or 礼拜.
+pub fn ends_week(before: &str) -> bool
+    ensures { result ≡ ends_week (in_front before.now) }
+{
+    ends_with(&['周', '週'], before)
+        || ends_with_two(&['期'], &['星'], before)
+        || ends_with_two(&['拜'], &['礼', '禮'], before)
+}
+
+// Whether the text begins with a weekday, and goes on.
+fn begins_weekday(text: &str) -> bool
+    ensures { result ≡ begins_weekday (chars text.now) }
+{
+    split_first_char(text).is_some_and(|(c, rest)| {
+        is_one_of(&['一', '二', '三', '四', '五', '六'], c) && split_first_char(rest).is_some()
+    })
+}
+
 // Whether a number between these texts is the year of an era, or is in a title.
 fn is_of_history(before: &str, after: &str) -> bool
     ensures { result ≡ is_of_history (in_front before.now) (chars after.now) }
@@ -263,6 +282,7 @@ pub fn is_of_word(before: &str, text: &str, after: &str) -> bool
     ensures { result ≡ is_of_word (in_front before.now) (chars text.now) (chars after.now) }
 {
     ends_word(before, text)
+        || (begins_weekday(text) && ends_week(before))
         || is_of_history(before, after)
         || (may_begin_word(text) && begins_word(text, after))
 }

@@ -48,9 +48,9 @@ pieces_of HourBare =
 pieces_of HourZero =
     Slot shape.Clock ∷ Fixed Dian ∷ Slot shape.ZeroDigit ∷ NotBefore MoreMinutes ∷ NotBefore Name ∷ []
 pieces_of HourHalf =
-    Slot shape.Clock ∷ Fixed Dian ∷ Fixed Half ∷ []
+    Slot shape.Clock ∷ Fixed Shi ∷ Fixed Half ∷ []
 pieces_of HourQuarter =
-    Slot shape.Clock ∷ Fixed Dian ∷ Slot shape.Quarter ∷ Fixed Ke ∷ []
+    Slot shape.Clock ∷ Fixed Shi ∷ Slot shape.Quarter ∷ Fixed Ke ∷ []
 pieces_of ColonSecond =
     Slot shape.FewFigures ∷ Fixed Colon ∷ Slot shape.TwoFigures ∷ Fixed Colon ∷ Slot shape.TwoFigures ∷ NotBefore OfClock ∷ NotBefore Name ∷ []
 pieces_of ColonMinute =

@@ -5,7 +5,10 @@ use Rattle.std.specs.List.{list_any}
 use Rattle.std.specs.Option.{option_map_or}
 use Rattle.cn_core.specs.declared.method.ChineseCountMethod.{ChineseCountMethod}
 use Rattle.cn_core.specs.FigureCharacters.{is_figure}
+use Rattle.cn_find.specs.declared.doubt.Doubt.{Doubt}
+use Rattle.cn_find.specs.declared.doubt.Doubt.TheVariants.{Word, Digits, Term, Time}
 use Rattle.cn_find.specs.declared.wanted.Wanted.{Wanted}
+use Rattle.cn_find.specs.Doubt.{doubt_of}
 use Rattle.cn_find.specs.Flags.{is_one_character}
 use Rattle.cn_find.specs.Spans.{Span, in_front}
 use Rattle.cn_find.specs.Words.{begins_with_two, ends_old_calendar, is_title_open}
@@ -91,9 +94,20 @@ is_doubtful front found text =
 abbrev pub is_of_tenths : Ends → Bool
 is_of_tenths ends = begins (λ c. char_set_contains (codes "折成") c) ends.rest
 
--- a range of tenths, or one in a title
+-- an end of a range may mean something else, as 五一 does
+abbrev pub is_doubt_of_end : Option Doubt → Bool
+is_doubt_of_end (Some Word) = true
+is_doubt_of_end (Some Digits) = true
+is_doubt_of_end (Some Term) = true
+is_doubt_of_end (Some Time) = true
+is_doubt_of_end other = false
+
+abbrev pub is_doubtful_end : Span → Bool
+is_doubtful_end end = is_doubt_of_end (doubt_of end.before end.text end.after)
+
+-- a range of tenths, or one with a doubtful end
 abbrev pub is_range_doubtful : Ends → Bool
-is_range_doubtful ends = is_of_tenths ends || is_title_open 40 (in_front ends.low.before)
+is_range_doubtful ends = is_of_tenths ends || (is_doubtful_end ends.low || is_doubtful_end ends.high)
 
 abbrev pub is_half : Form → Bool
 is_half form.HalfOf = true

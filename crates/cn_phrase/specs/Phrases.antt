@@ -2,7 +2,7 @@
 use Rattle.std.specs.Prelude.{ℕ, nat_lt, ◌==◌, Bool, true, false, not, ◌&&◌, ◌||◌, List, [], ◌∷◌, length, codes, chars, encode_utf8_all, Option, Some, None, is_some, if◌then◌else◌}
 use Rattle.std.specs.Char.{char_set_contains, is_ascii_alphabetic}
 use Rattle.std.specs.Option.{option_and_then, option_map, option_map_or}
-use Rattle.cn_find.specs.Words.{begins_with_two}
+use Rattle.cn_find.specs.Words.{begins_with_two, ends_week}
 use Rattle.cn_replace.specs.Pieces.{begins}
 use Rattle.cn_phrase.specs.declared.form.Form.{Form}
 use Rattle.cn_phrase.specs.declared.form.Form.TheVariants as form
@@ -51,6 +51,7 @@ form_read lead form text = option_and_then (λ start. option_map (λ reading. re
 -- the characters directly after which a form is no phrase
 unfoldable pub refused_before : Form → List ℕ
 refused_before form.Year = codes "第周週每"
+refused_before form.PartOfMonth = codes "某前上下每同意这這那"
 refused_before form.DashDate = codes "-/."
 refused_before form.SlashDate = codes "-/."
 refused_before form.ColonSecond = codes ":：/.-"
@@ -72,7 +73,8 @@ begins_hour lead text = is_some (option_and_then (λ start.
 
 -- the text goes on with a link and an hour
 abbrev pub goes_on_with_hour : List ℕ → Bool
-goes_on_with_hour rest = option_map_or (λ after. begins_hour Bare after || begins_hour HalfDay after)
+goes_on_with_hour rest = option_map_or
+    (λ after. begins_hour Bare after || (begins_hour HalfDay after || begins_hour Weekday after))
     (after_word word.Link rest) false
 
 -- a day such as 明天 is directly before the text
@@ -82,22 +84,29 @@ follows_day (c ∷ front) =
     char_set_contains (codes "天") c
     && begins (λ d. char_set_contains (codes "今明昨后後前当當每") d) front
 
--- what is after an hour, such as 钟, 前, 左右 or 出发, makes it a time; but 前提 does not
+-- 钟 is after an hour, but not 钟情
 abbrev pub begins_clock : List ℕ → Bool
 begins_clock rest =
     begins (λ c. char_set_contains (codes "钟鐘") c) rest
-    || ((begins (λ c. char_set_contains (codes "前") c) rest && not (begins_with_two (codes "前") (codes "提") rest))
-    || ((begins_with_two (codes "左以之") (codes "右前后後") rest
-    || begins_with_two (codes "起出开開集") (codes "飞飛发發会會始门門合") rest)
-    || begins (λ c. char_set_contains (codes "就") c) rest))
+    && not (begins_with_two (codes "钟鐘") (codes "情") rest)
+
+-- what is around an hour makes it a time: 左右, 起飞, 开会, 开门, 集合 or 前 is after it, but no word such as
+-- 前提, and no word that counts points, such as 这, is before it
+abbrev pub is_by_event : List ℕ → List ℕ → Bool
+is_by_event front rest =
+    (begins_with_two (codes "左") (codes "右") rest
+    || (begins_with_two (codes "起开開集") (codes "飞飛会會门門合") rest
+    || (begins (λ c. char_set_contains (codes "前") c) rest
+    && not (begins_with_two (codes "前") (codes "提瞻景置期功沿途程面方言卫者夕身线線列锋鋒端台辈輩例兆奏嘱任") rest))))
+    && not (begins (λ c. char_set_contains (codes "这這那哪第几幾差有每最以上") c) front)
 
 -- an hour by itself is a time: it is after a day, or linked to another time, or what is after it makes it
--- one. After 今天 the hour is not 1: 一点 is a little in 今天一点都不冷
+-- one. After 今天 and before 前 the hour is not 1: 一点 is a little in 今天一点都不冷
 abbrev pub is_linked_hour : ℕ → List ℕ → List ℕ → Bool
 is_linked_hour hour front rest =
     begins_clock rest
     || (begins (λ c. char_set_contains (codes "日号號") c) front
-    || ((follows_day front && not (hour == 1))
+    || (((follows_day front || is_by_event front rest) && not (hour == 1))
     || (follows_link (codes "点點时時半分刻") front || goes_on_with_hour rest)))
 
 -- a form by itself is a phrase: most are; a month or a day only after a date and a link, an hour only
@@ -121,18 +130,22 @@ abbrev pub follows_weekday : List ℕ → Bool
 follows_weekday [] = false
 follows_weekday (c ∷ front) =
     char_set_contains (codes "一二三四五六") c
-    && (begins (λ d. char_set_contains (codes "周週") d) front
-    || (begins_with_two (codes "期") (codes "星") front
-    || begins_with_two (codes "拜") (codes "礼禮") front))
+    && ends_week front
 
--- a form that was read is a phrase, given the characters before it: no letter and no character of a
--- number is directly before it, so that 两点半 is none in 3两点半, but it may be after a weekday
+-- a phrase without a word before it may begin after these characters: the nearest is no letter and ends no
+-- number, so that 两点半 is none in 3两点半, unless it ends a weekday; and it is not 周, after which the
+-- phrase would begin with the weekday
+abbrev pub is_free : List ℕ → Bool
+is_free front =
+    not (begins is_name front)
+    && ((not (begins is_number_end front) || follows_weekday front) && not (ends_week front))
+
+-- a form that was read is a phrase, given the characters before it
 abbrev pub is_bare_phrase : List ℕ → Found → Bool
 is_bare_phrase front found =
-    not (begins is_name front)
-    && ((not (begins is_number_end front) || follows_weekday front)
+    is_free front
     && (not (begins (λ c. char_set_contains (refused_before found.form) c) front)
-    && may_be_alone found.form found.numbers.last front found.rest))
+    && may_be_alone found.form found.numbers.last front found.rest)
 
 abbrev pub is_phrase_by : Lead → List ℕ → Found → Bool
 is_phrase_by Bare front found = is_bare_phrase front found

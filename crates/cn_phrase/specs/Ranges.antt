@@ -11,6 +11,7 @@ use Rattle.cn_find.specs.declared.wanted.Wanted.{Wanted}
 use Rattle.cn_find.specs.Expressions.{expression_rule}
 use Rattle.cn_find.specs.Flags.{is_about}
 use Rattle.cn_find.specs.Spans.{Span, in_front, run_after, span_of}
+use Rattle.cn_find.specs.Words.{ends_week}
 use Rattle.cn_quantity.specs.declared.quantity.Quantity.{Quantity}
 use Rattle.cn_quantity.specs.declared.quantity.QuantityForm.{QuantityForm}
 use Rattle.cn_quantity.specs.declared.quantity.QuantityForm.TheVariants.{Percent, Fraction}
@@ -211,7 +212,8 @@ is_linked e =
 abbrev pub is_range : Ends → Bool
 is_range e =
     is_end e.low && (is_end e.high
-    && (not (clings (chars e.low.before) (chars e.high.after)) && is_linked e))
+    && (not (clings (chars e.low.before) (chars e.high.after))
+    && (not (ends_week (in_front e.low.before)) && is_linked e)))
 
 -- two expressions with a link between them, if they are a range
 abbrev pub range_from : Option Ends → Option Ends

@@ -193,12 +193,12 @@ impl Form {
             ],
             Form::HourHalf => &[
                 Piece::Slot(Shape::Clock),
-                Piece::Fixed(Word::Dian),
+                Piece::Fixed(Word::Shi),
                 Piece::Fixed(Word::Half),
             ],
             Form::HourQuarter => &[
                 Piece::Slot(Shape::Clock),
-                Piece::Fixed(Word::Dian),
+                Piece::Fixed(Word::Shi),
                 Piece::Slot(Shape::Quarter),
                 Piece::Fixed(Word::Ke),
             ],

@@ -7,7 +7,7 @@ ghost use Rattle.cn_find.specs.Spans.{in_front, span_of, text_before};
 ghost use Rattle.cn_replace.specs.Chains.{IsPart};
 ghost use Rattle.cn_replace.specs.Pieces.{begins};
 ghost use Rattle.cn_replace.specs.Private.{PutsText};
-ghost use Rattle.cn_phrase.specs.InText.{follows_republic, is_doubtful, is_half, is_minute, is_of_calendar, is_of_era, is_of_old_calendar, is_of_tenths, is_of_year, is_range_doubtful, may_be_decimal, is_phrase_included, is_range_included, is_short_half, item_holds, item_text, may_be_years, phrase_new, phrase_text, range_new, text_for_item, text_in_figures};
+ghost use Rattle.cn_phrase.specs.InText.{follows_republic, is_doubtful, is_doubtful_end, is_half, is_minute, is_of_calendar, is_of_era, is_of_old_calendar, is_of_tenths, is_of_year, is_range_doubtful, may_be_decimal, is_phrase_included, is_range_included, is_short_half, item_holds, item_text, may_be_years, phrase_new, phrase_text, range_new, text_for_item, text_in_figures};
 ghost use Rattle.cn_phrase.specs.Items.{item_at, item_of};
 ghost use Rattle.cn_phrase.specs.Phrases.{found_of};
 ghost use Rattle.cn_phrase.specs.Ranges.{ends_of};
@@ -21,7 +21,8 @@ use crate::word::Word;
 use crate::written::{put_passed, put_pieces};
 use cn_core::{Buffer, ChineseCountMethod, split_first_char};
 use cn_find::{
-    Found, Wanted, ends_old_calendar, ends_with_two, is_one_character, is_one_of, is_title_open,
+    Doubt, Found, Wanted, ends_old_calendar, ends_with_two, is_one_character, is_one_of,
+    is_title_open,
 };
 use cn_replace::chains::put_in_chains;
 use cn_replace::nothing::Nothing;
@@ -137,11 +138,21 @@ fn is_of_tenths(ends: Ends<'_>) -> bool
     begins_with(&['折', '成'], ends.high.after)
 }
 
-/// Whether a range is one of tenths, or in a title.
+// Whether an end of a range may mean something else.
+fn is_doubtful_end(end: Found<'_>) -> bool
+    ensures { result ≡ is_doubtful_end (span_of end.entry) }
+{
+    matches!(
+        end.doubt(),
+        Some(Doubt::Word | Doubt::Digits | Doubt::Term | Doubt::Time)
+    )
+}
+
+/// Whether a range is one of tenths, or has a doubtful end.
 pub fn is_range_doubtful(ends: Ends<'_>) -> bool
     ensures { result ≡ is_range_doubtful (ends_of ends.entry) }
 {
-    is_of_tenths(ends) || is_title_open(ends.low.before)
+    is_of_tenths(ends) || is_doubtful_end(ends.low) || is_doubtful_end(ends.high)
 }
 
 // Whether a form is a half.

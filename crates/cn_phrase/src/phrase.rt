@@ -6,7 +6,7 @@ ghost use Rattle.cn_find.specs.Spans.{in_front};
 ghost use Rattle.cn_replace.specs.Pieces.{begins};
 ghost use Rattle.cn_phrase.specs.declared.phrase.Lead.TheVariants.{Bare, HalfDay, Weekday};
 ghost use Rattle.cn_phrase.specs.Private.{forms_at, forms_with, may_lead};
-ghost use Rattle.cn_phrase.specs.Phrases.{after_lead, all_forms, begins_clock, begins_hour, clock_forms, follows_day, follows_link, follows_weekday, form_read, found_of, further, furthest, goes_on_with_hour, is_blank, is_linked_hour, is_name, is_phrase, is_shorter, may_be_alone, phrase_at, phrase_read, refused_before};
+ghost use Rattle.cn_phrase.specs.Phrases.{after_lead, all_forms, begins_clock, begins_hour, clock_forms, follows_day, follows_link, follows_weekday, form_read, found_of, further, furthest, goes_on_with_hour, is_blank, is_by_event, is_free, is_linked_hour, is_name, is_phrase, is_shorter, may_be_alone, phrase_at, phrase_read, refused_before};
 
 use crate::form::Form;
 use crate::piece::{Numbers, Numeral, Piece, Progress, read_pieces, without_blank};
@@ -14,7 +14,7 @@ use crate::range::is_link;
 use crate::shape::Shape;
 use crate::word::Word;
 use cn_core::split_first_char;
-use cn_find::{begins_with_two, ends_with_two, is_one_of};
+use cn_find::{begins_with_two, ends_week, is_one_of};
 use cn_replace::pieces::{CharTest, Figure, begins, ends, split_leading, split_nearest};
 
 /// What is before the first number of a phrase.
@@ -83,6 +83,7 @@ fn refused_before(form: Form) -> &'static [char]
 {
     match form {
         Form::Year => &['第', '周', '週', '每'],
+        Form::PartOfMonth => &['某', '前', '上', '下', '每', '同', '意', '这', '這', '那'],
         Form::DashDate | Form::SlashDate => &['-', '/', '.'],
         Form::ColonSecond | Form::ColonMinute => &[':', '：', '/', '.', '-'],
         Form::ColonScore => &[':', '：', '-', '/', '.', '[', '(', '"', '%', ',', '，'],
@@ -131,7 +132,11 @@ fn goes_on_with_hour(rest: &str) -> bool
     ensures { result ≡ goes_on_with_hour (chars rest.now) }
 {
     match Word::Link.after(rest) {
-        Some(after) => begins_hour(Lead::Bare, after) || begins_hour(Lead::HalfDay, after),
+        Some(after) => {
+            begins_hour(Lead::Bare, after)
+                || begins_hour(Lead::HalfDay, after)
+                || begins_hour(Lead::Weekday, after)
+        }
         None => false,
     }
 }
@@ -158,19 +163,36 @@ pub fn begins_with(these: &[char], rest: &str) -> bool
     }
 }
 
-// Whether what is after an hour makes it a time.
+// Whether 钟 is after an hour.
 fn begins_clock(rest: &str) -> bool
     ensures { result ≡ begins_clock (chars rest.now) }
 {
-    begins_with(&['钟', '鐘'], rest)
-        || (begins_with(&['前'], rest) && !begins_with_two(&['前'], &['提'], rest))
-        || begins_with_two(&['左', '以', '之'], &['右', '前', '后', '後'], rest)
+    begins_with(&['钟', '鐘'], rest) && !begins_with_two(&['钟', '鐘'], &['情'], rest)
+}
+
+// Words with 前 that do not say when.
+const AFTER_FRONT: &[char] = &[
+    '提', '瞻', '景', '置', '期', '功', '沿', '途', '程', '面', '方', '言', '卫', '者', '夕', '身', '线', '線', '列',
+    '锋', '鋒', '端', '台', '辈', '輩', '例', '兆', '奏', '嘱', '任',
+];
+
+// Whether what is around an hour makes it a time.
+fn is_by_event(before: &str, rest: &str) -> bool
+    ensures { result ≡ is_by_event (in_front before.now) (chars rest.now) }
+{
+    (begins_with_two(&['左'], &['右'], rest)
         || begins_with_two(
-            &['起', '出', '开', '開', '集'],
-            &['飞', '飛', '发', '發', '会', '會', '始', '门', '門', '合'],
+            &['起', '开', '開', '集'],
+            &['飞', '飛', '会', '會', '门', '門', '合'],
             rest,
         )
-        || begins_with(&['就'], rest)
+        || (begins_with(&['前'], rest) && !begins_with_two(&['前'], AFTER_FRONT, rest)))
+        && !ends_with(
+            &[
+                '这', '這', '那', '哪', '第', '几', '幾', '差', '有', '每', '最', '以', '上',
+            ],
+            before,
+        )
 }
 
 // Whether an hour by itself is a time: it is after a day, or linked to another time, or 钟 is after it.
@@ -179,7 +201,7 @@ fn is_linked_hour(hour: u16, before: &str, rest: &str) -> bool
 {
     begins_clock(rest)
         || ends_with(&['日', '号', '號'], before)
-        || (follows_day(before) && hour != 1)
+        || ((follows_day(before) || is_by_event(before, rest)) && hour != 1)
         || follows_link(&['点', '點', '时', '時', '半', '分', '刻'], before)
         || goes_on_with_hour(rest)
 }
@@ -225,14 +247,18 @@ fn follows_weekday(before: &str) -> bool
     ensures { result ≡ follows_weekday (in_front before.now) }
 {
     match split_nearest(before) {
-        Some((c, front)) => {
-            is_one_of(&['一', '二', '三', '四', '五', '六'], c)
-                && (ends_with(&['周', '週'], front)
-                    || ends_with_two(&['期'], &['星'], front)
-                    || ends_with_two(&['拜'], &['礼', '禮'], front))
-        }
+        Some((c, front)) => { is_one_of(&['一', '二', '三', '四', '五', '六'], c) && ends_week(front) }
         None => false,
     }
+}
+
+// Whether a phrase without a word before it may begin after this text.
+fn is_free(before: &str) -> bool
+    ensures { result ≡ is_free (in_front before.now) }
+{
+    !ends_with_name(before)
+        && (!ends(NumberEnd, before) || follows_weekday(before))
+        && !ends_week(before)
 }
 
 // Whether a form that was read is a phrase, after this text.
@@ -242,8 +268,7 @@ fn is_phrase(before: &str, found: Match<'_>) -> bool
     if found.lead != Lead::Bare {
         return true;
     }
-    !ends_with_name(before)
-        && (!ends(NumberEnd, before) || follows_weekday(before))
+    is_free(before)
         && !ends_with(refused_before(found.form), before)
         && may_be_alone(found.form, found.numbers.last, before, found.rest)
 }
@@ -345,7 +370,13 @@ fn forms_with(c: char) -> &'static [Form]
             Form::HourQuarter,
             Form::HourAlone,
         ],
-        '时' | '時' => &[Form::HourMinuteSecond, Form::HourMinute, Form::HourAlone],
+        '时' | '時' => &[
+            Form::HourMinuteSecond,
+            Form::HourMinute,
+            Form::HourHalf,
+            Form::HourQuarter,
+            Form::HourAlone,
+        ],
         ':' | '：' => &[Form::ColonSecond, Form::ColonMinute, Form::ColonScore],
         '-' => &[Form::DashDate, Form::Years, Form::Months, Form::Days],
         '/' => &[Form::SlashDate],

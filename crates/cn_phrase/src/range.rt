@@ -10,7 +10,7 @@ ghost use Rattle.cn_phrase.specs.Ranges.{are_less, are_plain, before_units, begi
 ghost use Rattle.cn_phrase.specs.Suffix.{EndsWith};
 
 use cn_core::{Buffer, ChineseCountMethod, Unit, is_figure, split_first_char};
-use cn_find::{Found, is_one_of};
+use cn_find::{Found, ends_week, is_one_of};
 use cn_quantity::{Quantity, QuantityForm, chinese_to_quantity};
 use cn_replace::Sink;
 use cn_replace::clings::clings;
@@ -343,6 +343,7 @@ pub fn is_range(ends: Ends<'_>) -> bool
     is_end(ends.low)
         && is_end(ends.high)
         && !clings(ends.low.before, ends.high.after)
+        && !ends_week(ends.low.before)
         && is_linked(ends)
 }
 

@@ -16,7 +16,7 @@ use Rattle.cn_find.specs.Spans.{Span}
 use Rattle.cn_find.specs.Belongs.{begins_with}
 use Rattle.cn_find.specs.Parting.{is_named}
 use Rattle.cn_find.specs.Ranges.{amount_of, are_ends, is_end_of_range, is_first_end, is_of_amount, is_range_link, is_second_end}
-use Rattle.cn_find.specs.Words.{begins_word, ends_era, ends_word, is_of_title, is_title_open}
+use Rattle.cn_find.specs.Words.{begins_weekday, begins_word, ends_era, ends_week, ends_word, is_of_title, is_title_open}
 use Rattle.cn_find.proofs.Extra.{neither}
 use Rattle.cn_find.proofs.Unwanted.{outside}
 use Rattle.cn_replace.specs.declared.options.Figures.{Figures}
@@ -58,8 +58,9 @@ IsUnseen-of c unnamed unnoticed =
 abbrev doubt-by : Bool → List ℕ → List ℕ → List ℕ → Bool → Option Doubt
 doubt-by in_title front text after is_end =
     if is_part text after then Some Part
-    else (if ends_word front text || ((in_title || (begins_with (codes "年") after && ends_era front))
-    || begins_word text after) then Some Word
+    else (if ends_word front text || ((begins_weekday text && ends_week front)
+    || ((in_title || (begins_with (codes "年") after && ends_era front))
+    || begins_word text after)) then Some Word
     else (if is_doubtful_list front text after then Some Digits
     else (if is_term text after || is_of_article front after then Some Term
     else (if is_time front text after then Some Time
@@ -142,6 +143,12 @@ module _ (c : ℕ) (u : IsUnseen c) (more : List ℕ) where
   each-before [] = simp (u.other)
   each-before (x ∷ xs) = refl
 
+  second-before : (xs : List ℕ) → begins_with (codes "到至、和与與或") (xs ++ c ∷ more)
+      ≡ begins_with (codes "到至、和与與或") xs
+  unfolding is_named is_noticed is_han is_extra is_tens tens_of digit_of rank_of binds_minus
+  second-before [] = simp (u.other)
+  second-before (x ∷ xs) = refl
+
   clings-same : (xs : List ℕ) → clings_to (xs ++ c ∷ more) ≡ clings_to xs
   unfolding is_bound is_bridge is_named is_noticed is_han is_extra is_tens tens_of digit_of binds_minus
   clings-same [] = simp (u.other, u.letter, u.figure)
@@ -207,6 +214,7 @@ module _ (c : ℕ) (u : IsUnseen c) (more : List ℕ) where
   told-before method options span before e = rw (
     e,
     each-before (reverse (chars span.before)),
+    second-before (reverse (chars span.before)),
     estimate-before (reverse (chars span.before)),
     is_end-before span.text (reverse (chars span.before)),
     title-same 40 (reverse (chars span.before)),

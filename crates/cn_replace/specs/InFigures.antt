@@ -40,12 +40,13 @@ begins_unit after =
     || (begins_with_two (codes "美欧歐日港") (codes "元") after
     || begins_with_two (codes "百") (codes "分") after)))
 
--- an expression is one character that stays: 十 before such a unit, or after 每, does not. Of the
--- characters before it the nearest is the first
+-- an expression is one character that stays: 十 before such a unit, or after 每, does not, unless it is the
+-- second of two, as in 五公里到十公里. Of the characters before it the nearest is the first
 abbrev pub is_short : List ℕ → List ℕ → List ℕ → Bool
 is_short front text after =
     is_one_character text
-    && not (is_exactly (codes "十") text && (begins_unit after || begins_with (codes "每") front))
+    && not (is_exactly (codes "十") text && ((begins_unit after || begins_with (codes "每") front)
+    && not (begins_with (codes "到至、和与與或") front)))
 
 -- an expression is included: if it is a character that stays, approximate or doubtful, expressions of
 -- that kind are included

@@ -41,14 +41,16 @@ fn begins_unit(after: &str) -> bool
         || begins_with_two(&['百'], &['分'], after)
 }
 
-// Whether an expression is one character that stays: 十 before such a unit, or after 每, does not.
+// Whether an expression is one character that stays: 十 before such a unit, or after 每, does not, unless
+// it is the second of two.
 fn is_short(found: Found<'_>) -> bool
     ensures { result ≡ is_short (in_front found.entry.before.now) (chars found.entry.text.now)
         (chars found.entry.after.now) }
 {
     found.is_one_character()
         && !(is_exactly(&['十'], found.text)
-            && (begins_unit(found.after) || ends_with(&['每'], found.before)))
+            && (begins_unit(found.after) || ends_with(&['每'], found.before))
+            && !ends_with(&['到', '至', '、', '和', '与', '與', '或'], found.before))
 }
 
 // Whether an expression is included, given its flags and its doubt.
