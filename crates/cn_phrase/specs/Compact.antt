@@ -1,5 +1,5 @@
 -- A phrase in its shortest form: 2026-01-05, 15:30, 1.5小时, 1.75米.
-use Rattle.std.specs.Prelude.{ℕ, ◌+◌, ◌*◌, ◌/◌, ◌%◌, ◌^◌, nat_le, Bool, true, false, List, [], ◌++◌, codes, drop, take, encode_utf8_all, pos, Option, Some, None, if◌then◌else◌}
+use Rattle.std.specs.Prelude.{ℕ, ◌+◌, ◌*◌, ◌/◌, ◌%◌, ◌^◌, nat_le, nat_lt, ◌&&◌, Bool, true, false, List, [], ◌++◌, codes, drop, take, encode_utf8_all, pos, Option, Some, None, if◌then◌else◌}
 use Rattle.std.specs.Option.{option_and_then, option_map_or}
 use Rattle.cn_core.specs.FigureCharacters.{is_figure}
 use Rattle.cn_quantity.specs.declared.quantity.QuantityForm.TheVariants.{Decimal}
@@ -27,7 +27,7 @@ two_figures n =
 -- a date that has a year of four digits, a month and a day
 abbrev pub date_with : Option ℕ → Option ℕ → Option ℕ → Option (List ℕ)
 date_with (Some y) (Some m) (Some d) =
-    if nat_le 1000 y
+    if nat_le 1000 y && nat_lt y 10000
     then Some (two_figures (y / 100) ++ (two_figures (y % 100) ++ (codes "-" ++ (two_figures m
     ++ (codes "-" ++ two_figures d)))))
     else None

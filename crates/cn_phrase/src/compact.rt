@@ -1,5 +1,5 @@
 // A phrase in its shortest form: 2026-01-05, 15:30, 1.5小时, 1.75米.
-ghost use Rattle.std.specs.Prelude.{◌≡◌, ◌<◌, ◌≤◌, ◌++◌, [], codes, chars, encode_utf8_all, take, IfOk, OnOk};
+ghost use Rattle.std.specs.Prelude.{◌≡◌, ◌<◌, ◌≤◌, ◌++◌, ◌/◌, ◌%◌, [], codes, chars, encode_utf8_all, take, IfOk, OnOk};
 ghost use Rattle.cn_replace.specs.Private.{PutsText};
 ghost use Rattle.cn_phrase.specs.Compact.{after_number, date_with, decimal_with, has_seconds, lead_text, short_text, short_value, time_with, two_figures, unit_text};
 ghost use Rattle.cn_phrase.specs.Phrases.{found_of};
@@ -43,4 +43,20 @@ fn has_seconds(form: Form) -> bool
     ensures { result ≡ has_seconds form }
 {
     matches!(form, Form::HourMinuteSecond | Form::ColonSecond)
+}
+
+// Writes a date that has a year of four digits, a month and a day, and returns whether it has them.
+fn put_date<S: Sink>(sink: &mut S, date: Date) -> Result<bool, S::Error>
+    ensures { IfOk result (PutsText S.took sink.old sink.new (date_with date.year date.month date.day)) }
+{
+    match (date.year, date.month, date.day) {
+        (Some(year), Some(month), Some(day)) => {
+            if year < 1000 || year >= 10000 {
+                return Ok(false);
+            }
+            put_parts(sink, year, month, day)?;
+            Ok(true)
+        }
+        _ => Ok(false),
+    }
 }
