@@ -10,8 +10,9 @@ can name other compilers.
   texts must have the same sum as those of the proved archive, which is in dist/PROVENANCE.json.
 - Each language that is installed answers the rows of tests/rows, and the worked rows and examples
   of README.md and docs/. Languages that are not installed are skipped and named.
-- The test reports by genre how well numbers are found and written in figures in the sentences of
-  tests/corpus.tsv. It fails if too few are right or too many wrong, by the bars of tests/corpus.py.
+- The test reports by genre how well numbers and phrases are found and written in figures in the
+  sentences of tests/corpus.tsv and tests/phrases.tsv. It fails if too few are right or too many
+  wrong, by the bars of tests/corpus.py.
 
 Each language has a program `answers` in bindings/. It gets questions, a line each, of words
 separated by tabs. An answer is `ok` and the result of the call, or `err` and the error's text:
@@ -49,6 +50,14 @@ separated by tabs. An answer is `ok` and the result of the call, or `err` and th
     replace_quantities FLAGS TEXT       the text with its quantities in simple numerals of the lower
                                         case, by a function that leaves fractions as they are; FLAGS
                                         are of the first three of these
+    text_to_figures FLAGS TEXT          the text with its phrases and numerals in figures; FLAGS
+                                        are those of quantities_to_figures, and `compact`
+    phrases TEXT                        the phrases of a text, with tabs between them: the kind, the
+                                        state, the text and the value of each. A date is 2026-1-5,
+                                        or ?-1-5 without a year; a time 3:30:0 =15, as it is written
+                                        and the hour of 24 or `?`; years, months and days 5..8; a
+                                        duration 1:20:0; a half or a length 175/100; a score 3:2; a
+                                        range 3/1..5/1; and what is refused `-`
     expected INPUT TEXT                 how many characters of a text begin an INPUT; `end` if it may
                                         end there; `space` if white space may come next; and the
                                         characters that may. `-` is in the place of the flags. INPUT
@@ -230,10 +239,10 @@ def told_of_sentences(asking):
         lines, missed = corpus.report(asking.result().splitlines())
     except Failed as why:
         print(f"Sentences: not tested\n{why}")
-        return 0, len(corpus.BARS)
-    print("Sentences of tests/corpus.tsv, in C:", *lines, sep="\n")
+        return 0, corpus.COUNT_OF_BARS
+    print("Sentences of tests/corpus.tsv and tests/phrases.tsv, in C:", *lines, sep="\n")
     print(*(f"    missed: {it}" for it in missed), sep="\n", end="\n" if missed else "")
-    return len(corpus.BARS) - len(missed), len(missed)
+    return corpus.COUNT_OF_BARS - len(missed), len(missed)
 
 
 def asked_in_lines(rows):

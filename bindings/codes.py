@@ -85,7 +85,14 @@ class Language(NamedTuple):
 
 JAVASCRIPT = Language("/**\n * ", " * ", "\n */", "'{camel}'", "{camel}", "- '{camel}': {text}.")
 LANGUAGES = {
-    "c": Language("/* ", " * ", " */", "CN_{NAME}", "{c}", prefixed=("doubt", "fault")),
+    "c": Language(
+        "/* ",
+        " * ",
+        " */",
+        "CN_{NAME}",
+        "{c}",
+        prefixed=("doubt", "fault", "phrase_kind", "phrase_state"),
+    ),
     "cpp": Language(
         *("/* ", " * ", " */", "{name}", "{name}"), names={"delete": "erase", "no_doubt": "none"}
     ),
@@ -99,7 +106,7 @@ LANGUAGES = {
         opening="{Type} is ",
         names={"not_utf8": "not_UTF8"},
         types={"kind": "kind", "quantity_form": "Form"},
-        prefixed=("input", "doubt", "fault"),
+        prefixed=("input", "doubt", "fault", "phrase_kind", "phrase_state"),
     ),
     "python": Language('"""', "", '"""', "{NAME}", "{name}", "{NAME}: {text}."),
     "js": JAVASCRIPT,

@@ -1,6 +1,6 @@
 /* Chinese numerals for C++17 and later: writes numbers, exact quantities, amounts of money and
- * dates as std::string, and reads and finds them in a std::string_view. It says what may follow a
- * text, and why a text is refused. chinese_number.h, which this file wraps, documents the choices,
+ * dates as std::string, and reads and finds them in a std::string_view, also in phrases such as dates
+ * and times. It says what may follow a text, and why a text is refused. chinese_number.h, which this file wraps, documents the choices,
  * the statuses and what to link. Texts are UTF-8. The only exceptions are that of Result::value,
  * those of the standard library when memory runs out, and those of the caller's functions.
  *
@@ -16,6 +16,7 @@
 
 #include "chinese_number.h"
 
+#include <chrono>
 #include <cstddef>
 #include <cstdint>
 #include <cstdlib>
@@ -65,6 +66,20 @@ enum class QuantityForm : std::uint32_t {
 enum class Doubt : std::uint32_t {
     none = CN_NO_DOUBT, word = CN_DOUBT_WORD, digits = CN_DOUBT_DIGITS, term = CN_DOUBT_TERM,
     part = CN_DOUBT_PART, time = CN_DOUBT_TIME, range = CN_DOUBT_RANGE,
+};
+
+/* What an item of a text is. */
+enum class PhraseKind : std::uint32_t {
+    expression = CN_PHRASE_KIND_EXPRESSION, date = CN_PHRASE_KIND_DATE,
+    years = CN_PHRASE_KIND_YEARS, months = CN_PHRASE_KIND_MONTHS, days = CN_PHRASE_KIND_DAYS,
+    time = CN_PHRASE_KIND_TIME, duration = CN_PHRASE_KIND_DURATION, half = CN_PHRASE_KIND_HALF,
+    length = CN_PHRASE_KIND_LENGTH, score = CN_PHRASE_KIND_SCORE, range = CN_PHRASE_KIND_RANGE,
+};
+
+/* What is known of a phrase. */
+enum class PhraseState : std::uint32_t {
+    certain = CN_PHRASE_STATE_CERTAIN, doubtful = CN_PHRASE_STATE_DOUBTFUL,
+    refused = CN_PHRASE_STATE_REFUSED,
 };
 
 /* What a text is meant to be, for the calls that say what may follow it and why it is refused. */
@@ -144,11 +159,14 @@ struct Included {
     bool doubtful = false;
 };
 
-/* How quantities_to_figures writes. With `expanded` 三千五百亿 becomes 350000000000, otherwise 3500亿.
- * With `canonical` what is only figures is rewritten in ASCII, without commas and leading zeros. */
+/* How text_to_figures and quantities_to_figures write. With `expanded` 三千五百亿 becomes 350000000000,
+ * otherwise 3500亿. With `canonical` what is only figures is rewritten in ASCII, without commas and
+ * leading zeros. With `compact` text_to_figures writes dates, times and halves as short as possible:
+ * 2026-01-05, 15:30, 1.5小时. */
 struct Figures {
     bool expanded = false;
     bool canonical = false;
+    bool compact = false;
 };
 
 /* Why there is no number, amount, date or text. At Status::incorrect it has the place of the wrong
@@ -310,7 +328,7 @@ constexpr cn_form flags_of(AmountForm form) {
 constexpr std::uint32_t options_of(Included included, Figures figures) {
     return (included.about ? CN_ABOUT : 0u) | (included.one_character ? CN_ONE_CHARACTER : 0u)
          | (included.doubtful ? CN_DOUBTFUL : 0u) | (figures.expanded ? CN_EXPANDED : 0u)
-         | (figures.canonical ? CN_CANONICAL : 0u);
+         | (figures.canonical ? CN_CANONICAL : 0u) | (figures.compact ? CN_COMPACT : 0u);
 }
 
 constexpr bool are_same(cn_number one, cn_number other) {
@@ -457,13 +475,20 @@ private:
     }
 };
 
+namespace detail {
+
+inline Quantity quantity_of(const cn_quantity &read) {
+    return {read.numerator, read.denominator, static_cast<QuantityForm>(read.form)};
+}
+
+} // namespace detail
+
 /* Reads a text as an exact quantity, by a method: a whole number, a decimal, a percentage or a
  * fraction, such as 3.5万 and 三分之一. */
 inline Result<Quantity> chinese_to_quantity(std::string_view text, Way method = Way::any) {
     cn_quantity read;
     const cn_status status = cn_read_quantity(text.data(), text.size(), static_cast<cn_way>(method), &read);
-    const Quantity quantity = {read.numerator, read.denominator, static_cast<QuantityForm>(read.form)};
-    return detail::result_of(status, quantity, "chinese number", read.char_index, read.byte_index);
+    return detail::result_of(status, detail::quantity_of(read), "chinese number", read.char_index, read.byte_index);
 }
 
 template <typename T>
@@ -702,30 +727,136 @@ struct Found {
     Result<Quantity> quantity(Way method = Way::any) const { return chinese_to_quantity(text, method); }
 };
 
-/* The numbers or the expressions of a text, in order. The text must outlive them. */
-class Numbers {
-    using Search = cn_status (*)(const char *, std::size_t, std::uint32_t, cn_unit, cn_span *);
+/* A date, as far as it is given. Its year may have two digits, or be one of an era. */
+struct PartialDate {
+    std::optional<std::uint32_t> year;
+    std::optional<std::uint32_t> month;
+    std::optional<std::uint32_t> day;
+};
+
+/* A time of day, from 0:00:00 to 24:00:00, with the hour as it is written, and the hour of the
+ * 24-hour clock, if it is known: 15 in 下午三点半, none in 三点半. */
+struct ClockTime {
+    std::uint32_t hour;
+    std::uint32_t minute;
+    std::uint32_t second;
+    std::optional<std::uint32_t> hour_of_day;
+};
+
+/* The value of a phrase, by its kind:
+ * - date: a Date if it has a year of four digits, a month and a day, and otherwise a PartialDate;
+ * - years, months, days, score: a pair of numbers;
+ * - time: a ClockTime;
+ * - duration: seconds;
+ * - half and length: a Quantity, 15/10 for 一个半小时, and 175/100 for 一米七五;
+ * - range: a pair of quantities. */
+using PhraseValue = std::variant<Date, PartialDate, std::pair<std::uint32_t, std::uint32_t>, ClockTime,
+                                 std::chrono::seconds, Quantity, std::pair<Quantity, Quantity>>;
+
+/* A phrase that was found in a text, its place there, in bytes, and what it means. If it is refused,
+ * as 二月三十日 is, it has no value. */
+struct Phrase {
+    std::string_view text;
+    std::size_t start;
+    std::size_t end;
+    PhraseKind kind; /* never PhraseKind::expression */
+    PhraseState state;
+    std::optional<PhraseValue> value;
+};
+
+/* What find_phrases finds: an expression that is in no phrase, or a phrase. */
+using Item = std::variant<Found, Phrase>;
+
+namespace detail {
+
+inline std::string_view text_at(std::string_view text, std::size_t start, std::size_t end) {
+    return text.substr(start, end - start);
+}
+
+inline Found item_of(std::string_view text, const cn_span &span) {
+    const auto has = [&](cn_flag flag) { return (span.flags & flag) != 0; };
+    return {text_at(text, span.start, span.end), span.start, span.end, has(CN_PLAIN_DIGITS), has(CN_STANDS_ALONE),
+            has(CN_ABOUT), has(CN_ONE_CHARACTER), static_cast<Doubt>(cn_doubt_of(&span))};
+}
+
+inline PhraseValue date_of(const cn_phrase &read) {
+    const auto given = [&](std::uint32_t part, std::uint32_t flag) {
+        return (read.fourth & flag) != 0 ? std::optional<std::uint32_t>(part) : std::nullopt;
+    };
+    if (read.fourth == 7 && read.first >= 1000)
+        return Date{read.first, read.second, read.third};
+    return PartialDate{given(read.first, 1), given(read.second, 2), given(read.third, 4)};
+}
+
+inline PhraseValue time_of(const cn_phrase &read) {
+    const bool is_known = read.fourth != 255;
+    return ClockTime{read.first, read.second, read.third,
+                     is_known ? std::optional<std::uint32_t>(read.fourth) : std::nullopt};
+}
+
+/* A number with decimals, at most two. */
+inline Quantity decimal_of(std::uint32_t whole, std::uint32_t decimals, std::uint32_t places) {
+    const std::uint64_t power = places == 1 ? 10 : 100;
+    return {cn_unsigned(whole * power + decimals), cn_unsigned(power), QuantityForm::decimal};
+}
+
+inline std::optional<PhraseValue> range_of(std::string_view text, const cn_phrase &read) {
+    cn_quantity low, high;
+    if (cn_read_range(text.data(), &read, &low, &high) != CN_DONE)
+        return std::nullopt;
+    return std::pair(quantity_of(low), quantity_of(high));
+}
+
+inline std::optional<PhraseValue> value_of(std::string_view text, const cn_phrase &read) {
+    const PhraseKind kind = static_cast<PhraseKind>(read.kind);
+    if (static_cast<PhraseState>(read.state) == PhraseState::refused)
+        return std::nullopt;
+    if (kind == PhraseKind::date)
+        return date_of(read);
+    if (kind == PhraseKind::time)
+        return time_of(read);
+    if (kind == PhraseKind::duration)
+        return std::chrono::hours(read.first) + std::chrono::minutes(read.second) + std::chrono::seconds(read.third);
+    if (kind == PhraseKind::half)
+        return decimal_of(read.first, 5, 1);
+    if (kind == PhraseKind::length)
+        return decimal_of(read.first, read.second, read.third);
+    if (kind == PhraseKind::range)
+        return range_of(text, read);
+    return std::pair(read.first, read.second);
+}
+
+inline Item item_of(std::string_view text, const cn_phrase &read) {
+    const PhraseKind kind = static_cast<PhraseKind>(read.kind);
+    if (kind == PhraseKind::expression)
+        return item_of(text, cn_span_of(&read));
+    return Phrase{text_at(text, read.start, read.end), read.start, read.end, kind,
+                  static_cast<PhraseState>(read.state), value_of(text, read)};
+}
+
+} // namespace detail
+
+/* What a search finds in a text, in order. The text must outlive it. */
+template <typename Value, typename Place>
+class Search {
+    using Next = cn_status (*)(const char *, std::size_t, std::uint32_t, cn_unit, Place *);
 
 public:
     class iterator {
     public:
         using iterator_category = std::input_iterator_tag;
-        using value_type = Found;
+        using value_type = Value;
         using difference_type = std::ptrdiff_t;
-        using pointer = const Found *;
-        using reference = Found;
+        using pointer = const Value *;
+        using reference = Value;
 
         /* The end iterator for every text. */
         iterator() = default;
-        iterator(std::string_view searched, Wanted what, Search next) : text(searched), wanted(what), find(next) {
+        iterator(std::string_view searched, Wanted what, Next next) : text(searched), wanted(what), find(next) {
             search();
         }
 
-        Found operator*() const {
-            return {text.substr(span.start, span.end - span.start), span.start, span.end,
-                    has(CN_PLAIN_DIGITS), has(CN_STANDS_ALONE), has(CN_ABOUT), has(CN_ONE_CHARACTER),
-                    static_cast<Doubt>(cn_doubt_of(&span))};
-        }
+        Value operator*() const { return detail::item_of(text, place); }
         iterator &operator++() {
             search();
             return *this;
@@ -735,47 +866,62 @@ public:
             search();
             return before;
         }
-        bool operator==(const iterator &other) const { return span.end == other.span.end; }
+        bool operator==(const iterator &other) const { return place.end == other.place.end; }
         bool operator!=(const iterator &other) const { return !(*this == other); }
         Status status() const { return last; }
 
     private:
-        bool has(cn_flag flag) const { return (span.flags & flag) != 0; }
-
-        /* The span is zeros if there is no further number, and no number ends at 0. */
+        /* The place is zeros if there is nothing further, and nothing ends at 0. */
         void search() {
             const cn_unit greatest = static_cast<cn_unit>(wanted.greatest);
-            last = static_cast<Status>(find(text.data(), text.size(), wanted.upper, greatest, &span));
+            last = static_cast<Status>(find(text.data(), text.size(), wanted.upper, greatest, &place));
         }
 
         std::string_view text;
         Wanted wanted;
-        Search find = cn_find_next;
-        cn_span span = {0, 0, 0};
+        Next find = nullptr;
+        Place place = {};
         Status last = Status::none;
     };
 
-    Numbers(std::string_view searched, Wanted what, Search next = cn_find_next) : first(searched, what, next) {}
+    Search(std::string_view searched, Wanted what, Next next) : first(searched, what, next) {}
 
     iterator begin() const { return first; }
     iterator end() const { return {}; }
-    /* Status::done if there is a number, or Status::none, Status::not_utf8, Status::too_long. */
+    /* Status::done if there is something, or Status::none, Status::not_utf8, Status::too_long. */
     Status status() const { return first.status(); }
 
 private:
     iterator first;
 };
 
+/* The numbers or the expressions of a text. */
+using Numbers = Search<Found, cn_span>;
+
+/* The phrases of a text, and its expressions that are in none. */
+using Phrases = Search<Item, cn_phrase>;
+
 /* Finds the numbers of a text: for (auto found : find_numbers(text)). There are none if the bytes
  * are not UTF-8. */
 inline Numbers find_numbers(std::string_view text, Wanted wanted = {}) {
-    return {text, wanted};
+    return {text, wanted, cn_find_next};
 }
 
 /* Finds the expressions of a text: numbers with their sign, figures, point and units, percentages
  * and fractions. Found::quantity reads each. */
 inline Numbers find_quantities(std::string_view text, Wanted wanted = {}) {
     return {text, wanted, cn_find_next_quantity};
+}
+
+/* Finds the phrases of a text, and its expressions that are in no phrase: dates, times of day,
+ * durations, ranges, scores, halves and lengths. There are none if the bytes are not UTF-8.
+ *
+ *     for (const Item item : find_phrases(text))
+ *         if (const auto *phrase = std::get_if<Phrase>(&item); phrase && phrase->value)
+ *             if (const auto *date = std::get_if<Date>(&*phrase->value))
+ *                 use(*date); // 2026, 1, 5 for 二零二六年一月五日 */
+inline Phrases find_phrases(std::string_view text, Wanted wanted = {}) {
+    return {text, wanted, cn_find_next_phrase};
 }
 
 namespace detail {
@@ -819,16 +965,16 @@ Result<std::string> replace_quantities(std::string_view text, Replacement &&repl
     return done.append(text.substr(at));
 }
 
-/* Rewrites the numerals of a text in figures, as an editor does: 市值三点五亿元，占百分之十二点五 becomes
- * 市值3.5亿元，占12.5%. chinese_quantities_to_figures documents which expressions stay as they are. */
-inline Result<std::string> quantities_to_figures(std::string_view text, Wanted wanted = {}, Way method = Way::any,
-                                                 Included included = {}, Figures figures = {}) {
+namespace detail {
+
+/* The text that a call writes in figures. */
+template <typename Call>
+Result<std::string> in_figures(Call call, std::string_view text, Wanted wanted, Way method, std::uint32_t options) {
     std::string done(text.size(), '\0');
     std::size_t length = 0;
     const auto write = [&] {
-        return cn_quantities_to_figures(text.data(), text.size(), wanted.upper, static_cast<cn_unit>(wanted.greatest),
-                                        static_cast<cn_way>(method), detail::options_of(included, figures), done.data(),
-                                        done.size() + 1, &length);
+        return call(text.data(), text.size(), wanted.upper, static_cast<cn_unit>(wanted.greatest),
+                    static_cast<cn_way>(method), options, done.data(), done.size() + 1, &length);
     };
     cn_status status = write();
     if (status == CN_NO_ROOM) {
@@ -836,7 +982,25 @@ inline Result<std::string> quantities_to_figures(std::string_view text, Wanted w
         status = write();
     }
     done.resize(length);
-    return detail::result_of(status, std::move(done), "text");
+    return result_of(status, std::move(done), "text");
+}
+
+} // namespace detail
+
+/* Rewrites a text in figures, as an editor does, with its dates, times, durations, ranges, scores,
+ * lengths and quantities: 二零二六年一月五日下午三点半，三到五万元 becomes 2026年1月5日下午3点半，3万到5万元.
+ * chinese_text_to_figures documents what stays as it is. The error is Status::not_utf8 if the bytes
+ * are not UTF-8, and Status::unknown for Way::digits. */
+inline Result<std::string> text_to_figures(std::string_view text, Wanted wanted = {}, Way method = Way::any,
+                                           Included included = {}, Figures figures = {}) {
+    return detail::in_figures(cn_text_to_figures, text, wanted, method, detail::options_of(included, figures));
+}
+
+/* Rewrites the numerals of a text in figures, likewise, but not in phrases: 市值三点五亿元，占百分之十二点五 becomes
+ * 市值3.5亿元，占12.5%. chinese_quantities_to_figures documents which expressions stay as they are. */
+inline Result<std::string> quantities_to_figures(std::string_view text, Wanted wanted = {}, Way method = Way::any,
+                                                 Included included = {}, Figures figures = {}) {
+    return detail::in_figures(cn_quantities_to_figures, text, wanted, method, detail::options_of(included, figures));
 }
 
 /* Not for a temporary string, which is destroyed before its numbers are used. */
@@ -844,6 +1008,8 @@ template <typename String, std::enable_if_t<std::is_same_v<String, std::string>,
 Numbers find_numbers(String &&text, Wanted wanted = {}) = delete;
 template <typename String, std::enable_if_t<std::is_same_v<String, std::string>, int> = 0>
 Numbers find_quantities(String &&text, Wanted wanted = {}) = delete;
+template <typename String, std::enable_if_t<std::is_same_v<String, std::string>, int> = 0>
+Phrases find_phrases(String &&text, Wanted wanted = {}) = delete;
 
 } // namespace chinese_number
 

@@ -24,7 +24,7 @@ export const language = () => current;
 export const words = (key, values = {}) =>
   TEXTS[key][LANGUAGES.indexOf(current)].replace(/\{(\w+)\}/g, (_, name) => values[name]);
 
-/** Sentences as one text. */
+/** Sentences, or parts of one, as one text. */
 export const sentences = (...parts) => parts.filter(Boolean).join(current === 'en' ? ' ' : '');
 
 const LANGUAGE_OF = { simplified: 'zh-Hans', traditional: 'zh-Hant' };

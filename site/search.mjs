@@ -1,25 +1,28 @@
-// Marks the quantities of a text, lists them below it with their values, and writes them in
-// figures.
+// Marks the phrases and quantities of a text, lists them below it with their values, and writes
+// them in figures.
 
-import { findQuantities, quantitiesToFigures } from './library.mjs';
+import { Phrase, findPhrases, findQuantities, textToFigures } from './library.mjs';
 import { MOST_MARKED, atEachKey, copyButton, element, partsAround, say } from './field.mjs';
 import { sentences, words } from './language.mjs';
 import { methodChosen } from './numbers.mjs';
+import { wordsOf } from './phrases.mjs';
 import { reasonOf } from './typed.mjs';
 
 const byId = (id) => document.getElementById(id);
 const [text, said, found, replaced] = ['text', 'textSaid', 'found', 'replaced'].map(byId);
 // The choices for searching and replacing.
-const CHOICES = ['upper', 'about', 'oneCharacter', 'doubtful', 'expanded', 'canonical'];
-const [upper, about, oneCharacter, doubtful, expanded, canonical] = CHOICES.map(byId);
+const CHOICES = [
+  'upper', 'about', 'oneCharacter', 'doubtful', 'expanded', 'canonical', 'compact',
+];
+const [upper, about, oneCharacter, doubtful, expanded, canonical, compact] = CHOICES.map(byId);
 const mirror = document.querySelector('#searching .mirror');
 const MOST_LISTED = 100;
 // How many characters are searched at each key if a text is too long for marks.
 const NEAR = 400;
 let caret = 0;
-// This many characters on either side of an expression determine its extent, and nearly always its
-// doubt.
-const SIGHT = 10;
+// This many characters on either side of an item nearly always determine its extent, its kind and
+// its doubt.
+const SIGHT = 20;
 
 const isLong = (typed) => typed.length > MOST_MARKED;
 const wanted = () => (upper.checked ? { upper: true, greatest: 'ji' } : {});
@@ -28,8 +31,10 @@ function inFigures(typed) {
   const included = {
     about: about.checked, oneCharacter: oneCharacter.checked, doubtful: doubtful.checked,
   };
-  const style = { expanded: expanded.checked, canonical: canonical.checked };
-  return quantitiesToFigures(typed, { ...wanted(), ...methodChosen(), ...included, ...style });
+  const style = {
+    expanded: expanded.checked, canonical: canonical.checked, compact: compact.checked,
+  };
+  return textToFigures(typed, { ...wanted(), ...methodChosen(), ...included, ...style });
 }
 
 /** The figures of an expression, or the reason and the place of an error. */
@@ -52,12 +57,27 @@ function shownOf(value, { isAbout, doubt }) {
   return doubt ? words('valueInDoubt', { value: shown, doubt: words(`doubt_${doubt}`) }) : shown;
 }
 
+/** Whether a phrase is a half after one character, such as 一个半小时. */
+function isShortHalf({ kind, text: own }) {
+  if (kind !== 'half') return false;
+  const [number] = findQuantities(own, wanted());
+  return number.isOneCharacter;
+}
+
+/** The class of a phrase, as of an expression, and the text that is shown for it. */
+function judgePhrase(it) {
+  const shown = wordsOf(it), all = { start: 0, end: it.text.length };
+  if (it.state === 'refused') return { name: 'fault', shown, fault: all };
+  if (it.state === 'doubtful') return { name: doubtful.checked ? 'doubtful' : 'left', shown };
+  return { name: isShortHalf(it) && !oneCharacter.checked ? 'left' : '', shown };
+}
+
 /**
  * The class of an expression, and the text that is shown for it. The classes are: refused; left as
  * it is, since approximate, one-character or doubtful expressions were not requested; doubtful,
  * since it is approximate, may be part of something or has a doubt; or none of these.
  */
-function judge(it) {
+function judgeExpression(it) {
   const { value, fault } = valueOf(it);
   if (fault) return { name: 'fault', shown: value, fault };
   const shown = shownOf(value, it);
@@ -68,13 +88,15 @@ function judge(it) {
     : { name: 'doubtful', shown: words('valueDoubtful', { value: shown }) };
 }
 
+const judge = (it) => (it instanceof Phrase ? judgePhrase : judgeExpression)(it);
+
 function markOf(name, ...parts) {
   const it = element('mark', ...parts);
   it.className = name;
   return it;
 }
 
-/** Marks the expressions in the mirror of the text. */
+/** Marks the items in the mirror of the text. */
 function mark(typed, judged) {
   const parts = [];
   let at = 0;
@@ -85,16 +107,16 @@ function mark(typed, judged) {
   mirror.replaceChildren(...parts, typed.slice(at));
 }
 
-/** Lists the expressions with their values or refusals. */
+/** Lists the items with their values or refusals. */
 function list(judged) {
   const items = judged.slice(0, MOST_LISTED).map(([it, { name, shown, fault }]) => {
-    const expression = element('span', ...partsAround(it.text, fault, 'u'));
-    return element('li', markOf(name, expression, ' ', element('small', shown)));
+    const item = element('span', ...partsAround(it.text, fault, 'u'));
+    return element('li', markOf(name, item, ' ', element('small', shown)));
   });
   found.replaceChildren(...items);
 }
 
-/** How many expressions there are, and how many of each class. */
+/** How many items there are, and how many of each class. */
 function summaryOf(judged) {
   const all = judged.length, counts = { found: all, more: Math.max(all - MOST_LISTED, 0) };
   for (const [, { name }] of judged) {
@@ -106,17 +128,17 @@ function summaryOf(judged) {
     .map((key) => words(key, { count: counts[key] })).join(' · ');
 }
 
-/** The expressions of a text; for a long text only those near the caret. */
-function expressionsOf(typed) {
-  if (!isLong(typed)) return Array.from(findQuantities(typed, wanted()));
+/** The phrases and expressions of a text; for a long text only those near the caret. */
+function itemsOf(typed) {
+  if (!isLong(typed)) return Array.from(findPhrases(typed, wanted()));
   const from = Math.max(text.selectionStart - NEAR / 2, 0), near = typed.slice(from, from + NEAR);
   const isWhole = ({ start, end }) => (start > SIGHT || from === 0)
     && (end < NEAR - SIGHT || from + NEAR >= typed.length);
-  return Array.from(findQuantities(near, wanted())).filter(isWhole);
+  return Array.from(findPhrases(near, wanted())).filter(isWhole);
 }
 
 function show(typed) {
-  const judged = expressionsOf(typed).map((it) => [it, judge(it)]);
+  const judged = itemsOf(typed).map((it) => [it, judge(it)]);
   if (isLong(typed)) mirror.replaceChildren();
   else mark(typed, judged);
   text.parentElement.classList.toggle('long', isLong(typed));

@@ -87,6 +87,11 @@ export const TEXTS = {
     '數字不帶逗號和前導零',
     'Figures without commas and leading zeros',
   ],
+  compact: [
+    '日期、时刻尽量简短（如“2026-01-05”“15:30”）',
+    '日期、時刻盡量簡短（如「2026-01-05」「15:30」）',
+    'Short dates and times, such as 2026-01-05 and 15:30',
+  ],
   replaced: ['换成阿拉伯数字', '換成阿拉伯數字', 'In figures'],
 
   // The rows of a result, and their buttons.
@@ -131,7 +136,7 @@ export const TEXTS = {
   failed: ['程序出错：{message}', '程式出錯：{message}', 'The library failed: {message}'],
 
   // What was found.
-  found: ['找到 {count} 处', '找到 {count} 處', 'Quantities: {count}'],
+  found: ['找到 {count} 处', '找到 {count} 處', 'Found: {count}'],
   foundLeft: ['不替换 {count} 处', '不取代 {count} 處', 'not replaced: {count}'],
   foundDoubtful: ['存疑 {count} 处', '存疑 {count} 處', 'doubtful: {count}'],
   foundFault: ['读不出 {count} 处', '讀不出 {count} 處', 'refused: {count}'],
@@ -144,6 +149,21 @@ export const TEXTS = {
   doubt_part: ['（后面连着折、成、半）', '（後面連著折、成、半）', '(折, 成 or 半 follows)'],
   doubt_time: ['（像时刻）', '（像時刻）', '(a time)'],
   doubt_range: ['（范围的一端）', '（範圍的一端）', '(one end of a range)'],
+  phrase: ['{kind}：{value}', '{kind}：{value}', '{kind}: {value}'],
+  phraseRefused: ['没有这样的{kind}', '沒有這樣的{kind}', 'not a valid {kind}'],
+  phrase_date: ['日期', '日期', 'date'],
+  phrase_years: ['年份', '年份', 'years'],
+  phrase_months: ['月份', '月份', 'months'],
+  phrase_days: ['几日', '幾日', 'days'],
+  phrase_time: ['时刻', '時刻', 'time'],
+  phrase_duration: ['时长', '時長', 'duration'],
+  phrase_half: ['带半的数', '帶半的數', 'half'],
+  phrase_length: ['度量', '度量', 'measure'],
+  phrase_score: ['比分', '比分', 'score'],
+  phrase_range: ['范围', '範圍', 'range'],
+  year: ['{value}年', '{value}年', 'year {value}'],
+  month: ['{value}月', '{value}月', 'month {value}'],
+  day: ['{value}日', '{value}日', 'day {value}'],
   more: ['另有 {count} 个未列出', '另有 {count} 個未列出', '{count} more are not listed'],
   long: [
     '文本较长：只看光标附近的 {count} 字，复制的是替换后的全文。',

@@ -10,6 +10,7 @@ extern "C" {
 struct cn_reading;
 struct cn_span;
 struct cn_quantity;
+struct cn_phrase;
 struct cn_amount;
 struct cn_signed_amount;
 struct cn_date;
@@ -25,9 +26,13 @@ NO_NULL chinese_number_find_utf8(const uint8_t *, size_t, size_t, uint32_t, uint
 NO_NULL chinese_quantity_read(const uint8_t *, size_t, uint32_t, struct cn_quantity *);
 NO_NULL chinese_quantity_find(const uint8_t *, size_t, size_t, uint32_t, uint32_t, struct cn_span *, size_t, size_t *);
 NO_NULL chinese_quantity_find_utf8(const uint8_t *, size_t, size_t, uint32_t, uint32_t, struct cn_span *, size_t, size_t *);
+NO_NULL chinese_phrase_find(const uint8_t *, size_t, size_t, uint32_t, uint32_t, struct cn_phrase *, size_t, size_t *);
+NO_NULL chinese_phrase_find_utf8(const uint8_t *, size_t, size_t, uint32_t, uint32_t, struct cn_phrase *, size_t, size_t *);
+NO_NULL chinese_range_read(const uint8_t *, size_t, const uint8_t *, size_t, struct cn_quantity *, struct cn_quantity *);
 NO_NULL chinese_quantity_print(const struct cn_quantity *, uint32_t, uint32_t, uint32_t, uint8_t *, size_t, size_t *);
 NO_NULL chinese_quantity_figures(const struct cn_quantity *, uint8_t *, size_t, size_t *);
 NO_NULL chinese_quantities_to_figures(const uint8_t *, size_t, uint32_t, uint32_t, uint32_t, uint32_t, uint8_t *, size_t, size_t *);
+NO_NULL chinese_text_to_figures(const uint8_t *, size_t, uint32_t, uint32_t, uint32_t, uint32_t, uint8_t *, size_t, size_t *);
 NO_NULL chinese_amount_print(uint64_t, uint32_t, uint32_t, uint8_t *, size_t, size_t *);
 NO_NULL chinese_amount_read(const uint8_t *, size_t, struct cn_amount *);
 NO_NULL chinese_typed_amount_read(const uint8_t *, size_t, struct cn_amount *);

@@ -39,6 +39,8 @@ OF_CALLS = {
     "Expressions replaced": ["quantities_to_figures", "none"],
     "The new text": ["quantities_to_figures", "none"],
     "Whole, or not at all": ["quantities_to_figures", "none"],
+    "Values of phrases": ["phrases"],
+    "Phrases in figures": ["text_to_figures", "none"],
     "Amounts below zero": ["read_signed_amount"],
     "Amounts as typed": ["read_typed_amount"],
 }
@@ -56,6 +58,7 @@ OF_LIBRARIES = (
     "doubts",
     "written",
     "replaced",
+    "phrases",
     "expected",
     "repairs",
     "faults",
@@ -75,7 +78,10 @@ def of_files(names=("numbers", "amounts", "dates")):
     """The rows of files of `tests/rows`: the words of each question, and the answer. A row with
     several ways gives a question for each."""
     for name in names:
-        for *words, answer in table(name):
+        for row in table(name):
+            # The answer to `phrases` has a cell for each phrase.
+            count = 2 if row[0] == "phrases" else len(row) - 1
+            words, answer = row[:count], "\t".join(row[count:])
             ways = words[2].split(" ") if name == "numbers" else [None]
             for way in ways:
                 yield (words[:2] + [way] + words[3:] if way else words), answer
@@ -104,6 +110,13 @@ def examples():
         what = capitals if re.match("Amounts|Dates", heading) else "chinese number"
         for asked, answer in EXAMPLE.findall(re.sub("\n *", " ", its)):
             yield heading, asked, in_full(answer, what)
+
+
+def of_phrase(asked, answer):
+    """The full answer on a phrase for an example: its kind, and its value or `refused`."""
+    kind, value = answer.split(" ", 2)[1:]
+    state, value = ("refused", "-") if value == "refused" else ("certain", value)
+    return f"ok {kind} {state} {asked} {value}"
 
 
 def line_of(asked):
@@ -172,7 +185,8 @@ def questions():
         yield from questions_on_capitals(word, answer)
     for heading, asked, answer in examples():
         if heading in OF_CALLS:
-            yield [*OF_CALLS[heading], asked], answer
+            words = OF_CALLS[heading]
+            yield [*words, asked], of_phrase(asked, answer) if words == ["phrases"] else answer
 
 
 def wrong_answers(ask):

@@ -27,7 +27,8 @@ FIRST_STEPS = """\
 贰零贰陆年零壹月壹拾伍日
 2026-01-15
 百分之十二点五
-市值3.5亿元，占12.5%
+2026年1月5日下午3点半，3万到5万元
+15:30
 第3个字“贰”前缺“零”。
 U+96F6 at 2
 """
@@ -43,7 +44,8 @@ the chinese number is incorrect (position: 1)
 负壹拾伍元整
 贰零贰陆年零壹月壹拾伍日
 百分之十二点五
-市值3.5亿元，占12.5%
+2026年1月5日下午3点半，3万到5万元
+2026-1-5
 """
 EXAMPLES = {
     "example.c": FIRST_STEPS,
@@ -133,6 +135,7 @@ FLAGS = """\
 
 cn_status amount(char *room, size_t length);
 cn_status replaced(const char *text, char *room, size_t *length);
+cn_status range_of(const char *text, cn_quantity *ends);
 
 cn_status amount(char *room, size_t length) {
     return cn_print_amount(1, CN_SIMPLIFIED, CN_CURRENCY | CN_ROUND_YUAN, room, length);
@@ -142,6 +145,12 @@ cn_status replaced(const char *text, char *room, size_t *length) {
     return cn_quantities_to_figures(text, 3, 0, CN_ZHAO, CN_TEN_THOUSAND,
                                     CN_ABOUT | CN_ONE_CHARACTER | CN_DOUBTFUL | CN_CANONICAL, room,
                                     3, length);
+}
+
+cn_status range_of(const char *text, cn_quantity *ends) {
+    cn_phrase found = {0, 0, 0, 0, 0, 0, 0, 0, 0, 0};
+    cn_status status = cn_find_next_phrase(text, 9, 0, CN_ZHAO, &found);
+    return status == CN_DONE ? cn_read_range(text, &found, ends, ends + 1) : status;
 }
 """
 

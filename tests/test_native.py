@@ -193,6 +193,8 @@ def test_nothing_is_kept(numerals):
         (lambda text: [its.value() for its in it.find_quantities(text)], ("3.5万，1.2.3", None)),
         (lambda text: [its.doubt for its in it.find_quantities(text)], ("五一，二十", "3~5万", None)),
         (it.quantities_to_figures, ("共三点五万，占三分之一", "三亿" * 99, "\ud800一百", None)),
+        (it.text_to_figures, ("一月五日三点半，三到五万", "\ud800一月五日", None)),
+        (lambda text: list(it.find_phrases(text)), ("一月五日，三到五万，二十", "五到三天", None)),
     ]
     some = [(call, argument) for call, arguments in asked for argument in arguments]
     shared = [
@@ -201,6 +203,8 @@ def test_nothing_is_kept(numerals):
         False,
         it.Found,
         it.FoundQuantity,
+        it.Phrase,
+        it.PhraseKind.RANGE,
         it.Doubt.DIGITS,
         it.QuantityForm.DECIMAL,
         it.Kind.I128,

@@ -16,10 +16,15 @@ static const char *const SCRIPTS[] = {"traditional", "simple", NULL};
 static const char *const CASES[] = {"upper", "lower", NULL};
 static const char *const QUANTITY_FORMS[] = {"whole", "decimal", "percent", "fraction", NULL};
 static const char *const DOUBTS[] = {"none", "word", "digits", "term", "part", "time", "range"};
+static const char *const PHRASE_KINDS[] = {
+    "expression", "date", "years", "months", "days", "time", "duration", "half", "length", "score",
+    "range",
+};
+static const char *const PHRASE_STATES[] = {"certain", "doubtful", "refused"};
 /* The codes of flags, of options for replacing and of forms of an amount are added together. */
 static const char *const FLAGS[] = {"plain", "alone", "about", "one", NULL};
 static const char *const OPTIONS[] = {
-    "plain", "alone", "about", "one", "doubtful", "expanded", "canonical", NULL,
+    "plain", "alone", "about", "one", "doubtful", "expanded", "canonical", "compact", NULL,
 };
 static const char *const FORMS[] = {
     "currency", "round_yuan", "upright_closing", "bracketed_sign", NULL,
@@ -234,11 +239,15 @@ static cn_quantity quantity_of(char *words) {
     return quantity;
 }
 
-static void put_quantity(const cn_quantity *quantity) {
-    fputs("ok ", stdout);
+static void put_ratio(const cn_quantity *quantity) {
     put_number(quantity->numerator, CN_I128);
     putchar('/');
     put_number(quantity->denominator, CN_U128);
+}
+
+static void put_quantity(const cn_quantity *quantity) {
+    fputs("ok ", stdout);
+    put_ratio(quantity);
     printf(" %s", QUANTITY_FORMS[quantity->form]);
 }
 
@@ -339,13 +348,101 @@ static void answer_doubts(char **words) {
     answer_found(words[1], cn_find_next_quantity, put_doubt);
 }
 
-static void answer_quantities_to_figures(char **words) {
+typedef cn_status to_figures(const char *, size_t, uint32_t, cn_unit, cn_way, uint32_t, char *, size_t,
+                             size_t *);
+
+static void put_in_figures(to_figures *write, char **words) {
     char text[2 * MOST_BYTES_OF_LINE];
     size_t length;
     uint32_t options = flags_of(OPTIONS, words[1]);
     put_printed("text",
-                cn_quantities_to_figures(words[2], strlen(words[2]), 0, CN_ZHAO, CN_TEN_THOUSAND,
-                                         options, text, sizeof text, &length), text);
+                write(words[2], strlen(words[2]), 0, CN_ZHAO, CN_TEN_THOUSAND, options, text,
+                      sizeof text, &length), text);
+}
+
+static void answer_quantities_to_figures(char **words) {
+    put_in_figures(cn_quantities_to_figures, words);
+}
+
+static void answer_text_to_figures(char **words) {
+    put_in_figures(cn_text_to_figures, words);
+}
+
+/* Writes a part of a date that is given. */
+static void put_part(int is_given, uint32_t part) {
+    if (is_given)
+        printf("%u", part);
+    else
+        putchar('?');
+}
+
+static void put_date(const cn_phrase *date) {
+    put_part((date->fourth & 1) != 0, date->first);
+    putchar('-');
+    put_part((date->fourth & 2) != 0, date->second);
+    putchar('-');
+    put_part((date->fourth & 4) != 0, date->third);
+}
+
+static void put_time(const cn_phrase *time) {
+    printf("%u:%u:%u =", time->first, time->second, time->third);
+    put_part(time->fourth != 255, time->fourth);
+}
+
+static void put_duration(const cn_phrase *duration) {
+    uint32_t minutes = duration->first * 60 + duration->second;
+    printf("%u:%u:%u", minutes / 60, minutes % 60, duration->third);
+}
+
+static void put_length(const cn_phrase *length) {
+    uint32_t power = length->third == 1 ? 10 : 100;
+    printf("%u/%u", length->first * power + length->second, power);
+}
+
+static void put_range(const char *text, const cn_phrase *range) {
+    cn_quantity low, high;
+    if (cn_read_range(text, range, &low, &high) != CN_DONE)
+        return;
+    put_ratio(&low);
+    fputs("..", stdout);
+    put_ratio(&high);
+}
+
+/* Writes the value of a phrase that is not refused. */
+static void put_value(const char *text, const cn_phrase *phrase) {
+    if (phrase->kind == CN_PHRASE_KIND_DATE)
+        put_date(phrase);
+    else if (phrase->kind == CN_PHRASE_KIND_TIME)
+        put_time(phrase);
+    else if (phrase->kind == CN_PHRASE_KIND_DURATION)
+        put_duration(phrase);
+    else if (phrase->kind == CN_PHRASE_KIND_HALF)
+        printf("%u/10", phrase->first * 10 + 5);
+    else if (phrase->kind == CN_PHRASE_KIND_LENGTH)
+        put_length(phrase);
+    else if (phrase->kind == CN_PHRASE_KIND_RANGE)
+        put_range(text, phrase);
+    else
+        printf(phrase->kind == CN_PHRASE_KIND_SCORE ? "%u:%u" : "%u..%u", phrase->first,
+               phrase->second);
+}
+
+/* Writes the phrases of a text, with a tab between them. */
+static void answer_phrases(char **words) {
+    const char *text = words[1], *between = "";
+    cn_phrase phrase = {0, 0, 0, 0, 0, 0, 0, 0, 0, 0};
+    fputs("ok ", stdout);
+    while (cn_find_next_phrase(text, strlen(text), 0, CN_ZHAO, &phrase) == CN_DONE) {
+        if (phrase.kind == CN_PHRASE_KIND_EXPRESSION)
+            continue;
+        printf("%s%s %s %.*s ", between, PHRASE_KINDS[phrase.kind], PHRASE_STATES[phrase.state],
+               (int)(phrase.end - phrase.start), text + phrase.start);
+        if (phrase.state == CN_PHRASE_STATE_REFUSED)
+            putchar('-');
+        else
+            put_value(text, &phrase);
+        between = "\t";
+    }
 }
 
 /* Writes an expression of a text, if it is not a fraction, in numerals; returns whether it did. */
@@ -497,6 +594,8 @@ static const struct {
     {"quantity_figures", 2, answer_quantity_figures},
     {"trim_quantity", 2, answer_trim_quantity},
     {"quantities_to_figures", 3, answer_quantities_to_figures},
+    {"text_to_figures", 3, answer_text_to_figures},
+    {"phrases", 2, answer_phrases},
     {"replace_quantities", 3, answer_replace_quantities},
     {"expected", 3, answer_expected},
     {"repair", 3, answer_repair},

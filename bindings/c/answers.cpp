@@ -79,10 +79,13 @@ const char *const faults[] = {
     "repeated_ten", "after_zero", "weight", "two_readings", "left_out_zero", "denominator",
 };
 
-std::string shown(const Quantity &quantity) {
+std::string ratio(const Quantity &quantity) {
     return shown(detail::of_halves<Signed>(quantity.numerator)) + '/'
-         + shown(detail::of_halves<Unsigned>(quantity.denominator)) + ' '
-         + quantity_forms[static_cast<std::size_t>(quantity.form)];
+         + shown(detail::of_halves<Unsigned>(quantity.denominator));
+}
+
+std::string shown(const Quantity &quantity) {
+    return ratio(quantity) + ' ' + quantity_forms[static_cast<std::size_t>(quantity.form)];
 }
 
 std::string shown(const Expected &expected) {
@@ -166,7 +169,7 @@ Included included_of(const std::string &words) {
 }
 
 Figures figures_of(const std::string &words) {
-    return {has(words, "expanded"), has(words, "canonical")};
+    return {has(words, "expanded"), has(words, "canonical"), has(words, "compact")};
 }
 
 std::string print_date(const std::string &script, const std::string &figures_of_date) {
@@ -208,6 +211,57 @@ std::string in_place(const std::string &text, Numbers runs, std::string (*shown_
         at = found.end;
     }
     return done + text.substr(at);
+}
+
+const char *const phrase_kinds[] = {
+    "expression", "date", "years", "months", "days", "time", "duration", "half", "length", "score", "range",
+};
+const char *const phrase_states[] = {"certain", "doubtful", "refused"};
+
+std::string part_of(std::optional<std::uint32_t> part) {
+    return part ? shown(*part) : "?";
+}
+
+/* A value in words, by its type; a pair of numbers with what is between them. */
+struct InWords {
+    const char *between;
+
+    std::string operator()(Date date) const {
+        return shown(date.year) + '-' + shown(date.month) + '-' + shown(date.day);
+    }
+    std::string operator()(const PartialDate &date) const {
+        return part_of(date.year) + '-' + part_of(date.month) + '-' + part_of(date.day);
+    }
+    std::string operator()(const ClockTime &time) const {
+        return shown(time.hour) + ':' + shown(time.minute) + ':' + shown(time.second) + " =" + part_of(time.hour_of_day);
+    }
+    std::string operator()(std::chrono::seconds duration) const {
+        const auto seconds = duration.count();
+        return shown(seconds / 3600) + ':' + shown(seconds / 60 % 60) + ':' + shown(seconds % 60);
+    }
+    std::string operator()(const Quantity &quantity) const { return ratio(quantity); }
+    std::string operator()(std::pair<std::uint32_t, std::uint32_t> pair) const {
+        return shown(pair.first) + between + shown(pair.second);
+    }
+    std::string operator()(const std::pair<Quantity, Quantity> &range) const {
+        return ratio(range.first) + between + ratio(range.second);
+    }
+};
+
+std::string phrase_in_words(const Phrase &phrase) {
+    const InWords in_words = {phrase.kind == PhraseKind::score ? ":" : ".."};
+    const std::string value = phrase.value ? std::visit(in_words, *phrase.value) : "-";
+    return std::string(phrase_kinds[static_cast<std::size_t>(phrase.kind)]) + ' '
+         + phrase_states[static_cast<std::size_t>(phrase.state)] + ' ' + std::string(phrase.text) + ' ' + value;
+}
+
+/* The phrases of a text, with a tab between them. */
+std::string phrases(const Words &words) {
+    std::string done;
+    for (const Item item : find_phrases(words[1]))
+        if (const auto *phrase = std::get_if<Phrase>(&item))
+            done += (done.empty() ? "" : "\t") + phrase_in_words(*phrase);
+    return "ok " + done;
 }
 
 std::string print_quantity(const Words &words) {
@@ -258,6 +312,11 @@ const std::map<std::string, std::string (*)(const Words &)> calls = {
      [](const Words &words) {
          return told(quantities_to_figures(words[2], {}, Way::ten_thousand, included_of(words[1]), figures_of(words[1])));
      }},
+    {"text_to_figures",
+     [](const Words &words) {
+         return told(text_to_figures(words[2], {}, Way::ten_thousand, included_of(words[1]), figures_of(words[1])));
+     }},
+    {"phrases", phrases},
     {"replace_quantities",
      [](const Words &words) {
          return told(replace_quantities(words[2], in_numerals, {}, Way::ten_thousand, included_of(words[1])));

@@ -1,5 +1,5 @@
 /* Prints a number, a quantity, an amount and a date, reads them back, finds the numbers of a text,
- * replaces its quantities, says why a text is refused, and causes each status. */
+ * rewrites it in figures, says why a text is refused, and causes each status. */
 #include "chinese_number.h"
 
 #include <stdio.h>
@@ -45,16 +45,20 @@ static void first_steps(void) {
     if (cn_read_date(capitals, strlen(capitals), &date) == CN_DONE)
         printf("%u-%02u-%02u\n", date.year, date.month, date.day); /* 2026-01-15 */
 
-    const char expressions[] = "市值三点五亿元，占百分之十二点五";
+    const char phrases[] = "二零二六年一月五日下午三点半，三到五万元";
     char written[CN_MOST_QUANTITY_BYTES + 1];
     size_t length;
     cn_quantity quantity;
     if (cn_read_quantity("12.5%", 5, CN_TEN_THOUSAND, &quantity) == CN_DONE
         && cn_print_quantity(&quantity, CN_ANY, CN_SIMPLIFIED, CN_LOWER, written, sizeof written) == CN_DONE)
         puts(written); /* 百分之十二点五 */
-    if (cn_quantities_to_figures(expressions, strlen(expressions), 0, CN_ZHAO, CN_TEN_THOUSAND, 0, written, sizeof written, &length)
+    if (cn_text_to_figures(phrases, strlen(phrases), 0, CN_ZHAO, CN_TEN_THOUSAND, 0, written, sizeof written, &length)
         == CN_DONE)
-        puts(written); /* 市值3.5亿元，占12.5% */
+        puts(written); /* 2026年1月5日下午3点半，3万到5万元 */
+    cn_phrase phrase = {0, 0, 0, 0, 0, 0, 0, 0, 0, 0};
+    while (cn_find_next_phrase(phrases, strlen(phrases), 0, CN_ZHAO, &phrase) == CN_DONE)
+        if (phrase.kind == CN_PHRASE_KIND_TIME && phrase.state != CN_PHRASE_STATE_REFUSED)
+            printf("%u:%02u\n", phrase.fourth, phrase.second); /* 15:30 */
 }
 
 /* Says what is wrong with a text that somebody typed, and repairs it. */
@@ -199,14 +203,20 @@ static void each_status_of_printing_quantities(void) {
                    "-170141183460469231731687303715884105728/340282366920938463463374607431768211455");
 }
 
-/* Replaces the quantities of a text in a buffer of this length, and checks the status, the length
- * and the new text. */
+typedef uint32_t to_figures(const uint8_t *, size_t, uint32_t, uint32_t, uint32_t, uint32_t, uint8_t *, size_t, size_t *);
+
+/* Rewrites a text in a buffer of this length, and checks the status, the length and the new text. */
+static void rewrites(to_figures *write, const char *text, uint32_t method, uint32_t options, size_t room_length,
+                     uint32_t status, size_t wanted, const char *new_text) {
+    size_t length;
+    uint32_t found = write((const uint8_t *)text, strlen(text), 0, CN_ZHAO, method, options, fresh_room(), room_length, &length);
+    expect(new_text, found == status && length == wanted && (found != CN_DONE || memcmp(printed, new_text, wanted) == 0));
+}
+
+/* Replaces the quantities of a text likewise. */
 static void replaces(const char *text, uint32_t method, uint32_t options, size_t room_length, uint32_t status, size_t wanted,
                      const char *new_text) {
-    size_t length;
-    uint32_t found = chinese_quantities_to_figures((const uint8_t *)text, strlen(text), 0, CN_ZHAO, method, options,
-                                                   fresh_room(), room_length, &length);
-    expect(new_text, found == status && length == wanted && (found != CN_DONE || memcmp(printed, new_text, wanted) == 0));
+    rewrites(chinese_quantities_to_figures, text, method, options, room_length, status, wanted, new_text);
 }
 
 static void each_status_of_replacing(void) {
@@ -227,8 +237,98 @@ static void each_status_of_replacing(void) {
     replaces("\xff", CN_TEN_THOUSAND, 0, 64, CN_NOT_UTF8, 0, "no UTF-8");
     replaces("一", CN_DIGITS, 0, 64, CN_UNKNOWN, 0, "a way that is not a method");
     replaces("一", CN_TEN_THOUSAND, each | CN_STANDS_ALONE, 64, CN_UNKNOWN, 0, "a flag that is not an option");
-    replaces("一", CN_TEN_THOUSAND, CN_CANONICAL * 2, 64, CN_UNKNOWN, 0, "an unknown option");
+    replaces("一", CN_TEN_THOUSAND, CN_COMPACT * 2, 64, CN_UNKNOWN, 0, "an unknown option");
+    replaces("共三万五千元", CN_TEN_THOUSAND, CN_COMPACT, 11, CN_DONE, 11, "共35000元");
     replaces("一", CN_TEN_THOUSAND, UINT32_MAX, 64, CN_UNKNOWN, 0, "all bits of the options");
+}
+
+static void writes(const char *text, uint32_t method, uint32_t options, size_t room_length, uint32_t status, size_t wanted,
+                   const char *new_text) {
+    rewrites(chinese_text_to_figures, text, method, options, room_length, status, wanted, new_text);
+}
+
+static void each_status_of_texts_in_figures(void) {
+    writes("三到五万元", CN_TEN_THOUSAND, 0, 14, CN_DONE, 14, "3万到5万元");
+    writes("三到五万元", CN_TEN_THOUSAND, 0, 13, CN_NO_ROOM, 14, "a room that is a byte too small");
+    writes("三到五万元", CN_TEN_THOUSAND, 0, 0, CN_NO_ROOM, 14, "a room without a byte");
+    writes("二月三十日", CN_TEN_THOUSAND, 0, 64, CN_DONE, 15, "二月三十日");
+    writes("一个半小时", CN_TEN_THOUSAND, 0, 64, CN_DONE, 15, "一个半小时");
+    writes("一个半小时", CN_TEN_THOUSAND, CN_ONE_CHARACTER, 64, CN_DONE, 13, "1个半小时");
+    writes("一个半小时", CN_TEN_THOUSAND, CN_COMPACT, 9, CN_DONE, 9, "1.5小时");
+    writes("二零二六年一月五日十五时", CN_TEN_THOUSAND, CN_COMPACT, 16, CN_DONE, 16, "2026-01-05 15:00");
+    writes("二零二六年一月五日十五时", CN_TEN_THOUSAND, CN_COMPACT, 15, CN_NO_ROOM, 16, "too small for a blank");
+    writes("", CN_TEN_THOUSAND, 0, 0, CN_DONE, 0, "");
+    writes("\xff", CN_TEN_THOUSAND, 0, 64, CN_NOT_UTF8, 0, "no UTF-8");
+    writes("一", CN_DIGITS, 0, 64, CN_UNKNOWN, 0, "a way that is not a method");
+    writes("一", CN_TEN_THOUSAND, CN_STANDS_ALONE, 64, CN_UNKNOWN, 0, "a flag that is not an option");
+}
+
+/* Finds at most one item of a text from a byte on, and checks the status, its place and its kind. */
+static void finds_phrase(const char *text, size_t from, uint32_t upper, uint32_t greatest, uint32_t status, size_t count,
+                         size_t start, size_t end, uint32_t kind) {
+    cn_phrase phrase = {0, 0, 0, 0, 0, 0, 0, 0, 0, 0};
+    size_t found = 7;
+    expect(text, chinese_phrase_find((const uint8_t *)text, strlen(text), from, upper, greatest, &phrase, 1, &found) == status
+                     && found == count && phrase.start == start && phrase.end == end && phrase.kind == kind);
+}
+
+static void each_status_of_finding_phrases(void) {
+    finds_phrase("共三到五万元", 0, 0, CN_ZHAO, CN_DONE, 1, 3, 15, CN_PHRASE_KIND_RANGE);
+    finds_phrase("共三万元", 0, 0, CN_ZHAO, CN_DONE, 1, 3, 9, CN_PHRASE_KIND_EXPRESSION);
+    finds_phrase("二十人，一月五日", 12, 0, CN_ZHAO, CN_DONE, 1, 12, 24, CN_PHRASE_KIND_DATE);
+    finds_phrase("共三万元", 12, 0, CN_ZHAO, CN_DONE, 0, 0, 0, 0);
+    finds_phrase("\xff", 0, 0, CN_ZHAO, CN_NOT_UTF8, 0, 0, 0, 0);
+    finds_phrase("一", 1, 0, CN_ZHAO, CN_NOT_UTF8, 0, 0, 0, 0);
+    finds_phrase("一", 0, 2, CN_ZHAO, CN_UNKNOWN, 0, 0, 0, 0);
+    finds_phrase("一", 0, 0, CN_JI + 1, CN_UNKNOWN, 0, 0, 0, 0);
+}
+
+/* Reads the ends of a range, and checks the status, and their numerators and denominators. */
+static void reads_range(const char *first, const char *second, uint32_t status, uint64_t low, uint64_t high, uint64_t divisor) {
+    cn_quantity ends[2];
+    expect(first, chinese_range_read((const uint8_t *)first, strlen(first), (const uint8_t *)second, strlen(second), ends, ends + 1)
+                          == status
+                      && ends[0].numerator.low == low && ends[1].numerator.low == high
+                      && ends[0].denominator.low == divisor && ends[1].denominator.low == divisor);
+}
+
+static void each_status_of_ranges(void) {
+    reads_range("三", "五万", CN_DONE, 30000, 50000, 1);
+    reads_range("3", "5%", CN_DONE, 3, 5, 100);
+    reads_range("五", "三", CN_INCORRECT, 0, 0, 0);
+    reads_range("五", "", CN_INCORRECT, 0, 0, 0);
+    reads_range("", "", CN_INCORRECT, 0, 0, 0);
+    reads_range("\xff", "五", CN_NOT_UTF8, 0, 0, 0);
+    reads_range("三", "\xff", CN_NOT_UTF8, 0, 0, 0);
+}
+
+/* Whether a phrase has this kind, and these numbers. */
+static int is_phrase(const cn_phrase *phrase, uint32_t kind, uint32_t first, uint32_t second, uint32_t third, uint32_t fourth) {
+    return phrase->kind == kind && phrase->first == first && phrase->second == second && phrase->third == third
+        && phrase->fourth == fourth;
+}
+
+/* Finds each phrase of a text, and the expression that is in none. */
+static void phrases_of_a_text(void) {
+    const char text[] = "二十人，二零二六年一月五日下午三点半，三~五万元，二月三十日";
+    const cn_phrase none = {0, 0, 0, 0, 0, 0, 0, 0, 0, 0};
+    cn_phrase found[5] = {none, none, none, none, none}, next = none;
+    cn_quantity low, high;
+    cn_span span;
+    size_t count = 0;
+    while (cn_find_next_phrase(text, strlen(text), 0, CN_ZHAO, &next) == CN_DONE && count < 5)
+        found[count++] = next;
+    expect("all phrases are found", count == 5 && next.end == 0);
+    span = cn_span_of(found);
+    expect("an expression", is_phrase(found, CN_PHRASE_KIND_EXPRESSION, 0, 0, 0, 0) && span.start == 0 && span.end == 6
+                                && span.flags == CN_STANDS_ALONE && cn_doubt_of(&span) == CN_NO_DOUBT);
+    expect("a date", is_phrase(found + 1, CN_PHRASE_KIND_DATE, 2026, 1, 5, 7) && found[1].state == CN_PHRASE_STATE_CERTAIN);
+    expect("a time", is_phrase(found + 2, CN_PHRASE_KIND_TIME, 3, 30, 0, 15));
+    expect("a range", is_phrase(found + 3, CN_PHRASE_KIND_RANGE, 0, 0, 0, 0) && found[3].split == 3);
+    expect("its ends", cn_read_range(text, found + 3, &low, &high) == CN_DONE && low.numerator.low == 30000
+                           && high.numerator.low == 50000);
+    expect("no such day", is_phrase(found + 4, CN_PHRASE_KIND_DATE, 0, 0, 0, 0) && found[4].state == CN_PHRASE_STATE_REFUSED);
+    expect("no range", cn_read_range(text, found + 4, &low, &high) == CN_INCORRECT && low.denominator.low == 0);
 }
 
 /* Finds each expression of a text. */
@@ -645,6 +745,10 @@ static void quantities_of_char(void) {
     expect("a room of the new text alone", status == CN_NO_ROOM && length == 2 && room[0] == 0);
     status = cn_quantities_to_figures("廿三", 6, 0, CN_ZHAO, CN_LOW, 0, room, 3, &length);
     expect("a zero byte after a new text", status == CN_DONE && length == 2 && strcmp(room, "23") == 0);
+    status = cn_text_to_figures("三到五", 9, 0, CN_ZHAO, CN_LOW, 0, room, 5, &length);
+    expect("a room of the new phrase alone", status == CN_NO_ROOM && length == 5 && room[0] == 0);
+    status = cn_text_to_figures("三到五", 9, 0, CN_ZHAO, CN_LOW, 0, room, 6, &length);
+    expect("a zero byte after a new phrase", status == CN_DONE && length == 5 && strcmp(room, "3到5") == 0);
 }
 
 /* The same for dates. */
@@ -667,6 +771,8 @@ static void null_of_char(void) {
     cn_amount amount;
     cn_date date;
     cn_span span = {0, 0, 0};
+    cn_phrase phrase = {0, 0, 0, 0, 0, 0, 0, 0, 0, 0};
+    cn_quantity low, high;
     cn_expected next;
     cn_repair repair;
     size_t length;
@@ -677,6 +783,9 @@ static void null_of_char(void) {
     expect("no room", cn_print(number, CN_U8, CN_LOW, CN_SIMPLIFIED, CN_UPPER, NULL, 0) == CN_NO_ROOM);
     expect("nothing to replace", cn_quantities_to_figures(NULL, 0, 0, CN_ZHAO, CN_LOW, 0, NULL, 0, &length) == CN_DONE);
     expect("no room for a new text", cn_quantities_to_figures("一", 3, 0, CN_ZHAO, CN_LOW, 0, NULL, 0, &length) == CN_NO_ROOM);
+    expect("no phrase", cn_find_next_phrase(NULL, 0, 0, CN_ZHAO, &phrase) == CN_NONE && phrase.end == 0);
+    expect("no ends of it", cn_read_range(NULL, &phrase, &low, &high) == CN_INCORRECT && high.denominator.low == 0);
+    expect("nothing in figures", cn_text_to_figures(NULL, 0, 0, CN_ZHAO, CN_LOW, 0, NULL, 0, &length) == CN_DONE);
     expect("no room for an amount", cn_print_amount(1, CN_SIMPLIFIED, CN_PLAIN, NULL, 0) == CN_NO_ROOM);
     expect("no room for a date", cn_print_date(5, 3, 1, CN_SIMPLIFIED, NULL, 0) == CN_NO_ROOM);
     expect("the start of a text", cn_input_expected(NULL, 0, CN_DATE, &next) == CN_DONE && next.count == 13);
@@ -691,6 +800,7 @@ int main(void) {
     numbers_of_a_text();
     quantities_of_a_text();
     expressions_from_a_place();
+    phrases_of_a_text();
     doubts();
     found_by_units();
     texts_of_char();
@@ -706,6 +816,9 @@ int main(void) {
     each_status_of_quantities();
     each_status_of_printing_quantities();
     each_status_of_replacing();
+    each_status_of_texts_in_figures();
+    each_status_of_finding_phrases();
+    each_status_of_ranges();
     each_status_of_printing_amounts();
     each_status_of_printing_signed_amounts();
     each_status_of_reading_amounts();

@@ -43,8 +43,12 @@ void first_steps() {
 
     if (auto quantity = chinese_to_quantity("12.5%"))
         std::cout << quantity->to_chinese().value_or("") << '\n'; // 百分之十二点五
-    const char *const sentence = "市值三点五亿元，占百分之十二点五";
-    std::cout << quantities_to_figures(sentence).value_or("") << '\n'; // 市值3.5亿元，占12.5%
+    const char *const sentence = "二零二六年一月五日下午三点半，三到五万元";
+    std::cout << text_to_figures(sentence).value_or("") << '\n'; // 2026年1月5日下午3点半，3万到5万元
+    for (const Item item : find_phrases(sentence))
+        if (const auto *phrase = std::get_if<Phrase>(&item); phrase && phrase->value)
+            if (const auto *date = std::get_if<Date>(&*phrase->value))
+                std::cout << date->year << '-' << date->month << '-' << date->day << '\n'; // 2026-1-5
 }
 
 /* Whether there is no result, with this status. */
@@ -142,6 +146,9 @@ void replaced_quantities() {
     expect("no UTF-8 to replace", is_refused(replace_quantities("一\xff", removed), Status::not_utf8));
     expect("no method to replace by", is_refused(replace_quantities("一", removed, {}, Way::digits), Status::unknown));
     expect("no UTF-8 for figures", is_refused(quantities_to_figures("\xff"), Status::not_utf8));
+    expect("nor for a text", is_refused(text_to_figures("\xff"), Status::not_utf8));
+    expect("no method for a text", is_refused(text_to_figures("一", {}, Way::digits), Status::unknown));
+    expect("a longer text of a range", text_to_figures("三到五百万亿").value_or("") == "300万亿到500万亿");
     expect("no method for figures", is_refused(quantities_to_figures("一", {}, Way::digits), Status::unknown));
     expect("a shorter text", quantities_to_figures("一百亿").value_or("") == "100亿");
 }
@@ -150,13 +157,14 @@ void replaced_quantities() {
 void options() {
     Included doubtful;
     doubtful.doubtful = true;
-    Figures expanded, canonical;
-    expanded.expanded = canonical.canonical = true;
+    Figures expanded, canonical, compact;
+    expanded.expanded = canonical.canonical = compact.compact = true;
     const auto in_figures = [](std::string_view text, Included included, Figures figures) {
         return quantities_to_figures(text, {}, Way::any, included, figures).value_or("");
     };
     expect("a longer text", in_figures("一百亿", {}, expanded) == "10000000000");
     expect("plain figures", in_figures("1,280元", {}, canonical) == "1280元");
+    expect("a short date", text_to_figures("二零二六年一月五日", {}, Way::any, {}, compact).value_or("") == "2026-01-05");
     expect("what is doubtful", in_figures("五一，八五折", doubtful, {}) == "51，八五折");
     const auto in_brackets = [](const Found &found) { return '[' + std::string(found.text) + ']'; };
     const auto replaced = [&](Included included) {
@@ -172,6 +180,58 @@ void doubts() {
     expect("digits", found.size() == 2 && found[0].doubt == Doubt::digits && found[0].is_plain);
     expect("no doubt", found[1].doubt == Doubt::none && !found[1].is_plain);
     expect("a number without doubt", (*find_numbers("五一").begin()).doubt == Doubt::none);
+}
+
+/* The phrases of a text, without the expressions that are in none. */
+std::vector<Phrase> phrases_of(std::string_view text) {
+    std::vector<Phrase> found;
+    for (const Item item : find_phrases(text))
+        if (const auto *phrase = std::get_if<Phrase>(&item))
+            found.push_back(*phrase);
+    return found;
+}
+
+/* The value of the only phrase of a text, if it has this type. */
+template <typename Value>
+std::optional<Value> value_of(std::string_view text) {
+    const std::vector<Phrase> found = phrases_of(text);
+    const Value *value = found.size() == 1 && found[0].value ? std::get_if<Value>(&*found[0].value) : nullptr;
+    return value ? std::optional<Value>(*value) : std::nullopt;
+}
+
+void values_of_phrases() {
+    using Pair = std::pair<std::uint32_t, std::uint32_t>;
+    const auto date = value_of<Date>("二零二六年一月五日");
+    expect("a date", date && date->year == 2026 && date->month == 1 && date->day == 5);
+    const auto month = value_of<PartialDate>("二零二六年一月"), era = value_of<PartialDate>("民国115年3月20日");
+    expect("a part of a date", month && month->year == 2026 && month->month == 1 && !month->day);
+    expect("a year of an era", era && era->year == 115 && era->month == 3 && era->day == 20);
+    expect("years", value_of<Pair>("一九九五至二〇〇三年") == Pair(1995, 2003));
+    expect("a score", value_of<Pair>("三比二") == Pair(3, 2));
+    const auto afternoon = value_of<ClockTime>("下午三点半"), unknown = value_of<ClockTime>("三点半");
+    expect("a time", afternoon && afternoon->hour == 3 && afternoon->minute == 30 && afternoon->second == 0);
+    expect("the hour of it", afternoon->hour_of_day == 15 && unknown && !unknown->hour_of_day);
+    expect("a duration", value_of<std::chrono::seconds>("一小时二十分") == std::chrono::minutes(80));
+    const Quantity half = {cn_unsigned(15), cn_unsigned(10), QuantityForm::decimal};
+    const Quantity length = {cn_unsigned(175), cn_unsigned(100), QuantityForm::decimal};
+    expect("a half", value_of<Quantity>("一个半小时") == half && value_of<Quantity>("一米七五") == length);
+    const auto range = value_of<std::pair<Quantity, Quantity>>("三到五万元");
+    expect("a range", range && range->first.to_whole<int>() == 30000 && range->second.to_whole<int>() == 50000);
+}
+
+void found_phrases() {
+    const Phrases items = find_phrases("二十人，二月三十日");
+    const std::vector<Item> found(items.begin(), items.end());
+    const auto *expression = std::get_if<Found>(&found[0]);
+    const auto *refused = std::get_if<Phrase>(&found[1]);
+    expect("two items", found.size() == 2 && items.status() == Status::done && expression && refused);
+    expect("an expression in none", expression->text == "二十" && expression->stands_alone && expression->end == 6);
+    expect("a refused phrase", refused->kind == PhraseKind::date && refused->state == PhraseState::refused && !refused->value);
+    expect("its place", refused->text == "二月三十日" && refused->start == 12 && refused->end == 27);
+    expect("a doubtful one", phrases_of("五到八折")[0].state == PhraseState::doubtful);
+    const Phrases none = find_phrases("一\xff");
+    expect("no phrases of no UTF-8", none.begin() == none.end() && none.status() == Status::not_utf8);
+    expect("nothing in figures", find_phrases("").status() == Status::none);
 }
 
 void amounts() {
@@ -242,6 +302,8 @@ int main() {
     replaced_quantities();
     options();
     doubts();
+    values_of_phrases();
+    found_phrases();
     amounts();
     refused_texts();
     found_numbers();

@@ -123,18 +123,60 @@ type Doubt uint32
 const (
 	// There is no reason.
 	NoDoubt Doubt = 0
-	// It is part of a word: 十二 of 十二指肠, 十一 of 双十一.
+	// It is part of a word or a title, or the year of an era: 十二 of 十二指肠, 十一 of 双十一, 四十一 of 乾隆四十一年.
 	DoubtWord Doubt = 1
-	// It is two or three Chinese digits, or more in rising order: 五一, 一二三四.
+	// It is two or three Chinese digits, or more in rising order, or two numbers: 五一, 一二三四, 十五十六.
 	DoubtDigits Doubt = 2
 	// It is part of a term: 负二 of 负二项, 十六 of 十六进制.
 	DoubtTerm Doubt = 3
-	// It is part of an expression with 折, 成 or 半: 八五 of 八五折, 一 of 一个半.
+	// It is part of an expression with 折, 成, 半 or 分之几: 八五 of 八五折, 一 of 一个半.
 	DoubtPart Doubt = 4
 	// It may be a time: 三点五 of 下午三点五, 十点零五.
 	DoubtTime Doubt = 5
 	// It is one end of a range whose ends share a unit or 百分之: 3 and 5万 of 3~5万.
 	DoubtRange Doubt = 6
+)
+
+// PhraseKind is what an item of a text is: an expression that is in no phrase, or a phrase of a
+// kind. The numbers of a phrase that follow here are called first, second, third and fourth
+// where a language has no type of its own for them.
+type PhraseKind uint32
+
+const (
+	// An expression in no phrase.
+	PhraseKindExpression PhraseKind = 0
+	// A date or a part of one: the year, the month, the day.
+	PhraseKindDate PhraseKind = 1
+	// From a year to another one.
+	PhraseKindYears PhraseKind = 2
+	// From a month to another one of the same year.
+	PhraseKindMonths PhraseKind = 3
+	// From a day to another one of the same month.
+	PhraseKindDays PhraseKind = 4
+	// A time of day: the hour as it is written, the minute, the second, the hour of 24.
+	PhraseKindTime PhraseKind = 5
+	// Hours, minutes and seconds.
+	PhraseKindDuration PhraseKind = 6
+	// A number and a half: the number without the half.
+	PhraseKindHalf PhraseKind = 7
+	// A number with decimals, as 一米七五: the number, the decimals, how many decimals there are.
+	PhraseKindLength PhraseKind = 8
+	// Two numbers that are compared.
+	PhraseKindScore PhraseKind = 9
+	// From a quantity to another one.
+	PhraseKindRange PhraseKind = 10
+)
+
+// PhraseState is what is known of a phrase.
+type PhraseState uint32
+
+const (
+	// It has a value.
+	PhraseStateCertain PhraseState = 0
+	// It has a value, but may mean something else: 1000年 of 1000年前, 五到八 of 五到八折.
+	PhraseStateDoubtful PhraseState = 1
+	// It has no value: it names a day or a time that does not exist, or does not rise.
+	PhraseStateRefused PhraseState = 2
 )
 
 // Input is what a text is meant to be, for the calls that say what may follow it and why it is
@@ -269,7 +311,7 @@ const (
 const TooLong Status = 4294967295
 
 // The words of Input, in the order of the codes.
-var inputs = []string{
+var wordsOfInput = []string{
 	"amount",
 	"signed_amount",
 	"typed_amount",
@@ -279,7 +321,7 @@ var inputs = []string{
 }
 
 // The words of Change, in the order of the codes.
-var changes = []string{
+var wordsOfChange = []string{
 	"none",
 	"insert",
 	"replace",
@@ -287,7 +329,7 @@ var changes = []string{
 }
 
 // The words of Fault, in the order of the codes.
-var faults = []string{
+var wordsOfFault = []string{
 	"none",
 	"empty",
 	"too_large",
@@ -308,8 +350,30 @@ var faults = []string{
 }
 
 // The words of Language, in the order of the codes.
-var languages = []string{
+var wordsOfLanguage = []string{
 	"en",
 	"zh-Hans",
 	"zh-Hant",
+}
+
+// The words of PhraseKind, in the order of the codes.
+var wordsOfPhraseKind = []string{
+	"expression",
+	"date",
+	"years",
+	"months",
+	"days",
+	"time",
+	"duration",
+	"half",
+	"length",
+	"score",
+	"range",
+}
+
+// The words of PhraseState, in the order of the codes.
+var wordsOfPhraseState = []string{
+	"certain",
+	"doubtful",
+	"refused",
 }

@@ -30,6 +30,11 @@ func Example() {
 	text, _ = cn.SignedAmountToChinese(fen, nil)
 	fmt.Println(text) // 负壹仟肆佰零玖元伍角整
 
+	text, _ = cn.TextToFigures("二零二六年一月五日下午三点半，三到五万元", nil)
+	fmt.Println(text) // 2026年1月5日下午3点半，3万到5万元
+	items, _ := cn.FindPhrases("二零二六年一月五日", nil)
+	fmt.Println(items[0].(cn.Phrase).Value) // 2026-01-05
+
 	_, err = cn.ChineseToAmount("壹佰贰元整")
 	var refusal *cn.Error
 	if errors.As(err, &refusal) {
@@ -46,8 +51,6 @@ func Example() {
 	fmt.Println(quantity.Rat()) // 1/8
 	text, _ = quantity.ToChinese(nil)
 	fmt.Println(text) // 百分之十二点五
-	text, _ = cn.QuantitiesToFigures("市值三点五亿元，占百分之十二点五", nil)
-	fmt.Println(text) // 市值3.5亿元，占12.5%
 	// Output:
 	// 50
 	// 120
@@ -55,13 +58,14 @@ func Example() {
 	// 十万五千
 	// 壹佰貳拾
 	// 负壹仟肆佰零玖元伍角整
+	// 2026年1月5日下午3点半，3万到5万元
+	// 2026-01-05
 	// 第3个字“贰”前缺“零”。
 	// 人民币壹拾伍元正
 	// 1500
 	// 贰零贰陆年零壹月壹拾伍日
 	// 1/8
 	// 百分之十二点五
-	// 市值3.5亿元，占12.5%
 }
 
 func ExampleError() {
@@ -271,6 +275,77 @@ func ExampleQuantitiesToFigures() {
 	// 市值3.5亿元，占12.5%，一共十几个
 	// 市值3.5亿元，占12.5%，1共10几个
 	// 市值350000000元，占12.5%，一共十几个
+}
+
+func ExampleTextToFigures() {
+	text := "二零二六年一月五日下午三点半，三到五万元，占百分之十二点五，一个半小时"
+	usual, _ := cn.TextToFigures(text, nil)
+	all, _ := cn.TextToFigures(text, &cn.Replacing{OneCharacter: true})
+	fmt.Println(usual)
+	fmt.Println(all)
+	// Output:
+	// 2026年1月5日下午3点半，3万到5万元，占12.5%，一个半小时
+	// 2026年1月5日下午3点半，3万到5万元，占12.5%，1个半小时
+}
+
+func ExampleFindPhrases() {
+	items, _ := cn.FindPhrases("二零二六年一月五日下午三点半，三到五万元，共十二人", nil)
+	for _, item := range items {
+		switch it := item.(type) {
+		case cn.Phrase:
+			fmt.Println(it.Kind, it.State, it.Text, it.Value)
+		case cn.Found:
+			quantity, err := it.Quantity(cn.Any)
+			fmt.Println(it.Text, quantity, err)
+		}
+	}
+	// Output:
+	// date certain 二零二六年一月五日 2026-01-05
+	// time certain 下午三点半 {3 30 0 15}
+	// range certain 三到五万 {30000 50000}
+	// 十二 12 <nil>
+}
+
+func ExampleEachPhrase() {
+	err := cn.EachPhrase("五月三日，二月三十日，三点半", nil, func(item cn.Item) bool {
+		phrase, isPhrase := item.(cn.Phrase)
+		if isPhrase && phrase.State == cn.PhraseStateRefused {
+			fmt.Println(phrase.Text, "does not exist")
+			return false
+		}
+		return true
+	})
+	fmt.Println(err)
+	// Output:
+	// 二月三十日 does not exist
+	// <nil>
+}
+
+func ExamplePhrase() {
+	text := "一月五日，三点半，一小时二十分，一个半月，三比二"
+	err := cn.EachPhrase(text, nil, func(item cn.Item) bool {
+		switch it := item.(cn.Phrase).Value.(type) {
+		case cn.PartialDate:
+			fmt.Println(it, it.HasYear, it.Month, it.Day)
+		case cn.ClockTime:
+			fmt.Println(it.Hour, it.Minute, it.HourOfDay == cn.UnknownHour)
+		case time.Duration:
+			fmt.Println(it)
+		case cn.Quantity:
+			fmt.Println(it.Rat())
+		case cn.Pair:
+			fmt.Println(it.First, it.Second)
+		}
+		return true
+	})
+	fmt.Println(err)
+	// Output:
+	// ????-01-05 false January 5
+	// 3 30 true
+	// 1h20m0s
+	// 3/2
+	// 3 2
+	// <nil>
 }
 
 func ExampleDoubt() {

@@ -59,6 +59,10 @@ func (it Found) Quantity(method Way) (Quantity, error) {
 	return ToQuantity(it.Text, method)
 }
 
+func (it Found) end() int {
+	return it.End
+}
+
 // way returns the way to read the text. An invalid way is returned, so that the reader refuses it.
 func (it Found) way(way Way) Way {
 	switch {
@@ -81,8 +85,8 @@ func FindNumbers(text string, wanted *Wanted) ([]Found, error) {
 // It searches the text lazily.
 func EachNumber(text string, wanted *Wanted, visit func(Found) bool) error {
 	upper, greatest := wanted.codes()
-	return each(text, visit, func(from C.size_t) C.found {
-		return C.find_numbers(text, from, upper, greatest)
+	return each(visit, func(from C.size_t) ([]Found, error) {
+		return foundIn(text, C.find_numbers(text, from, upper, greatest))
 	})
 }
 
@@ -96,38 +100,47 @@ func FindQuantities(text string, wanted *Wanted) ([]Found, error) {
 // returns false. It searches the text lazily.
 func EachQuantity(text string, wanted *Wanted, visit func(Found) bool) error {
 	upper, greatest := wanted.codes()
-	return each(text, visit, func(from C.size_t) C.found {
-		return C.find_quantities(text, from, upper, greatest)
+	return each(visit, func(from C.size_t) ([]Found, error) {
+		return foundIn(text, C.find_quantities(text, from, upper, greatest))
 	})
 }
 
 // all returns everything that a search finds.
-func all(
-	each func(string, *Wanted, func(Found) bool) error, text string, wanted *Wanted,
-) ([]Found, error) {
-	var found []Found
-	err := each(text, wanted, func(it Found) bool {
+func all[T Item](
+	each func(string, *Wanted, func(T) bool) error, text string, wanted *Wanted,
+) ([]T, error) {
+	var found []T
+	err := each(text, wanted, func(it T) bool {
 		found = append(found, it)
 		return true
 	})
 	return found, err
 }
 
-// each calls visit for everything found. next finds some at a time, after a number of bytes.
-func each(text string, visit func(Found) bool, next func(from C.size_t) C.found) error {
-	from := C.size_t(0)
+// each calls visit for everything found, and stops if visit returns false. next finds some at a
+// time, after a number of bytes.
+func each[T Item](visit func(T) bool, next func(from C.size_t) ([]T, error)) error {
+	from := 0
 	for {
-		some := next(from)
-		for _, span := range some.spans[:some.count] {
-			if !visit(foundAt(text, span)) {
+		some, err := next(C.size_t(from))
+		for _, it := range some {
+			if !visit(it) {
 				return nil
 			}
-			from = span.end
+			from = it.end()
 		}
-		if some.count < C.AT_ONCE {
-			return refusal(some.status)
+		if len(some) < C.AT_ONCE {
+			return err
 		}
 	}
+}
+
+func foundIn(text string, some C.found) ([]Found, error) {
+	found := make([]Found, some.count)
+	for index := range found {
+		found[index] = foundAt(text, some.spans[index])
+	}
+	return found, refusal(some.status)
 }
 
 func foundAt(text string, span C.cn_span) Found {

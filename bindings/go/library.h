@@ -148,15 +148,35 @@ static inline found find_quantities(_GoString_ text, size_t from, uint32_t upper
     return it;
 }
 
+/* Some phrases of a text, and expressions that are in none, likewise. */
+typedef struct { uint32_t status; size_t count; cn_phrase phrases[AT_ONCE]; } found_phrases;
+
+static inline found_phrases find_phrases(_GoString_ text, size_t from, uint32_t upper,
+                                         uint32_t greatest) {
+    found_phrases it;
+    it.status = (from == 0 ? chinese_phrase_find : chinese_phrase_find_utf8)(
+        TEXT(text), from, upper, greatest, it.phrases, AT_ONCE, &it.count);
+    return it;
+}
+
+typedef struct { uint32_t status; cn_quantity low, high; } range_read;
+
+static inline range_read read_range(_GoString_ first, _GoString_ second) {
+    range_read it;
+    it.status = chinese_range_read(TEXT(first), TEXT(second), &it.low, &it.high);
+    return it;
+}
+
 /* How many bytes a text has that was written into a buffer. */
 typedef struct { uint32_t status; size_t length; } written;
 
-static inline written write_figures(_GoString_ text, uint32_t upper, uint32_t greatest,
-                                    uint32_t method, uint32_t options, uint8_t *room,
-                                    size_t room_length) {
+/* Writes a text in figures, with its phrases (1) or without them (0). */
+static inline written write_figures(_GoString_ text, uint32_t phrases, uint32_t upper,
+                                    uint32_t greatest, uint32_t method, uint32_t options,
+                                    uint8_t *room, size_t room_length) {
     written it;
-    it.status = chinese_quantities_to_figures(TEXT(text), upper, greatest, method, options, room,
-                                              room_length, &it.length);
+    it.status = (phrases ? chinese_text_to_figures : chinese_quantities_to_figures)(
+        TEXT(text), upper, greatest, method, options, room, room_length, &it.length);
     return it;
 }
 

@@ -8,6 +8,7 @@ import (
 	"strings"
 	"sync"
 	"testing"
+	"time"
 
 	cn "chinese-number-proved/chinesenumber"
 )
@@ -128,6 +129,8 @@ func TestUnknownChoices(t *testing.T) {
 		"of found ones": errorOf(cn.Found{Text: "一", IsPlain: true}.Number(7)),
 		"to replace":    errorOf(cn.ReplaceQuantities("", &cn.Replacing{Method: 1}, everyOne)),
 		"in figures":    errorOf(cn.QuantitiesToFigures("", &cn.Replacing{Method: 7})),
+		"with phrases":  errorOf(cn.TextToFigures("", &cn.Replacing{Method: cn.Digits})),
+		"of phrases":    errorOf(cn.FindPhrases("一", &cn.Wanted{Greatest: 17})),
 		"an input":      errorOf(cn.InputExpected("", 6)),
 		"to repair":     errorOf(cn.InputRepair("", 6)),
 		"of a message":  errorOf(cn.InputMessage("", 6, cn.English)),
@@ -157,7 +160,9 @@ func errorsOf(text string) map[string]error {
 		"ChineseToDate":                errorOf(cn.ChineseToDate(text)),
 		"FindNumbers":                  errorOf(cn.FindNumbers(text, nil)),
 		"FindQuantities":               errorOf(cn.FindQuantities(text, nil)),
+		"FindPhrases":                  errorOf(cn.FindPhrases(text, nil)),
 		"QuantitiesToFigures":          errorOf(cn.QuantitiesToFigures(text, nil)),
+		"TextToFigures":                errorOf(cn.TextToFigures(text, nil)),
 		"ReplaceQuantities":            errorOf(cn.ReplaceQuantities(text, nil, everyOne)),
 		"InputExpected":                errorOf(cn.InputExpected(text, cn.InputAmount)),
 		"InputRepair":                  errorOf(cn.InputRepair(text, cn.InputDate)),
@@ -382,18 +387,38 @@ func TestLongTexts(t *testing.T) {
 	}
 }
 
+// A text that grows, and has more items than one call finds.
+func TestLongPhrases(t *testing.T) {
+	const many, piece, its = 1_000, "三亿，三到五万，", "300000000，30000到50000，"
+	text := strings.Repeat(piece, many)
+	figures, err := cn.TextToFigures(text, &cn.Replacing{Expanded: true})
+	wantStatus(t, piece, err, cn.Done)
+	if figures != strings.Repeat(its, many) {
+		t.Errorf("%d times %s is otherwise", many, piece)
+	}
+	items, err := cn.FindPhrases(text, nil)
+	wantStatus(t, piece, err, cn.Done)
+	last, _ := items[len(items)-1].(cn.Phrase)
+	if len(items) != 2*many || last.Text != "三到五万" || last.End != len(text)-len("，") {
+		t.Errorf("%d items, and the last is %v", len(items), last)
+	}
+}
+
 func TestSearchesStop(t *testing.T) {
 	const all = 20
 	text := strings.Repeat("三，", all)
 	for wanted := 1; wanted <= all; wanted++ {
 		count := 0
-		err := cn.EachQuantity(text, nil, func(found cn.Found) bool {
+		stop := func() bool {
 			count++
-			return count < wanted
-		})
+			return count%wanted != 0
+		}
+		err := cn.EachQuantity(text, nil, func(cn.Found) bool { return stop() })
 		wantStatus(t, "to search", err, cn.Done)
-		if count != wanted {
-			t.Errorf("%d are given, and not %d", count, wanted)
+		err = cn.EachPhrase(text, nil, func(cn.Item) bool { return stop() })
+		wantStatus(t, "to search", err, cn.Done)
+		if count != 2*wanted {
+			t.Errorf("%d are given, and not %d twice", count, wanted)
 		}
 	}
 	if found, _ := cn.FindNumbers(text, nil); len(found) != all {
@@ -433,6 +458,85 @@ func TestFoundByUnits(t *testing.T) {
 	for _, way := range []cn.Way{0, cn.Any, cn.TenThousand} {
 		wantStatus(t, "正33", errorOf(found[0].Number(way)), cn.Incorrect)
 		wantStatus(t, "正33", errorOf(found[0].BigInt(way)), cn.Incorrect)
+	}
+}
+
+// must is a quantity that can be made.
+func must(it cn.Quantity, err error) cn.Quantity {
+	if err != nil {
+		panic(err)
+	}
+	return it
+}
+
+// Texts that are one phrase, with what it is.
+var phrases = []struct {
+	text  string
+	kind  cn.PhraseKind
+	state cn.PhraseState
+	value any
+}{
+	{"二〇二六年三月五日", cn.PhraseKindDate, cn.PhraseStateCertain, cn.Date{2026, 3, 5}},
+	{"二〇二六年三月", cn.PhraseKindDate, 0, cn.PartialDate{true, 2026, 3, 0}},
+	{"一百一十五年三月五日", cn.PhraseKindDate, cn.PhraseStateDoubtful, cn.PartialDate{true, 115, 3, 5}},
+	{"〇〇年", cn.PhraseKindDate, 0, cn.PartialDate{HasYear: true}},
+	{"二月二十九日", cn.PhraseKindDate, 0, cn.PartialDate{Month: 2, Day: 29}},
+	{"2000年前", cn.PhraseKindDate, cn.PhraseStateDoubtful, cn.PartialDate{true, 2000, 0, 0}},
+	{"二月三十日", cn.PhraseKindDate, cn.PhraseStateRefused, nil},
+	{"二〇二〇到二〇二六年", cn.PhraseKindYears, 0, cn.Pair{2020, 2026}},
+	{"三到五月", cn.PhraseKindMonths, 0, cn.Pair{3, 5}},
+	{"三日至五日", cn.PhraseKindDays, 0, cn.Pair{3, 5}},
+	{"下午三点半", cn.PhraseKindTime, 0, cn.ClockTime{3, 30, 0, 15}},
+	{"晚上十二点", cn.PhraseKindTime, 0, cn.ClockTime{12, 0, 0, 24}},
+	{"三点十五分八秒", cn.PhraseKindTime, 0, cn.ClockTime{3, 15, 8, cn.UnknownHour}},
+	{"二小时五分", cn.PhraseKindDuration, 0, 125 * time.Minute},
+	{"九十分八秒", cn.PhraseKindDuration, 0, 90*time.Minute + 8*time.Second},
+	{"三个半月", cn.PhraseKindHalf, 0, must(cn.NewDecimal(35, 1))},
+	{"一米七", cn.PhraseKindLength, 0, must(cn.NewDecimal(17, 1))},
+	{"一米七五", cn.PhraseKindLength, 0, must(cn.NewDecimal(175, 2))},
+	{"一米零五", cn.PhraseKindLength, 0, must(cn.NewDecimal(105, 2))},
+	{"三比二", cn.PhraseKindScore, 0, cn.Pair{3, 2}},
+	{"三到五万", cn.PhraseKindRange, 0,
+		cn.Range{must(cn.NewDecimal(30_000, 0)), must(cn.NewDecimal(50_000, 0))}},
+	{"3–5.5%", cn.PhraseKindRange, 0,
+		cn.Range{must(cn.NewPercent(3, 0)), must(cn.NewPercent(55, 1))}},
+	{"八到八点五折", cn.PhraseKindRange, cn.PhraseStateDoubtful,
+		cn.Range{must(cn.NewDecimal(8, 0)), must(cn.NewDecimal(85, 1))}},
+	{"五到三", cn.PhraseKindRange, cn.PhraseStateRefused, nil},
+}
+
+func TestPhrases(t *testing.T) {
+	for _, row := range phrases {
+		items, err := cn.FindPhrases(row.text, nil)
+		wantStatus(t, row.text, err, cn.Done)
+		if len(items) != 1 {
+			t.Errorf("%s is %v", row.text, items)
+			continue
+		}
+		it, _ := items[0].(cn.Phrase)
+		if it.Kind != row.kind || it.State != row.state || it.Value != row.value {
+			t.Errorf("%s is %v", row.text, it)
+		}
+		if it.Start != 0 || it.Text != row.text[:it.End] {
+			t.Errorf("%s is not at %d to %d of %s", it.Text, it.Start, it.End, row.text)
+		}
+	}
+}
+
+// Expressions in no phrase are the items that FindQuantities returns.
+func TestItems(t *testing.T) {
+	const text = "五一假期，十几人，共3.5万，八五折，一般，三分之一，七"
+	found, err := cn.FindQuantities(text, nil)
+	wantStatus(t, text, err, cn.Done)
+	items, err := cn.FindPhrases(text, nil)
+	wantStatus(t, text, err, cn.Done)
+	if len(items) != len(found) {
+		t.Fatal(items)
+	}
+	for index, it := range found {
+		if items[index] != cn.Item(it) {
+			t.Errorf("%v, and not %v", items[index], it)
+		}
 	}
 }
 

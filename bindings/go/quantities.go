@@ -75,8 +75,7 @@ func ToQuantity(text string, method Way) (Quantity, error) {
 	result := &it.result
 	from := source{text: text, reader: readsQuantity, way: method}
 	err := from.refusal(it.status, result.char_index, result.byte_index)
-	above, below := halvesOf(result.numerator), halvesOf(result.denominator)
-	return Quantity{above, below, Form(result.form)}, err
+	return quantityOf(result), err
 }
 
 // ExplainQuantity returns why ToQuantity refuses a text: FaultLeftOutZero for 一亿二千. NoFault means
@@ -155,6 +154,10 @@ func (it Quantity) ToFigures() string {
 // String returns the figures.
 func (it Quantity) String() string {
 	return it.ToFigures()
+}
+
+func quantityOf(it *C.cn_quantity) Quantity {
+	return Quantity{halvesOf(it.numerator), halvesOf(it.denominator), Form(it.form)}
 }
 
 func (it Quantity) quantity() C.cn_quantity {

@@ -18,12 +18,22 @@ type Replacing struct {
 	OneCharacter bool
 	// Doubtful adds doubtful quantities, such as 五一, except those with DoubtPart.
 	Doubtful bool
-	// Expanded is only for QuantitiesToFigures: 万, 亿 and so on are written out, and 三千五百亿 becomes
-	// 350000000000, not 3500亿.
+	// Expanded is only for figures: 万, 亿 and so on are written out, and 三千五百亿 becomes 350000000000,
+	// not 3500亿.
 	Expanded bool
-	// Canonical is only for QuantitiesToFigures: what is only figures is rewritten in ASCII, without
-	// commas and leading zeros.
+	// Canonical is only for figures: what is only figures is rewritten in ASCII, without commas and
+	// leading zeros.
 	Canonical bool
+	// Compact is only for TextToFigures: dates, times and halves are as short as possible, such as
+	// 2026-01-05, 15:30 and 1.5小时.
+	Compact bool
+}
+
+// options returns the codes of the other fields, for figures.
+func (it *Replacing) options() C.uint32_t {
+	return flag(it.About, C.CN_ABOUT) | flag(it.OneCharacter, C.CN_ONE_CHARACTER) |
+		flag(it.Doubtful, C.CN_DOUBTFUL) | flag(it.Expanded, C.CN_EXPANDED) |
+		flag(it.Canonical, C.CN_CANONICAL) | flag(it.Compact, C.CN_COMPACT)
 }
 
 // takes says whether a quantity that was found is to be replaced.
@@ -76,18 +86,30 @@ func ReplaceQuantities(
 // date, a time, a length, an amount or a range of which one part stays. The errors are those of
 // ReplaceQuantities.
 func QuantitiesToFigures(text string, which *Replacing) (string, error) {
+	return inFigures(text, which, 0)
+}
+
+// TextToFigures rewrites a text in figures like QuantitiesToFigures, but with its phrases, which
+// FindPhrases finds: dates, times, durations, ranges, scores, halves and lengths.
+// 二零二六年一月五日下午三点半，三到五万元 becomes 2026年1月5日下午3点半，3万到5万元. The words of a phrase stay, and so does a
+// phrase that is refused. Doubtful phrases stay unless Replacing has Doubtful, and halves after one
+// Chinese character, as in 一个半小时, unless it has OneCharacter. The errors are those of
+// QuantitiesToFigures.
+func TextToFigures(text string, which *Replacing) (string, error) {
+	return inFigures(text, which, 1)
+}
+
+// inFigures rewrites a text in figures, with its phrases (1) or without them (0).
+func inFigures(text string, which *Replacing, phrases C.uint32_t) (string, error) {
 	if which == nil {
 		which = &Replacing{}
 	}
 	upper, greatest := which.Wanted.codes()
-	method := code(which.Method, Any)
-	options := flag(which.About, C.CN_ABOUT) | flag(which.OneCharacter, C.CN_ONE_CHARACTER) |
-		flag(which.Doubtful, C.CN_DOUBTFUL) | flag(which.Expanded, C.CN_EXPANDED) |
-		flag(which.Canonical, C.CN_CANONICAL)
+	method, options := code(which.Method, Any), which.options()
 	room := make([]byte, len(text)+1)
 	for {
 		start, length := (*C.uint8_t)(&room[0]), C.size_t(len(room))
-		it := C.write_figures(text, upper, greatest, method, options, start, length)
+		it := C.write_figures(text, phrases, upper, greatest, method, options, start, length)
 		if it.status != C.CN_NO_ROOM {
 			return string(room[:it.length]), refusal(it.status)
 		}

@@ -1,13 +1,15 @@
 """Answers the questions of test.py, which says what they are, a line each."""
+import re
 import sys
-from datetime import date
+from datetime import date, time, timedelta
 
-from chinese_number import Quantity, QuantityForm, amount_to_chinese, chinese_to_amount
-from chinese_number import chinese_to_amount_as_typed, chinese_to_date, chinese_to_signed_amount
-from chinese_number import chinese_to_signed_amount_as_typed, date_to_chinese, explain_number
-from chinese_number import explain_quantity, find_numbers, find_quantities, input_expected
-from chinese_number import input_message, input_repair, number_message, quantities_to_figures
-from chinese_number import quantity_message, replace_quantities, signed_amount_to_chinese
+from chinese_number import Phrase, PhraseKind, Quantity, QuantityForm, amount_to_chinese
+from chinese_number import chinese_to_amount, chinese_to_amount_as_typed, chinese_to_date
+from chinese_number import chinese_to_signed_amount, chinese_to_signed_amount_as_typed
+from chinese_number import date_to_chinese, explain_number, explain_quantity, find_numbers
+from chinese_number import find_phrases, find_quantities, input_expected, input_message
+from chinese_number import input_repair, number_message, quantities_to_figures, quantity_message
+from chinese_number import replace_quantities, signed_amount_to_chinese, text_to_figures
 from chinese_number import to_chinese, to_number, to_quantity, yuan_to_fen
 
 # Words of the questions for which this package has other words.
@@ -26,6 +28,8 @@ FLAGS = {
     "about": "is_about",
     "one": "is_one_character",
 }
+# What may be before the hour of a time and has a number in it.
+WEEKDAY = re.compile("^(周|週|星期|[礼禮]拜).")
 OPTIONS = {
     "none": {},
     "about": {"about": True},
@@ -33,6 +37,7 @@ OPTIONS = {
     "doubtful": {"doubtful": True},
     "expanded": {"expanded": True},
     "canonical": {"canonical": True},
+    "compact": {"compact": True},
 }
 
 
@@ -75,8 +80,12 @@ def write_date(script, day):
     return date_to_chinese(date.fromisoformat(day), script=OTHERS.get(script, script))
 
 
+def over(quantity):
+    return f"{quantity.numerator}/{quantity.denominator}"
+
+
 def shown(quantity):
-    return f"{quantity.numerator}/{quantity.denominator} {quantity.form.value}"
+    return f"{over(quantity)} {quantity.form.value}"
 
 
 def quantity_of(words):
@@ -99,6 +108,10 @@ def options(words):
 
 def replace_with_figures(words, text):
     return quantities_to_figures(text, **options(words))
+
+
+def write_in_figures(words, text):
+    return text_to_figures(text, **options(words))
 
 
 def in_numerals(found):
@@ -139,6 +152,54 @@ def find_expressions(text):
 def find_doubts(text):
     answer = lambda found: found.doubt.value if found.doubt else "none"
     return in_place(text, find_quantities(text), answer)
+
+
+def pair_of(phrase):
+    return "..".join(map(str, phrase.value))
+
+
+def decimal_of(phrase):
+    return over(Quantity.of(phrase.value))
+
+
+def day_of(phrase):
+    parts = phrase.value.year, phrase.value.month, phrase.value.day
+    return "-".join("?" if part is None else str(part) for part in parts)
+
+
+def time_of(phrase):
+    """The time with its hour as it is written, which a datetime.time does not have."""
+    it = phrase.value
+    of_day = it.hour if isinstance(it, time) else it.hour_of_day
+    hour = next(find_numbers(WEEKDAY.sub("", phrase.text))).number()
+    return f"{hour}:{it.minute}:{it.second} ={'?' if of_day is None else of_day}"
+
+
+def duration_of(phrase):
+    minutes, seconds = divmod(phrase.value // timedelta(seconds=1), 60)
+    return f"{minutes // 60}:{minutes % 60}:{seconds}"
+
+
+VALUES = {
+    PhraseKind.DATE: day_of,
+    PhraseKind.YEARS: pair_of,
+    PhraseKind.MONTHS: pair_of,
+    PhraseKind.DAYS: pair_of,
+    PhraseKind.TIME: time_of,
+    PhraseKind.DURATION: duration_of,
+    PhraseKind.HALF: decimal_of,
+    PhraseKind.LENGTH: decimal_of,
+    PhraseKind.SCORE: lambda phrase: ":".join(map(str, phrase.value)),
+    PhraseKind.RANGE: lambda phrase: "..".join(map(over, phrase.value)),
+}
+
+
+def phrases(text):
+    """The phrases of a text, with a tab between them."""
+    found = [it for it in find_phrases(text) if isinstance(it, Phrase)]
+    values = ["-" if it.value is None else VALUES[it.kind](it) for it in found]
+    words = [(it.kind.value, it.state.value, it.text, value) for it, value in zip(found, values)]
+    return "\t".join(map(" ".join, words))
 
 
 def expected(of, text):
@@ -190,6 +251,8 @@ CALLS = {
     "trim_quantity": lambda words: shown(quantity_of(words).trimmed()),
     "quantities_to_figures": replace_with_figures,
     "replace_quantities": replace_with_numerals,
+    "text_to_figures": write_in_figures,
+    "phrases": phrases,
     "expected": expected,
     "repair": repair,
     "explain": explain,

@@ -267,7 +267,13 @@ static PyObject *read_number(PyObject *module, PyObject *given) {
                          (unsigned long long)it.number.high, (Py_ssize_t)it.char_index);
 }
 
-/* The words of a quantity are the halves of its numerator and of its denominator, and its form. */
+/* The words of a quantity: the halves of its numerator and of its denominator, and its form. */
+static PyObject *words_of(const cn_quantity *it) {
+    cn_number above = it->numerator, below = it->denominator;
+    return Py_BuildValue("KKKKI", (unsigned long long)above.low, (unsigned long long)above.high,
+                         (unsigned long long)below.low, (unsigned long long)below.high, it->form);
+}
+
 static PyObject *read_quantity(PyObject *module, PyObject *given) {
     text from;
     PyObject *string;
@@ -277,10 +283,7 @@ static PyObject *read_quantity(PyObject *module, PyObject *given) {
         return NULL;
     uint32_t status = chinese_quantity_read(from.bytes, from.length, method, &it);
     give_back(&from);
-    cn_number above = it.numerator, below = it.denominator;
-    return Py_BuildValue("I(KKKKI)n", status, (unsigned long long)above.low,
-                         (unsigned long long)above.high, (unsigned long long)below.low,
-                         (unsigned long long)below.high, it.form, (Py_ssize_t)it.char_index);
+    return Py_BuildValue("INn", status, words_of(&it), (Py_ssize_t)it.char_index);
 }
 
 /* Whether 64 bits hold a number of a kind with its sign. */
@@ -392,8 +395,12 @@ static PyObject *print_figures(PyObject *module, PyObject *words) {
     return Py_BuildValue("IN", status, figures);
 }
 
-/* The text with its quantities in figures. `data` is the text in UTF-8. */
-static PyObject *quantities_to_figures(PyObject *module, PyObject *given) {
+typedef uint32_t rewriting(const uint8_t *text, size_t text_length, uint32_t upper,
+                           uint32_t greatest, uint32_t method, uint32_t options, uint8_t *room,
+                           size_t room_length, size_t *length);
+
+/* A text that a call has rewritten in figures. `data` is the text in UTF-8. */
+static PyObject *rewritten(PyObject *given, rewriting *call) {
     PyObject *data, *room = NULL;
     char *bytes;
     Py_ssize_t given_length;
@@ -411,13 +418,21 @@ static PyObject *quantities_to_figures(PyObject *module, PyObject *given) {
             return NULL;
         uint8_t *to = (uint8_t *)PyBytes_AsString(room);
         PyThreadState *thread = let_go((size_t)given_length);
-        status = chinese_quantities_to_figures((const uint8_t *)bytes, (size_t)given_length, upper,
-                                               greatest, method, options, to, most, &length);
+        status = call((const uint8_t *)bytes, (size_t)given_length, upper, greatest, method,
+                      options, to, most, &length);
         take_back(thread);
     }
     PyObject *text = PyUnicode_DecodeUTF8(PyBytes_AsString(room), (Py_ssize_t)length, NULL);
     Py_DECREF(room);
     return Py_BuildValue("IN", status, text);
+}
+
+static PyObject *quantities_to_figures(PyObject *module, PyObject *given) {
+    return rewritten(given, chinese_quantities_to_figures);
+}
+
+static PyObject *text_to_figures(PyObject *module, PyObject *given) {
+    return rewritten(given, chinese_text_to_figures);
 }
 
 /* to_chinese for a signed int of 64 bits and known words. */
@@ -579,8 +594,13 @@ static PyType_Spec RUN = {
     RUN_SLOTS,
 };
 
-typedef uint32_t search(const uint8_t *text, size_t length, size_t from, uint32_t upper,
-                        uint32_t greatest, cn_span *spans, size_t most, size_t *count);
+/* A search in a text: its arguments, and the characters before the last result and before its end. */
+typedef struct search {
+    PyObject *string, *class;
+    const uint8_t *bytes;
+    Py_ssize_t length, searched, start, index;
+    unsigned upper, greatest;
+} search;
 
 /* The bytes of a result of utf8, and how many they are; or NULL. */
 static const uint8_t *bytes_of(PyObject *data, Py_ssize_t *length) {
@@ -594,60 +614,83 @@ static const uint8_t *bytes_of(PyObject *data, Py_ssize_t *length) {
     return (const uint8_t *)bytes;
 }
 
-/* Makes a run that was found in a text. */
-static PyObject *found_run(PyObject *class, PyObject *string, Py_ssize_t start, Py_ssize_t end,
-                           uint32_t flags) {
-    run *it = new_run((PyTypeObject *)class, string);
+/* Takes the arguments of a search: a text, the result of utf8 for it, how many bytes and how many
+ * characters to skip, two codes, and the class of the runs. */
+static int begin_search(PyObject *module, PyObject *given, search *it) {
+    state *own = PyModule_GetState(module);
+    PyObject *data;
+    if (!PyArg_ParseTuple(given, "UOnnIIO!", &it->string, &data, &it->searched, &it->index,
+                          &it->upper, &it->greatest, &PyType_Type, &it->class))
+        return 0;
+    it->bytes = bytes_of(data, &it->length);
+    if (!it->bytes)
+        return 0;
+    if (it->searched < 0 || it->searched > it->length ||
+        !PyType_IsSubtype((PyTypeObject *)it->class, (PyTypeObject *)own->run)) {
+        PyErr_SetString(PyExc_ValueError, "expected a place in the bytes and a class of runs");
+        return 0;
+    }
+    return 1;
+}
+
+/* Goes on to a result between two bytes. */
+static void go_on(search *it, size_t start, size_t end) {
+    const uint8_t *first = it->bytes + start, *last = it->bytes + end;
+    it->start = it->index + characters(it->bytes + it->searched, first);
+    it->index = it->start + characters(first, last);
+    it->searched = (Py_ssize_t)end;
+}
+
+/* Makes a run for the result of a search. */
+static PyObject *found_run(const search *of, uint32_t flags) {
+    run *it = new_run((PyTypeObject *)of->class, of->string);
     if (it) {
-        it->start = start;
-        it->end = end;
+        it->start = of->start;
+        it->end = of->index;
         it->flags = flags;
         it->is_found = 1;
     }
     return (PyObject *)it;
 }
 
-/* Finds the next numbers of a text, or what another search finds, after a number of bytes and
- * characters. Returns the status, a list of runs of a class, and where the search stopped, in bytes
- * and in characters. `data` is the result of utf8 for the text. */
-static PyObject *find(PyObject *module, PyObject *given, search *next) {
-    state *own = PyModule_GetState(module);
-    PyObject *string, *data, *class;
-    Py_ssize_t length, searched, index;
-    unsigned upper, greatest;
-    cn_span spans[AT_ONCE];
-    size_t count;
-    if (!PyArg_ParseTuple(given, "UOnnIIO!", &string, &data, &searched, &index, &upper, &greatest,
-                          &PyType_Type, &class))
-        return NULL;
-    const uint8_t *bytes = bytes_of(data, &length);
-    if (!bytes)
-        return NULL;
-    if (searched < 0 || searched > length ||
-        !PyType_IsSubtype((PyTypeObject *)class, (PyTypeObject *)own->run)) {
-        PyErr_SetString(PyExc_ValueError, "expected a place in the bytes and a class of runs");
-        return NULL;
-    }
-    PyThreadState *thread = let_go((size_t)(length - searched));
-    uint32_t status = next(bytes, (size_t)length, (size_t)searched, upper, greatest, spans, AT_ONCE,
-                           &count);
-    take_back(thread);
-    PyObject *made = PyList_New((Py_ssize_t)count);
-    int failed = !made;
-    for (size_t i = 0; !failed && i < count; i++) {
-        const cn_span *span = &spans[i];
-        const uint8_t *start = bytes + span->start, *end = bytes + span->end;
-        Py_ssize_t first = index + characters(bytes + searched, start);
-        index = first + characters(start, end);
-        searched = end - bytes;
-        PyObject *found = found_run(class, string, first, index, span->flags);
-        failed = !found || PyList_SetItem(made, (Py_ssize_t)i, found);
-    }
+/* Puts a result in the list of all, and returns whether that failed. */
+static int put_found(PyObject *made, size_t at, PyObject *found) {
+    return !found || PyList_SetItem(made, (Py_ssize_t)at, found);
+}
+
+/* The status, a list of results, and where the search stopped, in bytes and in characters; or NULL
+ * if something failed. */
+static PyObject *end_search(const search *it, uint32_t status, PyObject *made, size_t count,
+                            int failed) {
     if (failed) {
         Py_XDECREF(made);
         return NULL;
     }
-    return Py_BuildValue("INnn", status, made, count < AT_ONCE ? length : searched, index);
+    return Py_BuildValue("INnn", status, made, count < AT_ONCE ? it->length : it->searched,
+                         it->index);
+}
+
+typedef uint32_t finder(const uint8_t *text, size_t length, size_t from, uint32_t upper,
+                        uint32_t greatest, cn_span *spans, size_t most, size_t *count);
+
+/* Finds the next numbers or expressions of a text, as runs. */
+static PyObject *find(PyObject *module, PyObject *given, finder *next) {
+    search it;
+    cn_span spans[AT_ONCE];
+    size_t count;
+    if (!begin_search(module, given, &it))
+        return NULL;
+    PyThreadState *thread = let_go((size_t)(it.length - it.searched));
+    uint32_t status = next(it.bytes, (size_t)it.length, (size_t)it.searched, it.upper, it.greatest,
+                           spans, AT_ONCE, &count);
+    take_back(thread);
+    PyObject *made = PyList_New((Py_ssize_t)count);
+    int failed = !made;
+    for (size_t i = 0; !failed && i < count; i++) {
+        go_on(&it, spans[i].start, spans[i].end);
+        failed = put_found(made, i, found_run(&it, spans[i].flags));
+    }
+    return end_search(&it, status, made, count, failed);
 }
 
 static PyObject *find_numbers(PyObject *module, PyObject *given) {
@@ -656,6 +699,49 @@ static PyObject *find_numbers(PyObject *module, PyObject *given) {
 
 static PyObject *find_quantities(PyObject *module, PyObject *given) {
     return find(module, given, chinese_quantity_find_utf8);
+}
+
+/* The words of the two quantities of a range. One that is refused has zeros. */
+static PyObject *ends_of(const uint8_t *bytes, const cn_phrase *of) {
+    const uint8_t *link = bytes + of->start + of->split, *end = bytes + of->end, *second = link;
+    cn_quantity low, high;
+    do
+        second++;
+    while (second < end && (*second & 0xC0) == 0x80);
+    chinese_range_read(bytes + of->start, of->split, second, (size_t)(end - second), &low, &high);
+    return Py_BuildValue("NN", words_of(&low), words_of(&high));
+}
+
+/* The place, the text, the codes and the numbers of a phrase. */
+static PyObject *found_phrase(const search *it, const cn_phrase *of) {
+    PyObject *numbers = of->kind == CN_PHRASE_KIND_RANGE
+                            ? ends_of(it->bytes, of)
+                            : Py_BuildValue("IIII", of->first, of->second, of->third, of->fourth);
+    return Py_BuildValue("nnNIIN", it->start, it->index,
+                         PyUnicode_Substring(it->string, it->start, it->index), of->kind, of->state,
+                         numbers);
+}
+
+/* Finds the next phrases of a text, and its expressions that are in none, as runs. */
+static PyObject *find_phrases(PyObject *module, PyObject *given) {
+    search it;
+    cn_phrase phrases[AT_ONCE];
+    size_t count;
+    if (!begin_search(module, given, &it))
+        return NULL;
+    PyThreadState *thread = let_go((size_t)(it.length - it.searched));
+    uint32_t status = chinese_phrase_find_utf8(it.bytes, (size_t)it.length, (size_t)it.searched,
+                                               it.upper, it.greatest, phrases, AT_ONCE, &count);
+    take_back(thread);
+    PyObject *made = PyList_New((Py_ssize_t)count);
+    int failed = !made;
+    for (size_t i = 0; !failed && i < count; i++) {
+        const cn_phrase *of = &phrases[i];
+        go_on(&it, of->start, of->end);
+        int is_run = of->kind == CN_PHRASE_KIND_EXPRESSION;
+        failed = put_found(made, i, is_run ? found_run(&it, of->flags) : found_phrase(&it, of));
+    }
+    return end_search(&it, status, made, count, failed);
 }
 
 #define CALL(name, words) {#name, name, words, NULL}
@@ -668,7 +754,8 @@ static PyMethodDef METHODS[] = {
     CALL(print_signed_amount, METH_VARARGS), CALL(print_date, METH_VARARGS),
     CALL(find_numbers, METH_VARARGS), CALL(read_quantity, METH_VARARGS),
     CALL(print_quantity, METH_VARARGS), CALL(print_figures, METH_O),
-    CALL(find_quantities, METH_VARARGS), CALL(quantities_to_figures, METH_VARARGS),
+    CALL(find_quantities, METH_VARARGS), CALL(find_phrases, METH_VARARGS),
+    CALL(quantities_to_figures, METH_VARARGS), CALL(text_to_figures, METH_VARARGS),
     {NULL, NULL, 0, NULL},
 };
 

@@ -29,7 +29,7 @@ static const char *const MARKS[] = {
     "零", "一", "二", "两", "十", "百", "千", "萬", "億", "兆", "極", "個", "負", "壹", "贰", "玖",
     "拾", "佰", "仟", "万", "亿", "元", "圆", "角", "分", "整", "正", "人民币", "年", "月", "日", "第",
     "，", "5", "０", "-", "−", "¥", ".", ",", "%", "点", "之", "廿", "⊗", "：", "x", " ", "\t",
-    "（负数）", "(負數)", "ⓧ", "（大写）", "块", "〇", "。",
+    "（负数）", "(負數)", "ⓧ", "（大写）", "块", "〇", "。", "到", "半", "小时", "下午", "比", "米", ":",
     "\xe4\xb8", "\xf0\x9f\x98\x80", "\xc3\xa9", "\xff",
 };
 enum { COUNT_OF_MARKS = sizeof MARKS / sizeof *MARKS };
@@ -111,25 +111,32 @@ static void try_read(run *r, const text *t, uint32_t kind, uint32_t way) {
     }
 }
 
+static void add_quantity(run *r, uint32_t status, const cn_quantity *quantity) {
+    cn_reading numerator = {quantity->numerator, quantity->char_index, quantity->byte_index};
+    add_reading(r, status, &numerator);
+    add_word(r, quantity->denominator.low);
+    add_word(r, quantity->denominator.high);
+    add_word(r, quantity->form);
+}
+
 static void try_read_quantity(run *r, const text *t, uint32_t method) {
     cn_quantity quantity = {{1, 2}, {3, 4}, 5, 6, 7};
     uint32_t status = chinese_quantity_read(t->bytes, t->length, method, &quantity);
-    cn_reading numerator = {quantity.numerator, quantity.char_index, quantity.byte_index};
-    add_reading(r, status, &numerator);
-    add_word(r, quantity.denominator.low);
-    add_word(r, quantity.denominator.high);
-    add_word(r, quantity.form);
+    add_quantity(r, status, &quantity);
 }
 
+typedef uint32_t to_figures(const uint8_t *, size_t, uint32_t, uint32_t, uint32_t, uint32_t, uint8_t *,
+                            size_t, size_t *);
+
 /* Each code is drawn in its own statement: the order in which arguments are evaluated may vary. */
-static void try_replace(run *r, const text *t) {
+static void try_replace(run *r, const text *t, to_figures *write) {
     static const uint32_t INCLUDED[] = {0, CN_ABOUT, CN_ONE_CHARACTER, CN_ABOUT | CN_ONE_CHARACTER, 1};
     uint8_t room[MOST];
     uint32_t upper = code(r, 2), greatest = code(r, CN_JI + 1), method = code(r, CN_ANY + 1);
     uint32_t included = INCLUDED[code(r, 4)];
     size_t most = below(r, 4) == 0 ? below(r, MOST) : MOST, length = 9;
-    uint32_t status = chinese_quantities_to_figures(t->bytes, t->length, upper, greatest, method,
-                                                    included, room, most, &length);
+    uint32_t status = write(t->bytes, t->length, upper, greatest, method, included, room, most,
+                            &length);
     add_word(r, status);
     add_word(r, length);
     if (status == CN_DONE)
@@ -158,6 +165,47 @@ static void try_find(run *r, const text *t, finding *find, finding *find_utf8) {
         status = find_utf8(t->bytes, t->length, spans[count - 1].end, upper, greatest, spans,
                            most, &count);
     }
+}
+
+static void add_phrase(run *r, const cn_phrase *phrase) {
+    add_word(r, phrase->start);
+    add_word(r, phrase->end);
+    add_word(r, phrase->split);
+    add_word(r, phrase->kind);
+    add_word(r, phrase->state);
+    add_word(r, phrase->flags);
+    add_word(r, phrase->first);
+    add_word(r, phrase->second);
+    add_word(r, phrase->third);
+    add_word(r, phrase->fourth);
+}
+
+static void try_find_phrases(run *r, const text *t) {
+    cn_phrase phrases[MOST_SPANS] = {{1, 2, 3, 4, 5, 6, 7, 8, 9, 10}};
+    uint32_t upper = code(r, 2);
+    uint32_t greatest = code(r, CN_JI + 1);
+    size_t most = below(r, MOST_SPANS + 1), from = below(r, 4), count = 9;
+    uint32_t status = chinese_phrase_find(t->bytes, t->length, from, upper, greatest, phrases, most,
+                                          &count);
+    for (;;) {
+        add_word(r, status);
+        add_word(r, count);
+        for (size_t i = 0; i < MOST_SPANS; i++)
+            add_phrase(r, phrases + i);
+        if (count == 0 || count < most)
+            return;
+        status = chinese_phrase_find_utf8(t->bytes, t->length, phrases[count - 1].end, upper,
+                                          greatest, phrases, most, &count);
+    }
+}
+
+/* The ends of a range are the two parts of a text, of which either may be empty, or cut. */
+static void try_read_range(run *r, const text *t) {
+    cn_quantity ends[2] = {{{1, 2}, {3, 4}, 5, 6, 7}, {{1, 2}, {3, 4}, 5, 6, 7}};
+    size_t at = below(r, (uint32_t)t->length + 1);
+    add_word(r, chinese_range_read(t->bytes, at, t->bytes + at, t->length - at, ends, ends + 1));
+    for (int i = 0; i < 2; i++)
+        add_quantity(r, CN_DONE, ends + i);
 }
 
 static void add_amount(run *r, uint32_t status, const cn_amount *amount) {
@@ -263,7 +311,10 @@ static void try_read_and_find(run *r, const text *t) {
     try_explain(r, t, kind, way);
     try_find(r, t, chinese_number_find, chinese_number_find_utf8);
     try_find(r, t, chinese_quantity_find, chinese_quantity_find_utf8);
-    try_replace(r, t);
+    try_find_phrases(r, t);
+    try_read_range(r, t);
+    try_replace(r, t, chinese_quantities_to_figures);
+    try_replace(r, t, chinese_text_to_figures);
 }
 
 /* What was printed, with the whole buffer, and as a text to be read. */

@@ -2,11 +2,12 @@
 import { readFileSync } from 'node:fs';
 
 import {
-  Quantity, amountToChinese, chineseToAmountAsTypedBigInt, chineseToAmountBigInt, chineseToDate,
-  chineseToSignedAmountAsTypedBigInt, chineseToSignedAmountBigInt, dateToChinese, explainNumber,
-  explainQuantity, findNumbers, findQuantities, inputExpected, inputMessage, inputRepair,
-  numberMessage, quantitiesToFigures, quantityMessage, replaceQuantities, signedAmountToChinese,
-  toBigInt, toChinese, toQuantity, yuanToFenBigInt,
+  Phrase, Quantity, amountToChinese, chineseToAmountAsTypedBigInt, chineseToAmountBigInt,
+  chineseToDate, chineseToSignedAmountAsTypedBigInt, chineseToSignedAmountBigInt, dateToChinese,
+  explainNumber, explainQuantity, findNumbers, findPhrases, findQuantities, inputExpected,
+  inputMessage, inputRepair, numberMessage, quantitiesToFigures, quantityMessage,
+  replaceQuantities, signedAmountToChinese, textToFigures, toBigInt, toChinese, toQuantity,
+  yuanToFenBigInt,
 } from './chinese-number.mjs';
 
 // The names in this binding for words of the questions, and the reverse.
@@ -21,7 +22,7 @@ const SETS = {
   upright_closing: { closing: '正' }, bracketed_sign: { bracketedSign: true },
   none: {}, about: { about: true },
   one: { oneCharacter: true }, doubtful: { doubtful: true }, expanded: { expanded: true },
-  canonical: { canonical: true },
+  canonical: { canonical: true }, compact: { compact: true },
 };
 const optionsOf = (words) => Object.assign({}, ...words.split('+').map((it) => SETS[it]));
 
@@ -52,7 +53,8 @@ function quantityOf(words) {
   return new Quantity(BigInt(numerator), BigInt(denominator), form);
 }
 
-const shown = ({ numerator, denominator, form }) => `${numerator}/${denominator} ${form}`;
+const exact = ({ numerator, denominator }) => `${numerator}/${denominator}`;
+const shown = (quantity) => `${exact(quantity)} ${quantity.form}`;
 
 function flagsOf(found) {
   const flags = {
@@ -75,6 +77,27 @@ function inPlace(search, text, tell) {
     at = found.end;
   }
   return done + text.slice(at);
+}
+
+// The value of a phrase of each kind in words.
+const fromTo = ([first, last]) => `${first}..${last}`;
+const VALUES = {
+  date: ({ year = '?', month = '?', day = '?' }) => `${year}-${month}-${day}`,
+  years: fromTo,
+  months: fromTo,
+  days: fromTo,
+  time: ({ hour, minute, second, hourOfDay = '?' }) => `${hour}:${minute}:${second} =${hourOfDay}`,
+  duration: ({ hours, minutes, seconds }) => `${hours}:${minutes}:${seconds}`,
+  half: exact,
+  length: exact,
+  score: ([one, other]) => `${one}:${other}`,
+  range: (ends) => fromTo(ends.map(exact)),
+};
+
+function phrases(text) {
+  const tell = ({ kind, state, text: own, value }) =>
+    [kind, state, own, value === null ? '-' : VALUES[kind](value)].join(' ');
+  return Array.from(findPhrases(text)).filter((it) => it instanceof Phrase).map(tell).join('\t');
 }
 
 function expected(input, text) {
@@ -114,6 +137,8 @@ const calls = {
   quantity_figures: (words) => quantityOf(words).toFigures(),
   trim_quantity: (words) => shown(quantityOf(words).trimmed()),
   quantities_to_figures: (flags, text) => quantitiesToFigures(text, optionsOf(flags)),
+  text_to_figures: (flags, text) => textToFigures(text, optionsOf(flags)),
+  phrases,
   replace_quantities: (flags, text) =>
     replaceQuantities(text, numeralsUnlessFraction, optionsOf(flags)),
   expected,

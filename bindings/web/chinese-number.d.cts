@@ -104,15 +104,51 @@ export const QUANTITY_FORMS: readonly [
  * Why a reader may understand an expression as something other than its quantity. If several
  * reasons apply, 'part' is reported if it is among them, and otherwise the first in this list.
  *
- * - 'word': it is part of a word: 十二 of 十二指肠, 十一 of 双十一.
- * - 'digits': it is two or three Chinese digits, or more in rising order: 五一, 一二三四.
+ * - 'word': it is part of a word or a title, or the year of an era: 十二 of 十二指肠, 十一 of 双十一, 四十一
+ * of 乾隆四十一年.
+ * - 'digits': it is two or three Chinese digits, or more in rising order, or two numbers: 五一,
+ * 一二三四, 十五十六.
  * - 'term': it is part of a term: 负二 of 负二项, 十六 of 十六进制.
- * - 'part': it is part of an expression with 折, 成 or 半: 八五 of 八五折, 一 of 一个半.
+ * - 'part': it is part of an expression with 折, 成, 半 or 分之几: 八五 of 八五折, 一 of 一个半.
  * - 'time': it may be a time: 三点五 of 下午三点五, 十点零五.
  * - 'range': it is one end of a range whose ends share a unit or 百分之: 3 and 5万 of 3~5万.
  */
 export const DOUBTS: readonly [
   'word', 'digits', 'term', 'part', 'time', 'range',
+];
+
+/**
+ * What an item of a text is: an expression that is in no phrase, or a phrase of a kind. The
+ * numbers of a phrase that follow here are called first, second, third and fourth where a
+ * language has no type of its own for them.
+ *
+ * - 'expression': an expression in no phrase.
+ * - 'date': a date or a part of one: the year, the month, the day.
+ * - 'years': from a year to another one.
+ * - 'months': from a month to another one of the same year.
+ * - 'days': from a day to another one of the same month.
+ * - 'time': a time of day: the hour as it is written, the minute, the second, the hour of 24.
+ * - 'duration': hours, minutes and seconds.
+ * - 'half': a number and a half: the number without the half.
+ * - 'length': a number with decimals, as 一米七五: the number, the decimals, how many decimals there
+ * are.
+ * - 'score': two numbers that are compared.
+ * - 'range': from a quantity to another one.
+ */
+export const PHRASE_KINDS: readonly [
+  'expression', 'date', 'years', 'months', 'days', 'time', 'duration', 'half', 'length', 'score',
+  'range',
+];
+
+/**
+ * What is known of a phrase.
+ *
+ * - 'certain': it has a value.
+ * - 'doubtful': it has a value, but may mean something else: 1000年 of 1000年前, 五到八 of 五到八折.
+ * - 'refused': it has no value: it names a day or a time that does not exist, or does not rise.
+ */
+export const PHRASE_STATES: readonly [
+  'certain', 'doubtful', 'refused',
 ];
 
 /**
@@ -188,6 +224,8 @@ export type Case = (typeof CASES)[number];
 export type Unit = (typeof UNITS)[number];
 export type QuantityForm = (typeof QUANTITY_FORMS)[number];
 export type Doubt = (typeof DOUBTS)[number];
+export type PhraseKind = Exclude<(typeof PHRASE_KINDS)[number], 'expression'>;
+export type PhraseState = (typeof PHRASE_STATES)[number];
 export type Input = (typeof INPUTS)[number];
 export type Language = (typeof LANGUAGES)[number];
 export type Change = (typeof CHANGES)[number];
@@ -205,7 +243,25 @@ export type QuantityOptions = { method?: Method; script?: Script; case?: Case };
 export type Included = { about?: boolean; oneCharacter?: boolean; doubtful?: boolean };
 export type ReplaceOptions = Wanted & MethodOptions & Included;
 export type FiguresOptions = ReplaceOptions & { expanded?: boolean; canonical?: boolean };
+export type TextOptions = FiguresOptions & { compact?: boolean };
 export type BillDate = { year: number; month: number; day: number };
+export type PartialDate = { year?: number; month?: number; day?: number };
+export type ClockTime = { hour: number; minute: number; second: number; hourOfDay?: number };
+export type Duration = { hours: number; minutes: number; seconds: number };
+export type FirstAndLast = [first: number, last: number];
+export type PhraseValues = {
+  date: PartialDate;
+  years: FirstAndLast;
+  months: FirstAndLast;
+  days: FirstAndLast;
+  time: ClockTime;
+  duration: Duration;
+  half: Quantity;
+  length: Quantity;
+  score: [one: number, other: number];
+  range: [low: Quantity, high: Quantity];
+};
+export type AnyPhrase = { [Name in PhraseKind]: Phrase<Name> }[PhraseKind];
 export type Place = { charIndex: number; start: number; end: number };
 export type Point = { charIndex: number; index: number };
 export type Expected = Point & { mayEnd: boolean; whiteSpace: boolean; characters: string[] };
@@ -475,6 +531,23 @@ export function findQuantities(
 ): Generator<FoundQuantity, void, undefined>;
 
 /**
+ * Finds the phrases of a text, and its expressions that are in none: in '一月五日下午三点半，二十人' the
+ * date 一月五日, the time 下午三点半 and the expression 二十.
+ *
+ * Phrases are dates, times of day, durations, ranges, scores, halves and lengths. Yields a `Phrase`
+ * for each of them, with its `kind` and `value`, and for each of these expressions the same as
+ * `findQuantities`. Throws a TypeError as that does.
+ *
+ * @param {string} string
+ * @param {Wanted} options
+ * @returns {Generator<AnyPhrase | FoundQuantity, void, undefined>}
+ */
+export function findPhrases(
+  string: string,
+  options?: Wanted,
+): Generator<AnyPhrase | FoundQuantity, void, undefined>;
+
+/**
  * Replaces the expressions of a text: with `(found) => found.quantity().toChinese()` '占12.5%'
  * becomes '占百分之十二点五'.
  *
@@ -512,6 +585,23 @@ export function replaceQuantities(
  * @returns {string}
  */
 export function quantitiesToFigures(string: string, options?: FiguresOptions): string;
+
+/**
+ * Rewrites a text in figures, as an editor does, with its dates, times, ranges and other phrases:
+ * '二零二六年一月五日下午三点半，三到五万元' becomes '2026年1月5日下午3点半，3万到5万元'.
+ *
+ * It rewrites the phrases that `findPhrases` finds, whose words stay, and the other expressions as
+ * `quantitiesToFigures` does. These stay too: phrases without a value, as 二月三十日; doubtful phrases,
+ * unless `doubtful` is true; and halves after one Chinese character, as 一个半小时, unless
+ * `oneCharacter` is true. `compact` writes whole dates, times whose hour of 24 is known, and all
+ * halves as short as possible: '2026-01-05 15:30', '1.5小时'. Throws a TypeError as `findQuantities`
+ * does.
+ *
+ * @param {string} string
+ * @param {TextOptions} options
+ * @returns {string}
+ */
+export function textToFigures(string: string, options?: TextOptions): string;
 
 /**
  * Says what may come next in a text that is meant to be an input of INPUTS, for example to offer
@@ -884,6 +974,57 @@ export class FoundQuantity extends Span {
    * @returns {Quantity | null}
    */
   value(options?: MethodOptions): Quantity | null;
+}
+
+/**
+ * A phrase in a text, as findPhrases yields it: a date, a time, a range and so on.
+ *
+ * By `kind`, `value` is
+ * - 'date': { year, month, day }, without what the text does not give. A year of two digits is as
+ *   it is written: 26 for 二六年;
+ * - 'years', 'months', 'days': the first and the last;
+ * - 'time': { hour, minute, second, hourOfDay }. The hour is as it is written: 3 for 下午三点半.
+ *   `hourOfDay` is the hour of 24, 15; it is 24 at the end of a day, and missing if it is not
+ *   known, as for 三点半;
+ * - 'duration': { hours, minutes, seconds };
+ * - 'half', 'length': a Quantity, 1.5 for 一个半小时 and 1.75 for 一米七五;
+ * - 'score': the two numbers;
+ * - 'range': the two Quantities, 30000 and 50000 for 三到五万.
+ *
+ * @template {PhraseKind} Name
+ */
+export class Phrase<Name extends PhraseKind> {
+  /**
+   * @param {number} start
+   * @param {string} text
+   * @param {Name} kind
+   * @param {PhraseState} state
+   * @param {PhraseValues[Name] | null} value
+   */
+  constructor(
+    start: number,
+    text: string,
+    kind: Name,
+    state: PhraseState,
+    value: PhraseValues[Name] | null,
+  );
+  /**
+   * Where it starts in the string, in UTF-16 code units, as setSelectionRange and slice take it.
+   */
+  start: number;
+  /** Where it ends, likewise. */
+  end: number;
+  /** The text of the phrase itself. */
+  text: string;
+  /** What it is, one of PHRASE_KINDS. */
+  kind: Name;
+  /**
+   * What is known of it: 'refused' if it has no value, as 二月三十日, and 'doubtful' if it may mean
+   * something else, as 1000年 of 1000年前.
+   */
+  state: PhraseState;
+  /** What it means, or null if it is refused. */
+  value: PhraseValues[Name] | null;
 }
 
 export {};

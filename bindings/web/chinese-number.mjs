@@ -10,7 +10,8 @@
 //     for (const found of findNumbers('第二十三回')) ..  found.number() is 23
 //     toQuantity('3.5万').toFigures()                 '35000'
 //     Quantity.fraction(1, 3).toChinese()             '三分之一'
-//     quantitiesToFigures('市值三点五亿元')           '市值3.5亿元'
+//     textToFigures('一月五日下午三点半')             '1月5日下午3点半'
+//     for (const it of findPhrases('三到五万元')) ..    it.value is 30000 and 50000, as Quantities
 //     inputMessage('壹佰贰元整', 'amount', 'en')        why it is not an amount
 //
 // A call that returns a Number returns only safe integers, which are exact. Each has a variant that
@@ -125,15 +126,51 @@ export const QUANTITY_FORMS = Object.freeze(/** @type {const} */ ([
  * Why a reader may understand an expression as something other than its quantity. If several
  * reasons apply, 'part' is reported if it is among them, and otherwise the first in this list.
  *
- * - 'word': it is part of a word: 十二 of 十二指肠, 十一 of 双十一.
- * - 'digits': it is two or three Chinese digits, or more in rising order: 五一, 一二三四.
+ * - 'word': it is part of a word or a title, or the year of an era: 十二 of 十二指肠, 十一 of 双十一, 四十一
+ * of 乾隆四十一年.
+ * - 'digits': it is two or three Chinese digits, or more in rising order, or two numbers: 五一,
+ * 一二三四, 十五十六.
  * - 'term': it is part of a term: 负二 of 负二项, 十六 of 十六进制.
- * - 'part': it is part of an expression with 折, 成 or 半: 八五 of 八五折, 一 of 一个半.
+ * - 'part': it is part of an expression with 折, 成, 半 or 分之几: 八五 of 八五折, 一 of 一个半.
  * - 'time': it may be a time: 三点五 of 下午三点五, 十点零五.
  * - 'range': it is one end of a range whose ends share a unit or 百分之: 3 and 5万 of 3~5万.
  */
 export const DOUBTS = Object.freeze(/** @type {const} */ ([
   'word', 'digits', 'term', 'part', 'time', 'range',
+]));
+
+/**
+ * What an item of a text is: an expression that is in no phrase, or a phrase of a kind. The
+ * numbers of a phrase that follow here are called first, second, third and fourth where a
+ * language has no type of its own for them.
+ *
+ * - 'expression': an expression in no phrase.
+ * - 'date': a date or a part of one: the year, the month, the day.
+ * - 'years': from a year to another one.
+ * - 'months': from a month to another one of the same year.
+ * - 'days': from a day to another one of the same month.
+ * - 'time': a time of day: the hour as it is written, the minute, the second, the hour of 24.
+ * - 'duration': hours, minutes and seconds.
+ * - 'half': a number and a half: the number without the half.
+ * - 'length': a number with decimals, as 一米七五: the number, the decimals, how many decimals there
+ * are.
+ * - 'score': two numbers that are compared.
+ * - 'range': from a quantity to another one.
+ */
+export const PHRASE_KINDS = Object.freeze(/** @type {const} */ ([
+  'expression', 'date', 'years', 'months', 'days', 'time', 'duration', 'half', 'length', 'score',
+  'range',
+]));
+
+/**
+ * What is known of a phrase.
+ *
+ * - 'certain': it has a value.
+ * - 'doubtful': it has a value, but may mean something else: 1000年 of 1000年前, 五到八 of 五到八折.
+ * - 'refused': it has no value: it names a day or a time that does not exist, or does not rise.
+ */
+export const PHRASE_STATES = Object.freeze(/** @type {const} */ ([
+  'certain', 'doubtful', 'refused',
 ]));
 
 /**
@@ -217,6 +254,7 @@ const ONE_CHARACTER = 8;
 const DOUBTFUL = 16;
 const EXPANDED = 32;
 const CANONICAL = 64;
+const COMPACT = 128;
 
 const MOST_BYTES = 234n;
 const MOST_QUANTITY_BYTES = 471n;
@@ -244,6 +282,10 @@ const TEXTS = {
 // How many bits the flags of what is found have. The bits above them are the code of a doubt: its
 // place in DOUBTS, counted from 1, or 0 for none.
 const DOUBT = 4;
+
+// What the text of a date gives, which the last number of the phrase is the sum of; and the hour of
+// 24 of a time, if it is not known.
+const YEAR_GIVEN = 1, MONTH_GIVEN = 2, DAY_GIVEN = 4, NO_HOUR = 255;
 
 const DONE = STATUSES.indexOf('done'), NO_ROOM = STATUSES.indexOf('noRoom');
 const DIGITS = WAYS.indexOf('digits'), FIRST_METHOD = WAYS.indexOf('low');
@@ -285,6 +327,7 @@ const HAS = {
   replacing: (it) => it === 'about' || it === 'oneCharacter' || it === 'doubtful'
     || HAS.searches(it) || HAS.quantities(it),
   figures: (it) => it === 'expanded' || it === 'canonical' || HAS.replacing(it),
+  phrases: (it) => it === 'compact' || HAS.figures(it),
 };
 
 /**
@@ -296,6 +339,8 @@ const HAS = {
  * @typedef {typeof UNITS[number]} Unit
  * @typedef {typeof QUANTITY_FORMS[number]} QuantityForm
  * @typedef {typeof DOUBTS[number]} Doubt
+ * @typedef {Exclude<typeof PHRASE_KINDS[number], 'expression'>} PhraseKind
+ * @typedef {typeof PHRASE_STATES[number]} PhraseState
  * @typedef {typeof INPUTS[number]} Input
  * @typedef {typeof LANGUAGES[number]} Language
  * @typedef {typeof CHANGES[number]} Change
@@ -313,7 +358,18 @@ const HAS = {
  * @typedef {{ about?: boolean, oneCharacter?: boolean, doubtful?: boolean }} Included
  * @typedef {Wanted & MethodOptions & Included} ReplaceOptions
  * @typedef {ReplaceOptions & { expanded?: boolean, canonical?: boolean }} FiguresOptions
+ * @typedef {FiguresOptions & { compact?: boolean }} TextOptions
  * @typedef {{ year: number, month: number, day: number }} BillDate
+ * @typedef {{ year?: number, month?: number, day?: number }} PartialDate
+ * @typedef {{ hour: number, minute: number, second: number, hourOfDay?: number }} ClockTime
+ * @typedef {{ hours: number, minutes: number, seconds: number }} Duration
+ * @typedef {[first: number, last: number]} FirstAndLast
+ * @typedef {{
+ *   date: PartialDate, years: FirstAndLast, months: FirstAndLast, days: FirstAndLast,
+ *   time: ClockTime, duration: Duration, half: Quantity, length: Quantity,
+ *   score: [one: number, other: number], range: [low: Quantity, high: Quantity],
+ * }} PhraseValues
+ * @typedef {{ [Name in PhraseKind]: Phrase<Name> }[PhraseKind]} AnyPhrase
  * @typedef {{ charIndex: number, start: number, end: number }} Place
  * @typedef {{ charIndex: number, index: number }} Point
  * @typedef {Point & { mayEnd: boolean, whiteSpace: boolean, characters: string[] }} Expected
@@ -500,14 +556,17 @@ let library = instance();
 let isInside = false;
 
 // The memory that is lent: a quantity (56 bytes; a reading, an amount, a date, a repair and a fault
-// fit there too), a length (8), spans (24 each; what is expected, of 224 bytes, fits there too) and
-// the text. In both modules a size has 8 bytes.
+// fit there too), a length (8), the second quantity of a range (56, and 8 that are not used), spans
+// (24 each) or phrases (56 each; what is expected, of 224 bytes, fits there too) and the text. In
+// both modules a size has 8 bytes.
 const READING = Math.ceil(Number(library.__heap_base.value) / 16) * 16;
 const LENGTH = READING + 56;
-const SPANS = LENGTH + 8;
+const HIGH = LENGTH + 8;
+const SPANS = HIGH + 64;
 const MOST_SPANS = 64;
-const TEXT = SPANS + 24 * MOST_SPANS;
-const [READING_AT, LENGTH_AT, SPANS_AT, TEXT_AT] = [READING, LENGTH, SPANS, TEXT].map(BigInt);
+const TEXT = SPANS + 56 * MOST_SPANS;
+const [READING_AT, LENGTH_AT, HIGH_AT, SPANS_AT, TEXT_AT] =
+  [READING, LENGTH, HIGH, SPANS, TEXT].map(BigInt);
 const MOST_PRINTED = Number(MOST_BYTES);
 const PAGE = 65536;
 const MOST_KEPT = 2 ** 24;
@@ -517,12 +576,13 @@ const encoder = new TextEncoder(), decoder = new TextDecoder('utf-8', { ignoreBO
 const FEW = 40;
 // For each number of code units that a printed text may have, a list to fill with them.
 const UNITS_OF = Array.from({ length: MOST_PRINTED / 3 + 1 }, (_, it) => Array(it).fill(0));
-/** @type {BigInt64Array} The quantity (or reading, amount or date) and the length. */
+/** @type {BigInt64Array} The quantity (or reading, amount or date), the length, the second one. */
 let words;
 /** @type {Int32Array} The halves of these and of the spans, the lower half first. */
 let halves;
 // The places of parts of these.
-const CHANGE_HALF = 4, FORM_HALF = 8, LENGTH_WORD = 7, LENGTH_HALF = 14, SPANS_HALF = 16;
+const CHANGE_HALF = 4, FORM_HALF = 8, LENGTH_WORD = 7, LENGTH_HALF = 14, HIGH_WORD = 8;
+const SPANS_HALF = 32;
 /** @type {Uint8Array} */
 let text = new Uint8Array(0);
 
@@ -542,7 +602,7 @@ function makeRoom(bytes) {
   const { memory } = library, missing = TEXT + bytes - memory.buffer.byteLength;
   if (missing > 0) grow(memory, Math.ceil(missing / PAGE));
   // A memory has a new buffer after it grows, and so has a new instance.
-  words = new BigInt64Array(memory.buffer, READING, LENGTH_WORD + 1);
+  words = new BigInt64Array(memory.buffer, READING, (SPANS - READING) / 8);
   halves = new Int32Array(memory.buffer, READING, (TEXT - READING) / 4);
   text = new Uint8Array(memory.buffer, TEXT);
 }
@@ -1304,8 +1364,14 @@ export function toQuantity(string, options = NO_OPTIONS) {
     const error = new NumeralError(STATUSES[status], undefined, placeOf(status, 5));
     throw about(error, 'chinese_quantity_message', string, [method]);
   }
-  return new Quantity(
-    wholeNumber(NUMERATOR), wholeNumber(DENOMINATOR, 2), QUANTITY_FORMS[halves[FORM_HALF]]);
+  return quantityAt(0);
+}
+
+// A quantity that the module has written.
+/** @param {number} word Where it begins. */
+function quantityAt(word) {
+  const form = QUANTITY_FORMS[halves[2 * word + FORM_HALF]];
+  return new Quantity(wholeNumber(NUMERATOR, word), wholeNumber(DENOMINATOR, word + 2), form);
 }
 
 /** The place of a number or an expression in a text, and what is reported about it. */
@@ -1414,6 +1480,52 @@ export class FoundQuantity extends Span {
 }
 
 /**
+ * A phrase in a text, as findPhrases yields it: a date, a time, a range and so on.
+ *
+ * By `kind`, `value` is
+ * - 'date': { year, month, day }, without what the text does not give. A year of two digits is as
+ *   it is written: 26 for 二六年;
+ * - 'years', 'months', 'days': the first and the last;
+ * - 'time': { hour, minute, second, hourOfDay }. The hour is as it is written: 3 for 下午三点半.
+ *   `hourOfDay` is the hour of 24, 15; it is 24 at the end of a day, and missing if it is not
+ *   known, as for 三点半;
+ * - 'duration': { hours, minutes, seconds };
+ * - 'half', 'length': a Quantity, 1.5 for 一个半小时 and 1.75 for 一米七五;
+ * - 'score': the two numbers;
+ * - 'range': the two Quantities, 30000 and 50000 for 三到五万.
+ *
+ * @template {PhraseKind} Name
+ */
+export class Phrase {
+  /**
+   * @param {number} start
+   * @param {string} text
+   * @param {Name} kind
+   * @param {PhraseState} state
+   * @param {PhraseValues[Name] | null} value
+   */
+  constructor(start, text, kind, state, value) {
+    /**
+     * Where it starts in the string, in UTF-16 code units, as setSelectionRange and slice take it.
+     */
+    this.start = start;
+    /** Where it ends, likewise. */
+    this.end = start + text.length;
+    /** The text of the phrase itself. */
+    this.text = text;
+    /** What it is, one of PHRASE_KINDS. */
+    this.kind = kind;
+    /**
+     * What is known of it: 'refused' if it has no value, as 二月三十日, and 'doubtful' if it may mean
+     * something else, as 1000年 of 1000年前.
+     */
+    this.state = state;
+    /** What it means, or null if it is refused. */
+    this.value = value;
+  }
+}
+
+/**
  * @template Value
  * @param {() => Value} call
  */
@@ -1441,7 +1553,7 @@ function unlessRefused(call) {
  */
 export function findNumbers(string, options = NO_OPTIONS) {
   refuseOthers(options, HAS.searches);
-  return foundIn(string, spansOf(string, options, 'chinese_number_find_utf8'), Found);
+  return foundIn(string, searched(string, options, NUMBERS), Found);
 }
 
 /**
@@ -1459,7 +1571,7 @@ export function findQuantities(string, options = NO_OPTIONS) {
 
 /** @param {string} string @param {Wanted} options */
 const expressionsOf = (string, options) =>
-  foundIn(string, spansOf(string, options, 'chinese_quantity_find_utf8'), FoundQuantity);
+  foundIn(string, searched(string, options, EXPRESSIONS), FoundQuantity);
 
 /**
  * @template {Span} Item
@@ -1474,26 +1586,112 @@ function* foundIn(string, spans, Item) {
   }
 }
 
+/**
+ * Finds the phrases of a text, and its expressions that are in none: in '一月五日下午三点半，二十人' the
+ * date 一月五日, the time 下午三点半 and the expression 二十.
+ *
+ * Phrases are dates, times of day, durations, ranges, scores, halves and lengths. Yields a `Phrase`
+ * for each of them, with its `kind` and `value`, and for each of these expressions the same as
+ * `findQuantities`. Throws a TypeError as that does.
+ *
+ * @param {string} string
+ * @param {Wanted} options
+ * @returns {Generator<AnyPhrase | FoundQuantity, void, undefined>}
+ */
+export function findPhrases(string, options = NO_OPTIONS) {
+  refuseOthers(options, HAS.searches);
+  return phrasesIn(string, searched(string, options, PHRASES));
+}
+
+/** @param {string} string @param {ReturnType<typeof phraseAt>[]} items */
+function* phrasesIn(string, items) {
+  for (const { start, end, flags, kind, state, value } of items) {
+    const text = string.slice(start, end);
+    yield kind === 'expression' ? new FoundQuantity(start, text, flags)
+      : /** @type {AnyPhrase} */ (new Phrase(start, text, kind, state, value));
+  }
+}
+
+// The searches: the call of the module, how many halves it writes for each item, and what reads
+// these.
+const NUMBERS = { name: 'chinese_number_find_utf8', size: 6, itemAt: spanAt };
+const EXPRESSIONS = { ...NUMBERS, name: 'chinese_quantity_find_utf8' };
+const PHRASES = { name: 'chinese_phrase_find_utf8', size: 14, itemAt: phraseAt };
+
 // Searches the whole text at once, since another call would overwrite the text that is lent.
-/** @param {string} string @param {Wanted} options @param {string} name The name of the call. */
-function spansOf(string, options, name) {
+/**
+ * @template Item
+ * @param {string} string
+ * @param {Wanted} options
+ * @param {{ name: string, size: number, itemAt: (...where: number[]) => Item }} search
+ */
+function searched(string, options, { name, size, itemAt }) {
   const upper = flagOf(options.upper, 'upper'), greatest = codeOf(UNIT, options.greatest);
   hand(string);
-  const length = words[LENGTH_WORD], spans = [];
+  const length = words[LENGTH_WORD], items = [];
   let count = MOST_SPANS, from = 0, position = 0;
   while (count === MOST_SPANS) {
     isInside = true;
     ended(library[name](TEXT_AT, length, BigInt(from), upper, greatest, SPANS_AT,
       BigInt(MOST_SPANS), LENGTH_AT));
     count = halves[LENGTH_HALF];
-    for (let half = SPANS_HALF; half < SPANS_HALF + 6 * count; half += 6) {
+    for (let half = SPANS_HALF; half < SPANS_HALF + size * count; half += size) {
       const first = halves[half] >>> 0, start = position + unitsBetween(from, first);
       from = halves[half + 2] >>> 0;
       position = start + unitsBetween(first, from);
-      spans.push({ start, end: position, flags: halves[half + 4] });
+      items.push(itemAt(half, start, position));
     }
   }
-  return spans;
+  return items;
+}
+
+/** @param {number} half Where it begins. @param {number} start @param {number} end */
+function spanAt(half, start, end) {
+  return { start, end, flags: halves[half + 4] };
+}
+
+/** @param {number} half Where it begins. @param {number} start @param {number} end */
+function phraseAt(half, start, end) {
+  const [kind, state, flags, ...numbers] = halves.subarray(half + 6, half + 13);
+  const found = { start, end, flags, kind: PHRASE_KINDS[kind], state: PHRASE_STATES[state] };
+  return { ...found, value: found.state === 'refused' ? null : VALUES[found.kind](numbers, half) };
+}
+
+// The value of a phrase of each kind, given its numbers and where it begins in the halves.
+/** @type {Record<typeof PHRASE_KINDS[number], (numbers: number[], half: number) => any>} */
+const VALUES = {
+  expression: () => null,
+  date: ([year, month, day, given]) => ({
+    ...(given & YEAR_GIVEN ? { year } : {}),
+    ...(given & MONTH_GIVEN ? { month } : {}),
+    ...(given & DAY_GIVEN ? { day } : {}),
+  }),
+  years: firstTwo,
+  months: firstTwo,
+  days: firstTwo,
+  time: ([hour, minute, second, hourOfDay]) =>
+    ({ hour, minute, second, ...(hourOfDay === NO_HOUR ? {} : { hourOfDay }) }),
+  duration: ([hours, minutes, seconds]) => ({ hours, minutes, seconds }),
+  half: ([number]) => Quantity.decimal(10 * number + 5, 1),
+  length: ([number, decimals, count]) => Quantity.decimal(number * 10 ** count + decimals, count),
+  score: firstTwo,
+  range: (_, half) => rangeAt(half),
+};
+
+/** @param {number[]} numbers */
+function firstTwo([first, second]) {
+  return [first, second];
+}
+
+// The ends of a range, which are before and after its link, in the text that is lent.
+/** @param {number} half Where the range begins. */
+function rangeAt(half) {
+  const [start, , end, , split] = halves.subarray(half, half + 5).map((it) => it >>> 0);
+  const link = start + split, second = link + bytesOf(text[link]);
+  isInside = true;
+  ended(library.chinese_range_read(BigInt(TEXT + start), BigInt(split), BigInt(TEXT + second),
+    BigInt(end - second), READING_AT, HIGH_AT));
+  return [quantityAt(0), quantityAt(HIGH_WORD)];
 }
 
 // How many UTF-16 code units the characters between two bytes of the text have. A character of four
@@ -1504,10 +1702,16 @@ function unitsBetween(start, end) {
   let units = 0;
   for (let at = start; at < end; units++) {
     const first = bytes[at];
-    at += first < 0x80 ? 1 : first < 0xe0 ? 2 : first < 0xf0 ? 3 : 4;
+    at += bytesOf(first);
     if (first >= 0xf0) units++;
   }
   return units;
+}
+
+// How many bytes a character has, given the first of them.
+/** @param {number} first */
+function bytesOf(first) {
+  return first < 0x80 ? 1 : first < 0xe0 ? 2 : first < 0xf0 ? 3 : 4;
 }
 
 /**
@@ -1555,9 +1759,9 @@ const isReplaced = ({ isAbout, isOneCharacter, doubt }, included) =>
 const includedOf = ({ about, oneCharacter, doubtful }) => ABOUT * flagOf(about, 'about')
   + ONE_CHARACTER * flagOf(oneCharacter, 'oneCharacter') + DOUBTFUL * flagOf(doubtful, 'doubtful');
 
-/** @param {FiguresOptions} options */
-const styleOf = ({ expanded, canonical }) =>
-  EXPANDED * flagOf(expanded, 'expanded') + CANONICAL * flagOf(canonical, 'canonical');
+/** @param {TextOptions} options */
+const styleOf = ({ expanded, canonical, compact }) => EXPANDED * flagOf(expanded, 'expanded')
+  + CANONICAL * flagOf(canonical, 'canonical') + COMPACT * flagOf(compact, 'compact');
 
 /**
  * Rewrites the numerals of a text in figures, as an editor does: '市值三点五亿元，占百分之十二点五'
@@ -1577,6 +1781,31 @@ const styleOf = ({ expanded, canonical }) =>
  */
 export function quantitiesToFigures(string, options = NO_OPTIONS) {
   refuseOthers(options, HAS.figures);
+  return inFigures(string, options, 'chinese_quantities_to_figures');
+}
+
+/**
+ * Rewrites a text in figures, as an editor does, with its dates, times, ranges and other phrases:
+ * '二零二六年一月五日下午三点半，三到五万元' becomes '2026年1月5日下午3点半，3万到5万元'.
+ *
+ * It rewrites the phrases that `findPhrases` finds, whose words stay, and the other expressions as
+ * `quantitiesToFigures` does. These stay too: phrases without a value, as 二月三十日; doubtful phrases,
+ * unless `doubtful` is true; and halves after one Chinese character, as 一个半小时, unless
+ * `oneCharacter` is true. `compact` writes whole dates, times whose hour of 24 is known, and all
+ * halves as short as possible: '2026-01-05 15:30', '1.5小时'. Throws a TypeError as `findQuantities`
+ * does.
+ *
+ * @param {string} string
+ * @param {TextOptions} options
+ * @returns {string}
+ */
+export function textToFigures(string, options = NO_OPTIONS) {
+  refuseOthers(options, HAS.phrases);
+  return inFigures(string, options, 'chinese_text_to_figures');
+}
+
+/** @param {string} string @param {TextOptions} options @param {string} name Of the call. */
+function inFigures(string, options, name) {
   const upper = flagOf(options.upper, 'upper'), greatest = codeOf(UNIT, options.greatest);
   const method = methodOf(options), bits = includedOf(options) + styleOf(options);
   refuseNoString(string);
@@ -1585,8 +1814,8 @@ export function quantitiesToFigures(string, options = NO_OPTIONS) {
   do {
     hand(string, room);
     length = words[LENGTH_WORD];
-    status = ended(library.chinese_quantities_to_figures(TEXT_AT, length, upper, greatest, method,
-      bits, TEXT_AT + length, BigInt(room), LENGTH_AT));
+    status = ended(library[name](TEXT_AT, length, upper, greatest, method, bits, TEXT_AT + length,
+      BigInt(room), LENGTH_AT));
     room = Number(words[LENGTH_WORD]);
   } while (status === NO_ROOM);
   return withHalves(decoded(Number(length)), string);

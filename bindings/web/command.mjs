@@ -12,7 +12,8 @@ import {
   AmountError, DateError, KINDS, LANGUAGES, METHODS, NumeralError, VERSION, WAYS,
   chineseToAmountAsTypedBigInt, chineseToAmountBigInt, chineseToDate,
   chineseToSignedAmountAsTypedBigInt, chineseToSignedAmountBigInt, dateToChinese, findNumbers,
-  findQuantities, quantitiesToFigures, signedAmountToChinese, toBigInt, toChinese, yuanToFenBigInt,
+  findQuantities, quantitiesToFigures, signedAmountToChinese, textToFigures, toBigInt, toChinese,
+  yuanToFenBigInt,
 } from './chinese-number.mjs';
 import { Misuse, Refused, Table, linesOfTable, refusalOf, shown } from './table.mjs';
 
@@ -46,8 +47,8 @@ usage: chinese-number amount [--traditional] [--currency] [--yuan 圆] [--closin
                             NUMBER...
        chinese-number find [--all] [--method any]
        chinese-number find --numbers [--all] [--kind u128] [--way any]
-       chinese-number replace [--all] [--method any] [--about] [--one-character] [--doubtful]
-                              [--expanded] [--canonical] [WORD...]
+       chinese-number replace [--phrases] [--all] [--method any] [--about] [--one-character]
+                              [--doubtful] [--expanded] [--canonical] [--compact] [WORD...]
        chinese-number --help | --version
 
 amount   converts yuan to capitals, 1409.50 to 壹仟肆佰零玖元伍角整, and capitals to yuan
@@ -77,11 +78,15 @@ find     writes LINE:CHARACTER TEXT NUMBER for each quantity in standard input, 
    --numbers        finds whole numbers instead: 3 and 5万 in 3.5万
 replace  writes the arguments, or standard input, with their numerals in figures, 市值三点五亿元 as
          市值3.5亿元
+   --phrases        includes dates, times, durations, ranges, scores and lengths: 一月五日下午三点半
+                    becomes 1月5日下午3点半
    --about          includes approximate numbers, as in 三百多
    --one-character  includes numbers of one Chinese character, as in 一般
    --doubtful       includes numbers that may mean something else, as 五一
    --expanded       writes out 万, 亿 and so on: 三点五亿 becomes 350000000
    --canonical      removes commas and leading zeros from figures: 1,280 becomes 1280
+   --compact        writes dates, times and halves as short as possible, 2026-01-05, 15:30 and 1.5小时;
+                    --phrases is not needed then
 
 Options of several commands:
    --traditional    writes traditional characters
@@ -135,12 +140,13 @@ const COMMANDS = {
   },
   replace: {
     options: {
-      all: FLAG, method: METHOD, about: FLAG, 'one-character': FLAG, doubtful: FLAG,
-      expanded: FLAG, canonical: FLAG,
+      phrases: FLAG, all: FLAG, method: METHOD, about: FLAG, 'one-character': FLAG, doubtful: FLAG,
+      expanded: FLAG, canonical: FLAG, compact: FLAG,
     },
-    run: ({ all, 'one-character': oneCharacter, ...options }, words, language) => {
+    run: ({ phrases, compact, all, 'one-character': oneCharacter, ...options }, words, language) => {
       const choices = { ...options, ...wantedBy(all), oneCharacter };
-      const anew = (text) => quantitiesToFigures(text, choices);
+      const anew = (text) => (phrases || compact ? textToFigures(text, { ...choices, compact })
+        : quantitiesToFigures(text, choices));
       return words.length ? answerEach(words, language, anew) : replaceInInput(anew);
     },
   },

@@ -132,6 +132,69 @@ static answer quantity_find(const question *it) {
     return (answer){status, {to->first.start, to->first.end, to->first.flags}, 0, 0};
 }
 
+/* Likewise the first phrase, or expression in none. */
+typedef struct found_phrase {
+    cn_phrase first;
+    size_t count;
+} found_phrase;
+
+typedef uint32_t finding_phrases(const uint8_t *, size_t, size_t, uint32_t, uint32_t, cn_phrase *,
+                                 size_t, size_t *);
+
+static uint32_t find_phrase_by(const question *it, found_phrase *to) {
+    size_t length = it->text_length, *count = &to->count;
+    uint32_t upper = it->codes[0], greatest = it->codes[1], status;
+    cn_phrase *first = &to->first;
+    finding_phrases *find = it->style == TRUSTS ? chinese_phrase_find_utf8 : chinese_phrase_find;
+    if (it->style == IN_CHARS) {
+        memset(first, 0, sizeof *first);
+        return cn_find_next_phrase(text_of(it), length, upper, greatest, first);
+    }
+    status = find(it->text, length, 0, upper, greatest, first, 1, count);
+    if (*count == 0 && is_untouched((uint8_t *)first, (uint8_t *)(first + 1)))
+        memset(first, 0, sizeof *first);
+    return *count == 0 && status == CN_DONE ? CN_NONE : *count > 1 ? UINT32_MAX : status;
+}
+
+static answer phrase_find(const question *it) {
+    found_phrase *to = told(it, sizeof *to);
+    uint64_t status = find_phrase_by(it, to);
+    const cn_phrase *is = &to->first;
+    uint64_t what = (uint64_t)is->kind << 32 | is->state, numbers = is->first;
+    numbers = ((numbers * 31 + is->second) * 31 + is->third) * 31 + is->fourth;
+    return (answer){status, {is->start, is->end, is->flags, what, numbers * 31 + is->split}, 0, 0};
+}
+
+/* Where the middle of a text is, at the start of a character. */
+static size_t middle_of(const question *it) {
+    size_t at = it->text_length / 2;
+    while (at > 0 && (it->text[at] & 0xC0) == 0x80)
+        at--;
+    return at;
+}
+
+/* The call in chars gets the same two texts with a link between them, in a copy. */
+static uint32_t read_range_by(const question *it, cn_quantity *to) {
+    size_t length = it->text_length, middle = middle_of(it);
+    char linked[MOST_TEXT + 1];
+    cn_phrase range = {.end = length + 1, .split = middle};
+    if (it->style == PROVED)
+        return chinese_range_read(it->text, middle, it->text + middle, length - middle, to, to + 1);
+    memcpy(linked, it->text, middle);
+    linked[middle] = '-';
+    memcpy(linked + middle + 1, it->text + middle, length - middle);
+    return cn_read_range(linked, &range, to, to + 1);
+}
+
+static answer range_read(const question *it) {
+    cn_quantity *to = told(it, 2 * sizeof *to);
+    uint64_t status = read_range_by(it, to);
+    return (answer){status,
+                    {to->numerator.low, to->denominator.low * 31 + to->form, to[1].numerator.low,
+                     to[1].denominator.low * 31 + to[1].form, to->numerator.high ^ to[1].numerator.high},
+                    to->char_index ^ to[1].char_index, to->byte_index ^ to[1].byte_index};
+}
+
 static answer of_amount(uint64_t status, const cn_amount *told) {
     return (answer){status, {told->fen}, told->char_index, told->byte_index};
 }
@@ -277,17 +340,29 @@ static answer quantity_figures(const question *it) {
     return printed(it, status, *to);
 }
 
+typedef uint32_t to_figures(const uint8_t *, size_t, uint32_t, uint32_t, uint32_t, uint32_t, uint8_t *,
+                            size_t, size_t *);
+typedef cn_status to_figures_in_chars(const char *, size_t, uint32_t, cn_unit, cn_way, uint32_t, char *,
+                                      size_t, size_t *);
+
 /* In chars, too, the length is told. The last code is that of the five options, or has another bit. */
-static answer quantities_to_figures(const question *it) {
+static answer in_figures(const question *it, to_figures *write, to_figures_in_chars *write_in_chars) {
     size_t *to = told(it, sizeof *to), length = it->text_length, room = it->room_length;
     const uint32_t *codes = it->codes, method = codes[2] + CN_LOW;
     uint32_t options = codes[3] < 32 ? codes[3] * CN_ABOUT : codes[3] | CN_PLAIN_DIGITS;
     uint64_t status = it->style == IN_CHARS
-        ? cn_quantities_to_figures(text_of(it), length, codes[0], codes[1], method, options,
-                                   room_of(it), room, to)
-        : chinese_quantities_to_figures(it->text, length, codes[0], codes[1], method, options,
-                                        it->room, room, to);
+        ? write_in_chars(text_of(it), length, codes[0], codes[1], method, options, room_of(it), room,
+                         to)
+        : write(it->text, length, codes[0], codes[1], method, options, it->room, room, to);
     return (answer){status, {*to}, 0, 0};
+}
+
+static answer quantities_to_figures(const question *it) {
+    return in_figures(it, chinese_quantities_to_figures, cn_quantities_to_figures);
+}
+
+static answer text_to_figures(const question *it) {
+    return in_figures(it, chinese_text_to_figures, cn_text_to_figures);
 }
 
 static answer amount_print(const question *it) {
@@ -385,6 +460,7 @@ enum {
 enum { READ_CAPITALS = STATUS(CN_DONE) | STATUS(CN_UNFINISHED) | STATUS(CN_INCORRECT) };
 enum { READ_FIGURES = READ_CAPITALS | STATUS(CN_TOO_LARGE) };
 enum { FIND = STATUS(CN_DONE) | STATUS(CN_NONE) };
+enum { READ_RANGE = STATUS(CN_DONE) | STATUS(CN_INCORRECT) };
 
 /* Each call: how many codes name something in each place; and of one that takes a text its statuses
  * where that is UTF-8, of one that prints its values, and the most bytes of a text that is written. */
@@ -414,8 +490,15 @@ static const call calls[] = {
     {"chinese_quantity_find", quantity_find, PROVED, {2, 16}, OF_TEXT(FIND)},
     {"chinese_quantity_find_utf8", quantity_find, TRUSTS, {2, 16}, OF_TEXT(FIND)},
     {"cn_find_next_quantity", quantity_find, IN_CHARS, {2, 16}, OF_TEXT(FIND)},
+    {"chinese_phrase_find", phrase_find, PROVED, {2, 16}, OF_TEXT(FIND)},
+    {"chinese_phrase_find_utf8", phrase_find, TRUSTS, {2, 16}, OF_TEXT(FIND)},
+    {"cn_find_next_phrase", phrase_find, IN_CHARS, {2, 16}, OF_TEXT(FIND)},
+    {"chinese_range_read", range_read, PROVED, {0}, OF_TEXT(READ_RANGE)},
+    {"cn_read_range", range_read, IN_CHARS, {0}, OF_TEXT(READ_RANGE)},
     {"chinese_quantities_to_figures", quantities_to_figures, PROVED, {2, 16, 5, 32}, REPLACES},
     {"cn_quantities_to_figures", quantities_to_figures, IN_CHARS, {2, 16, 5, 32}, REPLACES},
+    {"chinese_text_to_figures", text_to_figures, PROVED, {2, 16, 5, 32}, REPLACES},
+    {"cn_text_to_figures", text_to_figures, IN_CHARS, {2, 16, 5, 32}, REPLACES},
     {"chinese_amount_read", amount_read, PROVED, {0}, OF_TEXT(READ_CAPITALS)},
     {"cn_read_amount", amount_read, IN_CHARS, {0}, OF_TEXT(READ_CAPITALS)},
     {"chinese_typed_amount_read", typed_amount_read, PROVED, {0}, OF_TEXT(READ_CAPITALS)},
@@ -503,13 +586,17 @@ static void judge(task *mine, int right, const call *by, const question *it) {
                 codes[0], codes[1], codes[2], codes[3], it->text_length, it->room_length);
 }
 
+static int is_in_figures(const call *by) {
+    return by->ask == quantities_to_figures || by->ask == text_to_figures;
+}
+
 /* How many bytes of the room are written: the text at CN_DONE; and in chars its end, too, or the
  * end alone. Where a text is written anew and has no room, that may have been any of them. */
 static size_t written(const call *by, const question *it, const answer *said) {
     size_t text = said->status == CN_DONE ? (size_t)said->values[0] : 0;
     if (by->most == 0)
         return 0;
-    if (by->ask == quantities_to_figures && said->status == CN_NO_ROOM)
+    if (is_in_figures(by) && said->status == CN_NO_ROOM)
         return it->room_length;
     return text + (by->style == IN_CHARS && it->room_length != 0);
 }
@@ -517,6 +604,10 @@ static size_t written(const call *by, const question *it, const answer *said) {
 static size_t bytes_told(const call *by) {
     if (by->ask == input_expected)
         return sizeof(cn_expected);
+    if (by->ask == phrase_find)
+        return sizeof(found_phrase);
+    if (by->ask == range_read)
+        return 2 * sizeof(cn_quantity);
     return by->ask == quantity_read ? sizeof(cn_quantity) : sizeof(cn_reading);
 }
 
@@ -601,7 +692,7 @@ static answer for_room(const call *by, const question *it, answer whole) {
     int in_chars = by->style == IN_CHARS, has_end = in_chars && whole.values[0] != 0;
     if (whole.status == CN_DONE && whole.values[0] + (uint64_t)has_end > it->room_length) {
         whole.status = CN_NO_ROOM;
-        whole.values[0] *= !in_chars || by->ask == quantities_to_figures;
+        whole.values[0] *= !in_chars || is_in_figures(by);
     }
     return whole;
 }
@@ -668,7 +759,7 @@ static const char *const parts[] = {
     "一", "二", "三", "十", "百", "千", "萬", "亿", "零", "〇", "壹", "贰", "佰", "元", "圆", "整",
     "正", "角", "分", "年", "月", "日", "负", "兩", "個", "5", "-", " ", "é", "𠀀", "¥", ",", "．",
     "−", "⊗", "：", "%", "点", "分之", "廿", "1,409.50", "人民币壹佰元整", "贰零贰陆年零叁月零壹日",
-    "（负数）", "（大写）", "\xE2\x80\x8B"};
+    "（负数）", "（大写）", "\xE2\x80\x8B", "到", "半", "小时", "下午", "比", "米", ":"};
 static const char *const broken[] = {
     "\x80", "\xBF", "\xC0\x80", "\xC1\xBF", "\xC2", "\xE0\x9F\xBF", "\xE4", "\xE4\xB8",
     "\xED\xA0\x80", "\xED\xBF\xBF", "\xEF\xBF", "\xF0\x8F\xBF\xBF", "\xF0\xA0",
@@ -731,7 +822,7 @@ static int is_place(const question *it, answer said) {
 
 /* A number has no doubt. */
 static uint64_t greatest_doubt(const call *by) {
-    return by->ask == quantity_find ? CN_DOUBT_RANGE : CN_NO_DOUBT;
+    return by->ask == number_find ? CN_NO_DOUBT : CN_DOUBT_RANGE;
 }
 
 /* Whether an answer to UTF-8 has what belongs to its status, and nothing else. */
@@ -739,7 +830,7 @@ static int is_whole(const call *by, const question *it, answer said) {
     answer nothing = {said.status, {0}, 0, 0};
     if (said.status >= 32 || (by->statuses & STATUS(said.status)) == 0)
         return 0;
-    if (said.status == CN_INCORRECT) {
+    if (said.status == CN_INCORRECT && by->ask != range_read) {
         nothing.char_index = said.char_index;
         nothing.byte_index = said.byte_index;
         return is_same(said, nothing) && is_place(it, said) && said.byte_index < it->text_length;
@@ -794,7 +885,7 @@ static void *try_all(void *argument) {
         try_codes(mine, by);
         if (by->values != NULL)
             try_printing(mine, by);
-        else if (by->ask == quantities_to_figures)
+        else if (is_in_figures(by))
             try_replacing(mine, by);
         else if (by->most != 0)
             try_message(mine, by);

@@ -14,7 +14,8 @@ canonical figures lift only the first reason to stay.
 """
 
 import re
-from typing import Callable, Dict, List, NamedTuple, Optional, Tuple
+from functools import lru_cache
+from typing import Any, Callable, Dict, List, NamedTuple, Optional, Sequence, Tuple
 
 U128_MAX = 2**128 - 1
 I128_MAX = 2**127 - 1
@@ -204,6 +205,7 @@ def first_misread(text: str) -> Optional[int]:
     return next((p for p in range(len(text)) if misread_at(text, p)), None)
 
 
+@lru_cache(maxsize=100_000)
 def whole_number(text: str, exponents: Exponents = TEN_THOUSAND) -> Optional[int]:
     """`WholeNumber.whole_answer`: read, or the sum of two parts at a bare ten."""
     p = first_misread(text)
@@ -393,6 +395,7 @@ def unsigned_quantity(text: str, has_sign: bool, exponents: Exponents) -> Option
     return value and Quantity(*value, WHOLE if value[1] == 1 else DECIMAL)
 
 
+@lru_cache(maxsize=100_000)
 def quantity(string: str, exponents: Exponents = TEN_THOUSAND) -> Optional[Quantity]:
     """`chinese_to_quantity`: the quantity of a string, or None where it is refused."""
     sign, text = signed(text_of(string))
@@ -516,6 +519,8 @@ def is_about(line: Line, start: int, end: int) -> bool:
         return True
     if line.at(end) in "几幾多余餘来來" or (line.at(end) == "好" and line.at(end + 1) in "几幾"):
         return True
+    if line.at(end) == "出" and line.at(end + 1) in "头頭":
+        return True
     whole = re.split("[点點]", text)[0]
     pairs = [(a, b) for a, b in zip(whole, whole[1:]) if is_any_digit(a) and is_any_digit(b)]
     if len(pairs) != 1 or is_figure(pairs[0][0]) or is_figure(pairs[0][1]):
@@ -605,6 +610,21 @@ def comma_joins(line: Line, i: int) -> bool:
     return 1 <= i - j <= 3 and line.at(j) not in "0０" and line.at(j - 1) not in ",.．"
 
 
+def sign_joins(line: Line, i: int) -> bool:
+    c, before, after = line.at(i), line.at(i - 1), line.at(i + 1)
+    if c in "负負":
+        if line.is_numeric(i - 1) or before in "正非背揹肩担擔抱胜勝辜欺自不":
+            return False
+        return line.is_numeric(i + 1)
+    if c in "-−－":
+        if line.is_numeric(i - 1) or is_letter(before) or before in "%％‰)]}_.．/\\-−－":
+            return False
+        return is_figure(after) or (after in "¥￥" and line.is_figure(i + 2))
+    if c in "¥￥":
+        return before in "-−－" and sign_joins(line, i - 1) and is_figure(after)
+    return False
+
+
 def joins(line: Line, i: int) -> bool:
     """A character that is no numeral character belongs to an expression."""
     c, before, after = line.at(i), line.at(i - 1), line.at(i + 1)
@@ -640,17 +660,7 @@ def joins(line: Line, i: int) -> bool:
         if after == "一" and not (line.is_numeric(i + 2) or line.at(i + 2) in "度点點摄攝℃"):
             return False
         return is_figure(after) or (line.is_wanted(i + 1) and (after in DIGITS or after == "十"))
-    if c in "负負":
-        if line.is_numeric(i - 1) or before in "正非背揹肩担擔抱胜勝辜欺自不":
-            return False
-        return line.is_numeric(i + 1)
-    if c in "-−－":
-        if line.is_numeric(i - 1) or is_letter(before) or before in "%％‰)]}_.．/\\-−－":
-            return False
-        return is_figure(after) or (after in "¥￥" and line.is_figure(i + 2))
-    if c in "¥￥":
-        return before in "-−－" and joins(line, i - 1) and is_figure(after)
-    return False
+    return sign_joins(line, i)
 
 
 def parts_expressions(a: str, b: str) -> bool:
@@ -662,6 +672,7 @@ def parts_expressions(a: str, b: str) -> bool:
     return is_figure(b) and (is_chinese_digit(a) or a in "廿卅") and a not in "零〇"
 
 
+@lru_cache(maxsize=1)
 def find_quantities(text: str) -> List[Found]:
     """The expressions of a text."""
     line = Line(text)
@@ -685,18 +696,29 @@ def find_quantities(text: str) -> List[Found]:
 WORDS = [
     tuple(word.split("|"))
     for word in """
-    |十二|指肠 |十二|生肖 |十二|月党 |十八|般 |十八|大 |十八|罗汉 |十八|层地 |十九|大 |二十|大
-    |十一|假期 |十一|长假 |十一|黄金 |三十六|计 |七十二|变 |七十二|行 |三百六十|行 |二十四|史
+    |十二|指肠 |十二|生肖 |十二|月党 |十八|般 |十八|大 |十八|罗汉 |十八|层地 |十九|大 |十九|国集 |二十|大 |二十|国集
+    |十一|放 |十一|回 |十一|去 |十一|再 |十一|出 |十一|假期 |十一|长假 |十一|黄金 |三十六|计 |七十二|变 |七十二|行 |三百六十|行 |二十四|史 |二十四|节气
     |二十八|宿 |十三|陵 |十三|妹 |一千零一|夜 |二八|年华 |三十|而立 |三十|年河 |四十|不惑
-    |五十|步笑 |十五|个吊 |十万|火急 |十万八千|里 |二百五| |亿万| 双|十一| 双|十二| 年|三十|
+    |五十|步笑 |十五|个吊 |十五|只吊 |十万|火急 |十万八千|里 |二百五| |亿万| 双|十一| 双|十二| 年|三十| 初|一十五| |一千|道一 千道|一万|
     """.split()
 ]
-SIMPLE = str.maketrans("腸黨羅漢層長黃計變華個雙萬億臘", "肠党罗汉层长黄计变华个双万亿腊")
+ERAS = tuple(
+    """
+    康熙 雍正 乾隆 嘉庆 嘉靖 道光 咸丰 元丰 同治 顺治 光绪 宣统 正统 洪武 建武 永乐 万历 大历 庆历 崇祯 贞观 开元 天宝
+    """.split()
+)
+SIMPLE = str.maketrans(
+    "腸黨羅漢層長黃計變華個雙萬億臘節氣國隻慶豐順緒統樂曆歷禎貞觀開寶",
+    "肠党罗汉层长黄计变华个双万亿腊节气国只庆丰顺绪统乐历历祯贞观开宝",
+)
+WEEK = re.compile(r"(?:[周週]|星期|[礼禮]拜)\Z")
+BETWEEN_IN_TITLE = frozenset(" ,，、-.〇")
 HALVED = "个個倍天岁歲里年月日号號點点时時分秒刻元圆圓块塊角毛度米斤两兩"
 LINKS = "到至~～－–—〜-"
-CHINESE_DIGITS = re.compile(f"{_D}+")
-HOUR = re.compile("[一二两兩三四五六七八九]|十[一二两兩三四五六七八九]?|[二两兩]十|二十[一二三四]")
-TIME = re.compile(f"([^点點]{{1,3}})[点點]([零〇]?)({_D})")
+CHINESE_DIGITS, TWO_TENS = re.compile(f"{_D}+"), re.compile(f"十{_D}十")
+_HOUR = "[一二两兩三四五六七八九]|十[一二两兩三四五六七八九]?|[二两兩]十|二十[一二三四]"
+TIME = re.compile(f"(?:{_HOUR})[点點]")
+TIME_WITH_ZERO = re.compile(f"(?:{_HOUR})[点點][零〇](?![零〇]){_D}")
 
 
 def is_part(line: Line, start: int, end: int) -> bool:
@@ -705,10 +727,41 @@ def is_part(line: Line, start: int, end: int) -> bool:
         return True
     if after == "成" and len(text) <= 2 and CHINESE_DIGITS.fullmatch(text):
         return True
+    if after == "分" and then == "之" and line.at(end + 2) in "几幾":
+        return True
+    if text.startswith("百分") and after in "秒毫厘釐克":
+        return True
     return after in HALVED and then == "半"
 
 
+def is_in_title(line: Line, start: int) -> bool:
+    """《 is among the 40 characters before a place, with nothing but what titles have between."""
+    for c in reversed(line.text[max(0, start - 40) : start]):
+        if c == "《":
+            return True
+        if not (is_han(c) or is_figure(c) or is_letter(c) or c in BETWEEN_IN_TITLE):
+            return False
+    return False
+
+
+def is_after_era(line: Line, start: int) -> bool:
+    head = line.text[:start]
+    return head.endswith("民国") or head.translate(SIMPLE).endswith(ERAS)
+
+
+def is_after_week(line: Line, start: int) -> bool:
+    return WEEK.search(line.text[max(0, start - 2) : start]) is not None
+
+
+def begins_with_weekday(line: Line, start: int, end: int) -> bool:
+    return end - start > 1 and line.at(start) in "一二三四五六" and is_after_week(line, start)
+
+
 def is_word(line: Line, start: int, end: int) -> bool:
+    if is_in_title(line, start) or (line.at(end) == "年" and is_after_era(line, start)):
+        return True
+    if begins_with_weekday(line, start, end):
+        return True
     text = line.text.translate(SIMPLE)
     head, tail = text[:start], text[end:]
     if re.search("亿萬|億万", line.text[start:end]):
@@ -723,37 +776,42 @@ def is_word(line: Line, start: int, end: int) -> bool:
 
 def is_digits(line: Line, start: int, end: int) -> bool:
     text = line.text[start:end]
+    if TWO_TENS.search(text):
+        return True
     if not CHINESE_DIGITS.fullmatch(text) or len(text) < 2:
         return False
     values = [DIGITS[c] for c in text]
     if len(values) > 3 and (values[0] == 0 or any(b < a for a, b in zip(values, values[1:]))):
         return False
-    after = line.at(end)
-    if (after == "年" and line.at(end + 1) not in "级級") or after in "号號室房":
+    before, after = line.at(start - 1), line.at(end)
+    if (after == "年" and line.at(end + 1) not in "级級") or after in "号號室房办辦":
         return False
-    return not (values[0] == 0 and line.at(start - 1) in "点點分时時" and after in "分秒")
+    if before in "楼樓栋棟座幢号號码碼":
+        return False
+    return not (values[0] == 0 and before in "点點分时時" and after in "分秒")
 
 
 def is_term(line: Line, start: int, end: int) -> bool:
-    text, after = line.text[start:end], line.at(end)
+    text, after, then = line.text[start:end], line.at(end), line.at(end + 1)
     if text[0] in "负負" and after in "项項楼樓层層":
         return True
     if re.search("[点點]", text) and after in "划劃线線":
         return True
-    if after in "进進" and line.at(end + 1) in "制位":
+    if after in "进進" and then in "制位":
         return True
-    return after in "届屆" and is_chinese_digit(line.at(end + 1)) and line.at(end + 2) == "中"
+    if line.at(start - 1) == "第":
+        if after + then == "次全":
+            return True
+        if after in "条條" and (not is_han(then) or then in "第之规規和及与與或至到"):
+            return True
+    return after in "届屆" and is_chinese_digit(then) and line.at(end + 2) == "中"
 
 
 def is_time(line: Line, start: int, end: int) -> bool:
-    found = TIME.fullmatch(line.text[start:end])
-    if found is None or DIGITS[found.group(3)] == 0:
-        return False
-    if not HOUR.fullmatch(found.group(1)):
-        return False
-    if found.group(2) and line.at(end) not in "元米度倍吨噸克升":
+    text, head = line.text[start:end], line.text[:start]
+    if TIME.match(text) and head.endswith((*"午晨早晚夜", "早上", "晚上")):
         return True
-    return line.at(start - 1) in "午晨早晚夜" or line.text[:start].endswith(("早上", "晚上"))
+    return TIME_WITH_ZERO.fullmatch(text) is not None and line.at(end) not in "元米度倍吨噸克升"
 
 
 def whole_part(q: Quantity) -> int:
@@ -907,8 +965,10 @@ CALENDAR, CLOCK = "年月日号號分秒刻", "點点时時"
 MONEY_AND_MEASURES = "元圆圓块塊角毛度米斤两兩"
 COUNTED = "个個件张張人名位只隻條条斤份次瓶包箱盒本套台杯碗"
 BEFORE_LINK = CALENDAR + CLOCK + MONEY_AND_MEASURES
-JOINED_IN_ANY_CASE = re.compile(f"[{BEFORE_LINK}]?[{LINKS}]|比|[单單有]|[个個]?小[时時]|分[钟鐘]|[{CLOCK}]")
-CHARACTERS_ABOVE = frozenset(BEFORE_LINK + LINKS + "比单單有个個小钟鐘")
+JOINED_IN_ANY_CASE = re.compile(
+    f"[{BEFORE_LINK}]?[{LINKS}]|比|[单單有加减減乘除]|[个個]?小[时時]|分[钟鐘]|[乘除]以|等[于於]|[{CLOCK}]"
+)
+CHARACTERS_ABOVE = frozenset(BEFORE_LINK + LINKS + "比单單有加减減乘除个個小钟鐘")
 
 
 def clings(line: Line, start: int, end: int) -> bool:
@@ -927,7 +987,7 @@ def clings(line: Line, start: int, end: int) -> bool:
     return touches(start - 1, start - 2) or (touches(end, end + 1) and not is_measure)
 
 
-def are_joined(line: Line, first: Found, second: Found) -> bool:
+def are_joined(line: Line, first: Any, second: Any) -> bool:
     """`Joined.are_joined`, of two neighbours."""
     between, after = line.text[first.end : second.start], line.at(second.end)
     if JOINED_IN_ANY_CASE.fullmatch(between):
@@ -939,59 +999,82 @@ def are_joined(line: Line, first: Found, second: Found) -> bool:
     return between in CALENDAR or not (second.is_one_character and after in COUNTED)
 
 
+TEN_OF_UNIT = re.compile("十(?:[元米克吨噸升秒度号號岁歲]|[公厘釐毫千平立][里斤顷頃尺米克升方]|[分小][钟鐘时時]|[美欧歐日港]元|百分)")
+
+
+def counts_as_one_character(line: Line, e: Found) -> bool:
+    """All that is one character does, but 十 after 每 or before a unit of measure, if it is no second."""
+    before = line.at(e.start - 1)
+    if e.text != "十" or before in "到至、和与與或":
+        return e.is_one_character
+    return before != "每" and not TEN_OF_UNIT.match(line.text, e.start)
+
+
 def has_figure(text: str) -> bool:
     return any(is_figure(c) for c in text)
 
 
-def to_figures(
-    text: str,
-    style: str = "kept",
-    canonical: bool = False,
-    about: bool = False,
-    one_character: bool = False,
-    doubtful: bool = False,
-) -> str:
-    """`quantities_to_figures`: numerals in figures, in the kept or the expanded style."""
-    line, expressions = Line(text), find_quantities(text)
-    expanded = style == "expanded"
+class Options(NamedTuple):
+    style: str = "kept"
+    canonical: bool = False
+    compact: bool = False
+    about: bool = False
+    one_character: bool = False
+    doubtful: bool = False
 
-    def stays(e: Found) -> bool:
-        """Rules 1 to 4."""
-        if has_figure(e.text) and "分之" not in e.text:  # 1
-            is_written = canonical and canonical_text(e.text) is not None
-            has_unit = any(c in RANKS or c in "零〇" for c in e.text)
-            if not (is_written or (expanded and has_unit)):
-                return True
-        if e.quantity is None or e.doubt == "part":  # 2
-            return True
-        if e.is_about and not about or e.is_one_character and not one_character:
-            return True
-        if e.doubt is not None and not doubtful:
-            return True
-        if clings(line, e.start, e.end):  # 3
-            return True
-        below, is_fraction, _ = e.text.partition("分之")  # 4
-        if expanded or not is_fraction:
-            return False
-        denominator = part(text_of(signed(below)[1]), TEN_THOUSAND)
-        return "又" in e.text or (denominator is not None and denominator[0] >= 1000)
 
-    def new_text(e: Found) -> Optional[str]:
-        figures = canonical_text(e.text) if canonical else None
-        if figures is None and expanded and e.quantity is not None:
-            return figures_text(e.quantity)
-        return kept_text(e.text) if figures is None else figures
+def stays(line: Line, e: Found, options: Options) -> bool:
+    """Rules 1 to 4."""
+    expanded = options.style == "expanded"
+    if has_figure(e.text) and "分之" not in e.text:  # 1
+        is_written = options.canonical and canonical_text(e.text) is not None
+        has_unit = any(c in RANKS or c in "零〇" for c in e.text)
+        if not (is_written or (expanded and has_unit)):
+            return True
+    if e.quantity is None or e.doubt == "part":  # 2
+        return True
+    if e.is_about and not options.about:
+        return True
+    if counts_as_one_character(line, e) and not options.one_character:
+        return True
+    if e.doubt is not None and not options.doubtful:
+        return True
+    if clings(line, e.start, e.end):  # 3
+        return True
+    below, is_fraction, _ = e.text.partition("分之")  # 4
+    if expanded or not is_fraction:
+        return False
+    denominator = part(text_of(signed(below)[1]), TEN_THOUSAND)
+    return "又" in e.text or (denominator is not None and denominator[0] >= 1000)
 
-    news = [None if stays(e) else new_text(e) for e in expressions]
+
+def new_text(line: Line, e: Found, options: Options = Options()) -> Optional[str]:
+    """The new text of an expression; None if it is left unchanged."""
+    if stays(line, e, options):
+        return None
+    figures = canonical_text(e.text) if options.canonical else None
+    if figures is None and options.style == "expanded" and e.quantity is not None:
+        return figures_text(e.quantity)
+    return kept_text(e.text) if figures is None else figures
+
+
+def put_in_chains(line: Line, expressions: Sequence[Any], news: List[Optional[str]]) -> str:
+    """The text with new texts, except where an expression, or a phrase, holds others: rule 5."""
     holds = [new is None and not has_figure(e.text) for e, new in zip(expressions, news)]
     joined = [are_joined(line, a, b) for a, b in zip(expressions, expressions[1:])]
-    for i, is_joined in enumerate(joined):  # 5: from one to the next, to the right
+    for i, is_joined in enumerate(joined):  # from one to the next, to the right
         holds[i + 1] = holds[i + 1] or (is_joined and holds[i])
     for i, is_joined in reversed(list(enumerate(joined))):  # and to the left
         holds[i] = holds[i] or (is_joined and holds[i + 1])
-
     pieces, end = [], 0
     for e, new, held in zip(expressions, news, holds):
-        pieces += [text[end : e.start], e.text if new is None or held else new]
+        pieces += [line.text[end : e.start], e.text if new is None or held else new]
         end = e.end
-    return "".join(pieces) + text[end:]
+    return "".join(pieces) + line.text[end:]
+
+
+def to_figures(text: str, **options: Any) -> str:
+    """`quantities_to_figures`: numerals in figures, in the kept or the expanded style."""
+    line, expressions = Line(text), find_quantities(text)
+    news = [new_text(line, e, Options(**options)) for e in expressions]
+    return put_in_chains(line, expressions, news)

@@ -163,10 +163,7 @@ async function copies(page) {
     for (const [id, copied] of [['figures', '壹仟肆佰零玖元伍角整'], ['capitals', '1409.50']]) {
       const button = `${id}.form.querySelector('dd button')`;
       assert.equal(await page.value(`${button}.textContent`), ['复制', '複製', 'Copy'][at]);
-      await page.value(`${button}.click()`);
-      await page.painted();
-      assert.equal(await page.value('navigator.clipboard.readText()'), copied);
-      assert.equal(await page.value(`${button}.textContent`), ['已复制', '已複製', 'Copied'][at]);
+      assert.deepEqual(await page.copiesBy(button), [['已复制', '已複製', 'Copied'][at], copied]);
     }
   }
   // Without a clipboard, as where there is no https, it selects the text, which it shows for that.
@@ -208,7 +205,7 @@ async function goesByKeyboard(page) {
     assert.deepEqual(await at(), [it, true]);
   }
   await page.enter();
-  for (const it of ['upper', 'about', 'oneCharacter', 'doubtful', 'expanded', 'canonical']) {
+  for (const it of ['upper', 'about', 'oneCharacter', 'doubtful', 'expanded', 'canonical', 'compact']) {
     await page.key('Tab', 9);
     assert.deepEqual(await at(), [it, true]);
   }
@@ -218,9 +215,8 @@ async function goesByKeyboard(page) {
   assert.equal(await page.value('location.search'), '?lang=zh-Hant');
   await page.type('figures', '15');
   await page.key('Tab', 9);
-  await page.enter();
-  await page.painted();
-  assert.equal(await page.value('navigator.clipboard.readText()'), '壹拾伍元整');
+  assert.deepEqual(await page.copiesBy('document.activeElement', page.enter),
+    ['已複製', '壹拾伍元整']);
 }
 
 // What a screen reader is told of an element: by the browser's own tree of what it tells.

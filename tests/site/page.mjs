@@ -14,9 +14,10 @@ export const rowsOf = (what) => ROWS.filter((it) => it[0] === what).map((it) => 
 
 // Waits until something holds, and gives the time.
 const untilIn = (holds) => `new Promise((done, fail) => {
+  const start = performance.now();
   const look = () => {
     if (${holds}) done(performance.now());
-    else if (performance.now() > 20_000) fail(new Error(${JSON.stringify(`no ${holds}`)}));
+    else if (performance.now() - start > 20_000) fail(new Error(${JSON.stringify(`no ${holds}`)}));
     else setTimeout(look, 5);
   };
   look();
@@ -107,6 +108,16 @@ export async function openPage(browser, url, pictures, languages = 'en') {
   async function gives(id, text, wanted) {
     assert.deepEqual(await ask(id, text), { ...NOTHING, ...wanted }, text);
   }
+  // Presses a button that copies; gives its first new label and what the clipboard then has. The
+  // label comes after the copy and goes back after a while, so labels are kept from before.
+  async function copiesBy(button, press = () => tab.value(`${button}.click()`)) {
+    await tab.value(`window.labels = [];
+      new MutationObserver(([{ target }]) => labels.push(target.textContent))
+        .observe(${button}, { childList: true })`);
+    await press();
+    await until('labels.length');
+    return tab.value('navigator.clipboard.readText().then((it) => [labels[0], it])');
+  }
   // Looks at each row of page.tsv that begins with a word, in each language.
   async function eachRow(what, look) {
     for (const language of LANGUAGES) {
@@ -114,5 +125,6 @@ export async function openPage(browser, url, pictures, languages = 'en') {
       for (const row of rowsOf(what)) await look(at, ...row);
     }
   }
-  return { ...tab, ...hands, ...eyes, prefer, until, open, speak, ask, gives, eachRow };
+  return { ...tab, ...hands, ...eyes, prefer, until, open, speak, ask, gives, copiesBy,
+    eachRow };
 }

@@ -24,9 +24,9 @@ async function findsQuantities(page) {
   assert.equal(await page.value('found.querySelector("u").textContent'), '五');
   assert.equal(await page.value('text.nextElementSibling.textContent'), TYPED);
   assert.deepEqual(await told(page),
-    ['Quantities: 9 · not replaced: 3 · doubtful: 1 · refused: 1', IN_FIGURES]);
+    ['Found: 9 · not replaced: 3 · doubtful: 1 · refused: 1', IN_FIGURES]);
   await page.check('about', true);
-  assert.deepEqual(await told(page), ['Quantities: 9 · not replaced: 2 · doubtful: 2 · refused: 1',
+  assert.deepEqual(await told(page), ['Found: 9 · not replaced: 2 · doubtful: 2 · refused: 1',
     IN_FIGURES.replace('三百', '300')]);
   assert.deepEqual((await marks('#found'))[3], ['三百 about 300', 'doubtful']);
   await page.check('about', false);
@@ -34,9 +34,39 @@ async function findsQuantities(page) {
   assert.equal((await told(page))[1], IN_FIGURES.replace('一般', '1般'));
   await page.check('oneCharacter', false);
   await page.check('doubtful', true);
-  assert.deepEqual(await told(page), ['Quantities: 9 · not replaced: 2 · doubtful: 2 · refused: 1',
+  assert.deepEqual(await told(page), ['Found: 9 · not replaced: 2 · doubtful: 2 · refused: 1',
     IN_FIGURES.replace('五一', '51')]);
   assert.deepEqual((await marks('#found')).at(-1), ['五一 51? (a list of digits)', 'doubtful']);
+  await page.check('doubtful', false);
+}
+
+// Phrases, each with its class, and what is said of it in each language.
+const MEETING = '二零二六年一月五日下午三点半，三到五万元，一个半小时，二月三十日，五到八折，三比二，二十人';
+const PHRASES = [
+  ['二零二六年一月五日', '', '日期：2026年1月5日', '日期：2026年1月5日', 'date: year 2026 month 1 day 5'],
+  ['下午三点半', '', '时刻：15:30:00', '時刻：15:30:00', 'time: 15:30:00'],
+  ['三到五万', '', '范围：30000–50000', '範圍：30000–50000', 'range: 30000–50000'],
+  ['一个半小时', 'left', '带半的数：1.5', '帶半的數：1.5', 'half: 1.5'],
+  ['二月三十日', 'fault', '没有这样的日期', '沒有這樣的日期', 'not a valid date'],
+  ['五到八', 'left', '范围：5–8？', '範圍：5–8？', 'range: 5–8?'],
+  ['三比二', '', '比分：3:2', '比分：3:2', 'score: 3:2'], ['二十', '', '20', '20', '20'],
+];
+
+// They are listed with their kind and value, and the text has them in figures.
+async function findsPhrases(page) {
+  for (const language of LANGUAGES) {
+    const at = await page.speak(language);
+    await page.type('text', MEETING);
+    assert.deepEqual(await page.all('#found mark', '[it.textContent, it.className]'),
+      PHRASES.map(([it, name, ...said]) => [`${it} ${said[at]}`, name]));
+  }
+  const anew = '2026年1月5日下午3点半，3万到5万元，一个半小时，二月三十日，五到八折，3比2，20人';
+  assert.deepEqual(await told(page), ['Found: 8 · not replaced: 2 · refused: 1', anew]);
+  await page.check('doubtful', true);
+  await page.check('oneCharacter', true);
+  assert.deepEqual(await told(page), ['Found: 8 · doubtful: 1 · refused: 1',
+    anew.replace('一个', '1个').replace('五到八', '5到8')]);
+  await page.check('oneCharacter', false);
   await page.check('doubtful', false);
 }
 
@@ -45,7 +75,7 @@ async function tellsDoubts(page) {
   const told = [];
   for (const language of LANGUAGES) {
     await page.speak(language);
-    await page.type('text', '三十六计，五一，负二项，六点五折，下午三点五，30~50万');
+    await page.type('text', '三十六计，五一，负二项，六点五折，下午三点五，三、四万');
     told.push(await page.all('#found small', `it.textContent.replace(/^[^?？]*[?？] ?/, '')`));
   }
   assert.deepEqual(told.map((it) => it.length), LANGUAGES.map(() => 7));
@@ -53,7 +83,7 @@ async function tellsDoubts(page) {
     '(折, 成 or 半 follows)', '(a time)', '(one end of a range)', '(one end of a range)']);
   await page.check('doubtful', true);
   assert.equal(await page.value('replaced.textContent'),
-    '36计，51，-2项，六点五折，下午3.5，30~50万');
+    '36计，51，-2项，六点五折，下午3.5，三、4万');
   await page.check('doubtful', false);
 }
 
@@ -64,7 +94,7 @@ async function findsByChoices(page) {
   for (const [way, it] of [['low', '1000000'], ['high', '10000000000000000'],
     ['digits', '1000000000000'], ['any', '1000000000000']]) {
     await page.choose('way', way);
-    assert.deepEqual(await told(page), ['Quantities: 1', it]);
+    assert.deepEqual(await told(page), ['Found: 1', it]);
   }
   await page.check('expanded', false);
   assert.equal((await told(page))[1], '1兆');
@@ -73,9 +103,9 @@ async function findsByChoices(page) {
   assert.equal((await told(page))[1], '1280');
   await page.check('canonical', false);
   await page.type('text', '正在參加');
-  assert.deepEqual(await told(page), ['Quantities: 0', '正在參加']);
+  assert.deepEqual(await told(page), ['Found: 0', '正在參加']);
   await page.check('upper', true);
-  assert.equal((await told(page))[0], 'Quantities: 2 · not replaced: 1 · refused: 1');
+  assert.equal((await told(page))[0], 'Found: 2 · not replaced: 1 · refused: 1');
 }
 
 // In a text no longer than 2,000 characters the mirror has the field's lines: it is as high and as
@@ -93,17 +123,15 @@ async function showsLongTexts(page) {
   await page.type('text', `三百${'字'.repeat(5000)}五十${'字'.repeat(5000)}七千`);
   const listed = () => page.all('#found mark span');
   assert.deepEqual(await listed(), ['七千']);
-  assert.match(await page.value('textSaid.textContent'), /^Long text: .* Quantities: 1$/);
+  assert.match(await page.value('textSaid.textContent'), /^Long text: .* Found: 1$/);
   // What the search saw in part is not listed: 十 of 五十.
   for (const [at, ...found] of [[0, '三百'], [5000, '五十'], [5203]]) {
     await page.value(`text.setSelectionRange(${at}, ${at});
       text.dispatchEvent(new Event('pointerup'))`);
     assert.deepEqual(await listed(), found);
   }
-  await page.value(`document.querySelector('.replaced button').click()`);
-  await page.painted();
-  assert.equal(await page.value('navigator.clipboard.readText()'),
-    `300${'字'.repeat(5000)}50${'字'.repeat(5000)}7000`);
+  assert.deepEqual(await page.copiesBy(`document.querySelector('.replaced button')`),
+    ['Copied', `300${'字'.repeat(5000)}50${'字'.repeat(5000)}7000`]);
 }
 
 // How many ms of the page's thread a key takes in a field with so many characters: the least of
@@ -153,6 +181,6 @@ async function readsVeryLongTexts(page) {
 }
 
 export const PARTS = [
-  findsQuantities, tellsDoubts, findsByChoices, showsLongTexts, answersLongTexts,
+  findsQuantities, findsPhrases, tellsDoubts, findsByChoices, showsLongTexts, answersLongTexts,
   readsVeryLongTexts,
 ];

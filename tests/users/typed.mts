@@ -10,8 +10,11 @@ import { signedAmountToChinese, yuanToFen, yuanToFenBigInt } from 'chinese-numbe
 import { chineseToDate, dateToChinese, findNumbers } from 'chinese-number-proved';
 import { Quantity, findQuantities, toQuantity } from 'chinese-number-proved';
 import { quantitiesToFigures, replaceQuantities } from 'chinese-number-proved';
+import { Phrase, findPhrases, textToFigures } from 'chinese-number-proved';
 import type { BillDate, Kind, NumeralCode, Unit, Way } from 'chinese-number-proved';
 import type { Doubt, FoundQuantity, Method, QuantityForm } from 'chinese-number-proved';
+import type { AnyPhrase, ClockTime, PartialDate } from 'chinese-number-proved';
+import type { PhraseKind, PhraseState } from 'chinese-number-proved';
 import type { Change, Expected, Fault, Input, Language, Repair } from 'chinese-number-proved';
 import { toNumber as other } from 'chinese-number-proved/files';
 const way: Way = 'any', greatest: Unit = 'yi';
@@ -40,6 +43,23 @@ const replaced: string = replaceQuantities(text, (it) => it.value()?.toFigures()
 const doubts: (Doubt | null)[] = expressions.map((it) => it.doubt);
 const figures: string = quantitiesToFigures(text, { doubtful: true, expanded: true, canonical: true });
 console.log(all.map((it) => it.toWhole() ?? 0n), isAbout, replaced, doubts, figures);
+const kinds: PhraseKind[] = [], states: PhraseState[] = [], others: FoundQuantity[] = [];
+const dates: PartialDate[] = [], times: ClockTime[] = [], ends: Quantity[] = [];
+for (const it of findPhrases('一月五日三点半，三到五万', { greatest })) {
+  if (!(it instanceof Phrase)) {
+    others.push(it);
+    continue;
+  }
+  const phrase: AnyPhrase = it;
+  kinds.push(phrase.kind);
+  states.push(phrase.state);
+  if (phrase.value === null) continue;
+  if (phrase.kind === 'date') dates.push(phrase.value);
+  if (phrase.kind === 'time') times.push(phrase.value);
+  if (phrase.kind === 'range') ends.push(...phrase.value);
+}
+const rewritten: string = textToFigures(text, { about: true, compact: true });
+console.log(kinds, states, others, dates, times, ends, rewritten);
 const input: Input = 'typedSignedAmount', expected: Expected = inputExpected(red, input);
 const keys: string[] = expected.mayEnd ? [] : expected.characters;
 const repair: Repair | undefined = inputRepair(red, input);
@@ -87,6 +107,12 @@ dateToChinese(new Date());
 toQuantity('一', { method: 'digits' });
 // @ts-expect-error: no such form
 new Quantity(1, 2, 'half');
+// @ts-expect-error: a text in figures has no script
+textToFigures('一', { script: 'simplified' });
+// @ts-expect-error: a search has no method
+findPhrases('一', { method: 'low' });
+// @ts-expect-error: an expression is no phrase
+const noKind: PhraseKind = 'expression';
 // @ts-expect-error: a function writes its own text
 replaceQuantities('一', () => '1', { expanded: true });
 // @ts-expect-error: what stands in the place of an expression is a text

@@ -3,11 +3,12 @@ from datetime import date, datetime
 from typing import Optional, Union
 
 from chinese_number import AmountError, Fault, FoundQuantity, Input, Kind, Language, NumeralError
-from chinese_number import Quantity, Script, Status, Unit, Way, amount_to_chinese, date_to_chinese
-from chinese_number import explain_number, find_numbers, find_quantities, input_expected
-from chinese_number import input_message, input_repair, quantities_to_figures, quantity_message
-from chinese_number import replace_quantities, signed_amount_to_chinese, status_message, to_chinese
-from chinese_number import to_number, to_quantity
+from chinese_number import Phrase, PhraseKind, Quantity, Script, Status, Unit, Way
+from chinese_number import amount_to_chinese, date_to_chinese, explain_number, find_numbers
+from chinese_number import find_phrases, find_quantities, input_expected, input_message
+from chinese_number import input_repair, quantities_to_figures, quantity_message
+from chinese_number import replace_quantities, signed_amount_to_chinese, status_message
+from chinese_number import text_to_figures, to_chinese, to_number, to_quantity
 
 
 def of_words(word: str, day: Union[date, datetime]) -> None:
@@ -53,6 +54,19 @@ def of_texts(found: FoundQuantity, way: Way) -> None:
     quantities_to_figures("一", greatest="wan", canonical=1)  # type: ignore[arg-type]
     replace_quantities("一", lambda it: it.text, greatest="Wan")  # type: ignore[arg-type]
     replace_quantities("一", lambda it: 1)  # type: ignore[arg-type, return-value]
+
+
+def of_phrases(found: Phrase) -> None:
+    next(find_phrases("一", greatest="ZHAO"))  # type: ignore[arg-type]
+    next(find_phrases("一")).value  # a value, or the method of an expression
+    next(find_phrases("一")).kind  # type: ignore[union-attr]
+    text_to_figures("一", method="digits")  # type: ignore[arg-type]
+    text_to_figures("一", greatest="wan", doubtful="yes")  # type: ignore[arg-type]
+    found.value.year  # type: ignore[union-attr]
+    if isinstance(found.value, date):
+        date_to_chinese(found.value)
+    Phrase(0, 1, "一", "date", found.state, None)  # type: ignore[arg-type]
+    Phrase(0, 1, "一", PhraseKind.DATE, found.state, None)
 
 
 def of_refusals(word: str, amount: AmountError, number: NumeralError) -> Optional[Fault]:

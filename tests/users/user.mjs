@@ -5,6 +5,7 @@ for (const { CASES, toBigInt, toChinese, toNumber, NumeralError, ...other } of [
   const { amountToChinese, chineseToAmount, AmountError, yuanToFen, findNumbers } = other;
   const { chineseToDate, dateToChinese, DateError } = other;
   const { Quantity, findQuantities, quantitiesToFigures, replaceQuantities, toQuantity } = other;
+  const { FoundQuantity, Phrase, findPhrases, textToFigures } = other;
   deepEqual(CASES, ['upper', 'lower']);
   equal(toChinese(120, { script: 'traditional', case: 'upper' }), '壹佰貳拾');
   equal(JSON.stringify(['一百二', '一二〇'].map((it) => toNumber(it))), '[120,120]');
@@ -39,4 +40,16 @@ for (const { CASES, toBigInt, toChinese, toNumber, NumeralError, ...other } of [
   deepEqual(Array.from(findQuantities('五一，二十'), (it) => it.doubt), ['digits', null]);
   equal(replaceQuantities(text, (it) => it.value()?.toChinese(), { about: true }),
     '😀共三万五千点零元，占百分之十二点五，十几人');
+  const meeting = '😀二零二六年一月五日下午三点半，三到五万元，二十人';
+  equal(textToFigures(meeting), '😀2026年1月5日下午3点半，3万到5万元，20人');
+  equal(textToFigures('三点五亿', { expanded: true }), '350000000');
+  const [day, time, range, people] = findPhrases(meeting);
+  equal(people instanceof FoundQuantity && people.value().toWhole(), 20n);
+  deepEqual([day, time, range].map((it) => it instanceof Phrase && it.kind),
+    ['date', 'time', 'range']);
+  deepEqual([day.value, dateToChinese(day.value)],
+    [{ year: 2026, month: 1, day: 5 }, '贰零贰陆年零壹月零伍日']);
+  deepEqual(time.value, { hour: 3, minute: 30, second: 0, hourOfDay: 15 });
+  deepEqual([range.start, range.end, range.value.map((it) => it.toFigures())],
+    [17, 21, ['30000', '50000']]);
 }

@@ -1,13 +1,14 @@
-from datetime import date
+from datetime import date, time
 from decimal import Decimal
 from typing import List, Optional
 
-from chinese_number import AmountError, DateError, Doubt, Found, FoundQuantity, Kind, NumeralError
-from chinese_number import Quantity, QuantityForm, Script, Status, Unit, Way
-from chinese_number import __version__, amount_to_chinese, chinese_to_amount, find_numbers
-from chinese_number import chinese_to_amount_as_typed, chinese_to_date, chinese_to_signed_amount
-from chinese_number import date_to_chinese, find_quantities, quantities_to_figures
-from chinese_number import replace_quantities, signed_amount_to_chinese, to_chinese, to_number
+from chinese_number import AmountError, ClockTime, DateError, Doubt, Found, FoundQuantity, Kind
+from chinese_number import NumeralError, PartialDate, Phrase, PhraseKind, PhraseState, Quantity
+from chinese_number import QuantityForm, Script, Status, Unit, Way, __version__, amount_to_chinese
+from chinese_number import chinese_to_amount, chinese_to_amount_as_typed, chinese_to_date
+from chinese_number import chinese_to_signed_amount, date_to_chinese, find_numbers, find_phrases
+from chinese_number import find_quantities, quantities_to_figures, replace_quantities
+from chinese_number import signed_amount_to_chinese, text_to_figures, to_chinese, to_number
 from chinese_number import to_quantity, yuan_to_fen
 
 
@@ -81,6 +82,26 @@ def in_numerals(found: FoundQuantity) -> Optional[str]:
     return None if it.form is QuantityForm.FRACTION else it.to_chinese(script="traditional")
 
 
+def phrases(text: str) -> List[Phrase]:
+    return [it for it in find_phrases(text, greatest=Unit.YI) if isinstance(it, Phrase)]
+
+
+def when(text: str) -> List[object]:
+    shown: List[object] = []
+    for it in phrases(text):
+        kind: PhraseKind = it.kind
+        state: PhraseState = it.state
+        if isinstance(it.value, (date, time)):
+            shown.append(it.value.isoformat())
+        elif isinstance(it.value, PartialDate):
+            shown += [it.value.year, it.value.month, it.value.day]
+        elif isinstance(it.value, ClockTime):
+            shown += [it.value.hour, it.value.hour_of_day]
+        else:
+            shown += [kind.name, state.name, it.text]
+    return shown
+
+
 if __name__ == "__main__":
     print(chapter("二十三"), chapter("二十十"), years("二〇二五年十一月"), len(__version__.split(".")))
     print(percentages("百分之五十的人"))
@@ -91,4 +112,6 @@ if __name__ == "__main__":
     print(values("3.5万"), Quantity.of(Decimal("-0.5")).to_figures(), Quantity.of_percent(5).form)
     print(replace_quantities("占12.5%，剩3分之1", in_numerals, about=True))
     print(quantities_to_figures("共三点五万，十几人", about=True, one_character=True))
+    print(when("二零二六年一月五日下午三点半"), when("二月三日三点半，三比二，二月三十日"))
+    print(text_to_figures("二零二六年一月五日下午三点半，三到五万元，五到八折", doubtful=True))
     print(doubts("五一，二十"), quantities_to_figures("五一，3.5万", doubtful=True, expanded=True))

@@ -9,7 +9,8 @@ import * as face from './files/chinese-number.mjs';
 
 const { CASES, CHANGES, DOUBTS, FAULTS, INPUTS, KINDS, LANGUAGES, METHODS } = face;
 const { QUANTITY_FORMS, SCRIPTS, UNITS, WAYS } = face;
-const { AmountError, DateError, Found, FoundQuantity, NumeralError } = face;
+const { PHRASE_KINDS, PHRASE_STATES } = face;
+const { AmountError, DateError, Found, FoundQuantity, NumeralError, Phrase } = face;
 const { findNumbers, toBigInt, toChinese, toNumber, chineseToDate, dateToChinese } = face;
 const { amountToChinese, chineseToAmount, chineseToAmountBigInt } = face;
 const { signedAmountToChinese, chineseToSignedAmount, chineseToSignedAmountBigInt } = face;
@@ -17,6 +18,7 @@ const { chineseToAmountAsTyped, chineseToAmountAsTypedBigInt } = face;
 const { chineseToSignedAmountAsTyped, chineseToSignedAmountAsTypedBigInt } = face;
 const { yuanToFen, yuanToFenBigInt } = face;
 const { Quantity, findQuantities, quantitiesToFigures, replaceQuantities, toQuantity } = face;
+const { findPhrases, textToFigures } = face;
 const { explainNumber, explainQuantity, inputExpected, inputMessage, inputRepair } = face;
 const { numberMessage, quantityMessage, statusMessage } = face;
 
@@ -1000,8 +1002,9 @@ function tryReplaced() {
 function refuseNoReplacements() {
   const wrong = [...NO_OPTIONS, { about: 1 }, { oneCharacter: 'yes' }, { upper: 1 },
     { greatest: 'ZHAO' }, { method: 'digits' }, { kind: 'u8' }, { doubtful: 1 }];
-  refusesEach([...wrong, { expanded: 'yes' }, { canonical: 0 }, { style: 'kept' }],
-    (it) => quantitiesToFigures('一', it));
+  const noStyle = [...wrong, { expanded: 'yes' }, { canonical: 0 }, { style: 'kept' }];
+  refusesEach([...noStyle, { compact: true }], (it) => quantitiesToFigures('一', it));
+  refusesEach([...noStyle, { compact: 1 }], (it) => textToFigures('一', it));
   refusesEach([...wrong, { expanded: true }, { canonical: true }],
     (it) => replaceQuantities('文', () => '', it));
   refusesEach([...NO_OPTIONS, { method: 'low' }, { about: true }], (it) => findQuantities('一', it));
@@ -1015,6 +1018,106 @@ function refuseNoReplacements() {
   }), failure);
 }
 
+const RUNNING_PHRASES = Array.from('一二三十百万零半两年月日号点分秒时刻周上下午个小米到至比 2635:-%，。多\n😀\ufffd\ud800');
+const FORMS = ['二零二六年', '一月', '五日', '下午', '三点', '小时', '到五万', '百分之三', '3:2', '2026-01-15'];
+
+// Whether the parts of a text, in order, are apart.
+const areApart = (items) => items.every((it, at) => at === 0 || items[at - 1].end <= it.start);
+const touches = ({ start, end }) => (it) => start < it.end && it.start < end;
+
+// The expressions in no phrase are those of findQuantities of which no phrase has a part; each
+// phrase has a value unless it is refused.
+function comparePhrasesOf(text) {
+  const wanted = { upper: below(2) === 1, greatest: one(UNITS) };
+  const items = Array.from(findPhrases(text, wanted));
+  const phrases = items.filter((it) => it instanceof Phrase);
+  assert(areApart(items), text);
+  for (const it of items) assert.equal(text.slice(it.start, it.end), it.text);
+  const others = Array.from(findQuantities(text, wanted))
+    .filter((it) => !phrases.some(touches(it)));
+  assert.deepEqual(items.filter((it) => it instanceof FoundQuantity), others, text);
+  for (const { kind, state, value } of phrases) {
+    assert(PHRASE_KINDS.includes(kind) && PHRASE_STATES.includes(state));
+    assert.equal(value === null, state === 'refused', text);
+    if (kind === 'range' && value) assert(value.every((it) => it instanceof Quantity), text);
+  }
+  keepsAllElse(text, textToFigures(text, { ...wanted, ...styleOfSome() }));
+  return phrases.length;
+}
+
+// A phrase with its kind, state and value, of which quantities are in figures.
+const tellPhrase = ({ kind, state, text, value }) => [text, kind, state,
+  JSON.stringify(value, (_, it) => (it instanceof Quantity ? it.toFigures() : it))].join(' ');
+
+const PHRASES = [
+  ['二零二六年一月五日', 'date certain {"year":2026,"month":1,"day":5}'],
+  ['二六年一月', 'date certain {"year":26,"month":1}'],
+  ['二月二十九日', 'date certain {"month":2,"day":29}'], ['二月三十日', 'date refused null'],
+  ['一九九五至二〇〇三年', 'years certain [1995,2003]'], ['三到五月', 'months certain [3,5]'],
+  ['五到三月', 'months refused null'], ['十五至十八日', 'days certain [15,18]'],
+  ['下午三点半', 'time certain {"hour":3,"minute":30,"second":0,"hourOfDay":15}'],
+  ['三点半', 'time certain {"hour":3,"minute":30,"second":0}'],
+  ['晚上十二点', 'time certain {"hour":12,"minute":0,"second":0,"hourOfDay":24}'],
+  ['一小时二十分五秒', 'duration certain {"hours":1,"minutes":20,"seconds":5}'],
+  ['一个半小时', 'half certain "1.5"'], ['一米七五', 'length certain "1.75"'],
+  ['三比二', 'score certain [3,2]'], ['三到五万', 'range certain ["30000","50000"]'],
+  ['3-5%', 'range certain ["3%","5%"]'], ['五到三', 'range refused null'],
+  ['五到三万', 'range certain ["5","30000"]'],
+];
+
+function tryPhrases() {
+  for (const [text, wanted] of PHRASES) {
+    assert.deepEqual(Array.from(findPhrases(text), tellPhrase), [`${text} ${wanted}`]);
+  }
+  const [early] = findPhrases('1000年前'), [tenths] = findPhrases('五到八折');
+  assert.deepEqual([early.state, early.value], ['doubtful', { year: 1000 }]);
+  assert.deepEqual([tenths.state, tenths.value.map((it) => it.toWhole())], ['doubtful', [5n, 8n]]);
+  const decimals = Array.from(findPhrases('一个半小时，一米七五'), (it) => it.value);
+  assert.deepEqual(decimals, [Quantity.decimal(15, 1), Quantity.decimal(175, 2)]);
+  let phrases = 0;
+  for (let i = 0; i < TEXTS; i++) {
+    const some = Array.from({ length: below(12) }, () => one(below(4) ? RUNNING_PHRASES : FORMS));
+    phrases += comparePhrasesOf(some.join(''));
+  }
+  assert(phrases > TEXTS / 4, `${phrases} phrases`);
+  tryManyPhrases();
+  tryTextsInFigures();
+  console.log(`phrases: ${phrases} in ${TEXTS} texts, and the expressions that are in none`);
+}
+
+// More is found than one call of the module gives, and other calls go in between.
+function tryManyPhrases() {
+  for (const count of [1, 63, 64, 65, 128, 100_000]) {
+    const many = Array.from(findPhrases('é😀三到五万，'.repeat(count)));
+    assert(many.length === count && many.every((it, at) => it.start === 8 * at + 3));
+    assert.deepEqual(many.at(-1).value.map((it) => it.toWhole()), [30_000n, 50_000n]);
+  }
+  const some = findPhrases('三点半，5-8%'), other = findPhrases('\ud800一月五日');
+  assert.deepEqual([some.next().value.kind, other.next().value.start], ['time', 1]);
+  assert.equal(some.next().value.value[1].toFigures(), '8%');
+  assert.deepEqual([some, other].map((it) => it.next().done), [true, true]);
+}
+
+function tryTextsInFigures() {
+  const text = '二零二六年一月五日下午三点半，三到五万元';
+  assert.equal(textToFigures(text), '2026年1月5日下午3点半，3万到5万元');
+  assert.equal(textToFigures(text, { expanded: true }), '2026年1月5日下午3点半，30000到50000元');
+  for (const [stays, options, anew] of [['二月三十日', { doubtful: true }, '二月三十日'],
+    ['一个半小时', { oneCharacter: true }, '1个半小时'], ['五到八折', { doubtful: true }, '5到8折']]) {
+    assert.deepEqual([textToFigures(stays), textToFigures(stays, options)], [stays, anew]);
+  }
+  for (const count of [1, 65, 100_000]) {
+    assert.equal(textToFigures('三点半\ud800，'.repeat(count)), '3点半\ud800，'.repeat(count));
+  }
+  const wrong = [...NO_OPTIONS, { upper: 1 }, { greatest: 'ZHAO' }];
+  refusesEach([...wrong, { method: 'digits' }, { doubtful: 1 }, { expanded: 'yes' }],
+    (it) => textToFigures('一', it));
+  refusesEach([...wrong, { method: 'low' }, { about: true }], (it) => findPhrases('一', it));
+  for (const call of [textToFigures, findPhrases]) {
+    refusesEach([1, null, undefined, ['一']], (it) => call(it));
+  }
+}
+
 // A host that has no more memory, and one that has it again.
 function tryWithoutMemory() {
   const { grow } = WebAssembly.Memory.prototype;
@@ -1026,7 +1129,9 @@ function tryWithoutMemory() {
   const refusal = { name: 'NumeralError', code: 'outOfMemory', message: 'out of memory', cause };
   assert.throws(() => toNumber(longer), { ...refusal, start: undefined });
   assert.throws(() => new Found(0, longer, 1).value(), refusal);
-  assert.throws(() => quantitiesToFigures(longer), refusal);
+  for (const call of [quantitiesToFigures, textToFigures, findPhrases]) {
+    assert.throws(() => call(longer), refusal);
+  }
   assert.equal(toNumber('一百二'), 120);
   WebAssembly.Memory.prototype.grow = grow;
   assert.equal(toNumber(longer), 0);
@@ -1091,7 +1196,8 @@ function onAFullStack(call, padding) {
 // A call on a full stack ends inside the module, which then traps for good: the next call has to
 // have a new instance.
 function tryTraps() {
-  const calls = [[() => toNumber('一百二'), 120], [() => toChinese(120), '一百二十']];
+  const calls = [[() => toNumber('一百二'), 120], [() => toChinese(120), '一百二十'],
+    [() => findPhrases('三到五万').next().value.value[1].toFigures(), '50000']];
   const made = instancesOf(() => {
     for (let padding = 0; padding < 200; padding++) {
       for (const [call, answer] of calls) {
@@ -1106,6 +1212,6 @@ function tryTraps() {
 
 for (const it of [lookAtTheModules, compareWithTheProgram, tryEdges, tryOptions, tryAmounts,
   trySignedAmounts, tryTypedAmounts, tryFigures, tryDates, tryReasons, tryMessages, tryRunningText,
-  tryFound, tryQuantities, tryReplaced, tryLongTexts, tryTraps]) {
+  tryFound, tryQuantities, tryReplaced, tryPhrases, tryLongTexts, tryTraps]) {
   it();
 }

@@ -159,8 +159,13 @@ func writeDate(script, date string) string {
 	return told(cn.DateToChinese(cn.DateOf(day), scripts[script]))
 }
 
+// ratio describes the numerator and the denominator of a quantity.
+func ratio(it cn.Quantity) string {
+	return fmt.Sprintf("%v/%v", it.Numerator(), it.Denominator())
+}
+
 func shown(it cn.Quantity) string {
-	return fmt.Sprintf("%v/%v %v", it.Numerator(), it.Denominator(), forms[it.Form()])
+	return ratio(it) + " " + forms[it.Form()]
 }
 
 // shownQuantity describes the result of a call, with the quantity in words.
@@ -194,6 +199,7 @@ func replacing(words string) *cn.Replacing {
 		Doubtful:     has(words, "doubtful"),
 		Expanded:     has(words, "expanded"),
 		Canonical:    has(words, "canonical"),
+		Compact:      has(words, "compact"),
 	}
 }
 
@@ -255,6 +261,71 @@ func showDoubt(found cn.Found) string {
 func findQuantities(text string, show func(cn.Found) string) string {
 	all, err := cn.FindQuantities(text, nil)
 	return inPlace(text, all, err, show)
+}
+
+// given describes a part of a date.
+func given(isGiven bool, number int) string {
+	if !isGiven {
+		return "?"
+	}
+	return fmt.Sprint(number)
+}
+
+func showPartialDate(it cn.PartialDate) string {
+	month, day := int(it.Month), it.Day
+	parts := []string{given(it.HasYear, it.Year), given(month != 0, month), given(day != 0, day)}
+	return strings.Join(parts, "-")
+}
+
+func showTime(it cn.ClockTime) string {
+	hour := given(it.HourOfDay != cn.UnknownHour, it.HourOfDay)
+	return fmt.Sprintf("%d:%d:%d =%s", it.Hour, it.Minute, it.Second, hour)
+}
+
+func showDuration(it time.Duration) string {
+	seconds := int(it / time.Second)
+	return fmt.Sprintf("%d:%d:%d", seconds/3600, seconds/60%60, seconds%60)
+}
+
+func showPair(kind cn.PhraseKind, it cn.Pair) string {
+	between := ".."
+	if kind == cn.PhraseKindScore {
+		between = ":"
+	}
+	return fmt.Sprint(it.First, between, it.Second)
+}
+
+func showValue(phrase cn.Phrase) string {
+	switch it := phrase.Value.(type) {
+	case cn.Date:
+		return fmt.Sprintf("%d-%d-%d", it.Year, it.Month, it.Day)
+	case cn.PartialDate:
+		return showPartialDate(it)
+	case cn.ClockTime:
+		return showTime(it)
+	case time.Duration:
+		return showDuration(it)
+	case cn.Quantity:
+		return ratio(it)
+	case cn.Pair:
+		return showPair(phrase.Kind, it)
+	case cn.Range:
+		return ratio(it.Low) + ".." + ratio(it.High)
+	}
+	return "-"
+}
+
+// phrases describes the phrases of a text, with a tab between them.
+func phrases(text string) string {
+	var shown []string
+	err := cn.EachPhrase(text, nil, func(item cn.Item) bool {
+		if it, isPhrase := item.(cn.Phrase); isPhrase {
+			words := fmt.Sprint(it.Kind, " ", it.State, " ", it.Text, " ", showValue(it))
+			shown = append(shown, words)
+		}
+		return true
+	})
+	return told(strings.Join(shown, "\t"), err)
 }
 
 // The functions that answer each question, by its name; each takes the other words.
@@ -327,6 +398,10 @@ var answers = map[string]func([]string) string{
 	"quantities_to_figures": func(words []string) string {
 		return told(cn.QuantitiesToFigures(words[1], replacing(words[0])))
 	},
+	"text_to_figures": func(words []string) string {
+		return told(cn.TextToFigures(words[1], replacing(words[0])))
+	},
+	"phrases": func(words []string) string { return phrases(words[0]) },
 	"replace_quantities": func(words []string) string {
 		return told(cn.ReplaceQuantities(words[1], replacing(words[0]), inNumerals))
 	},

@@ -3,7 +3,7 @@ proved library.
 
 >>> from datetime import date
 >>> from chinese_number import amount_to_chinese, chinese_to_amount, date_to_chinese, find_numbers
->>> from chinese_number import quantities_to_figures, to_chinese, to_number, to_quantity
+>>> from chinese_number import find_phrases, text_to_figures, to_chinese, to_number, to_quantity
 >>> from chinese_number import yuan_to_fen
 >>> to_number('一百二'), to_number('一二〇'), to_chinese(105_000)
 (120, 120, '十万五千')
@@ -22,12 +22,15 @@ chinese_number.NumeralError: number is too small
 [None, 50]
 >>> to_quantity('12.5%').to_fraction(), to_quantity('3.5万').to_whole()
 (Fraction(1, 8), 35000)
->>> quantities_to_figures('市值三点五亿元，占百分之十二点五')
-'市值3.5亿元，占12.5%'
+>>> text_to_figures('二零二六年一月五日下午三点半，市值三点五亿元，占百分之十二点五')
+'2026年1月5日下午3点半，市值3.5亿元，占12.5%'
+>>> [(found.text, found.value) for found in find_phrases('二零二六年一月五日下午三点半')]
+[('二零二六年一月五日', datetime.date(2026, 1, 5)), ('下午三点半', datetime.time(15, 30))]
 
 >>> from decimal import Decimal
 >>> from chinese_number import Quantity, chinese_to_amount_as_typed, chinese_to_date
->>> from chinese_number import find_quantities, replace_quantities, signed_amount_to_chinese
+>>> from chinese_number import find_quantities, quantities_to_figures, replace_quantities
+>>> from chinese_number import signed_amount_to_chinese
 >>> to_number('十万五'), to_chinese(105_000, script='traditional')
 (105000, '十萬五千')
 >>> signed_amount_to_chinese(yuan_to_fen(Decimal('-1409.50')))
@@ -42,6 +45,8 @@ Decimal('0.125')
 ('三点一四', '百分之五')
 >>> [found.quantity().to_figures() for found in find_quantities('共三点五万，剩三分之一')]
 ['35000', '1/3']
+>>> quantities_to_figures('二零二六年，一月五日，占百分之十二点五')
+'2026年，一月五日，占12.5%'
 >>> replace_quantities('占12.5%', lambda found: found.quantity().to_chinese())
 '占百分之十二点五'
 >>> [(found.text, found.doubt) for found in find_quantities('五一假期，二十人')]
@@ -68,7 +73,7 @@ from __future__ import annotations
 import operator
 import re
 from dataclasses import dataclass, field, fields
-from datetime import date, datetime
+from datetime import date, datetime, time, timedelta
 from decimal import Decimal
 from fractions import Fraction
 from itertools import chain
@@ -77,8 +82,8 @@ from typing import Any, Callable, Dict, Iterable, Iterator, List, Literal, Optio
 from typing import SupportsIndex, Tuple, Type, TypeVar, Union
 
 from . import _codes, _library
-from ._codes import Case, Change, Doubt, Fault, Input, Kind, Language, QuantityForm, Script, Status
-from ._codes import TEXTS as _TEXTS, Unit, Way
+from ._codes import Case, Change, Doubt, Fault, Input, Kind, Language, PhraseKind, PhraseState
+from ._codes import QuantityForm, Script, Status, TEXTS as _TEXTS, Unit, Way
 from ._codes import _CaseWord, _DoubtWord, _InputWord, _KindWord, _LanguageWord, _MethodWord
 from ._codes import _QuantityFormWord, _ScriptWord, _UnitWord, _WayWord
 
@@ -86,6 +91,7 @@ __all__ = [
     "AmountError",
     "Case",
     "Change",
+    "ClockTime",
     "DateError",
     "Doubt",
     "Expected",
@@ -96,6 +102,10 @@ __all__ = [
     "Kind",
     "Language",
     "NumeralError",
+    "PartialDate",
+    "Phrase",
+    "PhraseKind",
+    "PhraseState",
     "Quantity",
     "QuantityForm",
     "Repair",
@@ -113,6 +123,7 @@ __all__ = [
     "explain_number",
     "explain_quantity",
     "find_numbers",
+    "find_phrases",
     "find_quantities",
     "input_expected",
     "input_message",
@@ -123,6 +134,7 @@ __all__ = [
     "replace_quantities",
     "signed_amount_to_chinese",
     "status_message",
+    "text_to_figures",
     "to_chinese",
     "to_number",
     "to_quantity",
@@ -318,6 +330,7 @@ _DOUBTS = {it: code + 1 for it, code in _codes_of(Doubt).items()}
 _INPUTS, _LANGUAGES = _codes_of(Input), _codes_of(Language)
 _AMOUNT, _SIGNED_AMOUNT, _TYPED_AMOUNT, _TYPED_SIGNED_AMOUNT, _DATE, _FIGURES = _INPUTS.values()
 _STATUS_OF, _INCORRECT = tuple(Status), Status.INCORRECT.value
+_PHRASE_KIND_OF, _PHRASE_STATE_OF = tuple(PhraseKind), tuple(PhraseState)
 _CHANGE_OF, _FAULT_OF = (None, *Change), (None, *Fault)
 _METHODS = {way: code for way, code in _WAYS.items() if way is not Way.DIGITS}
 # What each word adds to the code of an amount's form.
@@ -880,6 +893,10 @@ def to_quantity(text: str, *, method: _Method = Way.ANY) -> Quantity:
     if code:
         reason = _status(code), Kind.I128, _place(code, char_index)
         raise NumeralError(*reason)._of("quantity", text, method_code)
+    return _quantity_of(words)
+
+
+def _quantity_of(words: _library.Words) -> Quantity:
     low, high, below_low, below_high, form = words
     above, below = _of_halves(low, high, Kind.I128), _of_halves(below_low, below_high, Kind.U128)
     return Quantity(above, below, _FORM_OF[form])
@@ -1017,6 +1034,125 @@ class FoundQuantity(_Doubted):
             return None
 
 
+@dataclass(frozen=True)
+class PartialDate:
+    """A date as it is said, if it is no datetime.date: a part of it is not given, and so is None, or
+    its year has less than four digits.
+
+    >>> [found.value for found in find_phrases('一月五日，二六年一月')]
+    [PartialDate(year=None, month=1, day=5), PartialDate(year=26, month=1, day=None)]
+    """
+
+    year: Optional[int] = None
+    month: Optional[int] = None
+    day: Optional[int] = None
+
+
+@dataclass(frozen=True)
+class ClockTime:
+    """A time of day as it is said, if it is no datetime.time: it may be in either half of the day, and
+    so hour_of_day is None, or it is 24:00, and hour_of_day is 24.
+
+    >>> [found.value for found in find_phrases('三点半')]
+    [ClockTime(hour=3, minute=30, second=0, hour_of_day=None)]
+    """
+
+    hour: int
+    minute: int = 0
+    second: int = 0
+    hour_of_day: Optional[int] = None
+
+
+_TimeValue = Union[date, PartialDate, time, ClockTime, timedelta]
+_PhraseValue = Union[_TimeValue, Decimal, Tuple[int, int], Tuple[Quantity, Quantity]]
+
+
+@dataclass(frozen=True)
+class Phrase:
+    """A phrase of a text, from start to end, as positions in the str. The value of each kind is:
+
+    DATE: a datetime.date or a PartialDate.
+    YEARS, MONTHS, DAYS: the first and the last.
+    TIME: a datetime.time or a ClockTime.
+    DURATION: a datetime.timedelta.
+    HALF, LENGTH: a Decimal, such as 1.5 for 一个半小时 and 1.75 for 一米七五.
+    SCORE: the two numbers.
+    RANGE: the two quantities.
+
+    state is DOUBTFUL if the phrase may mean something else. If it is REFUSED, the value is None.
+
+    >>> [(found.kind.value, found.value) for found in find_phrases('一小时二十分，三比二')]
+    [('duration', datetime.timedelta(seconds=4800)), ('score', (3, 2))]
+    >>> [(found.state, found.value) for found in find_phrases('二月三十日')]
+    [(<PhraseState.REFUSED: 'refused'>, None)]
+    """
+
+    start: int
+    end: int
+    text: str
+    kind: PhraseKind
+    state: PhraseState
+    value: Optional[_PhraseValue]
+
+
+# What the library adds for the year, the month and the day of a date that are given, and the hour
+# of the day of a time for which it is not known.
+_YEAR, _MONTH, _DAY, _NOT_KNOWN = 1, 2, 4, 255
+_FIRST_FULL_YEAR = 1000
+
+
+def _date_of(year: int, month: int, day: int, given: int) -> Union[date, PartialDate]:
+    if given == _YEAR | _MONTH | _DAY and year >= _FIRST_FULL_YEAR:
+        return date(year, month, day)
+    parts = (year, _YEAR), (month, _MONTH), (day, _DAY)
+    return PartialDate(*[part if given & flag else None for part, flag in parts])
+
+
+def _time_of(hour: int, minute: int, second: int, of_day: int) -> Union[time, ClockTime]:
+    if of_day < 24:
+        return time(of_day, minute, second)
+    return ClockTime(hour, minute, second, None if of_day == _NOT_KNOWN else of_day)
+
+
+def _duration_of(hours: int, minutes: int, seconds: int, _: int) -> timedelta:
+    return timedelta(hours=hours, minutes=minutes, seconds=seconds)
+
+
+def _length_of(whole: int, decimals: int, places: int, _: int) -> Decimal:
+    return Decimal(f"{whole}.{decimals:0{places}}")
+
+
+def _pair_of(first: int, last: int, *_: int) -> Tuple[int, int]:
+    return first, last
+
+
+def _range_of(low: _library.Words, high: _library.Words) -> Tuple[Quantity, Quantity]:
+    return _quantity_of(low), _quantity_of(high)
+
+
+_VALUES: Dict[PhraseKind, Callable[..., _PhraseValue]] = {
+    PhraseKind.DATE: _date_of,
+    PhraseKind.YEARS: _pair_of,
+    PhraseKind.MONTHS: _pair_of,
+    PhraseKind.DAYS: _pair_of,
+    PhraseKind.TIME: _time_of,
+    PhraseKind.DURATION: _duration_of,
+    PhraseKind.HALF: lambda number, *_: Decimal(f"{number}.5"),
+    PhraseKind.LENGTH: _length_of,
+    PhraseKind.SCORE: _pair_of,
+    PhraseKind.RANGE: _range_of,
+}
+
+
+def _item(found: Union[FoundQuantity, _library.PhraseWords]) -> Union[Phrase, FoundQuantity]:
+    if isinstance(found, FoundQuantity):
+        return found
+    start, end, text, kind_code, state_code, numbers = found
+    kind, state = _PHRASE_KIND_OF[kind_code], _PHRASE_STATE_OF[state_code]
+    value = None if state is PhraseState.REFUSED else _VALUES[kind](*numbers)
+    return Phrase(start, end, text, kind, state, value)
+
+
 def find_numbers(
     text: str, *, upper: bool = False, greatest: Union[Unit, _UnitWord] = Unit.ZHAO
 ) -> Iterator[Found]:
@@ -1051,6 +1187,25 @@ def find_quantities(
     wanted = _flag(upper), _code(_UNITS, greatest, "greatest")
     found = _found(_library.find_quantities, FoundQuantity, _text(text), *wanted)
     return chain.from_iterable(found)
+
+
+def find_phrases(
+    text: str, *, upper: bool = False, greatest: Union[Unit, _UnitWord] = Unit.ZHAO
+) -> Iterator[Union[Phrase, FoundQuantity]]:
+    """Finds the phrases of a text, in order: dates, times of day, durations, halves, lengths, scores
+    and ranges. Between them are the expressions that are in no phrase, as find_quantities finds
+    them. upper and greatest are as in find_numbers.
+
+    >>> [(found.start, found.text) for found in find_phrases('一月五日下午三点半，三到五万元，二十人')]
+    [(0, '一月五日'), (4, '下午三点半'), (10, '三到五万'), (16, '二十')]
+    >>> [end.to_whole() for found in find_phrases('三到五万元') for end in found.value]
+    [30000, 50000]
+
+    It does not understand sentences either, and treats a lone surrogate in the same way.
+    """
+    wanted = _flag(upper), _code(_UNITS, greatest, "greatest")
+    found = _found(_library.find_phrases, FoundQuantity, _text(text), *wanted)
+    return map(_item, chain.from_iterable(found))
 
 
 _AnyRun = TypeVar("_AnyRun", bound=_Run)
@@ -1149,18 +1304,64 @@ def quantities_to_figures(
     >>> quantities_to_figures('１,２８０人，007号', canonical=True)
     '1280人，7号'
     """
+    options = about, one_character, doubtful, expanded, canonical
+    return _in_figures(_library.quantities_to_figures, text, upper, greatest, method, *options)
+
+
+def text_to_figures(
+    text: str,
+    *,
+    upper: bool = False,
+    greatest: Union[Unit, _UnitWord] = Unit.ZHAO,
+    method: _Method = Way.ANY,
+    about: bool = False,
+    one_character: bool = False,
+    doubtful: bool = False,
+    expanded: bool = False,
+    canonical: bool = False,
+    compact: bool = False,
+) -> str:
+    """Rewrites the dates, times, durations, ranges, scores, lengths and numerals of a text in figures.
+    The words of a phrase stay.
+
+    >>> text_to_figures('二零二六年一月五日下午三点半，三到五万元，占百分之十二点五')
+    '2026年1月5日下午3点半，3万到5万元，占12.5%'
+
+    The options are those of quantities_to_figures, which writes what is in no phrase. A phrase without
+    value stays; and so do a doubtful phrase, unless doubtful is True, and a half after one Chinese
+    character, unless one_character is True.
+
+    >>> text_to_figures('二月三十日，五到八折，一个半小时')
+    '二月三十日，五到八折，一个半小时'
+    >>> text_to_figures('五到八折，一个半小时', doubtful=True, one_character=True)
+    '5到8折，1个半小时'
+
+    compact writes whole dates, times whose hour of 24 is known, and halves as short as possible.
+
+    >>> text_to_figures('二零二六年一月五日下午三点半，一个半小时', compact=True)
+    '2026-01-05 15:30，1.5小时'
+    """
+    options = about, one_character, doubtful, expanded, canonical, compact
+    return _in_figures(_library.text_to_figures, text, upper, greatest, method, *options)
+
+
+_OPTIONS = [
+    *(_codes.ABOUT, _codes.ONE_CHARACTER, _codes.DOUBTFUL),
+    *(_codes.EXPANDED, _codes.CANONICAL, _codes.COMPACT),
+]
+
+
+def _in_figures(
+    rewrite: Callable[..., Tuple[int, str]],
+    text: str,
+    upper: bool,
+    greatest: Union[Unit, _UnitWord],
+    method: _Method,
+    *chosen: bool,
+) -> str:
+    """The text that a call of the library rewrites. `chosen` says which of the options are chosen."""
     wanted = _flag(upper), _code(_UNITS, greatest, "greatest"), _code(_METHODS, method, "method")
-    options = sum(
-        option
-        for option, is_chosen in (
-            (_codes.ABOUT, about),
-            (_codes.ONE_CHARACTER, one_character),
-            (_codes.DOUBTFUL, doubtful),
-            (_codes.EXPANDED, expanded),
-            (_codes.CANONICAL, canonical),
-        )
-        if _flag(is_chosen)
-    )
+    options = sum(option for option, is_chosen in zip(_OPTIONS, chosen) if _flag(is_chosen))
     given = str.__str__(_text(text))  # a subclass of str has methods of its own
     marks: List[str] = []
     try:
@@ -1168,7 +1369,7 @@ def quantities_to_figures(
     except UnicodeEncodeError:  # a lone surrogate has no UTF-8
         marks = _HALF_OR_MARK.findall(given)
         data = _HALF_OR_MARK.sub("\ufffd", given).encode()
-    code, figures = _library.quantities_to_figures(data, *wanted, options)
+    code, figures = rewrite(data, *wanted, options)
     if code:
         _status(code)
     # No expression contains one of them: they stay, in their order.

@@ -19,7 +19,7 @@ from . import AmountError, DateError, Found, FoundQuantity, Kind, Language, Nume
 from . import Way, __version__, chinese_to_amount, chinese_to_amount_as_typed, chinese_to_date
 from . import chinese_to_signed_amount, chinese_to_signed_amount_as_typed, date_to_chinese
 from . import find_numbers, find_quantities, quantities_to_figures, signed_amount_to_chinese
-from . import to_chinese, to_number, yuan_to_fen
+from . import text_to_figures, to_chinese, to_number, yuan_to_fen
 from ._tables import Misuse, Refused, Table, shown, write_table
 
 
@@ -43,7 +43,11 @@ _KIND: _Options = {"--kind": [it.value for it in Kind]}
 _WAY: _Options = {"--way": [it.value for it in Way]}
 _METHOD: _Options = {"--method": [it.value for it in Way if it is not Way.DIGITS]}
 _REPLACED: _Options = {
-    f"--{it}": _FLAG for it in ("about", "one-character", "doubtful", "expanded", "canonical")
+    f"--{it}": _FLAG
+    for it in (
+        *("phrases", "about", "one-character", "doubtful"),
+        *("expanded", "canonical", "compact"),
+    )
 }
 _LANGUAGE: _Options = {"--language": [it.value for it in Language]}
 _FORM: _Options = {"--currency": _FLAG, "--yuan": ["元", "圆"], "--closing": ["整", "正"]}
@@ -89,8 +93,8 @@ usage: chinese-number amount [--traditional] [--currency] [--yuan 圆] [--closin
                             NUMBER...
        chinese-number find [--all] [--method any]
        chinese-number find --numbers [--all] [--kind u128] [--way any]
-       chinese-number replace [--all] [--method any] [--about] [--one-character] [--doubtful]
-                              [--expanded] [--canonical] [WORD...]
+       chinese-number replace [--phrases] [--all] [--method any] [--about] [--one-character]
+                              [--doubtful] [--expanded] [--canonical] [--compact] [WORD...]
        chinese-number --help | --version
 
 amount   converts yuan to capitals, 1409.50 to 壹仟肆佰零玖元伍角整, and capitals to yuan
@@ -120,11 +124,15 @@ find     writes LINE:CHARACTER TEXT NUMBER for each quantity in standard input, 
    --numbers        finds whole numbers instead: 3 and 5万 in 3.5万
 replace  writes the arguments, or standard input, with their numerals in figures, 市值三点五亿元 as
          市值3.5亿元
+   --phrases        includes dates, times, durations, ranges, scores and lengths: 一月五日下午三点半
+                    becomes 1月5日下午3点半
    --about          includes approximate numbers, as in 三百多
    --one-character  includes numbers of one Chinese character, as in 一般
    --doubtful       includes numbers that may mean something else, as 五一
    --expanded       writes out 万, 亿 and so on: 三点五亿 becomes 350000000
    --canonical      removes commas and leading zeros from figures: 1,280 becomes 1280
+   --compact        writes dates, times and halves as short as possible, 2026-01-05, 15:30 and 1.5小时;
+                    --phrases is not needed then
 
 Options of several commands:
    --traditional    writes traditional characters
@@ -287,6 +295,12 @@ def _find(options: Dict[str, Any]) -> int:
     return 0
 
 
+def _in_figures(text: str, *, phrases: bool = False, compact: bool = False, **options: Any) -> str:
+    if phrases or compact:
+        return text_to_figures(text, compact=compact, **options)
+    return quantities_to_figures(text, **options)
+
+
 def _replace(options: Dict[str, Any]) -> int:
     """Rewrites standard input line by line. A line that is not UTF-8 stays, and is reported."""
     status = 0
@@ -294,7 +308,7 @@ def _replace(options: Dict[str, Any]) -> int:
     with open(0, "rb", closefd=False) as lines:
         for count, line in enumerate(lines, 1):
             try:
-                line = quantities_to_figures(line.decode(), **options).encode()
+                line = _in_figures(line.decode(), **options).encode()
             except UnicodeDecodeError:
                 text = shown(line.decode(errors="replace").rstrip("\r\n"))
                 print(f"line {count}: {text}: the line is not UTF-8", file=sys.stderr)
@@ -315,7 +329,7 @@ _COMMANDS: Dict[str, Tuple[Callable[..., Any], Callable[[str], Any], _Options]] 
         {**_TRADITIONAL, "--upper": _FLAG, **_KIND, **_WAY, **_LANGUAGE},
     ),
     "find": (_find, str, {"--numbers": _FLAG, "--all": _FLAG, **_KIND, **_WAY, **_METHOD}),
-    "replace": (quantities_to_figures, str, {"--all": _FLAG, **_METHOD, **_REPLACED}),
+    "replace": (_in_figures, str, {"--all": _FLAG, **_METHOD, **_REPLACED}),
 }
 
 

@@ -210,10 +210,12 @@ class Doubt(str, Enum):
     """Why a reader may understand an expression as something other than its quantity. If several
     reasons apply, PART is reported if it is among them, and otherwise the first in this list.
 
-    WORD: it is part of a word: 十二 of 十二指肠, 十一 of 双十一.
-    DIGITS: it is two or three Chinese digits, or more in rising order: 五一, 一二三四.
+    WORD: it is part of a word or a title, or the year of an era: 十二 of 十二指肠, 十一 of 双十一, 四十一 of
+    乾隆四十一年.
+    DIGITS: it is two or three Chinese digits, or more in rising order, or two numbers: 五一, 一二三四,
+    十五十六.
     TERM: it is part of a term: 负二 of 负二项, 十六 of 十六进制.
-    PART: it is part of an expression with 折, 成 or 半: 八五 of 八五折, 一 of 一个半.
+    PART: it is part of an expression with 折, 成, 半 or 分之几: 八五 of 八五折, 一 of 一个半.
     TIME: it may be a time: 三点五 of 下午三点五, 十点零五.
     RANGE: it is one end of a range whose ends share a unit or 百分之: 3 and 5万 of 3~5万."""
 
@@ -223,6 +225,49 @@ class Doubt(str, Enum):
     PART = "part"
     TIME = "time"
     RANGE = "range"
+
+
+class PhraseKind(str, Enum):
+    """What an item of a text is: an expression that is in no phrase, or a phrase of a kind. The
+    numbers of a phrase that follow here are called first, second, third and fourth where a
+    language has no type of its own for them.
+
+    EXPRESSION: an expression in no phrase.
+    DATE: a date or a part of one: the year, the month, the day.
+    YEARS: from a year to another one.
+    MONTHS: from a month to another one of the same year.
+    DAYS: from a day to another one of the same month.
+    TIME: a time of day: the hour as it is written, the minute, the second, the hour of 24.
+    DURATION: hours, minutes and seconds.
+    HALF: a number and a half: the number without the half.
+    LENGTH: a number with decimals, as 一米七五: the number, the decimals, how many decimals there
+    are.
+    SCORE: two numbers that are compared.
+    RANGE: from a quantity to another one."""
+
+    EXPRESSION = "expression"
+    DATE = "date"
+    YEARS = "years"
+    MONTHS = "months"
+    DAYS = "days"
+    TIME = "time"
+    DURATION = "duration"
+    HALF = "half"
+    LENGTH = "length"
+    SCORE = "score"
+    RANGE = "range"
+
+
+class PhraseState(str, Enum):
+    """What is known of a phrase.
+
+    CERTAIN: it has a value.
+    DOUBTFUL: it has a value, but may mean something else: 1000年 of 1000年前, 五到八 of 五到八折.
+    REFUSED: it has no value: it names a day or a time that does not exist, or does not rise."""
+
+    CERTAIN = "certain"
+    DOUBTFUL = "doubtful"
+    REFUSED = "refused"
 
 
 class Input(str, Enum):
@@ -365,6 +410,7 @@ ONE_CHARACTER = 8
 DOUBTFUL = 16
 EXPANDED = 32
 CANONICAL = 64
+COMPACT = 128
 
 
 TOO_LONG = 4294967295

@@ -57,6 +57,14 @@ class _Span(ctypes.Structure):
     _fields_ = [("start", _SIZE), ("end", _SIZE), ("flags", _CODE)]
 
 
+class _Phrase(ctypes.Structure):
+    _fields_ = [
+        *(("start", _SIZE), ("end", _SIZE), ("split", _SIZE)),
+        *(("kind", _CODE), ("state", _CODE), ("flags", _CODE)),
+        *(("first", _CODE), ("second", _CODE), ("third", _CODE), ("fourth", _CODE)),
+    ]
+
+
 class _Expected(ctypes.Structure):
     _fields_ = [
         *_PLACE,
@@ -71,7 +79,9 @@ class _Repair(ctypes.Structure):
 
 _TEXT = ctypes.c_char_p, _SIZE
 _ROOM = ctypes.c_char_p, _SIZE, _at(_SIZE)
-_SEARCH = (*_TEXT, _SIZE, _CODE, _CODE, _at(_Span), _SIZE, _at(_SIZE))
+_FOUND = _SIZE, _at(_SIZE)
+_SEARCH = (*_TEXT, _SIZE, _CODE, _CODE, _at(_Span), *_FOUND)
+_REWRITING = (*_TEXT, _CODE, _CODE, _CODE, _CODE, *_ROOM)
 _ARGUMENTS: Dict[str, Tuple[Any, ...]] = {
     "chinese_number_read_utf8": (*_TEXT, _CODE, _CODE, _at(_Reading)),
     "chinese_number_print": (_WORD, _WORD, _CODE, _CODE, _CODE, _CODE, *_ROOM),
@@ -80,7 +90,10 @@ _ARGUMENTS: Dict[str, Tuple[Any, ...]] = {
     "chinese_quantity_print": (_at(_Quantity), _CODE, _CODE, _CODE, *_ROOM),
     "chinese_quantity_figures": (_at(_Quantity), *_ROOM),
     "chinese_quantity_find_utf8": _SEARCH,
-    "chinese_quantities_to_figures": (*_TEXT, _CODE, _CODE, _CODE, _CODE, *_ROOM),
+    "chinese_quantities_to_figures": _REWRITING,
+    "chinese_phrase_find_utf8": (*_TEXT, _SIZE, _CODE, _CODE, _at(_Phrase), *_FOUND),
+    "chinese_range_read": (*_TEXT, *_TEXT, _at(_Quantity), _at(_Quantity)),
+    "chinese_text_to_figures": _REWRITING,
     "chinese_amount_read": (*_TEXT, _at(_Amount)),
     "chinese_amount_print": (_WORD, _CODE, _CODE, *_ROOM),
     "chinese_signed_amount_read": (*_TEXT, _at(_SignedAmount)),
@@ -106,8 +119,12 @@ _CALLS = (
     "Run know_words utf8 read_number read_amount read_signed_amount read_typed_amount "
     "read_typed_signed_amount read_figures read_date read_quantity print_number print_amount "
     "print_signed_amount print_date print_quantity print_figures find_numbers find_quantities "
-    "quantities_to_figures"
+    "find_phrases quantities_to_figures text_to_figures"
 ).split()
+_NO_ROOM = _codes.Status.NO_ROOM.value
+_KIND_CODES = {kind: code for code, kind in enumerate(_codes.PhraseKind)}
+_EXPRESSION = _KIND_CODES[_codes.PhraseKind.EXPRESSION]
+_RANGE = _KIND_CODES[_codes.PhraseKind.RANGE]
 # The code of a doubt is multiplied by this, and added to the flags.
 _DOUBT = 16
 _FLAGS = _codes.PLAIN_DIGITS, _codes.STANDS_ALONE, _codes.ABOUT, _codes.ONE_CHARACTER
@@ -115,7 +132,10 @@ _FLAGS = _codes.PLAIN_DIGITS, _codes.STANDS_ALONE, _codes.ABOUT, _codes.ONE_CHAR
 _FLAGS_OF = [tuple(bool(flags & it) for it in _FLAGS) for flags in range(_DOUBT)]
 # A quantity: the low and the high 64 bits of its numerator and of its denominator, and its form.
 Words = Tuple[int, int, int, int, int]
-# The status, some of the runs found, and where the search stopped, in bytes and in characters.
+# A phrase: its start, its end, its text, the codes of its kind and its state, and its four numbers,
+# or the two quantities of a range.
+PhraseWords = Tuple[int, int, str, int, int, Tuple[Any, ...]]
+# The status, some of what is found, and where the search stopped, in bytes and in characters.
 Some = Tuple[int, List[Any], int, int]
 _Function = TypeVar("_Function", bound=Any)
 library: Any = None
@@ -289,12 +309,16 @@ def read_date(text: str) -> Tuple[int, Tuple[int, int, int], int]:
     return status, (it.year, it.month, it.day), it.char_index
 
 
+def _words_of(it: _Quantity) -> Words:
+    above, below = it.numerator, it.denominator
+    return above.low, above.high, below.low, below.high, it.form
+
+
 def read_quantity(text: str, method: int) -> Tuple[int, Words, int]:
     """The quantity, and the number of characters before the wrong one."""
     it = _Quantity()
     status = _read(library.chinese_quantity_read, text, it, method)
-    above, below = it.numerator, it.denominator
-    return status, (above.low, above.high, below.low, below.high, it.form), it.char_index
+    return status, _words_of(it), it.char_index
 
 
 def print_number(
@@ -371,18 +395,23 @@ def print_figures(quantity: Words) -> Tuple[int, str]:
     return _printed(call, _codes.MOST_FIGURES_BYTES, it)
 
 
-def quantities_to_figures(
-    data: bytes, upper: bool, greatest: int, method: int, options: int
-) -> Tuple[int, str]:
-    """The text with its quantities in figures. `data` is the text in UTF-8."""
-    codes, length = (upper, greatest, method, options), _SIZE(len(data))
-    status = no_room = _codes.Status.NO_ROOM.value
-    while status == no_room:
+def _rewritten(call: Any, data: bytes, *codes: int) -> Tuple[int, str]:
+    length, status = _SIZE(len(data)), _NO_ROOM
+    while status == _NO_ROOM:
         room = ctypes.create_string_buffer(max(length.value, _codes.MOST_FIGURES_BYTES))
-        status = library.chinese_quantities_to_figures(
-            data, len(data), *codes, room, len(room), byref(length)
-        )
+        status = call(data, len(data), *codes, room, len(room), byref(length))
     return status, room.raw[: length.value].decode()
+
+
+def quantities_to_figures(*words: Any) -> Tuple[int, str]:
+    """A text with its quantities in figures. The arguments are its UTF-8, whether to include the
+    upper case, and the codes of the greatest unit, the method and the options."""
+    return _rewritten(library.chinese_quantities_to_figures, *words)
+
+
+def text_to_figures(*words: Any) -> Tuple[int, str]:
+    """Like quantities_to_figures, also with its phrases in figures."""
+    return _rewritten(library.chinese_text_to_figures, *words)
 
 
 def utf8(text: str) -> Union[bytes, bytearray]:
@@ -390,26 +419,54 @@ def utf8(text: str) -> Union[bytes, bytearray]:
     return str.encode(text, "utf-8", "replace")
 
 
-def _some(call: Any, text: str, data: bytes, searched: int, index: int, *wanted: Any) -> Some:
-    spans, count, made = (_Span * _AT_ONCE)(), _SIZE(), []
-    *codes, of = wanted
-    status = call(data, len(data), searched, *codes, spans, _AT_ONCE, byref(count))
-    for span in spans[: count.value]:
-        start = index + len(data[searched : span.start].decode())
-        searched, index = span.end, start + len(data[span.start : span.end].decode())
-        doubt, flags = divmod(span.flags, _DOUBT)
-        values: List[Any] = [start, index, text[start:index], *_FLAGS_OF[flags], doubt]
-        made.append(Run.__new__(of, *values))
+def _some(call: Any, record: Any, make: Any, *words: Any) -> Some:
+    """Some of what a call finds; `make` makes each result from a record and the class of the runs."""
+    text, data, searched, index, *codes, of = words
+    records, count, made = (record * _AT_ONCE)(), _SIZE(), []
+    status = call(data, len(data), searched, *codes, records, _AT_ONCE, byref(count))
+    for it in records[: count.value]:
+        start = index + len(data[searched : it.start].decode())
+        searched, index = it.end, start + len(data[it.start : it.end].decode())
+        made.append(make(of, it, start, index, text[start:index]))
     return status, made, searched if len(made) == _AT_ONCE else len(data), index
+
+
+def _run(of: Any, it: Any, *place: Any) -> Any:
+    doubt, flags = divmod(it.flags, _DOUBT)
+    values: List[Any] = [*place, *_FLAGS_OF[flags], doubt]
+    return Run.__new__(of, *values)
+
+
+def _ends_of(text: str, split: int) -> Tuple[Words, Words]:
+    """The two quantities of a range, of which the first one has `split` bytes."""
+    data, low, high = text.encode(), _Quantity(), _Quantity()
+    first, second = data[:split], data[split:].decode()[1:].encode()
+    words = first, len(first), second, len(second)
+    library.chinese_range_read(*words, byref(low), byref(high))
+    return _words_of(low), _words_of(high)
+
+
+def _item(of: Any, it: _Phrase, *place: Any) -> Any:
+    if it.kind == _EXPRESSION:
+        return _run(of, it, *place)
+    numbers: Any = it.first, it.second, it.third, it.fourth
+    if it.kind == _RANGE:
+        numbers = _ends_of(place[-1], it.split)
+    return (*place, it.kind, it.state, numbers)
 
 
 def find_numbers(*words: Any) -> Some:
     """Finds the next numbers of a text. The arguments are the text, its UTF-8, how many bytes and how
     many characters to skip, whether to include the upper case, the code of the greatest unit, and
     the class of the runs."""
-    return _some(library.chinese_number_find_utf8, *words)
+    return _some(library.chinese_number_find_utf8, _Span, _run, *words)
 
 
 def find_quantities(*words: Any) -> Some:
     """Like find_numbers, for expressions."""
-    return _some(library.chinese_quantity_find_utf8, *words)
+    return _some(library.chinese_quantity_find_utf8, _Span, _run, *words)
+
+
+def find_phrases(*words: Any) -> Some:
+    """Like find_numbers, for phrases, each as its PhraseWords, and for expressions that are in none."""
+    return _some(library.chinese_phrase_find_utf8, _Phrase, _item, *words)

@@ -8,11 +8,12 @@ use chinese_number::{
     amount_to_chinese, amount_to_chinese_as, chinese_to_amount, chinese_to_amount_as_typed,
     chinese_to_date, chinese_to_quantity, chinese_to_signed_amount,
     chinese_to_signed_amount_as_typed, date_to_chinese, explain_number, explain_quantity,
-    find_numbers, find_quantities, input_expected, input_message, input_repair, number_message,
-    quantities_to_figures, quantity_message, replace_quantities, signed_amount_to_chinese,
-    yuan_to_fen, AmountForm, BillDate, ChineseCase, ChineseCountMethod, ChineseToNumber,
-    ChineseVariant, Doubt, Fault, Figures, Found, Hint, Included, Input, Integer, Language,
-    NumberToChinese, Numbers, Quantity, QuantityForm, Repair, Style, Wanted, Way,
+    find_numbers, find_phrases, find_quantities, input_expected, input_message, input_repair,
+    number_message, quantities_to_figures, quantity_message, replace_quantities,
+    signed_amount_to_chinese, text_to_figures, yuan_to_fen, AmountForm, BillDate, ChineseCase,
+    ChineseCountMethod, ChineseToNumber, ChineseVariant, ClockTime, Doubt, Fault, Figures, Found,
+    Hint, Included, Input, Integer, Item, Language, NumberToChinese, Numbers, PartialDate, Phrase,
+    PhraseValue, Quantity, QuantityForm, Repair, Style, Wanted, Way,
 };
 
 const FORMS: [(&str, QuantityForm); 4] = [
@@ -138,8 +139,12 @@ fn print_date(script: &str, date: &str) -> String {
     told(date_to_chinese(variant(script), date))
 }
 
-fn shown(Quantity { numerator, denominator, form }: Quantity) -> String {
-    format!("{numerator}/{denominator} {}", FORMS[form as usize].0)
+fn ratio(Quantity { numerator, denominator, .. }: Quantity) -> String {
+    format!("{numerator}/{denominator}")
+}
+
+fn shown(quantity: Quantity) -> String {
+    format!("{} {}", ratio(quantity), FORMS[quantity.form as usize].0)
 }
 
 /// The quantity of words such as `350000/10 decimal`.
@@ -164,11 +169,15 @@ fn included(words: &str) -> Included {
     Included { about: has("about"), one_character: has("one"), doubtful: has("doubtful") }
 }
 
-fn to_figures(words: &str, text: &str) -> String {
+type ToFigures = fn(&str, Wanted, ChineseCountMethod, Figures) -> String;
+
+fn to_figures(call: ToFigures, words: &str, text: &str) -> String {
     let has = |name| words.split('+').any(|word| word == name);
     let style = if has("expanded") { Style::Expanded } else { Style::Kept };
-    let figures = Figures { included: included(words), style, canonical: has("canonical") };
-    quantities_to_figures(text, Wanted::EVERYDAY, ChineseCountMethod::TenThousand, figures)
+    let (canonical, compact) = (has("canonical"), has("compact"));
+    let figures = Figures { included: included(words), style, canonical, compact };
+    let text = call(text, Wanted::EVERYDAY, ChineseCountMethod::TenThousand, figures);
+    format!("ok {text}")
 }
 
 fn to_numerals(words: &str, text: &str) -> String {
@@ -225,6 +234,44 @@ fn find_expressions(text: &str) -> String {
     in_place(text, find_quantities(text, Wanted::EVERYDAY), |found| {
         told(found.quantity(ChineseCountMethod::TenThousand).map(shown))
     })
+}
+
+fn part<T: Display>(part: Option<T>) -> String {
+    part.map_or(String::from("?"), |part| part.to_string())
+}
+
+fn value(value: PhraseValue) -> String {
+    match value {
+        PhraseValue::Date(BillDate { year, month, day }) => format!("{year}-{month}-{day}"),
+        PhraseValue::PartialDate(PartialDate { year, month, day }) => {
+            format!("{}-{}-{}", part(year), part(month), part(day))
+        }
+        PhraseValue::Years(first, last)
+        | PhraseValue::Months(first, last)
+        | PhraseValue::Days(first, last) => format!("{first}..{last}"),
+        PhraseValue::Time(ClockTime { hour, minute, second, hour_of_day }) => {
+            format!("{hour}:{minute}:{second} ={}", part(hour_of_day))
+        }
+        PhraseValue::Duration(duration) => {
+            let seconds = duration.as_secs();
+            format!("{}:{}:{}", seconds / 3600, seconds / 60 % 60, seconds % 60)
+        }
+        PhraseValue::Half(quantity) | PhraseValue::Length(quantity) => ratio(quantity),
+        PhraseValue::Score(first, second) => format!("{first}:{second}"),
+        PhraseValue::Range(low, high) => format!("{}..{}", ratio(low), ratio(high)),
+        _ => String::from("another"),
+    }
+}
+
+// The phrases of a text, with a tab between them.
+fn phrases(text: &str) -> String {
+    let told = |it: Phrase<'_>| {
+        let (kind, state) = (format!("{:?}", it.kind), format!("{:?}", it.state));
+        let value = it.value.map_or(String::from("-"), value);
+        format!("{} {} {} {value}", kind.to_lowercase(), state.to_lowercase(), it.text)
+    };
+    let found = find_phrases(text, Wanted::EVERYDAY).filter_map(Item::phrase);
+    format!("ok {}", found.map(told).collect::<Vec<_>>().join("\t"))
 }
 
 fn any_way(way: &str) -> Way {
@@ -332,7 +379,9 @@ fn answer(line: &str) -> String {
         ["print_quantity", way, script, case, words] => print_quantity(way, script, case, words),
         ["quantity_figures", words] => format!("ok {}", quantity(words).to_figures()),
         ["trim_quantity", words] => format!("ok {}", shown(quantity(words).trimmed())),
-        ["quantities_to_figures", words, text] => format!("ok {}", to_figures(words, text)),
+        ["quantities_to_figures", words, text] => to_figures(quantities_to_figures, words, text),
+        ["text_to_figures", words, text] => to_figures(text_to_figures, words, text),
+        ["phrases", text] => phrases(text),
         ["replace_quantities", words, text] => format!("ok {}", to_numerals(words, text)),
         _ => answer_on_refusal(&words),
     }

@@ -1,7 +1,7 @@
 /* The C binding of the proved library chinese_number, for C99 and later. It prints and reads
- * Chinese numerals for whole numbers and exact quantities, finds and replaces them in a text, and
- * prints and reads amounts of money and dates in capitals, and amounts in figures. It says what may
- * follow a text, and why a text is refused, in three languages.
+ * Chinese numerals for whole numbers and exact quantities, finds and replaces them in a text, also in
+ * phrases such as dates and times, and prints and reads amounts of money and dates in capitals, and
+ * amounts in figures. It says what may follow a text, and why a text is refused, in three languages.
  * chinese_number.hpp has classes over it for C++17.
  *
  * The calls chinese_.. are the proved ones: texts are bytes, and choices are codes. The calls
@@ -18,10 +18,10 @@
  * The caller must ensure the following, since nothing tests it:
  * - No pointer is NULL, not even for an empty text, buffer or array. (cn_.. accept NULL for a text
  *   or a buffer of length 0.)
- * - A text and a buffer have as many bytes as their length says, and an array has `most` spans: at
- *   most PTRDIFF_MAX bytes.
- * - What a call writes (the buffer `room`, *length, *reading, *quantity, the spans, *count) does
- *   not overlap any other argument.
+ * - A text and a buffer have as many bytes as their length says, and an array has `most` spans or
+ *   phrases: at most PTRDIFF_MAX bytes.
+ * - What a call writes (the buffer `room`, *length, *reading, *quantity, *low, *high, the spans, the
+ *   phrases, *count) does not overlap any other argument.
  * - Nothing else writes to the arguments before the call returns.
  *
  * All names begin with chinese_, cn_ or CN_. */
@@ -195,19 +195,59 @@ typedef enum cn_quantity_form CN_OF_CODE {
 typedef enum cn_doubt CN_OF_CODE {
     /* There is no reason. */
     CN_NO_DOUBT = 0,
-    /* It is part of a word: 十二 of 十二指肠, 十一 of 双十一. */
+    /* It is part of a word or a title, or the year of an era: 十二 of 十二指肠, 十一 of 双十一, 四十一 of
+     * 乾隆四十一年. */
     CN_DOUBT_WORD = 1,
-    /* It is two or three Chinese digits, or more in rising order: 五一, 一二三四. */
+    /* It is two or three Chinese digits, or more in rising order, or two numbers: 五一, 一二三四,
+     * 十五十六. */
     CN_DOUBT_DIGITS = 2,
     /* It is part of a term: 负二 of 负二项, 十六 of 十六进制. */
     CN_DOUBT_TERM = 3,
-    /* It is part of an expression with 折, 成 or 半: 八五 of 八五折, 一 of 一个半. */
+    /* It is part of an expression with 折, 成, 半 or 分之几: 八五 of 八五折, 一 of 一个半. */
     CN_DOUBT_PART = 4,
     /* It may be a time: 三点五 of 下午三点五, 十点零五. */
     CN_DOUBT_TIME = 5,
     /* It is one end of a range whose ends share a unit or 百分之: 3 and 5万 of 3~5万. */
     CN_DOUBT_RANGE = 6,
 } cn_doubt;
+
+/* What an item of a text is: an expression that is in no phrase, or a phrase of a kind. The
+ * numbers of a phrase that follow here are called first, second, third and fourth where a
+ * language has no type of its own for them. */
+typedef enum cn_phrase_kind CN_OF_CODE {
+    /* An expression in no phrase. */
+    CN_PHRASE_KIND_EXPRESSION = 0,
+    /* A date or a part of one: the year, the month, the day. */
+    CN_PHRASE_KIND_DATE = 1,
+    /* From a year to another one. */
+    CN_PHRASE_KIND_YEARS = 2,
+    /* From a month to another one of the same year. */
+    CN_PHRASE_KIND_MONTHS = 3,
+    /* From a day to another one of the same month. */
+    CN_PHRASE_KIND_DAYS = 4,
+    /* A time of day: the hour as it is written, the minute, the second, the hour of 24. */
+    CN_PHRASE_KIND_TIME = 5,
+    /* Hours, minutes and seconds. */
+    CN_PHRASE_KIND_DURATION = 6,
+    /* A number and a half: the number without the half. */
+    CN_PHRASE_KIND_HALF = 7,
+    /* A number with decimals, as 一米七五: the number, the decimals, how many decimals there are. */
+    CN_PHRASE_KIND_LENGTH = 8,
+    /* Two numbers that are compared. */
+    CN_PHRASE_KIND_SCORE = 9,
+    /* From a quantity to another one. */
+    CN_PHRASE_KIND_RANGE = 10,
+} cn_phrase_kind;
+
+/* What is known of a phrase. */
+typedef enum cn_phrase_state CN_OF_CODE {
+    /* It has a value. */
+    CN_PHRASE_STATE_CERTAIN = 0,
+    /* It has a value, but may mean something else: 1000年 of 1000年前, 五到八 of 五到八折. */
+    CN_PHRASE_STATE_DOUBTFUL = 1,
+    /* It has no value: it names a day or a time that does not exist, or does not rise. */
+    CN_PHRASE_STATE_REFUSED = 2,
+} cn_phrase_state;
 
 /* What a text is meant to be, for the calls that say what may follow it and why it is refused:
  * each names the call that reads it. */
@@ -351,13 +391,17 @@ typedef enum cn_flag CN_OF_CODE {
     CN_ONE_CHARACTER = 8,
 } CN_FLAGS cn_flag;
 
-/* The options for replacing quantities, added together, and to CN_ABOUT and CN_ONE_CHARACTER. */
+/* The options for writing a text in figures, added together, and to CN_ABOUT and
+ * CN_ONE_CHARACTER. */
 /* Doubtful expressions are replaced too, except those with CN_DOUBT_PART. */
 #define CN_DOUBTFUL 16u
 /* 万, 亿 and so on are written out: 三千五百亿 becomes 350000000000, not 3500亿. */
 #define CN_EXPANDED 32u
 /* What is only figures becomes ASCII without commas and leading zeros: １,２８０ becomes 1280. */
 #define CN_CANONICAL 64u
+/* Dates, times and halves become as short as possible: 2026-01-05, 15:30, 1.5小时; only for
+ * chinese_text_to_figures. */
+#define CN_COMPACT 128u
 
 /* How long the texts are that are written. These do not count the zero byte that cn_print,
  * cn_input_message and so on write. */
@@ -543,6 +587,60 @@ uint32_t chinese_quantity_figures(const cn_quantity *quantity, uint8_t *room, si
 uint32_t chinese_quantities_to_figures(const uint8_t *text, size_t text_length, uint32_t upper, uint32_t greatest,
                                        uint32_t method, uint32_t options, uint8_t *room, size_t room_length,
                                        size_t *length);
+
+/* A phrase of a text, or an expression that is in none: the bytes before its start and before its end;
+ * for a range, how many bytes its first end has, after which its link is one character; the codes of its
+ * kind and its state (cn_phrase_kind, cn_phrase_state); its flags, as those of a cn_span; and its
+ * numbers, which are 0 for an expression, for a range and for a refused phrase:
+ * - a date: the year, the month, the day, and the sum of 1, 2 and 4 for those that are given;
+ * - years, months, days: the first and the last;
+ * - a time: the hour as it is written, the minute, the second, and the hour of 24, or 255 if it is not
+ *   known;
+ * - a duration: the hours, the minutes, the seconds;
+ * - a half: the number without the half;
+ * - a length: the number before its decimals, the decimals, and how many decimals there are;
+ * - a score: the two numbers. */
+typedef struct cn_phrase {
+    size_t start;
+    size_t end;
+    size_t split;
+    uint32_t kind;
+    uint32_t state;
+    uint32_t flags;
+    uint32_t first;
+    uint32_t second;
+    uint32_t third;
+    uint32_t fourth;
+} cn_phrase;
+
+/* Finds the phrases of a text, and its expressions that are in none, as chinese_quantity_find finds its
+ * expressions: dates, times of day, durations, ranges, scores, halves and lengths. docs/RULES.md has the
+ * full rules. */
+uint32_t chinese_phrase_find(const uint8_t *text, size_t text_length, size_t from, uint32_t upper, uint32_t greatest,
+                             cn_phrase *phrases, size_t most, size_t *count);
+
+/* The same for bytes that the caller knows to be UTF-8. Nothing tests this: for other bytes the
+ * behaviour is undefined. */
+uint32_t chinese_phrase_find_utf8(const uint8_t *text, size_t text_length, size_t from, uint32_t upper,
+                                  uint32_t greatest, cn_phrase *phrases, size_t most, size_t *count);
+
+/* Reads the two ends of a range: the text before its link, and the text after it. What counts for both
+ * ends does, as 万 in 三到五万 and % in 3-5%. Writes all of *low and *high at each status, and nothing else.
+ *
+ * Returns CN_DONE, CN_INCORRECT (if an end is no quantity, or the second is not greater) or
+ * CN_NOT_UTF8. */
+uint32_t chinese_range_read(const uint8_t *first, size_t first_length, const uint8_t *second, size_t second_length,
+                            cn_quantity *low, cn_quantity *high);
+
+/* Rewrites a text in UTF-8, with its dates, times, durations, ranges, scores, lengths and quantities in
+ * figures: 二零二六年一月五日下午三点半，三到五万元 becomes 2026年1月5日下午3点半，3万到5万元. The words of a phrase stay.
+ * `options` is as for chinese_quantities_to_figures; doubtful phrases, and halves after one Chinese
+ * character, as in 一个半小时, stay unless it has CN_DOUBTFUL or CN_ONE_CHARACTER. A phrase without value
+ * stays. With CN_COMPACT whole dates, times whose hour of 24 is known, and all halves are as short as
+ * possible: 2026-01-05 15:30, 1.5小时. The length, the buffer and the statuses are those of
+ * chinese_quantities_to_figures, on which CN_COMPACT has no effect. */
+uint32_t chinese_text_to_figures(const uint8_t *text, size_t text_length, uint32_t upper, uint32_t greatest,
+                                 uint32_t method, uint32_t options, uint8_t *room, size_t room_length, size_t *length);
 
 /* The result of reading an amount: at CN_DONE the fen, hundredths of a yuan; at CN_INCORRECT how
  * many characters and how many bytes come before the wrong character. The other fields are 0. */
@@ -814,13 +912,18 @@ static inline cn_fault cn_explain_quantity(const char *text, size_t text_length,
     return CN_AS(cn_fault, fault);
 }
 
+/* The status of a search for one span or phrase. */
+static inline cn_status cn_status_of_next(uint32_t status, size_t count) {
+    return status == CN_DONE && count == 0 ? CN_NONE : CN_AS(cn_status, status);
+}
+
 /* Returns the status of a search for one span. If none is found, the span becomes zeros. */
 static inline cn_status cn_next(uint32_t status, size_t count, cn_span *span) {
-    if (count != 0)
-        return CN_DONE;
-    span->start = span->end = 0;
-    span->flags = 0;
-    return status == CN_DONE ? CN_NONE : CN_AS(cn_status, status);
+    if (count == 0) {
+        span->start = span->end = 0;
+        span->flags = 0;
+    }
+    return cn_status_of_next(status, count);
 }
 
 /* Finds the next number of a text in char after span->end; with a span of zeros, the first number.
@@ -844,6 +947,40 @@ CN_NODISCARD static inline cn_status cn_find_next_quantity(const char *text, siz
         ? chinese_quantity_find(bytes, text_length, 0, upper, greatest, span, 1, &count)
         : chinese_quantity_find_utf8(bytes, text_length, from, upper, greatest, span, 1, &count);
     return cn_next(status, count, span);
+}
+
+/* Finds the next phrase after phrase->end, or the next expression that is in no phrase, likewise. */
+CN_NODISCARD static inline cn_status cn_find_next_phrase(const char *text, size_t text_length, uint32_t upper,
+                                                         cn_unit greatest, cn_phrase *phrase) {
+    const cn_phrase none = {0, 0, 0, 0, 0, 0, 0, 0, 0, 0};
+    const uint8_t *bytes = cn_bytes(text, text_length);
+    size_t from = phrase->end, count = 0;
+    uint32_t status = from == 0
+        ? chinese_phrase_find(bytes, text_length, 0, upper, greatest, phrase, 1, &count)
+        : chinese_phrase_find_utf8(bytes, text_length, from, upper, greatest, phrase, 1, &count);
+    if (count == 0)
+        *phrase = none;
+    return cn_status_of_next(status, count);
+}
+
+/* The span of a phrase, or of an expression that cn_find_next_phrase found. */
+static inline cn_span cn_span_of(const cn_phrase *phrase) {
+    cn_span span;
+    span.start = phrase->start;
+    span.end = phrase->end;
+    span.flags = phrase->flags;
+    return span;
+}
+
+/* Reads the two ends of a range that a search found in this text, with chinese_range_read. Returns
+ * CN_INCORRECT if the phrase is refused or is no range. */
+CN_NODISCARD static inline cn_status cn_read_range(const char *text, const cn_phrase *range, cn_quantity *low,
+                                                   cn_quantity *high) {
+    const uint8_t *first = cn_bytes(text, range->end) + range->start;
+    size_t length = range->end - range->start, after_link = range->split == 0 ? 0 : range->split + 1;
+    while (after_link < length && (first[after_link] & 0xC0) == 0x80)
+        after_link++;
+    return CN_AS(cn_status, chinese_range_read(first, range->split, first + after_link, length - after_link, low, high));
 }
 
 /* Why a reader may take the expression at a span for something other than its quantity. */
@@ -921,6 +1058,17 @@ CN_NODISCARD static inline cn_status cn_quantities_to_figures(const char *text, 
     size_t most = cn_most_of_text(room_length);
     uint32_t status = chinese_quantities_to_figures(cn_bytes(text, text_length), text_length, upper, greatest, method,
                                                     options, cn_room(room, room_length, &none), most, length);
+    return cn_ended(status, room, room_length, *length);
+}
+
+/* chinese_text_to_figures for a text in char, into a buffer of char, likewise. */
+CN_NODISCARD static inline cn_status cn_text_to_figures(const char *text, size_t text_length, uint32_t upper,
+                                                        cn_unit greatest, cn_way method, uint32_t options,
+                                                        char *room, size_t room_length, size_t *length) {
+    uint8_t none;
+    size_t most = cn_most_of_text(room_length);
+    uint32_t status = chinese_text_to_figures(cn_bytes(text, text_length), text_length, upper, greatest, method, options,
+                                              cn_room(room, room_length, &none), most, length);
     return cn_ended(status, room, room_length, *length);
 }
 

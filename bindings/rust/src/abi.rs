@@ -72,6 +72,17 @@ impl From<Quantity> for QuantityReading {
     }
 }
 
+impl From<QuantityReading> for Quantity {
+    #[inline]
+    fn from(read: QuantityReading) -> Self {
+        Self {
+            numerator: i128::of_number(read.numerator),
+            denominator: u128::of_number(read.denominator),
+            form: QuantityForm::ALL[read.form as usize],
+        }
+    }
+}
+
 /// What may come next in a text: the first `count` characters, as code points.
 #[repr(C)]
 pub struct Expected {
@@ -117,6 +128,51 @@ pub struct Span {
     pub end: usize,
     pub flags: u32,
 }
+
+/// A phrase, or an expression that is in none: where it begins and ends, in bytes; how many bytes the
+/// first end of a range has; the codes of its kind and its state; its flags, as those of a run; and
+/// its numbers.
+#[derive(Debug, Copy, Clone, Default)]
+#[repr(C)]
+pub struct Phrase {
+    pub start: usize,
+    pub end: usize,
+    pub split: usize,
+    pub kind: u32,
+    pub state: u32,
+    pub flags: u32,
+    pub first: u32,
+    pub second: u32,
+    pub third: u32,
+    pub fourth: u32,
+}
+
+/// What a search finds in a text.
+pub trait Place: Copy + Default {
+    fn end(&self) -> usize;
+}
+
+impl Place for Span {
+    #[inline]
+    fn end(&self) -> usize {
+        self.end
+    }
+}
+
+impl Place for Phrase {
+    #[inline]
+    fn end(&self) -> usize {
+        self.end
+    }
+}
+
+// A call that searches a text.
+type Search<T> =
+    unsafe extern "C" fn(*const u8, usize, usize, u32, u32, *mut T, usize, *mut usize) -> u32;
+
+// A call that writes a text in figures.
+type ToFigures =
+    unsafe extern "C" fn(*const u8, usize, u32, u32, u32, u32, *mut u8, usize, *mut usize) -> u32;
 
 unsafe extern "C" {
     fn chinese_number_read_utf8(
@@ -214,6 +270,26 @@ unsafe extern "C" {
         count: *mut usize,
     ) -> u32;
 
+    fn chinese_phrase_find_utf8(
+        text: *const u8,
+        text_length: usize,
+        from: usize,
+        upper: u32,
+        greatest: u32,
+        phrases: *mut Phrase,
+        most: usize,
+        count: *mut usize,
+    ) -> u32;
+
+    fn chinese_range_read(
+        first: *const u8,
+        first_length: usize,
+        second: *const u8,
+        second_length: usize,
+        low: *mut QuantityReading,
+        high: *mut QuantityReading,
+    ) -> u32;
+
     fn chinese_quantity_read(
         text: *const u8,
         text_length: usize,
@@ -239,6 +315,18 @@ unsafe extern "C" {
     ) -> u32;
 
     fn chinese_quantities_to_figures(
+        text: *const u8,
+        text_length: usize,
+        upper: u32,
+        greatest: u32,
+        method: u32,
+        options: u32,
+        room: *mut u8,
+        room_length: usize,
+        length: *mut usize,
+    ) -> u32;
+
+    fn chinese_text_to_figures(
         text: *const u8,
         text_length: usize,
         upper: u32,
@@ -411,11 +499,19 @@ pub fn read_quantity(text: &str, method: Way) -> Result<Quantity, (u32, usize)> 
     if status != status::DONE {
         return Err((status, read.char_index));
     }
-    Ok(Quantity {
-        numerator: i128::of_number(read.numerator),
-        denominator: u128::of_number(read.denominator),
-        form: QuantityForm::ALL[read.form as usize],
-    })
+    Ok(read.into())
+}
+
+/// The two ends of a range, which are the text before its link and the text after it.
+#[inline]
+pub fn read_range(first: &str, second: &str) -> Option<(Quantity, Quantity)> {
+    let (start, after) = (first.as_ptr(), second.as_ptr());
+    // SAFETY: as for a number, with two texts; the quantities are two, and overlap nothing else.
+    let ((low, high), status) = answered(|ends: *mut (QuantityReading, QuantityReading)| unsafe {
+        let (low, high) = (&raw mut (*ends).0, &raw mut (*ends).1);
+        chinese_range_read(start, first.len(), after, second.len(), low, high)
+    });
+    (status == status::DONE).then(|| (low.into(), high.into()))
 }
 
 /// The amount of a text, or the status and the place.
@@ -513,6 +609,28 @@ pub fn explain_quantity(text: &str, method: Way) -> u32 {
     fault
 }
 
+// Finds what a call searches for from a byte on, at most as many as there are places, and returns
+// how many; none if no character begins at that byte.
+//
+// SAFETY: the call must be one of this library's.
+#[inline]
+unsafe fn found_by<T>(
+    search: Search<T>,
+    text: &str,
+    from: usize,
+    (upper, greatest): (bool, Unit),
+    places: &mut [T],
+) -> usize {
+    // SAFETY: as for a number; the places are those of one slice, and the count overlaps nothing
+    // else.
+    let (count, _) = answered(|count| unsafe {
+        let (upper, greatest) = (u32::from(upper), greatest as u32);
+        let (places, most) = (places.as_mut_ptr(), places.len());
+        search(text.as_ptr(), text.len(), from, upper, greatest, places, most, count)
+    });
+    count
+}
+
 /// Finds the runs of a text from a byte on, at most as many as there are spans, and returns how
 /// many; none if no character begins at that byte.
 #[inline]
@@ -520,25 +638,51 @@ pub fn find(
     sought: Sought,
     text: &str,
     from: usize,
-    (upper, greatest): (bool, Unit),
+    wanted: (bool, Unit),
     spans: &mut [Span],
 ) -> usize {
     let search = match sought {
         Sought::Numbers => chinese_number_find_utf8,
         Sought::Quantities => chinese_quantity_find_utf8,
     };
-    // SAFETY: as for a number; the spans are those of one slice, and the count overlaps nothing
-    // else.
-    let (count, _) = answered(|count| unsafe {
-        let (upper, greatest) = (u32::from(upper), greatest as u32);
-        let (spans, most) = (spans.as_mut_ptr(), spans.len());
-        search(text.as_ptr(), text.len(), from, upper, greatest, spans, most, count)
-    });
-    count
+    // SAFETY: both are calls of the library.
+    unsafe { found_by(search, text, from, wanted, spans) }
+}
+
+/// Finds the phrases of a text, and the expressions that are in none, likewise.
+#[inline]
+pub fn find_phrases(
+    text: &str,
+    from: usize,
+    wanted: (bool, Unit),
+    phrases: &mut [Phrase],
+) -> usize {
+    // SAFETY: it is a call of the library.
+    unsafe { found_by(chinese_phrase_find_utf8, text, from, wanted, phrases) }
 }
 
 /// Rewrites the quantities of a text in figures, with these options.
 pub fn quantities_to_figures(
+    text: &str,
+    wanted: (bool, Unit),
+    method: Way,
+    options: u32,
+) -> String {
+    // SAFETY: it is a call of the library.
+    unsafe { in_figures(chinese_quantities_to_figures, text, wanted, method, options) }
+}
+
+/// Rewrites the phrases and the quantities of a text in figures, with these options.
+pub fn text_to_figures(text: &str, wanted: (bool, Unit), method: Way, options: u32) -> String {
+    // SAFETY: it is a call of the library.
+    unsafe { in_figures(chinese_text_to_figures, text, wanted, method, options) }
+}
+
+// Rewrites a text in figures with a call.
+//
+// SAFETY: the call must be one of this library's.
+unsafe fn in_figures(
+    call: ToFigures,
     text: &str,
     (upper, greatest): (bool, Unit),
     method: Way,
@@ -552,9 +696,7 @@ pub fn quantities_to_figures(
         // SAFETY: as for a number; the buffer is the vector's own and has this capacity; the
         // library writes to it and does not read it; and the length overlaps nothing else.
         let (length, status) = answered(|length| unsafe {
-            chinese_quantities_to_figures(
-                start, end, upper, greatest, method, options, room, most, length,
-            )
+            call(start, end, upper, greatest, method, options, room, most, length)
         });
         if status == status::DONE {
             debug_assert!(length <= most);

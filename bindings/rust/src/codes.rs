@@ -144,18 +144,62 @@ pub enum Unit {
 #[non_exhaustive]
 #[derive(Debug, Copy, Clone, Eq, PartialEq, Hash)]
 pub enum Doubt {
-    /// It is part of a word: 十二 of 十二指肠, 十一 of 双十一.
+    /// It is part of a word or a title, or the year of an era: 十二 of 十二指肠, 十一 of 双十一, 四十一 of
+    /// 乾隆四十一年.
     Word = 1,
-    /// It is two or three Chinese digits, or more in rising order: 五一, 一二三四.
+    /// It is two or three Chinese digits, or more in rising order, or two numbers: 五一, 一二三四,
+    /// 十五十六.
     Digits = 2,
     /// It is part of a term: 负二 of 负二项, 十六 of 十六进制.
     Term = 3,
-    /// It is part of an expression with 折, 成 or 半: 八五 of 八五折, 一 of 一个半.
+    /// It is part of an expression with 折, 成, 半 or 分之几: 八五 of 八五折, 一 of 一个半.
     Part = 4,
     /// It may be a time: 三点五 of 下午三点五, 十点零五.
     Time = 5,
     /// It is one end of a range whose ends share a unit or 百分之: 3 and 5万 of 3~5万.
     Range = 6,
+}
+
+/// What an item of a text is: an expression that is in no phrase, or a phrase of a kind. The
+/// numbers of a phrase that follow here are called first, second, third and fourth where a
+/// language has no type of its own for them.
+#[non_exhaustive]
+#[derive(Debug, Copy, Clone, Eq, PartialEq, Hash)]
+pub enum PhraseKind {
+    /// An expression in no phrase.
+    Expression = 0,
+    /// A date or a part of one: the year, the month, the day.
+    Date = 1,
+    /// From a year to another one.
+    Years = 2,
+    /// From a month to another one of the same year.
+    Months = 3,
+    /// From a day to another one of the same month.
+    Days = 4,
+    /// A time of day: the hour as it is written, the minute, the second, the hour of 24.
+    Time = 5,
+    /// Hours, minutes and seconds.
+    Duration = 6,
+    /// A number and a half: the number without the half.
+    Half = 7,
+    /// A number with decimals, as 一米七五: the number, the decimals, how many decimals there are.
+    Length = 8,
+    /// Two numbers that are compared.
+    Score = 9,
+    /// From a quantity to another one.
+    Range = 10,
+}
+
+/// What is known of a phrase.
+#[non_exhaustive]
+#[derive(Debug, Copy, Clone, Eq, PartialEq, Hash)]
+pub enum PhraseState {
+    /// It has a value.
+    Certain = 0,
+    /// It has a value, but may mean something else: 1000年 of 1000年前, 五到八 of 五到八折.
+    Doubtful = 1,
+    /// It has no value: it names a day or a time that does not exist, or does not rise.
+    Refused = 2,
 }
 
 /// Why a text is not a number or a quantity. From `Start` on it is the rule that the wrong
@@ -213,6 +257,23 @@ impl Doubt {
     ];
 }
 
+impl PhraseKind {
+    /// All members, to find one by its code.
+    #[rustfmt::skip]
+    pub(crate) const ALL: [Self; 11] = [
+        Self::Expression, Self::Date, Self::Years, Self::Months, Self::Days, Self::Time,
+        Self::Duration, Self::Half, Self::Length, Self::Score, Self::Range,
+    ];
+}
+
+impl PhraseState {
+    /// All members, to find one by its code.
+    #[rustfmt::skip]
+    pub(crate) const ALL: [Self; 3] = [
+        Self::Certain, Self::Doubtful, Self::Refused,
+    ];
+}
+
 impl Fault {
     /// All members, to find one by its code.
     #[rustfmt::skip]
@@ -240,11 +301,12 @@ pub mod flag {
     pub const ONE_CHARACTER: u32 = 8;
 }
 
-/// The options for replacing quantities, added together, and to `About` and `OneCharacter`.
+/// The options for writing a text in figures, added together, and to `About` and `OneCharacter`.
 pub mod option {
     pub const DOUBTFUL: u32 = 16;
     pub const EXPANDED: u32 = 32;
     pub const CANONICAL: u32 = 64;
+    pub const COMPACT: u32 = 128;
 }
 
 /// What is changed in a text to repair it.

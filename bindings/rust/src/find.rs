@@ -36,7 +36,7 @@ pub struct Found<'a> {
     pub text: &'a str,
     /// The text after it.
     pub after: &'a str,
-    flags: u32,
+    pub(crate) flags: u32,
 }
 
 impl<'a> Found<'a> {
@@ -151,39 +151,73 @@ impl<'a> Found<'a> {
     }
 }
 
-// How many runs are searched for at once after the first one, which is the only one many callers
+// How many places are searched for at once after the first one, which is the only one many callers
 // want.
 const AT_ONCE: usize = 8;
+
+// A search of a text that finds several places at once.
+#[derive(Debug, Clone)]
+pub(crate) struct Search<'a, T> {
+    wanted: Wanted,
+    pub(crate) whole: &'a str,
+    // Where the rest begins that is not yet searched.
+    next: usize,
+    // The places that were found last, how many they are, and how many of them were returned.
+    places: [T; AT_ONCE],
+    found: usize,
+    given: usize,
+}
+
+impl<'a, T: abi::Place> Search<'a, T> {
+    #[inline]
+    pub(crate) fn of(whole: &'a str, wanted: Wanted) -> Self {
+        Self { wanted, whole, next: 0, places: [T::default(); AT_ONCE], found: 0, given: 0 }
+    }
+
+    fn search(&mut self, find: impl FnOnce(&str, usize, (bool, Unit), &mut [T]) -> usize) {
+        let places = if self.next == 0 { &mut self.places[..1] } else { &mut self.places[..] };
+        self.given = 0;
+        let Wanted { upper, greatest } = self.wanted;
+        self.found = find(self.whole, self.next, (upper, greatest), places);
+        let is_filled = self.found == places.len();
+        self.next = if is_filled { places[self.found - 1].end() } else { self.whole.len() };
+    }
+
+    // The next place, found by a call if none is left.
+    #[inline]
+    pub(crate) fn next(
+        &mut self,
+        find: impl FnOnce(&str, usize, (bool, Unit), &mut [T]) -> usize,
+    ) -> Option<T> {
+        if self.given == self.found {
+            self.search(find);
+        }
+        let place = self.places[..self.found].get(self.given)?;
+        self.given += 1;
+        Some(*place)
+    }
+}
+
+// The text before a place, the text there, and the text after it.
+#[inline]
+pub(crate) fn split_at_place(whole: &str, start: usize, end: usize) -> (&str, &str, &str) {
+    let (before, rest) = whole.split_at(start);
+    let (text, after) = rest.split_at(end - start);
+    (before, text, after)
+}
 
 /// The runs of a text, as [`find_numbers`] and [`find_quantities`] return them.
 #[derive(Debug, Clone)]
 #[must_use = "the text is searched lazily, as the iterator is advanced"]
 pub struct Numbers<'a> {
     sought: Sought,
-    wanted: Wanted,
-    whole: &'a str,
-    // Where the rest begins that is not yet searched.
-    next: usize,
-    // The runs that were found last, how many they are, and how many of them were returned.
-    spans: [abi::Span; AT_ONCE],
-    found: usize,
-    given: usize,
+    search: Search<'a, abi::Span>,
 }
 
 impl<'a> Numbers<'a> {
     #[inline]
     fn of(whole: &'a str, sought: Sought, wanted: Wanted) -> Self {
-        let spans = [abi::Span::default(); AT_ONCE];
-        Self { sought, wanted, whole, next: 0, spans, found: 0, given: 0 }
-    }
-
-    fn search(&mut self) {
-        let spans = if self.next == 0 { &mut self.spans[..1] } else { &mut self.spans[..] };
-        self.given = 0;
-        let Wanted { upper, greatest } = self.wanted;
-        self.found = abi::find(self.sought, self.whole, self.next, (upper, greatest), spans);
-        let is_filled = self.found == spans.len();
-        self.next = if is_filled { spans[self.found - 1].end } else { self.whole.len() };
+        Self { sought, search: Search::of(whole, wanted) }
     }
 }
 
@@ -227,14 +261,12 @@ impl<'a> Iterator for Numbers<'a> {
     type Item = Found<'a>;
 
     fn next(&mut self) -> Option<Found<'a>> {
-        if self.given == self.found {
-            self.search();
-        }
-        let span = self.spans[..self.found].get(self.given)?;
-        self.given += 1;
-        let (before, rest) = self.whole.split_at(span.start);
-        let (text, after) = rest.split_at(span.end - span.start);
-        Some(Found { before, text, after, flags: span.flags })
+        let sought = self.sought;
+        let abi::Span { start, end, flags } = self
+            .search
+            .next(|text, from, wanted, spans| abi::find(sought, text, from, wanted, spans))?;
+        let (before, text, after) = split_at_place(self.search.whole, start, end);
+        Some(Found { before, text, after, flags })
     }
 }
 

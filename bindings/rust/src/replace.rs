@@ -1,4 +1,4 @@
-//! Replaces the quantities of running text.
+//! Replaces the quantities of running text, and rewrites it in figures.
 
 use alloc::string::String;
 
@@ -51,7 +51,7 @@ pub enum Style {
     Expanded,
 }
 
-/// How the quantities of a text are written in figures.
+/// How the quantities and the phrases of a text are written in figures.
 #[derive(Debug, Default, Copy, Clone, Eq, PartialEq, Hash)]
 pub struct Figures {
     /// Which quantities are written in figures that otherwise stay.
@@ -60,18 +60,22 @@ pub struct Figures {
     pub style: Style,
     /// Whether what is only figures is rewritten in ASCII, without commas and leading zeros.
     pub canonical: bool,
+    /// Whether [`text_to_figures`] writes dates, times and halves as short as possible: 2026-01-05,
+    /// 15:30, 1.5小时.
+    pub compact: bool,
 }
 
 impl Figures {
     /// Great units, figures and doubtful quantities stay.
     pub const DEFAULT: Self =
-        Self { included: Included::NONE, style: Style::Kept, canonical: false };
+        Self { included: Included::NONE, style: Style::Kept, canonical: false, compact: false };
 
     #[inline]
     fn options(self) -> u32 {
         self.included.options()
             + u32::from(self.style == Style::Expanded) * option::EXPANDED
             + u32::from(self.canonical) * option::CANONICAL
+            + u32::from(self.compact) * option::COMPACT
     }
 }
 
@@ -136,4 +140,30 @@ pub fn quantities_to_figures(
 ) -> String {
     let Wanted { upper, greatest } = wanted;
     abi::quantities_to_figures(text, (upper, greatest), method.into(), figures.options())
+}
+
+/// Rewrites a text in figures, as an editor does, with its dates, times, durations, ranges, scores,
+/// lengths and quantities. The words of a phrase stay.
+///
+/// These stay too: what [`quantities_to_figures`] does not rewrite; phrases that are refused, such as
+/// 二月三十日; and doubtful phrases, and halves after one character, such as 一个半小时, unless they are
+/// included.
+///
+/// ```rust
+/// use chinese_number::{text_to_figures, ChineseCountMethod, Figures, Wanted};
+///
+/// let (wanted, method) = (Wanted::EVERYDAY, ChineseCountMethod::TenThousand);
+/// let text = "二零二六年一月五日下午三点半，三到五万元";
+/// let new = text_to_figures(text, wanted, method, Figures::DEFAULT);
+/// assert_eq!(new, "2026年1月5日下午3点半，3万到5万元");
+/// ```
+#[must_use]
+pub fn text_to_figures(
+    text: &str,
+    wanted: Wanted,
+    method: ChineseCountMethod,
+    figures: Figures,
+) -> String {
+    let Wanted { upper, greatest } = wanted;
+    abi::text_to_figures(text, (upper, greatest), method.into(), figures.options())
 }

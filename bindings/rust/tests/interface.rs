@@ -157,6 +157,10 @@ fn signatures_of_amounts_of_dates_and_of_the_search() {
     let _: fn(Found<'static>) -> Option<Doubt> = Found::doubt;
     let _: fn(&'static str, Wanted) -> Numbers<'static> = find_quantities;
     let _: fn(&str, Wanted, ChineseCountMethod, Figures) -> String = quantities_to_figures;
+    let _: fn(&'static str, Wanted) -> Phrases<'static> = find_phrases;
+    let _: fn(Item<'static>) -> Option<Phrase<'static>> = Item::phrase;
+    let _: fn(Phrase<'static>) -> Range<usize> = Phrase::range;
+    let _: fn(&str, Wanted, ChineseCountMethod, Figures) -> String = text_to_figures;
     let _: [Wanted; 2] = const { [Wanted::EVERYDAY, Wanted::ALL] };
     let _: (Included, Figures) = const { (Included::NONE, Figures::DEFAULT) };
 }
@@ -213,6 +217,13 @@ fn traits() {
     is_a_value::<Unit>();
     is_a_value::<Wanted>();
     is_a_value::<Found<'static>>();
+    is_a_value::<Item<'static>>();
+    is_a_value::<Phrase<'static>>();
+    is_a_value::<PhraseKind>();
+    is_a_value::<PhraseState>();
+    is_a_value::<PhraseValue>();
+    is_a_value::<PartialDate>();
+    is_a_value::<ClockTime>();
     is_an_error::<AmountToChineseError>();
     is_an_error::<ChineseToAmountError>();
     is_an_error::<FiguresError>();
@@ -252,6 +263,11 @@ fn traits() {
     has_a_hash::<Style>();
     has_a_hash::<Figures>();
     has_a_hash::<BillDate>();
+    has_a_hash::<PhraseKind>();
+    has_a_hash::<PhraseState>();
+    has_a_hash::<PhraseValue>();
+    has_a_hash::<PartialDate>();
+    has_a_hash::<ClockTime>();
     has_a_hash::<AmountForm>();
     assert_eq!(Figures::default(), Figures::DEFAULT);
     assert!(Unit::Wan < Unit::Yi);

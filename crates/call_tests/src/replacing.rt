@@ -60,6 +60,7 @@ fn way_of(column: usize) -> Figures {
         },
         3 => Figures {
             canonical: true,
+            compact: false,
             ..plain
         },
         _ => Figures { included, ..plain },

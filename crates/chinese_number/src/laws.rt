@@ -36,6 +36,9 @@ pub use cn_find::laws::{
     searches_go_on_in_the_whole_text, types_answer_alike_without_sign,
     unnamed_characters_part_texts, unwanted_characters_part_texts, wanted_constants_are,
 };
+pub use cn_phrase::laws::{
+    items_are_expressions_without_phrases, texts_without_phrases_are_written_as_their_quantities,
+};
 pub use cn_replace::laws::{
     figures_constants_are, figures_stay, texts_are_put_in_figures_in_parts,
     texts_stay_where_nothing_is_new, texts_without_expressions_stay,

@@ -1,6 +1,6 @@
 //! Chinese numerals, read and written, for the twelve integer types; quantities, as 3.5万 and
 //! 百分之五十, read exactly, and written in numerals or in figures; amounts of money and dates in
-//! capitals; and the numbers of a running text.
+//! capitals; and the numbers, dates and times of a running text.
 //!
 //! All that callers need has its name here; `laws` says what they can count on.
 #![tactic(auto)]
@@ -173,6 +173,18 @@ pub use cn_grammar::Repair;
 pub use cn_judge::NumeralFault;
 pub use cn_judge::explain_number;
 pub use cn_judge::explain_number_naive;
+pub use cn_phrase::Described;
+pub use cn_phrase::PhraseKind;
+pub use cn_phrase::PhraseNumbers;
+pub use cn_phrase::PhraseState;
+pub use cn_phrase::describe_phrase;
+pub use cn_phrase::items::Phrases;
+pub use cn_phrase::items::find_phrases;
+pub use cn_phrase::items::find_phrases_from;
+pub use cn_phrase::put_text_in_figures;
+pub use cn_phrase::range::QuantityRange;
+pub use cn_phrase::range::range_of;
+pub use cn_phrase::text_to_figures;
 pub use cn_quantity::MisreadFault;
 pub use cn_quantity::Quantity;
 pub use cn_quantity::QuantityFault;

@@ -301,13 +301,13 @@ visible-is (c ∷ text) h =
     (ap (λ text. c ∷ text) (visible-is text (and-right (is_not_whitespace c) _ h)))
 
 can-follow : (signed : Bool) → CanFollow visible_sieve tt (IsCore signed)
-can-follow signed text behind value h =
+can-follow signed text rest value h =
     let front = kept visible_sieve tt text in
-    let all = sym (list_all-append is_not_whitespace front behind)
-    ∙ form-visible (front ++ behind) value.0 value.1 h.0 in (
-      behind,
-      kept-is behind
-          ∙ visible-is behind (and-right (list_all is_not_whitespace front) _ all),
+    let all = sym (list_all-append is_not_whitespace front rest)
+    ∙ form-visible (front ++ rest) value.0 value.1 h.0 in (
+      rest,
+      kept-is rest
+          ∙ visible-is rest (and-right (list_all is_not_whitespace front) _ all),
     )
 
 -- without a sign

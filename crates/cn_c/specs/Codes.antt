@@ -132,6 +132,9 @@ CN_EXPANDED = 32
 abbrev pub CN_CANONICAL : ℕ
 CN_CANONICAL = 64
 
+abbrev pub CN_COMPACT : ℕ
+CN_COMPACT = 128
+
 -- the codes of doubts
 abbrev pub CN_NO_DOUBT : ℕ
 CN_NO_DOUBT = 0
@@ -153,6 +156,50 @@ CN_DOUBT_TIME = 5
 
 abbrev pub CN_DOUBT_RANGE : ℕ
 CN_DOUBT_RANGE = 6
+
+-- the kinds of phrases
+abbrev pub CN_PHRASE_KIND_EXPRESSION : ℕ
+CN_PHRASE_KIND_EXPRESSION = 0
+
+abbrev pub CN_PHRASE_KIND_DATE : ℕ
+CN_PHRASE_KIND_DATE = 1
+
+abbrev pub CN_PHRASE_KIND_YEARS : ℕ
+CN_PHRASE_KIND_YEARS = 2
+
+abbrev pub CN_PHRASE_KIND_MONTHS : ℕ
+CN_PHRASE_KIND_MONTHS = 3
+
+abbrev pub CN_PHRASE_KIND_DAYS : ℕ
+CN_PHRASE_KIND_DAYS = 4
+
+abbrev pub CN_PHRASE_KIND_TIME : ℕ
+CN_PHRASE_KIND_TIME = 5
+
+abbrev pub CN_PHRASE_KIND_DURATION : ℕ
+CN_PHRASE_KIND_DURATION = 6
+
+abbrev pub CN_PHRASE_KIND_HALF : ℕ
+CN_PHRASE_KIND_HALF = 7
+
+abbrev pub CN_PHRASE_KIND_LENGTH : ℕ
+CN_PHRASE_KIND_LENGTH = 8
+
+abbrev pub CN_PHRASE_KIND_SCORE : ℕ
+CN_PHRASE_KIND_SCORE = 9
+
+abbrev pub CN_PHRASE_KIND_RANGE : ℕ
+CN_PHRASE_KIND_RANGE = 10
+
+-- what is known of a phrase
+abbrev pub CN_PHRASE_STATE_CERTAIN : ℕ
+CN_PHRASE_STATE_CERTAIN = 0
+
+abbrev pub CN_PHRASE_STATE_DOUBTFUL : ℕ
+CN_PHRASE_STATE_DOUBTFUL = 1
+
+abbrev pub CN_PHRASE_STATE_REFUSED : ℕ
+CN_PHRASE_STATE_REFUSED = 2
 
 -- whether a search looks for the forms of the upper case too
 abbrev pub uppers : List Bool

@@ -66,9 +66,9 @@ abbrev pub spans_told : Search → List ℕ → ℕ → ℕ → List Span
 spans_told search text from most =
     map (span_told search.doubt) (take most (left_by search.rule text (drop from text)))
 
--- these spans are written at the start of the array, the spans after them do not change, and
+-- these values are written at the start of the array, the values after them do not change, and
 -- `count` is how many they are
-abbrev pub Fills : List Span → List Span → List Span → ℕ → Type 0
+abbrev pub Fills : {A : Type 0} → List A → List A → List A → ℕ → Type 0
 Fills told old new count = (new ≡ told ++ drop (length told) old) × (count ≡ length told)
 
 -- the result of finding runs from a byte on: the runs if a character begins there or the text ends

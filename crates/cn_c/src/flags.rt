@@ -75,6 +75,9 @@ pub const EXPANDED: u32 = 32;
 /// An option: what is in figures alone is rewritten in ASCII, without commas and leading zeros.
 pub const CANONICAL: u32 = 64;
 
+/// An option: phrases are written in their shortest form.
+pub const COMPACT: u32 = 128;
+
 /// Whether a flag is among these flags.
 pub fn has_flag(flags: u32, flag: u32) -> bool
     requires { 0 < flag }
@@ -94,12 +97,12 @@ fn style_of(flags: u32) -> Style
     }
 }
 
-/// How the quantities of a text are written in figures, given a sum of any of five flags; `None` if
+/// How the quantities of a text are written in figures, given a sum of any of six flags; `None` if
 /// it is not such a sum.
 pub fn figures_of(flags: u32) -> Option<Figures>
     ensures { result ≡ figures_of flags }
 {
-    if flags % 4 != 0 || flags >= 128 {
+    if flags % 4 != 0 || flags >= 256 {
         return None;
     }
     Some(Figures {
@@ -110,5 +113,6 @@ pub fn figures_of(flags: u32) -> Option<Figures>
         },
         style: style_of(flags),
         canonical: has_flag(flags, CANONICAL),
+        compact: has_flag(flags, COMPACT),
     })
 }

@@ -1,6 +1,6 @@
 //! Chinese numerals for C, and for languages that call C: calls that print and read whole numbers
-//! of each type by each method, exact quantities, amounts of money and dates, find the numbers and
-//! the expressions of a text, and replace its quantities.
+//! of each type by each method, exact quantities, amounts of money and dates, find the numbers,
+//! the expressions and the phrases of a text, and write a text in figures.
 //!
 //! `bindings/c/chinese_number.h` declares them.
 #![tactic(auto)]
@@ -16,6 +16,7 @@ mod input;
 pub mod laws;
 mod message;
 mod number;
+mod phrases;
 mod printing;
 mod quantity;
 mod quantity_figures;
@@ -41,12 +42,13 @@ pub use message::{
     chinese_input_message, chinese_number_message, chinese_quantity_message, chinese_status_message,
 };
 pub use number::Number;
+pub use phrases::{Phrase, chinese_phrase_find, chinese_phrase_find_utf8, chinese_range_read};
 pub use printing::chinese_number_print;
 pub use quantity::{Quantity, chinese_quantity_read};
 pub use quantity_figures::chinese_quantity_figures;
 pub use quantity_text::chinese_quantity_print;
 pub use reading::{Reading, chinese_number_read, chinese_number_read_utf8};
-pub use replacing::chinese_quantities_to_figures;
+pub use replacing::{chinese_quantities_to_figures, chinese_text_to_figures};
 pub use signed_amount::{
     SignedAmount, chinese_figures_read, chinese_signed_amount_print, chinese_signed_amount_read,
 };

@@ -2,7 +2,7 @@
 ghost use Rattle.std.specs.Prelude.{◌≡◌, slice_get};
 ghost use Rattle.chinese_number.specs.Answer.{answer_of};
 ghost use Rattle.cn_c.specs.Codes.{named_ways};
-ghost use Rattle.cn_c.specs.Quantities.{TellsQuantity, IsQuantityRead, method_of, quantity_of};
+ghost use Rattle.cn_c.specs.Quantities.{IsTold, TellsQuantity, IsQuantityRead, method_of, quantity_of};
 
 use crate::codes::{NamedWay, named_way_of};
 use crate::number::{Number, bits_of, halves, signed_number};
@@ -26,7 +26,8 @@ pub struct Quantity {
     pub byte_index: usize,
 }
 
-const NOTHING: Quantity = Quantity {
+/// What is written if there is no quantity.
+pub const NOTHING: Quantity = Quantity {
     numerator: Number { low: 0, high: 0 },
     denominator: Number { low: 0, high: 0 },
     form: 0,
@@ -56,6 +57,19 @@ pub fn quantity_of(told: &Quantity) -> Option<chinese_number::Quantity>
     })
 }
 
+/// A quantity as C gets it.
+pub fn told_quantity(exact: chinese_number::Quantity) -> Quantity
+    ensures { IsTold exact result }
+{
+    Quantity {
+        numerator: halves(SignedMagnitude::of(exact.numerator)),
+        denominator: halves(SignedMagnitude::of(exact.denominator)),
+        form: form_code(exact.form),
+        char_index: 0,
+        byte_index: 0,
+    }
+}
+
 // Writes the answer to a text to `*quantity`, and returns its status.
 fn tell_quantity(
     text: &str,
@@ -67,9 +81,7 @@ fn tell_quantity(
     *quantity = NOTHING;
     match answer {
         Ok(exact) => {
-            quantity.numerator = halves(SignedMagnitude::of(exact.numerator));
-            quantity.denominator = halves(SignedMagnitude::of(exact.denominator));
-            quantity.form = form_code(exact.form);
+            *quantity = told_quantity(exact);
             DONE
         }
         Err(error) => {

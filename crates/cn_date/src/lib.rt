@@ -21,7 +21,7 @@ mod repair;
 mod state;
 mod write;
 
-pub use date::BillDate;
+pub use date::{BillDate, days_of};
 pub use error::{ChineseToDateError, DateToChineseError};
 pub use expect::date_expected;
 pub use read::chinese_to_date;

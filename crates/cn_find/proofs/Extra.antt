@@ -92,7 +92,7 @@ unmarked-word wanted front c after e = rw (
   outside has_mark (codes "千仟") c refl (no-mark c e),
 )
 
-unmarked-belongs : (wanted : Wanted) (c : ℕ) (after : List ℕ) → mark_of c ≡ other
+pub unmarked-belongs : (wanted : Wanted) (c : ℕ) (after : List ℕ) → mark_of c ≡ other
     → belongs wanted c after ≡ false
 unfolding belongs
 unmarked-belongs wanted c after e = rw e

@@ -84,9 +84,9 @@ digit_no_last c is =
     not-so _ (of-digit (λ d. not (begins_with (codes "几幾多余餘来來") (d ∷ []))) c (digit_of c) refl
     refl is)
 
-pub digit_no_quite : (c : ℕ) → is_some (digit_of c) ≡ true → char_set_contains (codes "好") c ≡ false
+pub digit_no_quite : (c : ℕ) → is_some (digit_of c) ≡ true → char_set_contains (codes "好出") c ≡ false
 digit_no_quite c is =
-    not-so _ (of-digit (λ d. not (char_set_contains (codes "好") d)) c (digit_of c) refl refl is)
+    not-so _ (of-digit (λ d. not (char_set_contains (codes "好出") d)) c (digit_of c) refl refl is)
 
 -- a character of three bytes is not ASCII, and a full-width digit has no mark
 three-bytes : (text : List ℕ) (c : ℕ) → IsUtf8 text → length text ≡ 3 → chars text ≡ c ∷ []

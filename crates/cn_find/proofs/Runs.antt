@@ -1,5 +1,5 @@
 -- Steps over the characters of a text and of a run, and over a whole run.
-use Rattle.std.proofs.Common.{◌≡◌, ◌⊎◌, inl, inr, ℕ, ◌-◌, Bool, true, false, not, ◌&&◌, List, [], ◌∷◌, ◌++◌, length, take, reverse, chars, encode_utf8, encode_utf8_all, IsUtf8, refl, sym, ap, ◌∙◌, subst, arith, append_assoc, append-nil, length-append}
+use Rattle.std.proofs.Common.{◌≡◌, ◌⊎◌, inl, inr, ℕ, ◌-◌, ◌≤◌, Bool, true, false, not, ◌&&◌, List, [], ◌∷◌, ◌++◌, length, take, reverse, chars, encode_utf8, encode_utf8_all, IsUtf8, refl, sym, ap, ◌∙◌, subst, arith, append_assoc, append-nil, length-append}
 use mathlib.Core.List.{reverse_aux}
 use Rattle.std.proofs.Math.Bool.{and-false}
 use Rattle.std.proofs.Math.Seq.{take-append_seam}
@@ -12,7 +12,7 @@ use Rattle.cn_core.proofs.Fronts.{and-left, both}
 use Rattle.cn_find.specs.Private.{EndsRun}
 use Rattle.cn_find.specs.Rule.{Rule, is_joined}
 use Rattle.cn_find.specs.Runs.{first_belongs}
-use Rattle.cn_find.specs.Spans.{run_of, after_run, span_at, spans_after, spans_by, text_before, in_front, left_by}
+use Rattle.cn_find.specs.Spans.{IsPartOf, run_of, after_run, span_at, spans_after, spans_by, text_before, in_front, left_by}
 
 -- from the second character of a run on, the runs that are found are those after it
 past-run : (rule : Rule) (front cs : List ℕ)
@@ -74,6 +74,20 @@ IsEnd whole rest = text_before whole rest ++ rest ≡ whole
 
 pub IsEnd-at : (whole front rest : List ℕ) → whole ≡ front ++ rest → IsEnd whole rest
 IsEnd-at whole front rest e = ap (λ l. l ++ rest) (seam-front whole front rest e) ∙ sym e
+
+-- a part of a text that begins at `ahead`
+pub part-of : (whole rest before ahead text after : List ℕ) → IsEnd whole ahead → IsEnd ahead after
+    → before ≡ text_before whole ahead → text ≡ text_before ahead after → length ahead ≤ length rest
+    → IsPartOf whole rest (record { before = before; text = text; after = after })
+part-of whole rest before ahead text after ends ended at cut within = record {
+  parts = parts;
+  from = omega (arith, ap length first, length-append before ahead, within);
+} where
+  first : whole ≡ before ++ ahead
+  first = sym ends ∙ ap (λ l. l ++ ahead) (sym at)
+
+  parts : whole ≡ before ++ (text ++ after)
+  parts = first ∙ ap (λ l. before ++ l) (sym ended ∙ ap (λ l. l ++ after) (sym cut))
 
 pub end-boundary : (whole rest : List ℕ) → IsEnd whole rest → IsUtf8 rest
     → IsCharBoundary whole (length whole - length rest)

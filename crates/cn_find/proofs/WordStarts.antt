@@ -53,6 +53,7 @@ begins_none text after none = rw (
   not-exactly 21313 33836 [] text refl refl none,
   not-exactly 21313 19975 (codes "八千") text refl refl none,
   not-exactly 21313 33836 (codes "八千") text refl refl none,
+  not-exactly 19968 21315 [] text refl refl none,
   not-exactly 19977 21313 [] text refl refl none,
   not-exactly 22235 21313 [] text refl refl none,
   not-exactly 20116 21313 [] text refl refl none,

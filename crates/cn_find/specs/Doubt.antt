@@ -7,7 +7,8 @@ use Rattle.std.specs.Option.{option_map_or}
 use Rattle.cn_core.specs.Characters.{digit_of}
 use Rattle.cn_find.specs.declared.doubt.Doubt.{Doubt}
 use Rattle.cn_find.specs.declared.doubt.Doubt.TheVariants.{Word, Digits, Term, Part, Time, Range}
-use Rattle.cn_find.specs.Belongs.{begins_with, first_then, is_chinese_digit}
+use Rattle.cn_find.specs.Belongs.{begins_with, first_is, first_then, is_chinese_digit}
+use Rattle.cn_find.specs.Expressions.{is_han}
 use Rattle.cn_find.specs.Ranges.{is_end_of_range}
 use Rattle.cn_find.specs.Words.{begins_with_two, is_of_word}
 
@@ -31,6 +32,19 @@ abbrev pub do_rise : List ℕ → Bool
 do_rise [] = true
 do_rise (c ∷ text) = is_up_to_first (digit_of c) text && do_rise text
 
+-- the character is a Chinese digit from 1 to 9
+abbrev pub counts : ℕ → Bool
+counts c = is_chinese_digit c && not (char_set_contains (codes "零〇") c)
+
+-- the text begins with a digit and 十
+abbrev pub begins_tens : List ℕ → Bool
+begins_tens text = first_then is_chinese_digit (begins_with (codes "十")) text
+
+-- the text has 十, a digit and 十 one after another, and so is two numbers: 十五十六
+abbrev pub has_two_tens : List ℕ → Bool
+has_two_tens [] = false
+has_two_tens (c ∷ text) = (char_set_contains (codes "十") c && begins_tens text) || has_two_tens text
+
 -- the text may be a list: it is two or three Chinese digits, or more that do not begin with 零 or
 -- 〇 and of which none is smaller than the one before it
 abbrev pub may_be_list : List ℕ → Bool
@@ -40,17 +54,20 @@ may_be_list text =
     || (do_rise text && not (begins_with (codes "零〇") text))))
 
 -- the text names a year or a room, or the minutes of a time: 年 without 级, or one of 号室房,
--- follows it; or it begins with 零 or 〇 after 点, 分 or 时 and before 分 or 秒
+-- follows it, or 办; or it is after a building, such as 楼, or after 号 or 码; or it begins with 零 or 〇 after 点, 分 or 时 and
+-- before 分 or 秒
 abbrev pub are_of_name : List ℕ → List ℕ → List ℕ → Bool
 are_of_name front text after =
     begins_without (codes "年") (codes "级級") after
-    || (begins_with (codes "号號室房") after
+    || (begins_with (codes "号號室房办辦") after
+    || (begins_with (codes "楼樓栋棟座幢号號码碼") front
     || (begins_with (codes "零〇") text
-    && (begins_with (codes "点點分时時") front && begins_with (codes "分秒") after)))
+    && (begins_with (codes "点點分时時") front && begins_with (codes "分秒") after))))
 
--- the text may be a list, and is not such a name
+-- the text is two numbers, or may be a list and is not such a name
 abbrev pub is_doubtful_list : List ℕ → List ℕ → List ℕ → Bool
-is_doubtful_list front text after = may_be_list text && not (are_of_name front text after)
+is_doubtful_list front text after =
+    has_two_tens text || (may_be_list text && not (are_of_name front text after))
 
 -- some character of the text is 点 or 點
 abbrev pub has_point : List ℕ → Bool
@@ -70,18 +87,41 @@ is_term text after =
     || ((has_point text && begins_with (codes "划劃线線") after)
     || (begins_with_two (codes "进進") (codes "制位") after || begins_plenum after))
 
--- the text is part of a phrase with 折, 成 or 半, as in 八五折, 三成 and 十五天半
+-- the text is a percentage before a unit, as in 百分之一秒
+abbrev pub is_hundredth : List ℕ → List ℕ → Bool
+is_hundredth text after =
+    begins_with (codes "秒毫厘釐克") after && begins_with_two (codes "百") (codes "分") text
+
+-- 分之几 is after the text, as in 十六分之几
+abbrev pub begins_some_shares : List ℕ → Bool
+begins_some_shares after =
+    first_then (char_set_contains (codes "分")) (begins_with_two (codes "之") (codes "几幾")) after
+
+-- what is after 条 is no word that 条 counts
+abbrev pub is_end_of_article : List ℕ → Bool
+is_end_of_article others =
+    not (first_is is_han others) || begins_with (codes "第之规規和及与與或至到") others
+
+-- an article of a law, or a national congress or census, goes on with this text
+abbrev pub begins_article : List ℕ → Bool
+begins_article after =
+    first_then (char_set_contains (codes "条條")) is_end_of_article after
+    || begins_with_two (codes "次") (codes "全") after
+
+-- the text is the number of an article after 第, as in 第二百六十四条, or of 第二十次全国代表大会
+abbrev pub is_of_article : List ℕ → List ℕ → Bool
+is_of_article front after = begins_with (codes "第") front && begins_article after
+
+-- the text is part of a phrase with 折, 成, 半 or a share, as in 八五折, 三成, 十五天半, 十六分之几 and
+-- 百分之一秒
 abbrev pub is_part : List ℕ → List ℕ → Bool
 is_part text after =
     begins_without (codes "折") (codes "算合旧舊叠疊磨返") after
     || ((begins_with (codes "成") after
     && (are_chinese_digits text && nat_le (length text) 2))
-    || begins_with_two
-    (codes "个個倍天岁歲里年月日号號點点时時分秒刻元圆圓块塊角毛度米斤两兩") (codes "半") after)
-
--- the character is a Chinese digit from 1 to 9
-abbrev pub counts : ℕ → Bool
-counts c = is_chinese_digit c && not (char_set_contains (codes "零〇") c)
+    || (begins_with_two
+    (codes "个個倍天岁歲里年月日号號點点时時分秒刻元圆圓块塊角毛度米斤两兩") (codes "半") after
+    || (is_hundredth text after || begins_some_shares after)))
 
 -- the text, given last character first, is an hour from 一 to 二十四
 abbrev pub is_hour : List ℕ → Bool
@@ -102,9 +142,25 @@ ends_hour text = first_then (char_set_contains (codes "点點")) is_hour text
 abbrev pub ends_zero_minutes : List ℕ → Bool
 ends_zero_minutes text = first_then (char_set_contains (codes "零〇")) ends_hour text
 
--- the text, given last character first, is an hour, 点, perhaps 零, and a digit from 1 to 9
-abbrev pub is_clock : List ℕ → Bool
-is_clock text = first_then counts (λ before. ends_hour before || ends_zero_minutes before) text
+-- an hour of two characters, of which `first` is the first, and 点 begin here
+abbrev pub begins_second : ℕ → List ℕ → Bool
+begins_second first others = first_then (λ second.
+    (char_set_contains (codes "十") first && counts second)
+    || (char_set_contains (codes "二两兩") first && char_set_contains (codes "十") second))
+    (begins_with (codes "点點")) others
+
+-- the rest of an hour from 二十一 to 二十四 and 点 begin the text
+abbrev pub begins_twenties : List ℕ → Bool
+begins_twenties others =
+    first_then (char_set_contains (codes "十")) (begins_with_two (codes "一二三四") (codes "点點")) others
+
+-- an hour from 一 to 二十四 and 点 begin the text
+abbrev pub begins_hour : List ℕ → Bool
+begins_hour [] = false
+begins_hour (first ∷ others) =
+    if begins_with (codes "点點") others then counts first || char_set_contains (codes "十") first
+    else begins_second first others
+    || (char_set_contains (codes "二") first && begins_twenties others)
 
 -- the text, given last character first, is an hour, 点, 零, and a digit from 1 to 9
 abbrev pub is_clock_with_zero : List ℕ → Bool
@@ -115,11 +171,11 @@ abbrev pub ends_part_of_day : List ℕ → Bool
 ends_part_of_day front =
     begins_with (codes "午晨早晚夜") front || begins_with_two (codes "上") (codes "早晚") front
 
--- the text is a time: it reads as one and a part of a day is before it, as 下午 before 三点五; or
--- it reads as one with 零 and no measure is after it, as in 十点零五
+-- the text is a time: it begins with an hour and 点, and a part of a day is before it, as 下午 before
+-- 三点五; or it reads as a time with 零 and no measure is after it, as in 十点零五
 abbrev pub is_time : List ℕ → List ℕ → List ℕ → Bool
 is_time front text after =
-    (is_clock (reverse text) && ends_part_of_day front)
+    (begins_hour text && ends_part_of_day front)
     || (is_clock_with_zero (reverse text) && not (begins_with (codes "元米度倍吨噸克升") after))
 
 -- the first reason that applies to a text between these texts, all given by their bytes
@@ -129,6 +185,6 @@ doubt_of before text after =
     if is_part (chars text) (chars after) then Some Part
     else (if is_of_word front (chars text) (chars after) then Some Word
     else (if is_doubtful_list front (chars text) (chars after) then Some Digits
-    else (if is_term (chars text) (chars after) then Some Term
+    else (if is_term (chars text) (chars after) || is_of_article front (chars after) then Some Term
     else (if is_time front (chars text) (chars after) then Some Time
     else (if is_end_of_range before text after then Some Range else None)))))

@@ -72,12 +72,13 @@ is_one_estimate (pair ∷ []) = is_estimate pair
 is_one_estimate others = false
 
 -- the characters make the number before them approximate: they begin with 几, 多 or another of
--- these, or with 好几
+-- these, or with 好几 or 出头
 abbrev pub begins_estimate : List ℕ → Bool
 begins_estimate [] = false
 begins_estimate (c ∷ others) =
     char_set_contains (codes "几幾多余餘来來") c
-    || (char_set_contains (codes "好") c && begins_with (codes "几幾") others)
+    || ((char_set_contains (codes "好") c && begins_with (codes "几幾") others)
+    || (char_set_contains (codes "出") c && begins_with (codes "头頭") others))
 
 -- the number between these texts is approximate: it begins with a unit, directly after 几 or 数, as
 -- in 几十; or one of the others is after it, as in 十几, 三百多 and 五十好几; or its only pair of

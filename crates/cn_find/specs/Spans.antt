@@ -1,6 +1,6 @@
 -- The runs of a text: its longest stretches of characters that belong to one number, or to one
 -- expression.
-use Rattle.std.specs.Prelude.{ℕ, ◌-◌, Bool, false, not, ◌&&◌, List, [], ◌∷◌, ◌++◌, length, take, reverse, chars, encode_utf8_all, if◌then◌else◌}
+use Rattle.std.specs.Prelude.{◌≡◌, ℕ, ◌-◌, ◌≤◌, Bool, false, not, ◌&&◌, List, [], ◌∷◌, ◌++◌, length, take, reverse, chars, encode_utf8_all, Option, Some, None, if◌then◌else◌}
 use Rattle.cn_find.specs.declared.found.Found.{Found}
 use Rattle.cn_find.specs.declared.wanted.Wanted.{Wanted}
 use Rattle.cn_find.specs.Expressions.{expression_rule}
@@ -24,6 +24,12 @@ abbrev pub after_run : Rule → List ℕ → List ℕ → List ℕ
 after_run rule front [] = []
 after_run rule front (c ∷ ahead) =
     if is_joined rule front c ahead then after_run rule (c ∷ front) ahead else ahead
+
+-- the characters after the run at the start of these, if the first of them belongs to one
+abbrev pub run_after : Rule → List ℕ → List ℕ → Option (List ℕ)
+run_after rule front [] = None
+run_after rule front (c ∷ ahead) =
+    if rule.belongs front c ahead then Some (after_run rule front (c ∷ ahead)) else None
 
 -- that run with the text before it and the text after it
 abbrev pub span_at : Rule → List ℕ → List ℕ → Span
@@ -66,6 +72,11 @@ span_of found = record { before = found.before.now; text = found.text.now; after
 -- the part of a text before its suffix `rest`
 abbrev pub text_before : List ℕ → List ℕ → List ℕ
 text_before whole rest = take (length whole - length rest) whole
+
+-- the span is a part of a text, and does not begin before the suffix `rest`
+pub record IsPartOf (whole rest : List ℕ) (span : Span) : Type 0 where
+  pub parts : whole ≡ span.before ++ (span.text ++ span.after)
+  pub from : length whole - length rest ≤ length span.before
 
 -- the characters of the text before something, given by its bytes; the nearest is the first
 abbrev pub in_front : List ℕ → List ℕ

@@ -2,11 +2,11 @@
 ghost use Rattle.std.specs.Prelude.{◌≡◌, ◌||◌, ◌&&◌, false, true, codes, chars, is_some, List, ℕ, Option, nat_le, length};
 ghost use Rattle.std.specs.Char.{char_set_contains};
 ghost use Rattle.cn_core.specs.Characters.{digit_of};
-ghost use Rattle.cn_find.specs.Doubt.{are_chinese_digits, are_of_name, begins_plenum, begins_without, counts, do_rise, doubt_of, ends_hour, ends_part_of_day, ends_zero_minutes, has_point, is_clock, is_clock_with_zero, is_doubtful_list, is_hour, is_part, is_term, is_time, is_up_to_first, may_be_list};
+ghost use Rattle.cn_find.specs.Doubt.{are_chinese_digits, are_of_name, begins_article, begins_hour, begins_plenum, begins_second, begins_some_shares, begins_tens, begins_twenties, begins_without, counts, do_rise, doubt_of, ends_hour, ends_part_of_day, ends_zero_minutes, has_point, has_two_tens, is_clock_with_zero, is_doubtful_list, is_end_of_article, is_hour, is_hundredth, is_of_article, is_part, is_term, is_time, is_up_to_first, may_be_list};
 ghost use Rattle.cn_find.specs.Spans.{in_front};
 
 use crate::belongs::is_chinese_digit;
-use crate::expressions::split_nearest;
+use crate::expressions::{first_is, is_han, split_nearest};
 use crate::ranges::is_end_of_range;
 use crate::words::{begins_with, begins_with_two, ends_with, ends_with_two, is_of_word};
 use cn_core::{digit_of, split_first_char};
@@ -14,14 +14,17 @@ use cn_core::{digit_of, split_first_char};
 /// A reason why an expression may mean something else than its quantity.
 #[derive(Debug, Copy, Clone, Eq, PartialEq)]
 pub enum Doubt {
-    /// It is part of a word: 十二 of 十二指肠, 十一 of 双十一.
+    /// It is part of a word or a title, or the year of an era: 十二 of 十二指肠, 十一 of 双十一, 二十二 of
+    /// 《第二十二条军规》, 四十一 of 乾隆四十一年.
     Word,
     /// It is two or three Chinese digits, or more of which none is smaller than the one before it,
-    /// and so may be a list: 五一, 一二三四.
+    /// and so may be a list: 五一, 一二三四; or it is two numbers: 十五十六.
     Digits,
-    /// It is part of a term: 负二 of 负二项, 十六 of 十六进制.
+    /// It is part of a term, or the number of an article: 负二 of 负二项, 十六 of 十六进制, 二百六十四 of
+    /// 第二百六十四条.
     Term,
-    /// It is part of a phrase with 折, 成 or 半: 八五 of 八五折.
+    /// It is part of a phrase with 折, 成, 半 or a share: 八五 of 八五折, 十六 of 十六分之几, 百分之一 of
+    /// 百分之一秒.
     Part,
     /// It may be a time as well as a decimal: 三点五 after 下午.
     Time,
@@ -84,6 +87,28 @@ fn do_rise(text: &str) -> bool
     true
 }
 
+// Whether the text begins with a digit and 十.
+fn begins_tens(text: &str) -> bool
+    ensures { result ≡ begins_tens (chars text.now) }
+{
+    split_first_char(text).is_some_and(|(c, others)| is_chinese_digit(c)
+        && begins_with(&['十'], others))
+}
+
+// Whether the text has 十, a digit and 十 one after another.
+fn has_two_tens(text: &str) -> bool
+    ensures { result ≡ has_two_tens (chars text.now) }
+{
+    let mut rest = text;
+    'looking: while let Some((c, others)) = split_first_char(rest) {
+        if c == '十' && begins_tens(others) {
+            return true;
+        }
+        rest = others;
+    }
+    false
+}
+
 fn may_be_list(text: &str) -> bool
     ensures { result ≡ may_be_list (chars text.now) }
 {
@@ -96,7 +121,8 @@ fn are_of_name(before: &str, text: &str, after: &str) -> bool
     ensures { result ≡ are_of_name (in_front before.now) (chars text.now) (chars after.now) }
 {
     begins_without(&['年'], &['级', '級'], after)
-        || begins_with(&['号', '號', '室', '房'], after)
+        || begins_with(&['号', '號', '室', '房', '办', '辦'], after)
+        || ends_with(&['楼', '樓', '栋', '棟', '座', '幢', '号', '號', '码', '碼'], before)
         || (begins_with(&['零', '〇'], text)
             && ends_with(&['点', '點', '分', '时', '時'], before)
             && begins_with(&['分', '秒'], after))
@@ -105,7 +131,7 @@ fn are_of_name(before: &str, text: &str, after: &str) -> bool
 fn is_doubtful_list(before: &str, text: &str, after: &str) -> bool
     ensures { result ≡ is_doubtful_list (in_front before.now) (chars text.now) (chars after.now) }
 {
-    may_be_list(text) && !are_of_name(before, text, after)
+    has_two_tens(text) || (may_be_list(text) && !are_of_name(before, text, after))
 }
 
 fn has_point(text: &str) -> bool
@@ -133,6 +159,34 @@ fn begins_plenum(after: &str) -> bool
     matches!(c, '届' | '屆') && is_chinese_digit(d) && begins_with(&['中'], others)
 }
 
+// Whether an article of a law, or a national congress or census, goes on with this text.
+fn begins_article(after: &str) -> bool
+    ensures { result ≡ begins_article (chars after.now) }
+{
+    split_first_char(after).is_some_and(|(c, others)| {
+        (matches!(c, '条' | '條') && is_end_of_article(others))
+            || (c == '次' && begins_with(&['全'], others))
+    })
+}
+
+// Whether what is after 条 is no word that 条 counts.
+fn is_end_of_article(others: &str) -> bool
+    ensures { result ≡ is_end_of_article (chars others.now) }
+{
+    !first_is(others, |c| is_han(c))
+        || begins_with(
+            &['第', '之', '规', '規', '和', '及', '与', '與', '或', '至', '到'],
+            others,
+        )
+}
+
+// Whether the text is the number of an article after 第.
+fn is_of_article(before: &str, after: &str) -> bool
+    ensures { result ≡ is_of_article (in_front before.now) (chars after.now) }
+{
+    ends_with(&['第'], before) && begins_article(after)
+}
+
 // The first character after the expression selects the test, so that it is decoded once.
 fn is_term(text: &str, after: &str) -> bool
     ensures { result ≡ is_term (chars text.now) (chars after.now) }
@@ -155,6 +209,22 @@ const BEFORE_HALF: &[char] = &[
     '元', '圆', '圓', '块', '塊', '角', '毛', '度', '米', '斤', '两', '兩',
 ];
 
+// Whether the text is a percentage before a unit: 百分之一 of 百分之一秒.
+fn is_hundredth(text: &str, after: &str) -> bool
+    ensures { result ≡ is_hundredth (chars text.now) (chars after.now) }
+{
+    begins_with(&['秒', '毫', '厘', '釐', '克'], after) && begins_with_two(&['百'], &['分'], text)
+}
+
+// Whether the text begins with 分之几.
+fn begins_some_shares(after: &str) -> bool
+    ensures { result ≡ begins_some_shares (chars after.now) }
+{
+    split_first_char(after).is_some_and(|(c, others)| {
+        c == '分' && begins_with_two(&['之'], &['几', '幾'], others)
+    })
+}
+
 fn is_part(text: &str, after: &str) -> bool
     ensures { result ≡ is_part (chars text.now) (chars after.now) }
 {
@@ -164,7 +234,11 @@ fn is_part(text: &str, after: &str) -> bool
     match c {
         '折' => !begins_with(&['算', '合', '旧', '舊', '叠', '疊', '磨', '返'], others),
         '成' => are_chinese_digits(text) && has_at_most(2, text),
-        _ => begins_with_two(BEFORE_HALF, &['半'], after),
+        _ => {
+            begins_with_two(BEFORE_HALF, &['半'], after)
+                || is_hundredth(text, after)
+                || begins_some_shares(after)
+        }
     }
 }
 
@@ -207,12 +281,36 @@ fn ends_zero_minutes(text: &str) -> bool
     split_nearest(text).is_some_and(|(c, before)| matches!(c, '零' | '〇') && ends_hour(before))
 }
 
-fn is_clock(text: &str) -> bool
-    ensures { result ≡ is_clock (in_front text.now) }
+// Whether an hour of two characters, of which this is the first, and 点 begin here.
+fn begins_second(first: char, others: &str) -> bool
+    ensures { result ≡ begins_second first (chars others.now) }
 {
-    split_nearest(text).is_some_and(|(c, before)| {
-        counts(c) && (ends_hour(before) || ends_zero_minutes(before))
+    split_first_char(others).is_some_and(|(second, rest)| {
+        ((first == '十' && counts(second)) || (matches!(first, '二' | '两' | '兩') && second == '十'))
+            && begins_with(&['点', '點'], rest)
     })
+}
+
+// Whether the rest of an hour from 二十一 to 二十四 and 点 begin the text.
+fn begins_twenties(others: &str) -> bool
+    ensures { result ≡ begins_twenties (chars others.now) }
+{
+    split_first_char(others).is_some_and(|(second, rest)| {
+        second == '十' && begins_with_two(&['一', '二', '三', '四'], &['点', '點'], rest)
+    })
+}
+
+// Whether an hour and 点 begin the text.
+fn begins_hour(text: &str) -> bool
+    ensures { result ≡ begins_hour (chars text.now) }
+{
+    let Some((first, others)) = split_first_char(text) else {
+        return false;
+    };
+    if begins_with(&['点', '點'], others) {
+        return counts(first) || first == '十';
+    }
+    begins_second(first, others) || (first == '二' && begins_twenties(others))
 }
 
 fn is_clock_with_zero(text: &str) -> bool
@@ -230,10 +328,7 @@ fn ends_part_of_day(before: &str) -> bool
 fn is_time(before: &str, text: &str, after: &str) -> bool
     ensures { result ≡ is_time (in_front before.now) (chars text.now) (chars after.now) }
 {
-    if !is_clock(text) {
-        return false;
-    }
-    ends_part_of_day(before)
+    (begins_hour(text) && ends_part_of_day(before))
         || (is_clock_with_zero(text)
             && !begins_with(&['元', '米', '度', '倍', '吨', '噸', '克', '升'], after))
 }
@@ -257,7 +352,7 @@ pub fn doubt_of(before: &str, text: &str, after: &str) -> Option<Doubt>
     if is_doubtful_list(before, text, after) {
         return Some(Doubt::Digits);
     }
-    if is_term(text, after) {
+    if is_term(text, after) || is_of_article(before, after) {
         return Some(Doubt::Term);
     }
     if is_time(before, text, after) {

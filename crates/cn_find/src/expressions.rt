@@ -392,8 +392,9 @@ fn is_weight(wanted: Wanted, before: &str, c: char, after: &str) -> bool
     matches!(c, '两' | '兩') && ends_numeral(wanted, before) && !begins_counted(wanted, after)
 }
 
+/// Whether a character is a Han character, from U+4E00 to U+9FFF.
 #[tactic(auto, unfolding(crate::specs::Expressions::is_han))]
-fn is_han(c: char) -> bool
+pub fn is_han(c: char) -> bool
     ensures { result ≡ is_han c }
 {
     matches!(c, '\u{4e00}'..='\u{9fff}')
@@ -458,10 +459,10 @@ fn is_other_word(wanted: Wanted, before: &str, c: char, after: &str) -> bool
         || is_kilo(wanted, before, c, after)
 }
 
-// Whether a character is one that expressions treat differently from numbers.
+/// Whether a character is one that expressions treat differently from numbers.
 #[inline(always)]
 #[tactic(auto, unfolding(crate::specs::Expressions::is_extra))]
-fn is_extra(c: char) -> bool
+pub fn is_extra(c: char) -> bool
     ensures { result ≡ is_extra c }
 {
     is_tens(c)

@@ -45,7 +45,7 @@ enum Neighbour {
     EstimatesLast,
     // A number directly after or before it is approximate.
     Estimates,
-    // A number directly before it is approximate if 几 follows it.
+    // A number directly before it is approximate if another character follows it: 好几, 出头.
     Quite,
 }
 
@@ -58,7 +58,7 @@ fn neighbour_of(c: char) -> Neighbour
     ensures links { is_link c ≡ does_link result }
     ensures next { begins_with (codes "几幾数數") (c ∷ []) ≡ estimates_next result }
     ensures last { begins_with (codes "几幾多余餘来來") (c ∷ []) ≡ estimates_last result }
-    ensures quite { char_set_contains (codes "好") c ≡ is_quite result }
+    ensures quite { char_set_contains (codes "好出") c ≡ is_quite result }
 {
     if c.is_ascii() {
         return match c {
@@ -74,7 +74,7 @@ fn neighbour_of(c: char) -> Neighbour
         '数' | '數' => Neighbour::EstimatesNext,
         '多' | '余' | '餘' | '来' | '來' => Neighbour::EstimatesLast,
         '几' | '幾' => Neighbour::Estimates,
-        '好' => Neighbour::Quite,
+        '好' | '出' => Neighbour::Quite,
         _ => Neighbour::Unrelated,
     }
 }
@@ -89,7 +89,7 @@ fn is_digit_beside(c: char, mark: Mark) -> bool
     ensures clings { IsTrue result → clings c ≡ true }
     ensures next { IsTrue result → begins_with (codes "几幾数數") (c ∷ []) ≡ false }
     ensures last { IsTrue result → begins_with (codes "几幾多余餘来來") (c ∷ []) ≡ false }
-    ensures quite { IsTrue result → char_set_contains (codes "好") c ≡ false }
+    ensures quite { IsTrue result → char_set_contains (codes "好出") c ≡ false }
 {
     is_digit(mark)
 }
@@ -167,6 +167,18 @@ fn look_before(before: &str) -> Side
     Side { goes_on, estimates }
 }
 
+// Whether a character after a number and the text after it make the number approximate: 好几, 出头.
+fn estimate_together(near: char, others: &str) -> bool
+    ensures { result ≡ ((char_set_contains (codes "好") near && begins_with (codes "几幾") (chars others.now))
+        || (char_set_contains (codes "出") near && begins_with (codes "头頭") (chars others.now))) }
+{
+    match near {
+        '好' => first_is(others, |c| matches!(c, '几' | '幾')),
+        '出' => first_is(others, |c| matches!(c, '头' | '頭')),
+        _ => false,
+    }
+}
+
 // What the text after a number says about it. A 几, 多 or another such character at its start makes
 // the number approximate.
 #[inline(always)]
@@ -187,7 +199,7 @@ fn look_after(after: &str) -> Side
         Neighbour::Unrelated | Neighbour::EstimatesNext => (false, false),
         Neighbour::Clings => (true, false),
         Neighbour::Links => (begins_linked(others), false),
-        Neighbour::Quite => (false, first_is(others, |c| matches!(c, '几' | '幾'))),
+        Neighbour::Quite => (false, estimate_together(near, others)),
         Neighbour::EstimatesLast | Neighbour::Estimates => (false, true),
     };
     Side { goes_on, estimates }
@@ -315,7 +327,7 @@ fn estimates(front: Side, text: &str, behind: Side) -> bool
 }
 
 /// Whether a number between these texts is approximate. It is if 几 or 数 is directly before it and
-/// it begins with a unit, as in 几十; if 几, 多, 余, 来 or 好几 is directly after it, as in 十几;
+/// it begins with a unit, as in 几十; if 几, 多, 余, 来, 好几 or 出头 is directly after it, as in 十几;
 /// or if it has exactly one pair of neighbouring digits before its first 点, and these are Chinese
 /// digits that follow one another or are 三五, as in 五六, 兩三百 and 十七八.
 ///

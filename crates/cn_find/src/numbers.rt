@@ -1,9 +1,11 @@
-ghost use Rattle.std.specs.Prelude.{◌≡◌, ◌≤◌, ◌↔◌, length, drop, IsSome, IfSome, IsCharBoundary};
+ghost use Rattle.std.specs.Prelude.{◌≡◌, ◌≤◌, ◌↔◌, ◌++◌, ◌∷◌, [], length, drop, chars, IsSome, IfSome, MatchOption, IsCharBoundary};
+ghost use Rattle.std.specs.Option.{option_map};
 ghost use Rattle.std.specs.Iterator.{YieldsFirstBy, item_count};
-ghost use Rattle.cn_find.specs.Spans.{expressions, expressions_left, left_by, spans, spans_by, spans_left, span_of};
+ghost use Rattle.cn_find.specs.Expressions.{expression_rule};
+ghost use Rattle.cn_find.specs.Spans.{IsPartOf, expressions, expressions_left, in_front, left_by, run_after, spans, spans_by, spans_left, span_of, text_before};
 
 use crate::rule::{NumberRule, QuantityRule, SearchRule};
-use crate::run::next_run;
+use crate::run::{next_run, run_after};
 use crate::{Found, Wanted};
 use std::marker::Model;
 
@@ -103,6 +105,32 @@ pub fn find_quantities_from(
         (λ found. found ≡ expressions_left wanted text.now (drop from text.now)) }
 {
     search_from(QuantityRule { wanted }, text, from)
+}
+
+/// The first expression of a suffix of a text; `None` if it has none. The search looks at the text
+/// before the suffix too.
+///
+/// `next_expression("3-5", "-5", Wanted::EVERYDAY)` is 5, after `3-`.
+pub fn next_expression<'a>(whole: &'a str, rest: &'a str, wanted: Wanted) -> Option<Found<'a>>
+    requires { text_before whole.now rest.now ++ rest.now ≡ whole.now }
+    ensures first { MatchOption result (expressions_left wanted whole.now rest.now ≡ [])
+        (λ found. expressions_left wanted whole.now rest.now
+        ≡ span_of found ∷ expressions_left wanted whole.now found.after.now) }
+    ensures part { IfSome result (λ found. IsPartOf whole.now rest.now (span_of found)) }
+{
+    next_run(QuantityRule { wanted }, whole, rest)
+}
+
+/// The text after the expression that begins with a suffix of a text; `None` if none begins there. The
+/// suffix may begin within an expression: then the rest of it is meant.
+///
+/// `expression_after("共3.5万元", "3.5万元", Wanted::EVERYDAY)` is 元.
+pub fn expression_after<'a>(whole: &'a str, ahead: &'a str, wanted: Wanted) -> Option<&'a str>
+    requires { text_before whole.now ahead.now ++ ahead.now ≡ whole.now }
+    ensures { option_map (λ after. chars after.now) result ≡ run_after (expression_rule wanted)
+        (in_front (text_before whole.now ahead.now)) (chars ahead.now) }
+{
+    run_after(QuantityRule { wanted }, whole, ahead)
 }
 
 impl<'a, R: SearchRule> Iterator for Numbers<'a, R> {

@@ -3,16 +3,17 @@ ghost use Rattle.std.specs.Prelude.{◌≡◌, ◌++◌, ◌<◌, ◌∷◌, [],
 ghost use Rattle.cn_core.specs.Mark.{mark_of};
 ghost use Rattle.cn_judge.specs.Marked.{marked};
 ghost use Rattle.cn_find.specs.Private.{EndsRun};
-ghost use Rattle.cn_find.specs.Spans.{in_front, left_by, span_of, text_before};
+ghost use Rattle.std.specs.Option.{option_map};
+ghost use Rattle.cn_find.specs.Spans.{IsPartOf, in_front, left_by, run_after, span_of, text_before};
 
 use crate::Found;
 use crate::rule::SearchRule;
 use cn_core::split_first_char;
 use cn_judge::{Mark, mark_of, split_first_mark, split_first_three};
 
-// The part of a text before its suffix `rest`.
+/// The part of a text before its suffix `rest`.
 #[inline(always)]
-fn text_before<'a>(whole: &'a str, rest: &'a str) -> &'a str
+pub fn text_before<'a>(whole: &'a str, rest: &'a str) -> &'a str
     requires { text_before whole.now rest.now ++ rest.now ≡ whole.now }
     ensures { result.now ≡ text_before whole.now rest.now }
 {
@@ -109,6 +110,7 @@ pub fn next_run<'a, R: SearchRule>(rule: R, whole: &'a str, rest: &'a str) -> Op
         ≡ span_of found ∷ left_by (R.rule rule) whole.now found.after.now) }
     ensures ends { IfSome result
         (λ found. text_before whole.now found.after.now ++ found.after.now ≡ whole.now) }
+    ensures part { IfSome result (λ found. IsPartOf whole.now rest.now (span_of found)) }
 {
     let mut ahead = rest;
     'searching: while let Some(look) = look_at(rule, whole, ahead) {
@@ -123,4 +125,19 @@ pub fn next_run<'a, R: SearchRule>(rule: R, whole: &'a str, rest: &'a str) -> Op
         ahead = look.behind;
     }
     None
+}
+
+/// The text after the run that begins with a suffix of a text; `None` if none begins there. The
+/// character before the suffix is not looked at: the suffix may begin within a run.
+pub fn run_after<'a, R: SearchRule>(rule: R, whole: &'a str, ahead: &'a str) -> Option<&'a str>
+    requires { text_before whole.now ahead.now ++ ahead.now ≡ whole.now }
+    ensures { option_map (λ after. chars after.now) result ≡ run_after (R.rule rule)
+        (in_front (text_before whole.now ahead.now)) (chars ahead.now) }
+{
+    let look = look_at(rule, whole, ahead)?;
+    if look.belongs {
+        Some(skip_run(rule, whole, ahead, look.first, look.behind))
+    } else {
+        None
+    }
 }

@@ -7,21 +7,21 @@ use Rattle.cn_grammar.specs.Sieve.{Sieve, kept, after, sifted}
 use Rattle.cn_grammar.proofs.Runs.{some-is, ran}
 
 -- the characters that are kept of a text and of the text after it
-kept-append : {F : Type 0} (sieve : Sieve F) (front : F) (text behind : List ℕ)
-    → kept sieve front (text ++ behind)
-    ≡ kept sieve front text ++ kept sieve (after sieve front text) behind
-kept-append sieve front [] behind = refl
-kept-append {F} sieve front (c ∷ text) behind =
-    by (sieve.keeps front c) (kept-append sieve (sieve.next front c) text behind) where
+kept-append : {F : Type 0} (sieve : Sieve F) (front : F) (text rest : List ℕ)
+    → kept sieve front (text ++ rest)
+    ≡ kept sieve front text ++ kept sieve (after sieve front text) rest
+kept-append sieve front [] rest = refl
+kept-append {F} sieve front (c ∷ text) rest =
+    by (sieve.keeps front c) (kept-append sieve (sieve.next front c) text rest) where
       next : F
       next = sieve.next front c
 
       by : (b : Bool)
-          → kept sieve next (text ++ behind)
-          ≡ kept sieve next text ++ kept sieve (after sieve next text) behind
-          → (if b then c ∷ kept sieve next (text ++ behind) else kept sieve next (text ++ behind))
+          → kept sieve next (text ++ rest)
+          ≡ kept sieve next text ++ kept sieve (after sieve next text) rest
+          → (if b then c ∷ kept sieve next (text ++ rest) else kept sieve next (text ++ rest))
           ≡ (if b then c ∷ kept sieve next text else kept sieve next text)
-          ++ kept sieve (after sieve next text) behind
+          ++ kept sieve (after sieve next text) rest
       by true ih = ap (λ l. c ∷ l) ih
       by false ih = ih
 
@@ -97,8 +97,8 @@ pub record IsKeptForm {F A B : Type 0} (sieve : Sieve F) (first : F) (value : F 
 -- a text that completes the kept characters can also follow the text itself
 abbrev pub CanFollow : {F A : Type 0} → Sieve F → F → (List ℕ → A → Type 0) → Type 0
 CanFollow {F} {A} sieve first IsForm =
-    (text behind : List ℕ) (under : A) → IsForm (kept sieve first text ++ behind) under
-    → (more : List ℕ) × (kept sieve (after sieve first text) more ≡ behind)
+    (text rest : List ℕ) (under : A) → IsForm (kept sieve first text ++ rest) under
+    → (more : List ℕ) × (kept sieve (after sieve first text) more ≡ rest)
 
 pub sifted-reads : {F S T A B : Type 0} (sieve : Sieve F) (both : F → S → T)
     (value : F → A → B) (inner : Machine S A) (outer : Machine T B) (first : F)

@@ -47,14 +47,14 @@ below-is signs c text = by (char_set_contains signs c) where
 -- what completes the text without the sign completes the text; nothing is completed after a sign
 pub can-follow : {A : Type 0} (sign : ℕ) (signs : List ℕ) (IsForm : List ℕ → A → Type 0)
     → char_set_contains signs sign ≡ true → CanFollow (sign_sieve signs) Open IsForm
-can-follow sign signs IsForm is [] behind value h =
-    (sign ∷ behind, rw is (minus-stays signs behind).0)
-can-follow sign signs IsForm is (c ∷ text) behind value h = by (char_set_contains signs c) where
+can-follow sign signs IsForm is [] rest value h =
+    (sign ∷ rest, rw is (minus-stays signs rest).0)
+can-follow sign signs IsForm is (c ∷ text) rest value h = by (char_set_contains signs c) where
   by : (b : Bool) → (more : List ℕ)
       × (kept (sign_sieve signs) (after (sign_sieve signs) (if b then Minus else Plain) text) more
-      ≡ behind)
-  by true = (behind, rw (minus-stays signs text).1 (minus-stays signs behind).0)
-  by false = (behind, rw (plain-stays signs text).1 (plain-stays signs behind).0)
+      ≡ rest)
+  by true = (rest, rw (minus-stays signs text).1 (minus-stays signs rest).0)
+  by false = (rest, rw (plain-stays signs text).1 (plain-stays signs rest).0)
 
 -- a character that is left out is a sign
 pub left-out : (signs characters : List ℕ) → list_all (char_set_contains characters) signs ≡ true

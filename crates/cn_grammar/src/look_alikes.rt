@@ -1,4 +1,8 @@
 // Characters that people type in place of those of a form.
+//
+// No contracts: which characters people mistake for which is a matter of experience, and these tables
+// are all that is known of it. They only propose repairs; a repair is returned if the reader, which is
+// proved, reads the text that it makes.
 use cn_core::is_figure;
 
 /// The capital that a character is typed for: one of the same meaning, such as 壹 for 一 and for １,

@@ -1,4 +1,6 @@
 // The characters of a message: those of a text, and those that may come next.
+//
+// No contracts: tests/rows/messages.tsv tests the wording.
 use crate::Language;
 use crate::texts::{Name, name_text, quotes, renminbi, separator};
 use cn_judge::byte_index;

@@ -1,4 +1,6 @@
 // A message about a text, sentence by sentence.
+//
+// No contracts: tests/rows/messages.tsv tests the wording.
 use crate::Language;
 use crate::characters::{char_after, char_at, put_char, put_next, put_shown};
 use crate::texts::{Sentence, sentence_text};

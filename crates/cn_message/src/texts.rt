@@ -9,6 +9,8 @@
 //     {example}  an example of what is read
 //
 // A sentence that only follows another one begins with a space in English.
+//
+// No contracts: tests/rows/messages.tsv tests the wording.
 use crate::Language;
 
 /// A sentence of a message.

@@ -5,7 +5,7 @@ use Rattle.cn_core.specs.Characters.{digit_of, rank_of}
 use Rattle.cn_find.specs.Expressions.{is_han}
 use Rattle.cn_replace.specs.Canonical.{ascii_of, canonical_text, is_zero_figure}
 use Rattle.cn_replace.specs.Clings.{begins_measure, clings, is_bound, is_bridge}
-use Rattle.cn_replace.specs.Joined.{is_between, is_counter, is_hour, is_joint, is_length, is_link, is_of_amount, is_of_date, is_one, joins, joins_three}
+use Rattle.cn_replace.specs.Joined.{is_between, is_counter, is_hour, is_joint, is_length, is_link, is_of_amount, is_of_date, is_one, is_operation, joins, joins_three}
 use Rattle.cn_replace.specs.KeptNumbers.{before_end, digits_text, end_of, is_ge, is_tenth, may_have_tenths}
 use Rattle.cn_replace.specs.Parting.{is_noticed}
 
@@ -56,7 +56,7 @@ clinging = refl
 
 -- 十二块三毛 is joined, 一百元三件 and 五十年一遇 are not
 joined : joins (codes "块") (codes "三") (codes "毛五") ≡ true
-unfolding is_between is_counter is_hour is_link is_of_amount is_of_date is_one
+unfolding is_between is_counter is_hour is_link is_of_amount is_of_date is_one is_operation
 joined = refl
 
 not-joined : joins (codes "元") (codes "三") (codes "件") ≡ false

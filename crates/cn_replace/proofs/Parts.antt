@@ -239,8 +239,9 @@ module _ (method : ChineseCountMethod) (options : Figures) (wanted : Wanted)
   in-parts : (spans : List Span)
       → expressions wanted (left ++ (mid ++ right))
       ≡ map earlier (expressions wanted left) ++ map later spans
-      → in_chains new holds wanted (left ++ (mid ++ right))
-      ≡ in_chains new holds wanted left ++ (mid ++ in_chains_from new holds right None false spans)
+      → in_chains new holds (left ++ (mid ++ right)) (expressions wanted (left ++ (mid ++ right)))
+      ≡ in_chains new holds left (expressions wanted left)
+      ++ (mid ++ in_chains_from new holds right None false spans)
   in-parts spans parts =
       ap (in_chains_from new holds (left ++ (mid ++ right)) None false) (parts
       ∙ ap (λ l. map earlier (expressions wanted left) ++ l) (sym (append-nil (map later spans))))

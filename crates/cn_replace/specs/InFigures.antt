@@ -8,7 +8,9 @@ use Rattle.cn_find.specs.declared.doubt.Doubt.TheVariants.{Part}
 use Rattle.cn_find.specs.declared.wanted.Wanted.{Wanted}
 use Rattle.cn_find.specs.Doubt.{doubt_of}
 use Rattle.cn_find.specs.Flags.{is_about, is_one_character}
-use Rattle.cn_find.specs.Spans.{Span}
+use Rattle.cn_find.specs.Spans.{Span, expressions, in_front}
+use Rattle.cn_find.specs.Belongs.{begins_with}
+use Rattle.cn_find.specs.Words.{begins_with_two, is_exactly}
 use Rattle.cn_quantity.specs.Ratio.{is_fraction}
 use Rattle.cn_quantity.specs.Reading.{quantity_answer}
 use Rattle.cn_replace.specs.declared.options.Figures.{Figures}
@@ -29,11 +31,28 @@ is_doubt_included included None = true
 is_doubt_included included (Some Part) = false
 is_doubt_included included (Some doubt) = included.doubtful
 
--- an expression is included: if it is one character, approximate or doubtful, expressions of that
--- kind are included
+-- the text begins with a unit of measure, of money or of time
+abbrev pub begins_unit : List ℕ → Bool
+begins_unit after =
+    begins_with (codes "元米克吨噸升秒度号號岁歲") after
+    || (begins_with_two (codes "公厘釐毫千平立") (codes "里斤顷頃尺米克升方") after
+    || (begins_with_two (codes "分小") (codes "钟鐘时時") after
+    || (begins_with_two (codes "美欧歐日港") (codes "元") after
+    || begins_with_two (codes "百") (codes "分") after)))
+
+-- an expression is one character that stays: 十 before such a unit, or after 每, does not, unless it is the
+-- second of two, as in 五公里到十公里. Of the characters before it the nearest is the first
+abbrev pub is_short : List ℕ → List ℕ → List ℕ → Bool
+is_short front text after =
+    is_one_character text
+    && not (is_exactly (codes "十") text && ((begins_unit after || begins_with (codes "每") front)
+    && not (begins_with (codes "到至、和与與或") front)))
+
+-- an expression is included: if it is a character that stays, approximate or doubtful, expressions of
+-- that kind are included
 abbrev pub is_included : Included → Span → Bool
 is_included included span =
-    (included.one_character || not (is_one_character (chars span.text)))
+    (included.one_character || not (is_short (in_front span.before) (chars span.text) (chars span.after)))
     && ((included.about || not (is_about (chars span.before) (chars span.text) (chars span.after)))
     && is_doubt_included included (doubt_of span.before span.text span.after))
 
@@ -85,4 +104,5 @@ holds_others method options span =
 -- a text with its expressions in figures
 unfoldable pub in_figures : ChineseCountMethod → Figures → Wanted → List ℕ → List ℕ
 in_figures method options wanted bytes =
-    in_chains (figures_for method options) (holds_others method options) wanted bytes
+    in_chains (figures_for method options) (holds_others method options) bytes
+    (expressions wanted bytes)

@@ -23,9 +23,9 @@ is_of_amount c = char_set_contains (codes "元圆圓块塊角毛度米斤两兩"
 abbrev pub is_part_unit : ℕ → Bool
 is_part_unit c = is_of_date c || is_hour c || is_of_amount c
 
--- the character compares or separates two numbers
+-- the character compares, separates or combines two numbers
 unfoldable pub is_between : ℕ → Bool
-is_between c = char_set_contains (codes "比单單有") c
+is_between c = char_set_contains (codes "比单單有加减減乘除") c
 
 -- the characters are 小时 or 分钟
 unfoldable pub is_length : ℕ → ℕ → Bool
@@ -33,9 +33,15 @@ is_length c d =
     (char_set_contains (codes "小") c && char_set_contains (codes "时時") d)
     || (char_set_contains (codes "分") c && char_set_contains (codes "钟鐘") d)
 
+-- the characters are 乘以, 除以 or 等于
+unfoldable pub is_operation : ℕ → ℕ → Bool
+is_operation c d =
+    (char_set_contains (codes "乘除") c && char_set_contains (codes "以") d)
+    || (char_set_contains (codes "等") c && char_set_contains (codes "于於") d)
+
 -- the character is one of those that join, or 的: no word begins with 一 and one of these
 unfoldable pub is_joint : ℕ → Bool
-is_joint c = is_link c || is_part_unit c || char_set_contains (codes "比单單有小个個钟鐘的") c
+is_joint c = is_link c || is_part_unit c || is_between c || char_set_contains (codes "小个個钟鐘的") c
 
 -- the characters begin with a Han character that makes a word with 一 before it, such as 遇
 abbrev pub begins_word : List ℕ → Bool
@@ -69,7 +75,7 @@ joins_one c text after =
 
 -- the two characters between neighbours join them
 abbrev pub joins_two : ℕ → ℕ → Bool
-joins_two c d = (is_part_unit c && is_link d) || is_length c d
+joins_two c d = (is_part_unit c && is_link d) || (is_length c d || is_operation c d)
 
 -- the three characters between neighbours join them: 个小时
 unfoldable pub joins_three : ℕ → ℕ → ℕ → Bool

@@ -1,7 +1,7 @@
 // The new text of an expression in figures.
 ghost use Rattle.std.specs.Prelude.{◌≡◌, ◌&&◌, ◌||◌, not, chars, is_some, IfOk};
-ghost use Rattle.cn_find.specs.Spans.{span_of};
-ghost use Rattle.cn_replace.specs.InFigures.{figures_for, has_unit_or_zero, holds_others, is_again, is_doubt_included, is_in_figures, is_included, may_change, styled_text, written_text};
+ghost use Rattle.cn_find.specs.Spans.{in_front, span_of};
+ghost use Rattle.cn_replace.specs.InFigures.{begins_unit, figures_for, has_unit_or_zero, holds_others, is_again, is_doubt_included, is_in_figures, is_included, is_short, may_change, styled_text, written_text};
 ghost use Rattle.cn_replace.specs.Private.{PutsText};
 
 use crate::canonical::{are_figures, put_canonical};
@@ -12,7 +12,7 @@ use crate::numbers::put_read;
 use crate::pieces::{CharTest, Figure, UnitFrom, Zero, any};
 use crate::{Figures, Included, Replacement, Sink, Style};
 use cn_core::{ChineseCountMethod, Unit};
-use cn_find::{Doubt, Found};
+use cn_find::{Doubt, Found, begins_with, begins_with_two, ends_with, is_exactly};
 
 // Whether an expression with this doubt is included.
 fn is_doubt_included(included: Included, doubt: Option<Doubt>) -> bool
@@ -25,11 +25,39 @@ fn is_doubt_included(included: Included, doubt: Option<Doubt>) -> bool
     }
 }
 
+// Whether a text begins with a unit of measure, of money or of time.
+fn begins_unit(after: &str) -> bool
+    ensures { result ≡ begins_unit (chars after.now) }
+{
+    begins_with(
+        &['元', '米', '克', '吨', '噸', '升', '秒', '度', '号', '號', '岁', '歲'],
+        after,
+    ) || begins_with_two(
+        &['公', '厘', '釐', '毫', '千', '平', '立'],
+        &['里', '斤', '顷', '頃', '尺', '米', '克', '升', '方'],
+        after,
+    ) || begins_with_two(&['分', '小'], &['钟', '鐘', '时', '時'], after)
+        || begins_with_two(&['美', '欧', '歐', '日', '港'], &['元'], after)
+        || begins_with_two(&['百'], &['分'], after)
+}
+
+// Whether an expression is one character that stays: 十 before such a unit, or after 每, does not, unless
+// it is the second of two.
+fn is_short(found: Found<'_>) -> bool
+    ensures { result ≡ is_short (in_front found.entry.before.now) (chars found.entry.text.now)
+        (chars found.entry.after.now) }
+{
+    found.is_one_character()
+        && !(is_exactly(&['十'], found.text)
+            && (begins_unit(found.after) || ends_with(&['每'], found.before))
+            && !ends_with(&['到', '至', '、', '和', '与', '與', '或'], found.before))
+}
+
 // Whether an expression is included, given its flags and its doubt.
 fn is_included(included: Included, found: Found<'_>) -> bool
     ensures { result ≡ is_included included (span_of found.entry) }
 {
-    (included.one_character || !found.is_one_character())
+    (included.one_character || !is_short(found))
         && (included.about || !found.is_about())
         && is_doubt_included(included, found.doubt())
 }
@@ -140,6 +168,20 @@ impl InFigures {
         match self.put_written(&mut Nothing {}, text) {
             Ok(is_written) => is_written,
             Err(never) => match never {},
+        }
+    }
+
+    /// Writes the new text of an expression, and returns whether it has one. If not, anything may have
+    /// been written.
+    #[tactic(auto, unfolding(crate::specs::InFigures::figures_for))]
+    pub fn put_known<S: Sink>(self, found: Found<'_>, sink: &mut S) -> Result<bool, S::Error>
+        ensures { IfOk result (PutsText S.took sink.old sink.new
+            (figures_for self.method self.figures (span_of found.entry))) }
+    {
+        if may_change(self.method, self.figures.included, found) {
+            self.put_written(sink, found.text)
+        } else {
+            Ok(false)
         }
     }
 

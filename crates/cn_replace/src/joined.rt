@@ -1,7 +1,7 @@
 // Whether two neighbours of a text are parts of one date, time, length, amount or range.
 ghost use Rattle.std.specs.Prelude.{◌≡◌, chars, IsCharBoundary};
 ghost use Rattle.cn_find.specs.Spans.{span_of};
-ghost use Rattle.cn_replace.specs.Joined.{begins_counter, begins_word, is_between, is_counter, is_hour, is_joined_at, is_joint, is_length, is_link, is_of_amount, is_of_date, is_of_word, is_one, is_part_unit, joins, joins_one, joins_three, joins_two};
+ghost use Rattle.cn_replace.specs.Joined.{begins_counter, begins_word, is_between, is_counter, is_hour, is_joined_at, is_joint, is_length, is_link, is_of_amount, is_of_date, is_of_word, is_one, is_operation, is_part_unit, joins, joins_one, joins_three, joins_two};
 
 use cn_core::split_first_char;
 use cn_find::{Found, is_one_character};
@@ -48,9 +48,7 @@ fn is_part_unit(c: char) -> bool
 fn is_joint(c: char) -> bool
     ensures { result ≡ is_joint c }
 {
-    is_link(c)
-        || is_part_unit(c)
-        || matches!(c, '比' | '单' | '單' | '有' | '小' | '个' | '個' | '钟' | '鐘' | '的')
+    is_link(c) || is_part_unit(c) || is_between(c) || matches!(c, '小' | '个' | '個' | '钟' | '鐘' | '的')
 }
 
 #[tactic(auto, unfolding(cn_find::specs::Expressions::is_han))]
@@ -127,7 +125,7 @@ fn begins_counter(after: &str) -> bool
 fn is_between(c: char) -> bool
     ensures { result ≡ is_between c }
 {
-    matches!(c, '比' | '单' | '單' | '有')
+    matches!(c, '比' | '单' | '單' | '有' | '加' | '减' | '減' | '乘' | '除')
 }
 
 fn joins_one(c: char, text: &str, after: &str) -> bool
@@ -149,10 +147,17 @@ fn is_length(c: char, d: char) -> bool
     (c == '小' && matches!(d, '时' | '時')) || (c == '分' && matches!(d, '钟' | '鐘'))
 }
 
+#[tactic(auto, unfolding(crate::specs::Joined::is_operation))]
+fn is_operation(c: char, d: char) -> bool
+    ensures { result ≡ is_operation c d }
+{
+    (matches!(c, '乘' | '除') && d == '以') || (c == '等' && matches!(d, '于' | '於'))
+}
+
 fn joins_two(c: char, d: char) -> bool
     ensures { result ≡ joins_two c d }
 {
-    (is_part_unit(c) && is_link(d)) || is_length(c, d)
+    (is_part_unit(c) && is_link(d)) || is_length(c, d) || is_operation(c, d)
 }
 
 #[tactic(auto, unfolding(crate::specs::Joined::joins_three))]

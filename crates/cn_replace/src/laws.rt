@@ -1,6 +1,6 @@
 //! What callers can count on of a text in which expressions are replaced, each as the contract of a
 //! function that does nothing.
-ghost use Rattle.std.specs.Prelude.{◌≡◌, ℕ, List, [], ◌++◌, false, true, chars, None, Option, Contains, IsUtf8};
+ghost use Rattle.std.specs.Prelude.{◌≡◌, ℕ, Bool, List, [], ◌++◌, false, true, chars, None, Option, Contains, IsUtf8};
 ghost use Rattle.std.specs.Char.{encode_utf8};
 ghost use Rattle.cn_find.specs.Belongs.{is_wanted};
 ghost use Rattle.cn_find.specs.Parting.{is_named};
@@ -44,8 +44,13 @@ pub fn texts_are_put_in_figures_in_parts(
 
 /// What has a figure and no 分之 stays in the kept style, unless canonical figures are requested.
 pub fn figures_stay(method: ChineseCountMethod, included: Included)
-    ensures { (span : Span) → is_in_figures (chars span.text) ≡ true
-        → figures_for method (record { included = included; style = Kept; canonical = false }) span
+    ensures { (compact : Bool) (span : Span) → is_in_figures (chars span.text) ≡ true
+        → figures_for method (record {
+          included = included;
+          style = Kept;
+          canonical = false;
+          compact = compact;
+        }) span
         ≡ None }
 {}
 
@@ -54,5 +59,5 @@ pub fn figures_constants_are()
     ensures none { Included.NONE
         ≡ record { about = false; one_character = false; doubtful = false } }
     ensures default { Figures.DEFAULT
-        ≡ record { included = Included.NONE; style = Kept; canonical = false } }
+        ≡ record { included = Included.NONE; style = Kept; canonical = false; compact = false } }
 {}

@@ -4,19 +4,20 @@
 
 mod buffer;
 mod canonical;
-mod chains;
-mod clings;
+pub mod chains;
+pub mod clings;
 mod in_figures;
 mod joined;
-mod kept;
+pub mod kept;
 pub mod laws;
-mod nothing;
-mod numbers;
+pub mod nothing;
+pub mod numbers;
 mod options;
-mod pieces;
+pub mod pieces;
 mod quantities;
 mod replace;
 mod replacement;
+mod rewriting;
 mod sink;
 
 pub use in_figures::InFigures;
@@ -24,4 +25,5 @@ pub use options::{Figures, Included, Style};
 pub use quantities::{put_quantities_in_figures, quantities_to_figures};
 pub use replace::replace_quantities;
 pub use replacement::Replacement;
+pub use rewriting::Rewriting;
 pub use sink::Sink;

@@ -38,6 +38,9 @@ pub struct Figures {
     pub style: Style,
     /// Whether texts of figures alone are written in ASCII, without commas and leading zeros.
     pub canonical: bool,
+    /// Whether phrases are written in their shortest form: 2026-01-05, 15:30, 1.5小时. It changes no
+    /// quantity.
+    pub compact: bool,
 }
 
 impl Figures {
@@ -46,5 +49,6 @@ impl Figures {
         included: Included::NONE,
         style: Style::Kept,
         canonical: false,
+        compact: false,
     };
 }

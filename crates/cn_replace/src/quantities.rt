@@ -1,13 +1,68 @@
 // The expressions of a text in figures.
-ghost use Rattle.std.specs.Prelude.{◌≡◌, ◌++◌, ◌-◌, ◌^◌, ◌≤◌, min, drop, length, string_bytes, IfOk};
+ghost use Rattle.std.specs.Prelude.{◌≡◌, ◌++◌, ◌-◌, ◌^◌, ◌≤◌, min, drop, length, string_bytes, IfOk, OnOk};
 ghost use Rattle.cn_core.specs.Buffers.{PutsPrefix};
 ghost use Rattle.cn_replace.specs.InFigures.{in_figures};
 
 use crate::chains::put_in_chains;
-use crate::{Figures, InFigures};
+use crate::{Figures, InFigures, Replacement, Rewriting, Sink};
 use cn_core::{Buffer, ChineseCountMethod};
-use cn_find::Wanted;
+use cn_find::{Found, Wanted, next_expression};
 use std::alloc::{AllocError, Global};
+
+// The quantities of a text, which are written in figures.
+#[derive(Copy, Clone)]
+struct Quantities {
+    wanted: Wanted,
+    replacement: InFigures,
+}
+
+impl Rewriting for Quantities {
+    ghost use Rattle.cn_find.specs.Spans.{expressions_left};
+    ghost use Rattle.cn_replace.specs.InFigures.{figures_for, holds_others};
+
+    ghost left = { λ q. expressions_left q.wanted };
+
+    ghost new = { λ q. figures_for q.replacement.method q.replacement.figures };
+
+    ghost holds = { λ q. holds_others q.replacement.method q.replacement.figures };
+
+    fn next<'a>(self, whole: &'a str, rest: &'a str) -> Option<Found<'a>> {
+        next_expression(whole, rest, self.wanted)
+    }
+
+    fn holds_others(self, _whole: &str, part: Found<'_>) -> bool {
+        self.replacement.holds_others(part)
+    }
+
+    fn put_new<S: Sink>(
+        self,
+        sink: &mut S,
+        _whole: &str,
+        part: Found<'_>,
+    ) -> Result<bool, S::Error> {
+        self.replacement.put_new(part, sink)
+    }
+}
+
+// Writes a text with its expressions in figures.
+fn put_quantities<S: Sink>(
+    sink: &mut S,
+    text: &str,
+    wanted: Wanted,
+    replacement: InFigures,
+) -> Result<(), S::Error>
+    ensures { OnOk result (S.took sink.old sink.new
+        (in_figures replacement.method replacement.figures wanted text.now)) }
+{
+    put_in_chains(
+        sink,
+        text,
+        Quantities {
+            wanted,
+            replacement,
+        },
+    )
+}
 
 /// Returns the text with its expressions in figures: numerals are changed, unless they may mean
 /// something else. The rules are those of docs/RULES.md, "Expressions replaced".
@@ -28,7 +83,7 @@ pub fn quantities_to_figures(
     ensures { IfOk result (λ new. string_bytes new ≡ in_figures method figures wanted text.now) }
 {
     let mut new = String::with_capacity(alloc, text.len())?;
-    put_in_chains(&mut new, text, wanted, InFigures { method, figures })?;
+    put_quantities(&mut new, text, wanted, InFigures { method, figures })?;
     Ok(new)
 }
 
@@ -55,7 +110,7 @@ pub fn put_quantities_in_figures(
     ensures prefix { PutsPrefix (in_figures method figures wanted text.now) room.old room.new }
 {
     let mut buffer = Buffer::new(room);
-    match put_in_chains(&mut buffer, text, wanted, InFigures { method, figures }) {
+    match put_quantities(&mut buffer, text, wanted, InFigures { method, figures }) {
         Ok(()) => buffer.count,
         Err(never) => match never {},
     }

@@ -1,4 +1,4 @@
-use Rattle.std.proofs.Common.{length}
+use Rattle.std.proofs.Common.{◌≤◌, length}
 use denote.Shadow.{shadow}
 use denote.Text.{Utf8}
 use Rattle.cn_find.proofs.Runs.{Skipping}
@@ -8,6 +8,7 @@ abbrev pub invariant-searching : goal.invariant-searching
 invariant-searching g l = record {
   skipped : Skipping (g.R.SearchRule.rule l.rule) l.whole l.fn.rest l.ahead;
   utf8 : shadow (Utf8 l.ahead);
+  within : length l.ahead ≤ length l.fn.rest;
 }
 
 abbrev pub decreases-searching : goal.decreases-searching

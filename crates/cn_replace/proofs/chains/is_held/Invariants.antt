@@ -1,17 +1,18 @@
-use Rattle.std.proofs.Common.{◌∷◌, drop, length}
-use Rattle.cn_find.specs.Spans.{expressions_left, span_of}
+use Rattle.std.proofs.Common.{◌∷◌, length}
+use denote.Shadow.{shadow}
+use denote.Text.{Utf8}
+use Rattle.cn_find.specs.Spans.{span_of}
 use Rattle.cn_replace.specs.Chains.{is_held}
-use Rattle.cn_replace.specs.InFigures.{holds_others}
-use Rattle.cn_replace.specs.Joined.{end_of}
 use Rattle.cn_replace.proofs.ChainsPut.{Looking}
 use Rattle.cn_replace.proofs.chains.is_held.Given as goal
 
 abbrev pub invariant-looking : goal.invariant-looking
-invariant-looking l =
-    let first = span_of l.fn.first in
-    Looking (holds_others l.figures.method l.figures.figures) l.fn.wanted l.text
-    (is_held (holds_others l.figures.method l.figures.figures)
-    (first ∷ expressions_left l.fn.wanted l.text (drop (end_of first) l.text))) l.end l.left
+invariant-looking g l = record {
+  looking : Looking (g.R.Rewriting.holds l.rewriting) (g.R.Rewriting.left l.rewriting) l.text
+      (is_held (g.R.Rewriting.holds l.rewriting) (span_of l.fn.first
+      ∷ g.R.Rewriting.left l.rewriting l.text l.fn.first.after.now)) l.end l.rest;
+  utf8 : shadow (Utf8 l.rest);
+}
 
 abbrev pub decreases-looking : goal.decreases-looking
-decreases-looking l = length l.left
+decreases-looking g l = length (g.R.Rewriting.left l.rewriting l.text l.rest)

@@ -1,0 +1,9 @@
+use Rattle.std.proofs.Common.{refl}
+use Rattle.std.proofs.lemmas.Str.{encodes-chars}
+use Rattle.cn_phrase.proofs.phrase.is_shorter.Goals as goal
+
+pub returns : goal.returns
+returns c = rw (
+  encodes-chars c.args.text.now c.utf8.text,
+  encodes-chars c.args.other.now c.utf8.other,
+) refl

@@ -1,0 +1,17 @@
+pub mod Between
+pub mod Ranges
+pub mod Shapes
+pub mod Words
+pub mod Pieces
+pub mod Forms
+pub mod Values
+pub mod Phrases
+pub mod Suffix
+pub mod Items
+pub mod Written
+pub mod Hours
+pub mod Compact
+pub mod InText
+pub mod Described
+pub mod Plain
+pub mod Private

@@ -1,0 +1,23 @@
+//! Finds phrases in a text: dates, times of day, durations, ranges, scores and lengths.
+#![tactic(auto)]
+
+mod compact;
+mod described;
+pub mod form;
+mod hour;
+mod in_text;
+pub mod items;
+pub mod laws;
+pub mod phrase;
+pub mod piece;
+pub mod range;
+mod shape;
+pub mod value;
+mod word;
+mod written;
+
+pub use described::{Described, PhraseKind, PhraseNumbers, PhraseState, describe_phrase};
+pub use hour::{PartOfDay, hour_of_day};
+pub use in_text::{InText, is_doubtful, is_range_doubtful, put_text_in_figures, text_to_figures};
+pub use shape::Shape;
+pub use word::Word;
