@@ -74,8 +74,13 @@ def first_misread(text: str) -> Optional[int]:
     return next((p for p in range(len(text)) if misread_rules(text, p)), None)
 
 
+def is_read_in_two(text: str, p: int) -> bool:
+    """The first misread character, at p, is a bare ten, and the rest from there is not misread."""
+    return 1 in misread_rules(text, p) and first_misread(text[p:]) is None
+
+
 def read_in_two(text: str, p: int, method: str) -> Answer:
-    """A text whose first misread character is a bare ten at p: what precedes it, and the rest."""
+    """What precedes the bare ten at p, and the rest, each read by units."""
     first, rest = read_units(text[:p], method), read_units(text[p:], method)
     if first[0] != "ok":
         return first
@@ -96,7 +101,7 @@ def read_whole(text: str, method: str) -> Answer:
     p = first_misread(text)
     if p is None:
         return answer
-    if 1 in misread_rules(text, p) and first_misread(text[p:]) is None:
+    if is_read_in_two(text, p):
         return read_in_two(text, p, method)
     if answer == TOO_LARGE:
         return TOO_LARGE
@@ -253,12 +258,20 @@ def moved(refusal: Answer, by: int) -> Answer:
     return ("incorrect", by + refusal[1]) if refusal[0] == "incorrect" else refusal
 
 
-def read_fraction(text: str, has_sign: bool, method: str) -> Optional[Answer]:
+def parts_of_fraction(text: str, has_sign: bool) -> Optional[Tuple[str, bool, int]]:
+    """The denominator, whether a minus is after 分之, and where the numerator starts."""
     below, bar, above = text.partition("分之")
     if not (below and above):
         return None
     is_below_zero = not has_sign and above[0] in MINUS and len(above) > 1
-    start = len(below) + len(bar) + is_below_zero
+    return below, is_below_zero, len(below) + len(bar) + is_below_zero
+
+
+def read_fraction(text: str, has_sign: bool, method: str) -> Optional[Answer]:
+    parts = parts_of_fraction(text, has_sign)
+    if not parts:
+        return None
+    below, is_below_zero, start = parts
     divisor, divided = read_part(below, method), moved(read_part(text[start:], method), start)
     answer = divide(divided, divisor)
     return negated(answer) if is_below_zero else answer
@@ -338,3 +351,65 @@ def read(string: str, method: str) -> Answer:
     if answer[0] == "ok" and answer[1] < LEAST_NUMERATOR:
         return TOO_SMALL
     return answer
+
+
+# ---- Written ---------------------------------------------------------------------------------
+
+UNITS_OF_BARE_DENOMINATORS = "百千萬万億亿佰仟"  # from these on 一 is left out
+
+
+def places_of(denominator: int) -> Optional[int]:
+    """How many zeros 1, 10, 100 .. has; None for another number."""
+    places = len(str(denominator)) - 1
+    return places if denominator == 10**places else None
+
+
+def parts_of(numerator: int, denominator: int, form: str) -> Tuple[str, int, int, int]:
+    """How a quantity is written: as `whole` with its number; as `decimal` or `percent` with its whole
+    part, its decimals and how many they are; as `fraction` with both numbers."""
+    magnitude, places = abs(numerator), places_of(denominator)
+    if form == "whole" and denominator == 1:
+        return "whole", magnitude, 0, 0
+    least = {"decimal": 1, "percent": 2}.get(form)
+    if places is None or least is None or places < least:
+        return "fraction", magnitude, denominator, 0
+    places -= 2 if form == "percent" else 0
+    return form, *divmod(magnitude, 10**places), places
+
+
+def write(quantity: Tuple[int, int, str], method: str, script: str, case: str) -> Answer:
+    """The text of a quantity in numerals."""
+    shape, first, second, places = parts_of(*quantity)
+    spelled = (second, first) if shape == "fraction" else (first,)
+    is_below = quantity[0] < 0
+    if method == "any":
+        method = numerals.written_method(max(spelled), script)
+    if method == "low" and max(spelled) >= 10**16:
+        return TOO_SMALL if is_below else TOO_LARGE
+    printed = numerals.PRINTED[script, case]
+    texts = [numerals.spelled(it, method, printed) for it in spelled]
+    if shape == "fraction":
+        text = without_one(texts[0], printed) + "分之" + texts[1]
+    else:
+        text = (printed[1][HUNDRED] + "分之" if shape == "percent" else "") + texts[0]
+        point = "点" if script == "simplified" else "點"
+        decimals = str(second).zfill(places) if places else ""
+        text += (point if places else "") + "".join(printed[0][int(it)] for it in decimals)
+    return ("ok", (printed[2] if is_below else "") + text)
+
+
+def without_one(text: str, printed: Tuple[str, str, str]) -> str:
+    """A denominator, without 一 before 百, 千, 萬 or 億 if only rising units follow."""
+    units = text[1:]
+    is_bare = text[0] == printed[0][1] and units and are_rising(units)
+    return units if is_bare and units[0] in UNITS_OF_BARE_DENOMINATORS else text
+
+
+def figures_of(numerator: int, denominator: int, form: str) -> str:
+    """The figures of a quantity, without the zeros at the end of its decimals."""
+    shape, first, second, places = parts_of(numerator, denominator, form)
+    sign = "-" if numerator < 0 else ""
+    if shape == "fraction":
+        return f"{sign}{first}/{second}"
+    decimals = str(second).zfill(places).rstrip("0") if places else ""
+    return sign + str(first) + ("." + decimals if decimals else "") + "%" * (shape == "percent")
