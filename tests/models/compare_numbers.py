@@ -100,7 +100,9 @@ def read_quantity(library: Any, string: str, method: str) -> Tuple[Any, Any]:
     return (answer, fault), right
 
 
-def write_quantity(library: Any, parts: Tuple, method: str, script: str, case: str) -> Tuple[Any, Any]:
+def write_quantity(
+    library: Any, parts: Tuple, method: str, script: str, case: str
+) -> Tuple[Any, Any]:
     quantity = library.Quantity(*parts)
     text = answer_of(quantity.to_chinese, method=method, script=script, case=case)
     right = quantities.write(parts, method, script, case), quantities.figures_of(*parts)
@@ -169,7 +171,9 @@ def wrong_repair(library: Any, string: str, of: str) -> Any:
     return None if is_allowed else repair
 
 
-def find_numbers(library: Any, string: str, upper: bool, greatest: str, method: str) -> Tuple[Any, Any]:
+def find_numbers(
+    library: Any, string: str, upper: bool, greatest: str, method: str
+) -> Tuple[Any, Any]:
     """The numbers of a text with their flags, and what a reader answers to each."""
     left = [
         (it.start, it.end, it.is_plain, it.stands_alone, it.is_about, it.is_one_character)

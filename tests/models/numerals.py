@@ -5,6 +5,7 @@ the order and words of RULES. Unlike text.py it also says how a text is refused,
 is a tuple: ("ok", number), ("incorrect", position), or ("empty",), ("too_large",), ("too_small",).
 """
 
+from functools import lru_cache
 from typing import Dict, List, NamedTuple, Optional, Tuple
 
 Answer = Tuple
@@ -15,9 +16,7 @@ EMPTY, TOO_LARGE, TOO_SMALL = ("empty",), ("too_large",), ("too_small",)
 
 DIGITS: Dict[str, int] = {
     character: value
-    for value, characters in enumerate(
-        "零0〇 一壹1 二貳贰貮兩两2 三參叁叄参3 四肆4 五伍5 六陸陆6 七柒7 八捌8 九玖9".split()
-    )
+    for value, characters in enumerate("零0〇 一壹1 二貳贰貮兩两2 三參叁叄参3 四肆4 五伍5 六陸陆6 七柒7 八捌8 九玖9".split())
     for character in characters
 }
 UNITS = "個个 十拾 百佰 千仟 萬万 億亿 兆 京 垓 秭 穰 溝沟 澗涧 正 載载 極极".split()
@@ -116,11 +115,11 @@ def read_digits(text: str) -> Answer:
 def broken_rule(text: str, p: int) -> int:
     """The first of the rules 2 to 6 of numerals that the character at p breaks, or 0."""
     character, following = text[p], text[p + 1 : p + 2]
-    rank, next_rank = rank_of(character), rank_of(following)
-    if not is_digit(character) and rank < 0:
-        return 2
     if is_digit(character):
         return 3 if DIGITS[character] and is_digit(following) else 0
+    rank, next_rank = rank_of(character), rank_of(following)
+    if rank < 0:
+        return 2
     if next_rank >= 0 and not rank < next_rank and (rank, next_rank) != (TEN, GE):
         return 4
     if rank == GE and next_rank <= GE:
@@ -180,11 +179,9 @@ def value_that_fits(text: str, method: str) -> Answer:
 
 
 def place_of(text: str) -> int:
-    """The greatest place from which the rest is not completable, which 零 in front decides."""
-    for p in reversed(range(len(text))):
-        if not is_numeral("零" + text[p:]):
-            return p
-    return 0
+    """The greatest place from which the rest is not completable. 零 in front decides that, so it is
+    the last character that breaks one of the rules 2 to 6."""
+    return next((p for p in reversed(range(len(text))) if broken_rule(text, p)), 0)
 
 
 def body_of(text: str) -> str:
@@ -213,6 +210,7 @@ def is_early(body: str, method: str) -> bool:
     return False
 
 
+@lru_cache(maxsize=256)
 def read_units(text: str, method: str) -> Answer:
     """How a text without its sign is judged."""
     if not text:

@@ -5,6 +5,7 @@ It was written from docs/RULES.md, without a look at the code, like numerals.py.
 """
 
 import re
+from functools import lru_cache
 from typing import Callable, List, Optional, Tuple
 
 import numerals
@@ -50,7 +51,9 @@ def misread_rules(text: str, p: int) -> List[int]:
         3: is_unit and after_zero and not is_bare,
         4: is_weight and rank_of(after) != GE and not is_multiplier(after),
         5: rank >= WAN and has_two_readings(text, p),
-        6: (rank == TEN or DIGITS.get(text[p], 0) > 0) and rank_before >= YI and lacks_zero(text[p:]),
+        6: (rank == TEN or DIGITS.get(text[p], 0) > 0)
+        and rank_before >= YI
+        and lacks_zero(text[p:]),
     }
     return [number for number, holds in rules.items() if holds]
 
@@ -70,6 +73,7 @@ def lacks_zero(rest: str) -> bool:
     return max(ranks[1:], default=-1) < WAN and any(TEN <= it < WAN for it in ranks)
 
 
+@lru_cache(maxsize=256)
 def first_misread(text: str) -> Optional[int]:
     return next((p for p in range(len(text)) if misread_rules(text, p)), None)
 
@@ -95,6 +99,7 @@ def read_in_two(text: str, p: int, method: str) -> Answer:
     return ("ok", total) if total <= MOST else TOO_LARGE
 
 
+@lru_cache(maxsize=256)
 def read_whole(text: str, method: str) -> Answer:
     """Plain digits if all are digits, else a numeral; unless it is misread."""
     answer = read_digits(text) if all(map(is_digit, text)) else read_units(text, method)
@@ -169,7 +174,9 @@ def read_by_turns(text: str, method: str) -> Optional[Read]:
     return ("ok", total, 1) if total <= MOST else None
 
 
-def turn_value(turn: Tuple[str, ...], units_before: str, is_last: bool, method: str) -> Optional[int]:
+def turn_value(
+    turn: Tuple[str, ...], units_before: str, is_last: bool, method: str
+) -> Optional[int]:
     """The value of a turn after some units, or None if it cannot be there."""
     zero, figures, units = turn
     by, by_before = product_of(units, method), product_of(units_before, method)
@@ -222,6 +229,7 @@ SHAPES: List[Callable[[str, str], Optional[Read]]] = [
 ]
 
 
+@lru_cache(maxsize=256)
 def read_number(text: str, method: str) -> Read:
     """A whole number, or one of the shapes 5 to 8; any other text is refused as in 4."""
     whole = read_whole(text, method)
