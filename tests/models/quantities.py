@@ -38,22 +38,28 @@ Read = Tuple
 
 def misread_rules(text: str, p: int) -> List[int]:
     """The rules by which the character at p is misread, in their order."""
-    before, after = text[max(p - 1, 0) : p], text[p + 1 : p + 2]
+    before = text[max(p - 1, 0) : p]
     rank, rank_before = rank_of(text[p]), rank_of(before)
-    is_unit, after_zero = rank >= 0, DIGITS.get(before) == 0
+    rules = rules_of_units(text, p, before) if rank >= 0 else []
+    if text[p] in "两兩" and (is_digit(before) or rank_before > GE):
+        after = text[p + 1 : p + 2]
+        rules += [4] if rank_of(after) != GE and not is_multiplier(after) else []
+    if rank_before >= YI and (rank == TEN or DIGITS.get(text[p])) and lacks_zero(text[p:]):
+        rules.append(6)
+    return rules
+
+
+def rules_of_units(text: str, p: int, before: str) -> List[int]:
+    rank, rank_before = rank_of(text[p]), rank_of(before)
+    after_zero = DIGITS.get(before) == 0
     is_bare = rank == TEN and (
         rank_before == HUNDRED or (after_zero and p >= 2 and rank_of(text[p - 2]) > HUNDRED)
     )
-    is_weight = text[p] in "两兩" and (is_digit(before) or rank_before > GE)
     rules = {
         1: is_bare,
         2: rank in (TEN, HUNDRED) and rank_before == TEN,
-        3: is_unit and after_zero and not is_bare,
-        4: is_weight and rank_of(after) != GE and not is_multiplier(after),
+        3: after_zero and not is_bare,
         5: rank >= WAN and has_two_readings(text, p),
-        6: (rank == TEN or DIGITS.get(text[p], 0) > 0)
-        and rank_before >= YI
-        and lacks_zero(text[p:]),
     }
     return [number for number, holds in rules.items() if holds]
 

@@ -34,9 +34,10 @@ fn is_like_a_sign(c: char) -> bool {
     matches!(c, '负' | '負' | '-' | '−' | '－' | '（' | '(')
 }
 
-// Whether a date ends with a 31st.
-fn is_31st(text: &str) -> bool {
-    text.ends_with("月叁拾壹日") || text.ends_with("月參拾壹日")
+// Whether a place in a date is directly before the 31st with which it ends.
+fn is_before_31st(text: &str, char_index: usize) -> bool {
+    let ends = text.ends_with("月叁拾壹日") || text.ends_with("月參拾壹日");
+    ends && text.chars().count().checked_sub(char_index) == Some(4)
 }
 
 impl Input {
@@ -74,7 +75,8 @@ impl Input {
         ensures { IfSome result (IsRepairOf self (chars text.now)) }
     {
         let hint = self.first_repair(text)?;
-        if self == Input::Date && is_31st(text) && hint.repair == Repair::Insert('零') {
+        let is_zero = hint.repair == Repair::Insert('零');
+        if self == Input::Date && is_zero && is_before_31st(text, hint.char_index) {
             return None;
         }
         Some(hint)
