@@ -160,15 +160,16 @@ def read_input(library: Any, string: str, of: str) -> Tuple[Any, Any]:
 
 
 def wrong_repair(library: Any, string: str, of: str) -> Any:
-    """What is proposed, if RULES does not allow it."""
+    """What is proposed, or "nothing", if RULES does not allow it."""
     it, language = library.input_repair(string, of), repairs.LANGUAGES[of]
+    inserted = repairs.inserted(of, string)
     if it is None:
-        return None
+        return "nothing" if inserted else None
     repair = repairs.Repair(it.change.value, it.char_index, it.character)
-    is_allowed = repairs.is_repair(language, string, repair)
+    is_allowed = repairs.is_repair(of, string, repair)
     if not language.has_white_space:
-        is_allowed = is_allowed and repairs.is_listed(language, string, repair)
-    return None if is_allowed else repair
+        is_allowed = is_allowed and repairs.is_listed(of, string, repair)
+    return None if is_allowed and inserted in (None, repair) else repair
 
 
 def find_numbers(
