@@ -9,7 +9,7 @@ from functools import lru_cache
 from typing import Callable, List, Optional, Tuple
 
 import numerals
-from numerals import DIGITS, EMPTY, GE, HUNDRED, MOST, TEN, TOO_LARGE, TOO_SMALL, WAN, YI, Answer
+from numerals import DIGITS, GE, HUNDRED, MOST, TEN, TOO_LARGE, TOO_SMALL, WAN, YI, Answer
 from numerals import is_digit, is_multiplier, rank_of, read_digits, read_units, scale, text_of
 
 SIGNS = {"正": 1, "+": 1, "＋": 1, "負": -1, "负": -1, "-": -1, "−": -1, "－": -1}
