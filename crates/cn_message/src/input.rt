@@ -37,7 +37,7 @@ fn is_like_a_sign(c: char) -> bool {
 // Whether a place in a date is directly before the 31st with which it ends.
 fn is_before_31st(text: &str, char_index: usize) -> bool {
     let ends = text.ends_with("月叁拾壹日") || text.ends_with("月參拾壹日");
-    ends && text.chars().count().checked_sub(char_index) == Some(4)
+    ends && matches!(text.chars().count().checked_sub(char_index), Some(4))
 }
 
 impl Input {
