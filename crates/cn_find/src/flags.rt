@@ -319,11 +319,11 @@ fn has_one_estimate(text: &str) -> bool
 
 // Whether a number is approximate because of the texts around it or by itself.
 #[inline(always)]
-fn estimates(front: Side, text: &str, behind: Side) -> bool
-    ensures { result ≡ ((front.estimates && begins_with_unit (chars text.now)) || behind.estimates
+fn estimates(front: Side, text: &str, back: Side) -> bool
+    ensures { result ≡ ((front.estimates && begins_with_unit (chars text.now)) || back.estimates
         || is_one_estimate (pairs (chars text.now))) }
 {
-    (front.estimates && begins_with_unit(text)) || behind.estimates || has_one_estimate(text)
+    (front.estimates && begins_with_unit(text)) || back.estimates || has_one_estimate(text)
 }
 
 /// Whether a number between these texts is approximate. It is if 几 or 数 is directly before it and
@@ -448,19 +448,19 @@ pub fn told_of(before: &str, text: &str, after: &str) -> Told
     ensures one { result.is_one_character ≡ is_one_character (chars text.now) }
 {
     let front = look_before(before);
-    let behind = look_after(after);
-    let stands_alone = !front.goes_on && !behind.goes_on;
+    let back = look_after(after);
+    let stands_alone = !front.goes_on && !back.goes_on;
     match only_mark(text) {
         Some((mark, is_no_figure)) => Told {
             is_plain: is_digit(mark),
             stands_alone,
-            is_about: (front.estimates && is_unit(mark)) || behind.estimates,
+            is_about: (front.estimates && is_unit(mark)) || back.estimates,
             is_one_character: is_no_figure,
         },
         None => Told {
             is_plain: is_plain(text),
             stands_alone,
-            is_about: estimates(front, text, behind),
+            is_about: estimates(front, text, back),
             is_one_character: false,
         },
     }
