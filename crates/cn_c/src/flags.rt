@@ -6,7 +6,6 @@ ghost use Rattle.cn_c.specs.Codes.{has_flag};
 ghost use Rattle.cn_c.specs.Replaces.{figures_of, style_of};
 
 use chinese_number::{Doubt, Found, SearchRule};
-use cn_find::flags_of;
 use cn_replace::{Figures, Included, Style};
 
 /// A flag: each character of the number is a digit.
@@ -34,7 +33,7 @@ fn flags_of(found: Found<'_>) -> u32
     ensures value { result ≡ flags_told (span_of found.entry) }
     ensures most { result ≤ 15 }
 {
-    let flags = flags_of(found.before, found.text, found.after);
+    let flags = cn_find::flags_of(found.before, found.text, found.after);
     flag_if(flags.is_plain, PLAIN_DIGITS)
         + flag_if(flags.stands_alone, STANDS_ALONE)
         + flag_if(flags.is_about, ABOUT)
