@@ -104,8 +104,7 @@ pub trait Integer: Copy + Debug + Display + Eq + TryFrom<Self::Wide> + 'static {
     /// `u128` or `i128`.
     type Wide: Integer;
     const NAME: &'static str;
-    /// Whether the type has 8 or 16 bits.
-    const IS_NARROW: bool;
+    const BITS: u32;
     /// Those of the trait, by `WAYS`, and then those by name.
     const READERS: &'static [Reader<Self>];
     /// Those of the trait, by `WAYS`, and then those by name.
@@ -157,7 +156,7 @@ macro_rules! integers {
         impl Integer for $t {
             type Wide = $wide;
             const NAME: &'static str = stringify!($t);
-            const IS_NARROW: bool = <$t>::BITS <= 16;
+            const BITS: u32 = <$t>::BITS;
             const READERS: &'static [Reader<Self>] = &[
                 reader!(to_number_naive($t)),
                 reader!(to_number($t Low)),

@@ -36,17 +36,17 @@ impl Random {
         Style { simple: self.below(2) == 0, upper: self.below(2) == 0 }
     }
 
-    /// A magnitude with any number of bits.
-    pub fn bits(&mut self) -> u128 {
+    /// A magnitude with any number of bits up to `most`.
+    pub fn bits(&mut self, most: u32) -> u128 {
         let all = (u128::from(self.next()) << 64) | u128::from(self.next());
-        all >> self.below(128)
+        all >> (128 - most) >> self.below(most as usize)
     }
 
     /// A magnitude: any, with many zeros, or near a power of ten or of two.
     pub fn magnitude(&mut self) -> u128 {
         let near = self.below(5) as u128;
         match self.below(4) {
-            0 => self.bits(),
+            0 => self.bits(128),
             1 => 10u128.pow(self.below(39) as u32).wrapping_add(near).wrapping_sub(2),
             2 => (1u128 << self.below(128)).wrapping_add(near).wrapping_sub(2),
             _ => (0..=self.below(5)).fold(0u128, |sum, _| {

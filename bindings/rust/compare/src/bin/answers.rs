@@ -142,8 +142,9 @@ fn stages<T: Integer>(reader: &Reader<T>, at: usize, text: &Text) -> [Told<T>; 4
         None => upstream,
         Some(other) => (reader.upstream)(other),
     };
+    let ignores_method = T::BITS <= 16 && at < WAYS.len();
     let by_method = match <T::Wide as Integer>::READERS.get(at) {
-        Some(wide) if T::IS_NARROW && at < WAYS.len() => (wide.upstream)(judged).and_then(narrowed),
+        Some(wide) if ignores_method => (wide.upstream)(judged).and_then(narrowed),
         _ => refusing,
     };
     let placed = by_method.map_err(|refusal| match refusal {

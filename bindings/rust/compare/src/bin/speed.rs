@@ -20,7 +20,7 @@ const LIMIT_OF_LOW: u128 = 10_000_000_000_000_000;
 fn numbers<T: Integer>(way: &str) -> Vec<T> {
     let mut random = Random::new(1);
     let mut number = |_| {
-        let bits = random.bits();
+        let bits = random.bits(T::BITS);
         T::cut(if way == "Low" { bits % LIMIT_OF_LOW } else { bits }, random.below(2) == 0)
     };
     (0..NUMBERS).map(&mut number).collect()
