@@ -1,18 +1,18 @@
 //! speed [ROUNDS]: how many times as fast `chinese-number-proved` is as `chinese-number`.
 //!
-//! Each call of the traits is timed over 10,000 numbers, or over their numerals, with both crates
-//! in turn; the fastest of the rounds (15, or ROUNDS) counts. A ratio above 1 means that
-//! `chinese-number-proved` is faster.
+//! Each call of the traits is timed in 15 or ROUNDS rounds over 10,000 numbers, or their numerals. A
+//! ratio above 1 means that `chinese-number-proved` is faster.
 
 use std::env;
 use std::hint::black_box;
 use std::time::{Duration, Instant};
 
-use chinese_number_compare::calls::{Integer, Printer, Reader, Style, WAYS};
+use chinese_number_compare::calls::{Integer, Printer, Reader, Style, Told, WAYS};
 use chinese_number_compare::random::Random;
 use chinese_number_compare::{for_each_integer, require_release};
 
 const NUMBERS: usize = 10_000;
+const BLOCK: usize = 500;
 const STYLE: Style = Style { simple: false, upper: false };
 // `Low` refuses this number and greater ones.
 const LIMIT_OF_LOW: u128 = 10_000_000_000_000_000;
@@ -26,37 +26,40 @@ fn numbers<T: Integer>(way: &str) -> Vec<T> {
     (0..NUMBERS).map(&mut number).collect()
 }
 
-fn time(work: impl Fn()) -> Duration {
+fn time<A>(block: &[A], call: impl Fn(&A)) -> Duration {
     let start = Instant::now();
-    work();
+    block.iter().for_each(call);
     start.elapsed()
 }
 
-/// How many times as long the first takes as the second.
-fn ratio(rounds: usize, upstream: impl Fn(), proved: impl Fn()) -> f64 {
-    let mut least = [Duration::MAX; 2];
+/// How many times as long the first call takes as the second. They take turns at each block, and
+/// the fastest round of each block counts.
+fn ratio<A>(rounds: usize, all: &[A], upstream: impl Fn(&A), proved: impl Fn(&A)) -> f64 {
+    let mut least = vec![[Duration::MAX; 2]; all.len().div_ceil(BLOCK)];
     for _ in 0..rounds {
-        least = [least[0].min(time(&upstream)), least[1].min(time(&proved))];
+        for (block, least) in all.chunks(BLOCK).zip(&mut least) {
+            least[0] = least[0].min(time(block, &upstream));
+            least[1] = least[1].min(time(block, &proved));
+        }
     }
-    least[0].as_secs_f64() / least[1].as_secs_f64()
+    let total = |which: usize| least.iter().map(|it| it[which]).sum::<Duration>();
+    total(0).as_secs_f64() / total(1).as_secs_f64()
 }
 
 fn printing<T: Integer>(rounds: usize, printer: &Printer<T>, numbers: &[T]) -> f64 {
-    let all = |call: fn(Style, T) -> _| {
-        for &number in numbers {
-            let _ = black_box(call(black_box(STYLE), black_box(number)));
-        }
+    let with = |call: fn(Style, T) -> Told<String>| {
+        move |number: &T| drop(black_box(call(black_box(STYLE), black_box(*number))))
     };
-    ratio(rounds, || all(printer.upstream), || all(printer.proved))
+    ratio(rounds, numbers, with(printer.upstream), with(printer.proved))
 }
 
 fn reading<T: Integer>(rounds: usize, reader: &Reader<T>, texts: &[String]) -> f64 {
-    let all = |call: fn(&str) -> _| {
-        for text in texts {
+    let with = |call: fn(&str) -> Told<T>| {
+        move |text: &String| {
             let _ = black_box(call(black_box(text)));
         }
     };
-    ratio(rounds, || all(reader.upstream), || all(reader.proved))
+    ratio(rounds, texts, with(reader.upstream), with(reader.proved))
 }
 
 /// The ratios of printing and of reading, by `WAYS`.
