@@ -15,12 +15,15 @@ use chinese_number_compare::{for_each_integer, require_release};
 
 const MOST_SHOWN: u64 = 10;
 
+/// The least is the best example: how many kinds of difference it has, whether upstream refuses, and
+/// the length of the text.
+type Rank = (usize, bool, usize);
+
 /// A kind of difference that is known.
 struct Kind {
     what: &'static str,
     count: u64,
-    /// Whether upstream refuses, and the length of the text, by which examples are chosen.
-    example: Option<((bool, usize), String)>,
+    example: Option<(Rank, String)>,
 }
 
 impl Kind {
@@ -28,7 +31,7 @@ impl Kind {
         Self { what, count: 0, example: None }
     }
 
-    fn add(&mut self, rank: (bool, usize), example: impl FnOnce() -> String) {
+    fn add(&mut self, rank: Rank, example: impl FnOnce() -> String) {
         self.count += 1;
         if self.example.as_ref().is_none_or(|(least, _)| rank < *least) {
             self.example = Some((rank, example()));
@@ -84,11 +87,10 @@ impl Tally {
                 self.add_unknown(difference);
             } else if proved != upstream {
                 self.differing += 1;
-                for (kind, pair) in self.kinds.iter_mut().zip(stages.windows(2)) {
-                    if pair[0] != pair[1] {
-                        kind.add((upstream.is_err(), text.own.chars().count()), difference);
-                    }
-                }
+                let is_of = |kind: usize| stages[kind] != stages[kind + 1];
+                let kinds = (0..self.kinds.len()).filter(|kind| is_of(*kind));
+                let rank = (kinds.clone().count(), upstream.is_err(), text.own.chars().count());
+                kinds.for_each(|kind| self.kinds[kind].add(rank, difference));
             }
         }
     }
