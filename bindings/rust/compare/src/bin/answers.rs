@@ -15,8 +15,8 @@ use chinese_number_compare::{for_each_integer, require_release};
 
 const MOST_SHOWN: u64 = 10;
 
-/// The least is the best example: how many kinds of difference it has, whether upstream refuses, and
-/// the length of the text.
+/// The least is the best example: how many kinds of difference it has, whether upstream refuses,
+/// and the length of the text.
 type Rank = (usize, bool, usize);
 
 /// A kind of difference that is known.

@@ -1,7 +1,7 @@
 //! speed [ROUNDS]: how many times as fast `chinese-number-proved` is as `chinese-number`.
 //!
-//! Each call of the traits is timed in 15 or ROUNDS rounds over 10,000 numbers, or their numerals. A
-//! ratio above 1 means that `chinese-number-proved` is faster.
+//! Each call of the traits is timed in 15 or ROUNDS rounds over 10,000 numbers, or their numerals.
+//! A ratio above 1 means that `chinese-number-proved` is faster.
 
 use std::env;
 use std::hint::black_box;
