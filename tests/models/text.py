@@ -4,13 +4,12 @@ It was written from docs/RULES.md by somebody who saw no code. Where it then dif
 library, RULES was unclear; RULES and the model were made to say what the library does. So it shows
 that RULES can be followed without the code, and not that each of those choices is the best one.
 
-Each function follows one rule, in the order and words of RULES.  Refusals are None: which refusal
-it is, and where, is not modelled.  Positions count characters.
+Each function follows one rule, in the order and words of RULES.  Refusals are None: numerals.py and
+quantities.py say which refusal it is, and where.  Positions count characters.
 
 Where RULES leaves two readings, these are taken: the comma before three figures is `,` or `，`, a
-whole part is cut off towards 0, a denominator is a whole number if it has no point, a mixed fraction
-has no sign after 分之 and is a fraction over 100 too, kept fractions have no currency sign, and
-canonical figures lift only the first reason to stay.
+whole part is cut off towards 0, kept fractions have no currency sign, and canonical figures lift only
+the first reason to stay.
 """
 
 import re
