@@ -263,6 +263,7 @@ const MOST_AMOUNT_BYTES = 117n;
 const MOST_SIGNED_AMOUNT_BYTES = 129n;
 const MOST_DATE_BYTES = 39n;
 const MOST_MESSAGE_BYTES = 512n;
+const MOST_ANSWER_BYTES = 256n;
 
 const TEXTS = {
   empty: 'a chinese number cannot be empty',
