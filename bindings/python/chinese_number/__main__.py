@@ -327,7 +327,7 @@ def _lines(options: Dict[str, Any]) -> int:
         for line in lines:
             status, answer = _library.answer_line(line[:-1] if line.endswith(b"\n") else line)
             if status:
-                raise MemoryError("the line is too long")
+                raise OverflowError("the line is too long")
             print(answer)
     return 0
 
