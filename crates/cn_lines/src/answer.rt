@@ -4,7 +4,7 @@ ghost use Rattle.std.specs.Fmt.{signed_decimal};
 ghost use Rattle.chinese_number.specs.Answer.{answer_of, refusal_of};
 ghost use Rattle.chinese_number.specs.Refusal.{incorrect_at, refusal_text};
 ghost use Rattle.cn_lines.specs.Question.{read_question, print_question};
-ghost use Rattle.cn_lines.specs.Answer.{Answers, AnswersAny, AnswersPrinting, bad_line, reading_text};
+ghost use Rattle.cn_lines.specs.Answer.{Answers, AnswersAny, AnswersPrinting, reading_text};
 ghost use Rattle.cn_dynamic.specs.IntegerTypes.{the_kind};
 ghost use Rattle.cn_dynamic.specs.Ways.{stands_for};
 
