@@ -1,7 +1,10 @@
-use Rattle.std.proofs.Common.{◌≡◌, ◌++◌, [], take, ap, ◌∙◌, subst, append-nil, arith, rules, refl}
+use Rattle.std.proofs.Common.{◌≡◌, ◌<◌, ◌++◌, [], length, take, ap, ◌∙◌, subst, append-nil, arith, rules, refl}
+use Rattle.std.specs.Prelude.{OnErr}
 use Rattle.std.proofs.lemmas.Result.{err_from_is_err_and}
 use Rattle.std.specs.Io.KnownBytes.{Consumes}
 use Rattle.std.proofs.KnownBytes.{Consumes-nil, Consumes-trans}
+use Rattle.cn_lines.specs.Lines.{last_line}
+use Rattle.numeral.specs.Steps.{Replies}
 use Rattle.numeral.proofs.State.{State-start, State-flushed, State-no_feed, State-more, Leaves-fed, Leaves-finished}
 use Rattle.numeral.proofs.engine.run_by.Goals as goal
 
@@ -9,7 +12,7 @@ pub reads-init : goal.reads-init
 reads-init g c = (
   [],
   Consumes-nil _,
-  rw c.new.ensures.items (State-start _ [] tt),
+  rw c.new-kept.ensures.items (State-start _ [] tt),
   c.requires.reads,
   c.requires.writes,
   refl,
@@ -71,6 +74,11 @@ returns-clause-leaves g c =
     let read = g.W.Sink.state c.flush_and_read.new.writer in
     let flushed = State-flushed old (g.W.Sink.state c.reads.writer) read i.0
     c.reads.kept.items i.2 c.flush_and_read.ensures.kept in
+    let new = g.W.Sink.state c.answer_last.new.writer in
+    let replies = subst (λ kept. Replies {T = Unit {0}} read new (last_line kept) c.answer_last.result)
+    c.as_slice.ensures.value c.answer_last.ensures.replies in
+    let some = subst (λ kept. OnErr c.answer_last.result (0 < length kept)) c.as_slice.ensures.value
+    c.answer_last.ensures.some in
     let none : c.in_ok-count.count ≡ 0 = omega arith in
     let e : take c.in_ok-count.count c.flush_and_read.new.block ≡ [] =
     ap (λ n. take n c.flush_and_read.new.block) none in (
@@ -78,8 +86,7 @@ returns-clause-leaves g c =
       subst (Consumes given left.remaining) (ap (λ l. i.0 ++ l) e ∙ append-nil i.0)
           (Consumes-trans given (g.R.Source.state c.reads.reader).remaining left.remaining i.0 _
           i.1 c.in_ok-count.ensures.bytes.0),
-      Leaves-finished (Unit {0}) left old read (g.W.Sink.state c.answer_last.new.writer) i.0
-          c.reads.kept.items c.answer_last.result flushed c.in_ok-count.ensures.fails.0
-          (c.in_ok-count.ensures.bytes.1 none (omega arith)) c.answer_last.ensures.replies
-          c.answer_last.ensures.some,
+      Leaves-finished (Unit {0}) left old read new i.0 c.reads.kept.items c.answer_last.result
+          flushed c.in_ok-count.ensures.fails.0 (c.in_ok-count.ensures.bytes.1 none (omega arith))
+          replies some,
     )
