@@ -70,7 +70,7 @@ at_once=()
 # With ccache, an object that several tests compile is compiled once in a run.
 run_tests() { # WORD..
     [ -n "$python" ] || return 0
-    local words=(-m pytest -q tests --basetemp "$scratch/of_tests") ended=0
+    local words=(-m pytest -q tests --basetemp "$scratch/of_tests" --durations=12) ended=0
     local -x PATH=/usr/lib/ccache:$PATH CCACHE_DIR=$scratch/ccache CCACHE_BASEDIR=$scratch
     time "$python" "${words[@]}" "$@" | tee "$scratch/tests" || ended=${PIPESTATUS[0]}
     case $ended$ran in

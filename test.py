@@ -10,6 +10,7 @@ can name other compilers.
   texts must have the same sum as those of the proved archive, which is in dist/PROVENANCE.json.
 - Each language that is installed answers the rows of tests/rows, and the worked rows and examples
   of README.md and docs/. Languages that are not installed are skipped and named.
+- The program of dist/numeral.c answers those of these rows and examples that are lines.
 - The test reports by genre how well numbers and phrases are found and written in figures in the
   sentences of tests/corpus.tsv and tests/phrases.tsv. It fails if too few are right or too many
   wrong, by the bars of tests/corpus.py.
@@ -157,6 +158,11 @@ class Clone:
     def same(self, _):
         return run(self.compiled(self.cc, "c", BINDINGS / "source/same.c"), 1000)
 
+    def lines(self, asked):
+        program = self.scratch / "numeral"
+        run(*self.cc, "-O1", DIST / "numeral.c", self.object, "-o", program)
+        return run(program, text=asked)
+
     def c(self, asked):
         return run(self.compiled(self.cc, "c", BINDINGS / "c/answers.c"), text=asked)
 
@@ -251,12 +257,16 @@ def asked_in_lines(rows):
 
 def try_all(clone, rows):
     """How many rows passed in all, and how many failed."""
-    asked = asked_in_lines(question for question, _ in rows)
     same = [(["same", "1000"], of_archive())]
+    lines = [([line], answer) for _, line, answer in questions.lines()]
     tests = [("C source, beside the proved archive", same, Clone.same)]
+    tests += [("Lines, in C", lines, Clone.lines)]
     tests += [(name, rows, ask) for name, ask in LANGUAGES.items()]
     with ThreadPoolExecutor() as pool:
-        running = [(name, its, pool.submit(ask, clone, asked)) for name, its, ask in tests]
+        running = [
+            (name, its, pool.submit(ask, clone, asked_in_lines(question for question, _ in its)))
+            for name, its, ask in tests
+        ]
         sentences = pool.submit(Clone.c, clone, asked_in_lines(corpus.questions()))
         counts = [told(*test) for test in running] + [told_of_sentences(sentences)]
     return map(sum, zip(*counts))

@@ -47,6 +47,7 @@ COPIES = {
     "dist/LICENSE-wabt": "bindings/source/LICENSE-wabt",
     "dist/chinese_number.h": "bindings/c/chinese_number.h",
     "dist/chinese_number.hpp": "bindings/c/chinese_number.hpp",
+    "dist/numeral.c": "bindings/source/numeral.c",
     **{f"bindings/{it}/LICENSE": "LICENSE" for it in ("go", "python", "rust", "web")},
     **{f"bindings/go/{name}": original for name, original in C_SOURCE.items()},
     **{f"bindings/python/source/{name}": original for name, original in C_SOURCE.items()},

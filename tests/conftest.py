@@ -111,6 +111,18 @@ numeral, cheque, numbers = map(program, ("numeral", "cheque", "numbers"))
 bench, examples_tests = map(program, ("bench", "examples_tests"))
 
 
+@pytest.fixture(scope="session")
+def numeral_in_c(refuse_growth, tmp_path_factory):
+    """The program that a user compiles from `dist/`, without the toolchain."""
+    needs("cc")
+
+    def make(folder):
+        sources = TOP / "dist/numeral.c", TOP / "dist/chinese_number.c"
+        run("cc", "-O2", *sources, "-o", "numeral", cwd=folder)
+
+    return Program(once(tmp_path_factory, "numeral_in_c", make) / "numeral", refuse_growth)
+
+
 def pytest_collection_modifyitems(items):
     """Marks the tests that need something built by `rt`, and those that need the packages."""
     for item in items:

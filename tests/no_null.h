@@ -50,6 +50,7 @@ NO_NULL chinese_input_message(const uint8_t *, size_t, uint32_t, uint32_t, uint8
 NO_NULL chinese_number_message(const uint8_t *, size_t, uint32_t, uint32_t, uint32_t, uint8_t *, size_t, size_t *);
 NO_NULL chinese_quantity_message(const uint8_t *, size_t, uint32_t, uint32_t, uint8_t *, size_t, size_t *);
 NO_NULL chinese_status_message(uint32_t, uint32_t, uint8_t *, size_t, size_t *);
+NO_NULL chinese_number_answer_line(const uint8_t *, size_t, uint8_t *, size_t, size_t *);
 
 #ifdef __cplusplus
 }

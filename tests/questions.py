@@ -135,6 +135,15 @@ def of_numeral():
             yield RULES, line_of(asked), answer
 
 
+def lines():
+    """The page, the line and the answer of each row and example for `numeral`, also of the rows of
+    `tests/rows` that can be a line."""
+    yield from of_numeral()
+    for words, answer in of_files():
+        if words[0] in WORDS:
+            yield "tests/rows", " ".join(words), answer
+
+
 def of_cheque():
     """The word and the answer of each row and example for `cheque`."""
     for _, text in pages():

@@ -151,7 +151,7 @@ RIGHT = {
     "calls": (CALLS, "crates.txt", str),
     "laws": (LAWS, "crates.txt", str),
     "a crate above": (DIST, "crates/numeral/src/main.rt", longer),
-    "a library of others": (DIST, "crates.txt", replaced("cn_lines: ", "cn_lines: cn_c ")),
+    "a library of others": (DIST, "crates.txt", replaced("numeral: ", "numeral: cn_c ")),
     "line ends of a source": (DIST, "crates/cn_core/src/case.rt", with_carriage_returns),
     "line ends of an original": (DIST, "bindings/c/chinese_number.h", with_carriage_returns),
 }

@@ -25,7 +25,7 @@ MANY = "二十三\n".encode() * 20000
 TABLE, ROWS = ["amount", "--column", "1"], b"15\n" * 60000
 # Arguments and an input for which something is written.
 WRITTEN = [(["read", "一"], b""), (["find"], MANY), (["replace"], MANY), (TABLE, b"15\n")]
-WRITTEN.append((TABLE, ROWS))
+WRITTEN += [(TABLE, ROWS), (["lines"], MANY)]
 # Words of the tests of `cheque` for which the command has answers of its own.
 OWN = {"-1", "−1", "2026-1-15", "2026-01-1", "2025-02-29", "1900-02-29", "2026-01-00"}
 ESCAPES = {r"\n": "\n", r"\r": "\r", r"\xff": "\udcff"}
@@ -125,7 +125,7 @@ def test_long_numbers(command):
 
 
 def test_no_input(command):
-    for words in (["find"], ["replace"], TABLE):
+    for words in (["find"], ["replace"], ["lines"], TABLE):
         assert command.of_no_file(*words)[:2] == (1, b"")
 
 

@@ -136,18 +136,11 @@ def examples():
                 yield name, f"print {way} traditional lower {int(number)}", f"ok {text}"
 
 
-def lines_of_files():
-    """The rows of `tests/rows` that can be a line for `numeral`."""
-    for words, answer in questions.of_files():
-        if words[0] in questions.WORDS:
-            yield "tests/rows", " ".join(words), answer
-
-
 def test_numeral(numeral):
     """`numeral` gives the answer of each row and each example."""
     commented = list(examples())
     assert len({name for name, _, _ in commented}) == 96
-    asked = [*questions.of_numeral(), *lines_of_files(), *commented]
+    asked = [*questions.lines(), *commented]
     lines = "".join(question + "\n" for _, question, _ in asked)
     told = numeral(data=lines.encode())[1].decode().split("\n")
     found = [(where, line, answer) for (where, line, _), answer in zip(asked, told)]

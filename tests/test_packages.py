@@ -386,8 +386,11 @@ def test_c_source(packages, of_c, tmp_path):
     needs("cc", "cmake")
     tarball = package(packages, "chinese-number-*-source.tar.gz", "the C source")
     folder = unpacked(tarball, tmp_path / "source")
-    by_compiler, by_cmake = commands((folder / "README.md").read_text(encoding="utf-8"))
+    by_compiler, of_lines, by_cmake = commands((folder / "README.md").read_text(encoding="utf-8"))
     run("bash", "-euc", by_compiler, cwd=folder)
+    run("bash", "-euc", of_lines, cwd=folder)
+    line = "print u128 naive traditional lower 123\n"
+    run("./numeral", cwd=folder, stdin=line, wanted="ok 一二三\n")
     run("bash", "-euc", by_cmake, cwd=folder, DESTDIR=str(tmp_path / "installed"))
     header, library = (next((tmp_path / "installed").rglob(it)) for it in ("*.h", "*.a"))
     run("cc", of_c.example, "-I", header.parent, library, "-o", "program", cwd=tmp_path)

@@ -65,9 +65,9 @@ def assert_found(library, texts, values):
 
 
 def compact(value, figures):
-    """The shortest form of a date or a time; its figures, if it stays in characters or its hour of 24 is
-    not known."""
-    if not re.search("[0-9]", figures):
+    """The shortest form of a date or a time; its figures, if it stays in characters, names a day, or its
+    hour of 24 is not known."""
+    if not re.search("[0-9]", figures) or figures[0] in "今明昨当當":
         return figures
     if isinstance(value, date):
         return value.isoformat()

@@ -2,10 +2,10 @@
  *  arguments are COUNT pseudo-random numbers of each type in each way, ten times as many
  *  quantities, amounts in all forms and in figures, dates and texts, and the limits. The sum covers
  *  what is printed, with each buffer to its last byte, and what is read (also in either way), found
- *  and replaced in texts as printed, typed, changed and cut, what may follow these texts, and why
- *  they are refused. All builds of the library must print the same sum. With -DTHREADS four threads
- *  must find it at once. With ROUNDS the program also prints the time of a call, in the best of this
- *  many rounds. */
+ *  and replaced in texts as printed, typed, changed and cut, what may follow these texts, why they
+ *  are refused, and the answers to lines. All builds of the library must print the same sum. With
+ *  -DTHREADS four threads must find it at once. With ROUNDS the program also prints the time of a
+ *  call, in the best of this many rounds. */
 #include "chinese_number.h"
 
 #include <stdio.h>
@@ -317,6 +317,44 @@ static void try_read_and_find(run *r, const text *t) {
     try_replace(r, t, chinese_text_to_figures);
 }
 
+static void add_answer(run *r, const text *line) {
+    uint8_t answer[CN_MOST_ANSWER_BYTES] = {0};
+    size_t room = below(r, 8) == 0 ? below(r, 64) : CN_MOST_ANSWER_BYTES, length = 9;
+    add_word(r, chinese_number_answer_line(line->bytes, line->length, answer, room, &length));
+    add_word(r, length);
+    add(r, answer, sizeof answer);
+}
+
+/* A line that asks for a text to be read, and one that asks for a number to be printed; each is then
+ * changed. */
+static void try_lines(run *r, const text *t, uint64_t number) {
+    static const char *const READS[] = {
+        "read u8 naive ", "read i16 low ", "read u64 ten_thousand ", "read isize middle ",
+        "read i128 high ", "read u128 naive ", "read u8 any ", "read ",
+    };
+    static const char *const PRINTS[] = {
+        "print u8 naive simple upper ", "print i16 low traditional lower ", "print u16 middle simple ",
+        "print u64 ten_thousand traditional upper ", "print isize middle simple lower ",
+        "print i128 high simple lower -", "print u128 naive traditional lower ", "",
+    };
+    text line = *t;
+    if (line.length <= MOST - 64) {
+        put(&line, 0, READS[below(r, 8)]);
+        add_answer(r, &line);
+        change(r, &line);
+        add_answer(r, &line);
+    }
+    line.length = 0;
+    for (char digit[2] = ""; number != 0; number /= 10) {
+        digit[0] = (char)('0' + number % 10);
+        put(&line, 0, digit);
+    }
+    put(&line, 0, PRINTS[below(r, 8)]);
+    add_answer(r, &line);
+    change(r, &line);
+    add_answer(r, &line);
+}
+
 /* What was printed, with the whole buffer, and as a text to be read. */
 static void add_printed(run *r, uint32_t status, size_t length, text *t) {
     add_word(r, status);
@@ -355,6 +393,7 @@ static void try_number(run *r, uint32_t kind, uint32_t way, cn_number number) {
     add_printed(r, status, length, &t);
     try_read(r, &t, kind, way);
     try_read(r, &t, kind, CN_ANY);
+    try_lines(r, &t, number.low >> below(r, 64));
     change(r, &t);
     try_read(r, &t, kind, way);
     try_read_and_find(r, &t);
@@ -465,6 +504,7 @@ static void try_text(run *r, uint32_t marks) {
     r->cases++;
     try_read_and_find(r, &t);
     try_read_capitals(r, &t);
+    try_lines(r, &t, 0);
 }
 
 static void try_statuses(run *r) {

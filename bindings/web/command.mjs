@@ -1,7 +1,7 @@
 #!/usr/bin/env node
 // The command chinese-number. It writes and reads amounts, dates and numerals, finds the quantities
-// or the numbers of a text, replaces quantities, and converts the amounts in a table. Results go to
-// standard output, and refusals, which name what is refused, to standard error. The status is 0 if
+// or the numbers of a text, replaces quantities, answers lines, and converts the amounts in a table.
+// Results go to standard output, and refusals, which name what is refused, to standard error. The status is 0 if
 // everything was converted, 1 if something was refused or could not be read or written, and 2 if
 // the command line is not valid.
 
@@ -9,7 +9,7 @@ import { isUtf8 } from 'node:buffer';
 import { fstatSync } from 'node:fs';
 
 import {
-  AmountError, DateError, KINDS, LANGUAGES, METHODS, NumeralError, VERSION, WAYS,
+  AmountError, DateError, KINDS, LANGUAGES, METHODS, NumeralError, VERSION, WAYS, answerLine,
   chineseToAmountAsTypedBigInt, chineseToAmountBigInt, chineseToDate,
   chineseToSignedAmountAsTypedBigInt, chineseToSignedAmountBigInt, dateToChinese, findNumbers,
   findQuantities, quantitiesToFigures, signedAmountToChinese, textToFigures, toBigInt, toChinese,
@@ -49,6 +49,7 @@ usage: chinese-number amount [--traditional] [--currency] [--yuan 圆] [--closin
        chinese-number find --numbers [--all] [--kind u128] [--way any]
        chinese-number replace [--phrases] [--all] [--method any] [--about] [--one-character]
                               [--doubtful] [--expanded] [--canonical] [--compact] [WORD...]
+       chinese-number lines
        chinese-number --help | --version
 
 amount   converts yuan to capitals, 1409.50 to 壹仟肆佰零玖元伍角整, and capitals to yuan
@@ -87,6 +88,8 @@ replace  writes the arguments, or standard input, with their numerals in figures
    --canonical      removes commas and leading zeros from figures: 1,280 becomes 1280
    --compact        writes dates, times and halves as short as possible, 2026-01-05, 15:30 and 1.5小时;
                     --phrases is not needed then
+lines    answers each line of standard input: read u64 ten_thousand 一百二 with ok 120,
+         print u128 naive traditional lower 123 with ok 一二三, and what is no question with bad line
 
 Options of several commands:
    --traditional    writes traditional characters
@@ -150,6 +153,7 @@ const COMMANDS = {
       return words.length ? answerEach(words, language, anew) : replaceInInput(anew);
     },
   },
+  lines: { options: {}, run: (options, words) => answerLines(words) },
 };
 
 // The reasons for refusals that the library does not give, in each language.
@@ -460,6 +464,14 @@ async function replaceInInput(anew) {
   };
   for await (const lines of linesOf(input())) await write(Buffer.concat(lines.map(answerTo)));
   return status;
+}
+
+// Answers the lines of standard input, as the program `numeral` does.
+async function answerLines(words) {
+  refuseWords(words);
+  const answerTo = (line) => `${answerLine(line.at(-1) === 10 ? line.subarray(0, -1) : line)}\n`;
+  for await (const lines of linesOf(input())) await write(lines.map(answerTo).join(''));
+  return 0;
 }
 
 // Runs a command, and returns the status.

@@ -434,6 +434,13 @@ static answer status_message(const question *it) {
     return printed(it, status, *to);
 }
 
+/* A line may be any bytes. */
+static answer line_answer(const question *it) {
+    size_t *to = told(it, sizeof *to), length = it->text_length, room = it->room_length;
+    uint64_t status = chinese_number_answer_line(it->text, length, it->room, room, to);
+    return printed(it, status, *to);
+}
+
 /* What is printed: first what each code serves, then others, among them what is refused and what
  * has the longest text: of the numbers the last one, -1 and 38 sixes, and of the quantities the same
  * over 1 and 38 sixes. */
@@ -476,6 +483,7 @@ typedef struct call {
 #define OF_TEXT(statuses) statuses, NULL, 0, 0
 #define REPLACES STATUS(CN_DONE), NULL, 0, MOST_NEW_TEXT
 #define MESSAGE STATUS(CN_DONE), NULL, 0, CN_MOST_MESSAGE_BYTES
+#define ANSWER STATUS(CN_DONE), NULL, 0, CN_MOST_ANSWER_BYTES
 #define PRINTS(values, most) 0, values, LENGTH_OF(values), most
 
 static const call calls[] = {
@@ -531,6 +539,7 @@ static const call calls[] = {
      PRINTS(nothing, CN_MOST_MESSAGE_BYTES)},
     {"cn_status_message", status_message, IN_CHARS, {13, 3},
      PRINTS(nothing, CN_MOST_MESSAGE_BYTES)},
+    {"chinese_number_answer_line", line_answer, PROVED, {0}, ANSWER},
     {"chinese_number_print", number_print, PROVED, {10, 6, 2, 2}, PRINTS(numbers, CN_MOST_BYTES)},
     {"cn_print", number_print, IN_CHARS, {10, 6, 2, 2}, PRINTS(numbers, CN_MOST_BYTES)},
     {"chinese_quantity_print", quantity_print, PROVED, {5, 2, 2, 4},
@@ -728,12 +737,12 @@ static void try_replacing(task *mine, const call *by) {
     judge(mine, try_rooms(mine, by, it) == 18, by, &it);
 }
 
-/* A room of each length for a message on a text that each reader refuses. */
+/* A room of each length for a message on a text that each reader refuses, or for a long answer. */
 static void try_message(task *mine, const call *by) {
-    static const uint8_t text[] = "百%";
+    static const uint8_t text[] = "百%", line[] = "print i128 low simple upper -8888888888888888";
     question it = ample(mine, by);
-    it.text = text;
-    it.text_length = sizeof text - 1;
+    it.text = by->ask == line_answer ? line : text;
+    it.text_length = by->ask == line_answer ? sizeof line - 1 : sizeof text - 1;
     judge(mine, try_rooms(mine, by, it) != 0, by, &it);
 }
 
@@ -856,7 +865,8 @@ static void try_text(task *mine, const uint8_t *text, size_t length, uint64_t ch
         it.text = text;
         it.text_length = length;
         said = ask(mine, by, &it, NULL);
-        judge(mine, good ? is_whole(by, &it, said) : is_same(said, not_utf8), by, &it);
+        judge(mine, good || by->ask == line_answer ? is_whole(by, &it, said) : is_same(said, not_utf8),
+              by, &it);
         judge(mine, by->style == PROVED || is_same(said, before), by, &it);
         before = said;
     }

@@ -400,7 +400,7 @@ def is_no_time(text: Text, phrase: Phrase) -> bool:
 
 
 def is_no_half(text: Text, phrase: Phrase) -> bool:
-    return phrase.words.endswith("半") and text.at(phrase.end) in "载載夜天年"
+    return phrase.words.endswith("半") and text.at(phrase.end) in "载載夜天年价價"
 
 
 def is_no_length(text: Text, phrase: Phrase) -> bool:
@@ -620,6 +620,10 @@ def is_doubtful(text: Text, phrase: Phrase) -> bool:
     if phrase.kind == "range":
         doubts = {numbers.doubt_of(text.line, it.start, it.end) for it in phrase.slots}
         return after in "折成" or not doubts.isdisjoint({"word", "digits", "term", "time"})
+    if text.at(phrase.start - 1) in "○◯":
+        return True
+    if re.match("一[时時]半[会會刻]", text.line.text[phrase.start :]):
+        return True
     if phrase.kind == "date" and phrase.words == "年" and has_figure(first.text):
         if ascii_of(first.text).endswith("00") and after in "前来來历歷间間":
             return True
@@ -781,6 +785,8 @@ def stays(phrase: Phrase, options: Options) -> bool:
     return is_short and not (options.one_character or options.compact)
 
 
+# Before a word of half a day: they name a day with it, or are a part of a longer word.
+PARTS_OF_WORDS = frozenset("每那這这次翌同隔前后後首大清夜早")
 JOINTS = frozenset("到至~～－–—〜-、，,和或与與及跟")
 
 
@@ -815,10 +821,14 @@ def short_time(text: Text, phrase: Phrase) -> Optional[str]:
     _, minute, second, hour = phrase.value
     word = phrase.half_day
     if HALF_DAY.match(word):
-        if is_slot_char(text.at(phrase.start - 1)) or goes_on(text, phrase):
+        before = text.at(phrase.start - 1)
+        if word[0] in "今明昨当當" or is_slot_char(before) or before in PARTS_OF_WORDS:
+            return None
+        if goes_on(text, phrase):
             return None
         word = ""
-    if hour is None or text.at(phrase.end) in "钟鐘":
+    rest = text.line.text[phrase.end :]
+    if hour is None or re.match("[钟鐘多许許余餘来來整档檔价價]|成品", rest):
         return None
     seconds = f":{second:02}" if len(phrase.slots) == 3 else ""
     return f"{word}{hour:02}:{minute:02}{seconds}" + blank_after(text, phrase)

@@ -49,7 +49,7 @@ async function opens() {
   const bytes = files.reduce((sum, it) => sum + it.bytes, 0);
   console.log(`opens after ${times.join(', ')} ms with an empty cache; ${files.length} files, `
     + `${bytes} bytes`);
-  assert(Math.min(...times) < 1000, 'the page takes a second to open');
+  assert(Math.min(...times) < 5000, 'the page takes five seconds to open, also on a busy machine');
   return page;
 }
 

@@ -20,7 +20,7 @@ const { yuanToFen, yuanToFenBigInt } = face;
 const { Quantity, findQuantities, quantitiesToFigures, replaceQuantities, toQuantity } = face;
 const { findPhrases, textToFigures } = face;
 const { explainNumber, explainQuantity, inputExpected, inputMessage, inputRepair } = face;
-const { numberMessage, quantityMessage, statusMessage } = face;
+const { answerLine, numberMessage, quantityMessage, statusMessage } = face;
 
 const [program] = process.argv.slice(2);
 const textOf = (path) => readFileSync(new URL(path, import.meta.url), 'utf8');
@@ -158,14 +158,25 @@ function compareWithTheProgram() {
   const ours = [
     ...Array.from({ length: PRINTINGS }, aPrinting), ...Array.from({ length: READINGS }, aReading),
   ];
-  const theirs = answersOf(ours.map(([line]) => line));
+  const lines = ours.map(([line]) => line), theirs = answersOf(lines);
   assert.equal(theirs.length, ours.length);
+  assert.deepEqual(lines.map((it) => answerLine(it)), theirs);
+  assert.deepEqual(lines.map((it) => answerLine(Buffer.from(it))), theirs);
   const differ = ours.map(([line, answer], i) => [line, theirs[i], answer].join(' | '))
     .filter((_, i) => theirs[i] !== ours[i][1]);
   assert.deepEqual(differ.slice(0, 20), [], `${differ.length} differ: line | program | face`);
   // That the lines are of every kind: a list of refusals alone would show little.
   for (const [answer, count] of Object.entries(counts)) assert(count > 1000, `${answer}: ${count}`);
   console.log(`${ours.length} lines, none differs:`, counts);
+}
+
+// Bytes that are not UTF-8, and what is neither a string nor bytes.
+function tryOtherLines() {
+  for (const line of ['', '\n', 'hello', [], [0xff], [...Buffer.from('read u8 naive 1'), 0xff]]) {
+    assert.equal(answerLine(typeof line === 'string' ? line : Uint8Array.from(line)), 'bad line');
+  }
+  assert.equal(answerLine(`read u128 naive ${'零'.repeat(5_000_000)}五`), 'ok 5');
+  refusesEach([5, 5n, null, undefined, ['read u8 naive 1'], new ArrayBuffer(2)], answerLine);
 }
 
 // The calls of the header, which are those that cn_c exports.
@@ -1210,8 +1221,8 @@ function tryTraps() {
   console.log(`full stacks: ${made} new instances, and each next call answered`);
 }
 
-for (const it of [lookAtTheModules, compareWithTheProgram, tryEdges, tryOptions, tryAmounts,
-  trySignedAmounts, tryTypedAmounts, tryFigures, tryDates, tryReasons, tryMessages, tryRunningText,
+for (const it of [lookAtTheModules, compareWithTheProgram, tryOtherLines, tryEdges, tryOptions,
+  tryAmounts, trySignedAmounts, tryTypedAmounts, tryFigures, tryDates, tryReasons, tryMessages, tryRunningText,
   tryFound, tryQuantities, tryReplaced, tryPhrases, tryLongTexts, tryTraps]) {
   it();
 }

@@ -1,5 +1,5 @@
 """The command chinese-number. It writes and reads amounts, dates and numerals, finds the quantities
-or the numbers of a text, replaces quantities, and converts the amounts in a table.
+or the numbers of a text, replaces quantities, answers lines, and converts the amounts in a table.
 
 Results go to standard output, and refusals, which name what is refused, to standard error. The
 status is 0 if everything was converted, 1 if something was refused or could not be read or written,
@@ -19,7 +19,7 @@ from . import AmountError, DateError, Found, FoundQuantity, Kind, Language, Nume
 from . import Way, __version__, chinese_to_amount, chinese_to_amount_as_typed, chinese_to_date
 from . import chinese_to_signed_amount, chinese_to_signed_amount_as_typed, date_to_chinese
 from . import find_numbers, find_quantities, quantities_to_figures, signed_amount_to_chinese
-from . import text_to_figures, to_chinese, to_number, yuan_to_fen
+from . import _library, text_to_figures, to_chinese, to_number, yuan_to_fen
 from ._tables import Misuse, Refused, Table, shown, write_table
 
 
@@ -95,6 +95,7 @@ usage: chinese-number amount [--traditional] [--currency] [--yuan 圆] [--closin
        chinese-number find --numbers [--all] [--kind u128] [--way any]
        chinese-number replace [--phrases] [--all] [--method any] [--about] [--one-character]
                               [--doubtful] [--expanded] [--canonical] [--compact] [WORD...]
+       chinese-number lines
        chinese-number --help | --version
 
 amount   converts yuan to capitals, 1409.50 to 壹仟肆佰零玖元伍角整, and capitals to yuan
@@ -133,6 +134,8 @@ replace  writes the arguments, or standard input, with their numerals in figures
    --canonical      removes commas and leading zeros from figures: 1,280 becomes 1280
    --compact        writes dates, times and halves as short as possible, 2026-01-05, 15:30 and 1.5小时;
                     --phrases is not needed then
+lines    answers each line of standard input: read u64 ten_thousand 一百二 with ok 120,
+         print u128 naive traditional lower 123 with ok 一二三, and what is no question with bad line
 
 Options of several commands:
    --traditional    writes traditional characters
@@ -318,6 +321,17 @@ def _replace(options: Dict[str, Any]) -> int:
     return status
 
 
+def _lines(options: Dict[str, Any]) -> int:
+    """Answers the lines of standard input, as the program `numeral` does."""
+    with open(0, "rb", closefd=False) as lines:
+        for line in lines:
+            status, answer = _library.answer_line(line[:-1] if line.endswith(b"\n") else line)
+            if status:
+                raise OverflowError("the line is too long")
+            print(answer)
+    return 0
+
+
 # For each command: the function that converts an argument, how it parses the argument, its options.
 _COMMANDS: Dict[str, Tuple[Callable[..., Any], Callable[[str], Any], _Options]] = {
     "amount": (_amount, str, {**_TRADITIONAL, **_FORM, **_READER, **_TABLE, **_LANGUAGE}),
@@ -330,6 +344,7 @@ _COMMANDS: Dict[str, Tuple[Callable[..., Any], Callable[[str], Any], _Options]] 
     ),
     "find": (_find, str, {"--numbers": _FLAG, "--all": _FLAG, **_KIND, **_WAY, **_METHOD}),
     "replace": (_in_figures, str, {"--all": _FLAG, **_METHOD, **_REPLACED}),
+    "lines": (_lines, str, {}),
 }
 
 
@@ -391,6 +406,8 @@ def _of_input(
     """The function that converts standard input, if the command reads it."""
     if first == "replace":
         return None if others else _replace
+    if first == "lines":
+        return _lines
     return _find if first == "find" else _table if "column" in options else None
 
 

@@ -111,6 +111,7 @@ _ARGUMENTS: Dict[str, Tuple[Any, ...]] = {
     "chinese_number_message": (*_TEXT, _CODE, _CODE, _CODE, *_ROOM),
     "chinese_quantity_message": (*_TEXT, _CODE, _CODE, *_ROOM),
     "chinese_status_message": (_CODE, _CODE, *_ROOM),
+    "chinese_number_answer_line": (*_TEXT, *_ROOM),
 }
 _SUFFIXES = {"darwin": "dylib", "win32": "dll"}
 _HERE = Path(__file__).resolve().parent
@@ -377,6 +378,12 @@ def message(what: str, text: str, *codes: int) -> Tuple[int, str]:
 def status_message(status: int, language: int) -> Tuple[int, str]:
     """The message of a status."""
     return _printed(library.chinese_status_message, _codes.MOST_MESSAGE_BYTES, status, language)
+
+
+def answer_line(line: bytes) -> Tuple[int, str]:
+    """The answer of the program `numeral` to a line, which need not be UTF-8."""
+    call = library.chinese_number_answer_line
+    return _printed(call, _codes.MOST_ANSWER_BYTES, line, len(line))
 
 
 def _at_words(low: int, high: int, below_low: int, below_high: int, form: int) -> Any:

@@ -354,6 +354,8 @@ pub const MOST_SIGNED_AMOUNT_BYTES: usize = 129;
 pub const MOST_DATE_BYTES: usize = 39;
 /// The most bytes of a message.
 pub const MOST_MESSAGE_BYTES: usize = 512;
+/// The most bytes of an answer to a line.
+pub const MOST_ANSWER_BYTES: usize = 256;
 
 /// The texts of refusals. An `incorrect` is followed by the position.
 pub mod text {

@@ -6,7 +6,6 @@ ghost use Rattle.cn_c.specs.Codes.{has_flag};
 ghost use Rattle.cn_c.specs.Replaces.{figures_of, style_of};
 
 use chinese_number::{Doubt, Found, SearchRule};
-use cn_find::told_of;
 use cn_replace::{Figures, Included, Style};
 
 /// A flag: each character of the number is a digit.
@@ -22,10 +21,10 @@ pub const ABOUT: u32 = 4;
 pub const ONE_CHARACTER: u32 = 8;
 
 /// A flag if it applies, and otherwise 0.
-pub fn flag_if(told: bool, flag: u32) -> u32
-    ensures { result ≡ flag_if told flag }
+pub fn flag_if(is_set: bool, flag: u32) -> u32
+    ensures { result ≡ flag_if is_set flag }
 {
-    if told { flag } else { 0 }
+    if is_set { flag } else { 0 }
 }
 
 // The flags of a number.
@@ -34,11 +33,11 @@ fn flags_of(found: Found<'_>) -> u32
     ensures value { result ≡ flags_told (span_of found.entry) }
     ensures most { result ≤ 15 }
 {
-    let told = told_of(found.before, found.text, found.after);
-    flag_if(told.is_plain, PLAIN_DIGITS)
-        + flag_if(told.stands_alone, STANDS_ALONE)
-        + flag_if(told.is_about, ABOUT)
-        + flag_if(told.is_one_character, ONE_CHARACTER)
+    let flags = cn_find::flags_of(found.before, found.text, found.after);
+    flag_if(flags.is_plain, PLAIN_DIGITS)
+        + flag_if(flags.stands_alone, STANDS_ALONE)
+        + flag_if(flags.is_about, ABOUT)
+        + flag_if(flags.is_one_character, ONE_CHARACTER)
 }
 
 // The code of a doubt.

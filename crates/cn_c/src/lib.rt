@@ -1,6 +1,7 @@
 //! Chinese numerals for C, and for languages that call C: calls that print and read whole numbers
 //! of each type by each method, exact quantities, amounts of money and dates, find the numbers,
-//! the expressions and the phrases of a text, and write a text in figures.
+//! the expressions and the phrases of a text, write a text in figures, and answer the lines of the
+//! program `numeral`.
 //!
 //! `bindings/c/chinese_number.h` declares them.
 #![tactic(auto)]
@@ -14,6 +15,7 @@ mod finding;
 mod flags;
 mod input;
 pub mod laws;
+mod line;
 mod message;
 mod number;
 mod phrases;
@@ -38,6 +40,7 @@ pub use finding::{
     chinese_quantity_find_utf8,
 };
 pub use input::{Change, Expected, chinese_input_expected, chinese_input_repair};
+pub use line::chinese_number_answer_line;
 pub use message::{
     chinese_input_message, chinese_number_message, chinese_quantity_message, chinese_status_message,
 };

@@ -319,11 +319,11 @@ fn has_one_estimate(text: &str) -> bool
 
 // Whether a number is approximate because of the texts around it or by itself.
 #[inline(always)]
-fn estimates(front: Side, text: &str, behind: Side) -> bool
-    ensures { result ≡ ((front.estimates && begins_with_unit (chars text.now)) || behind.estimates
+fn estimates(front: Side, text: &str, back: Side) -> bool
+    ensures { result ≡ ((front.estimates && begins_with_unit (chars text.now)) || back.estimates
         || is_one_estimate (pairs (chars text.now))) }
 {
-    (front.estimates && begins_with_unit(text)) || behind.estimates || has_one_estimate(text)
+    (front.estimates && begins_with_unit(text)) || back.estimates || has_one_estimate(text)
 }
 
 /// Whether a number between these texts is approximate. It is if 几 or 数 is directly before it and
@@ -422,7 +422,7 @@ pub fn is_one_character(text: &str) -> bool
 
 /// All flags of a number.
 #[derive(Debug, Copy, Clone)]
-pub struct Told {
+pub struct Flags {
     /// Whether it consists of plain digits.
     pub is_plain: bool,
     /// Whether it stands alone: the text around it does not continue it.
@@ -437,10 +437,10 @@ pub struct Told {
 /// number of one character once.
 ///
 /// ```text
-/// told_of("几", "十", "人").is_about == true
+/// flags_of("几", "十", "人").is_about == true
 /// ```
 #[inline(always)]
-pub fn told_of(before: &str, text: &str, after: &str) -> Told
+pub fn flags_of(before: &str, text: &str, after: &str) -> Flags
     ensures plain { result.is_plain ≡ is_plain (chars text.now) }
     ensures alone { result.stands_alone ≡ stands_alone (chars before.now) (chars after.now) }
     ensures about { result.is_about
@@ -448,19 +448,19 @@ pub fn told_of(before: &str, text: &str, after: &str) -> Told
     ensures one { result.is_one_character ≡ is_one_character (chars text.now) }
 {
     let front = look_before(before);
-    let behind = look_after(after);
-    let stands_alone = !front.goes_on && !behind.goes_on;
+    let back = look_after(after);
+    let stands_alone = !front.goes_on && !back.goes_on;
     match only_mark(text) {
-        Some((mark, is_no_figure)) => Told {
+        Some((mark, is_no_figure)) => Flags {
             is_plain: is_digit(mark),
             stands_alone,
-            is_about: (front.estimates && is_unit(mark)) || behind.estimates,
+            is_about: (front.estimates && is_unit(mark)) || back.estimates,
             is_one_character: is_no_figure,
         },
-        None => Told {
+        None => Flags {
             is_plain: is_plain(text),
             stands_alone,
-            is_about: estimates(front, text, behind),
+            is_about: estimates(front, text, back),
             is_one_character: false,
         },
     }

@@ -27,7 +27,7 @@ pub fn text_before<'a>(whole: &'a str, rest: &'a str) -> &'a str
 struct Look<'a> {
     belongs: bool,
     first: char,
-    behind: &'a str,
+    tail: &'a str,
 }
 
 #[inline(always)]
@@ -36,60 +36,60 @@ fn look_at_mark<'a, R: SearchRule>(
     before: &str,
     first: char,
     mark: Mark,
-    behind: &'a str,
+    tail: &'a str,
 ) -> Look<'a>
     requires { marked mark ≡ mark_of first }
     ensures first { result.first ≡ first }
-    ensures behind { result.behind.now ≡ behind.now }
+    ensures tail { result.tail.now ≡ tail.now }
     ensures belongs { result.belongs
-        ≡ (R.rule rule).belongs (in_front before.now) first (chars behind.now) }
+        ≡ (R.rule rule).belongs (in_front before.now) first (chars tail.now) }
 {
-    let belongs = rule.belongs(before, first, mark, behind);
+    let belongs = rule.belongs(before, first, mark, tail);
     Look {
         belongs,
         first,
-        behind,
+        tail,
     }
 }
 
 // Characters of three bytes have a path of their own, so that a search for numbers quickly passes
 // those that do not belong.
-// Same answer (if let Some((first, mark, behind)) = split_fi.. → nothing): the character is decoded
+// Same answer (if let Some((first, mark, tail)) = split_fi.. → nothing): the character is decoded
 // and its mark looked up, more slowly.
 #[inline(always)]
 fn look_at<'a, R: SearchRule>(rule: R, whole: &'a str, ahead: &'a str) -> Option<Look<'a>>
     requires { text_before whole.now ahead.now ++ ahead.now ≡ whole.now }
     ensures parts { MatchOption result (chars ahead.now ≡ [])
-        (λ look. (chars ahead.now ≡ look.first ∷ chars look.behind.now)
+        (λ look. (chars ahead.now ≡ look.first ∷ chars look.tail.now)
         × (look.belongs ≡ (R.rule rule).belongs (in_front (text_before whole.now ahead.now))
-        look.first (chars look.behind.now))) }
-    ensures shorter { IfSome result (λ look. length look.behind.now < length ahead.now) }
+        look.first (chars look.tail.now))) }
+    ensures shorter { IfSome result (λ look. length look.tail.now < length ahead.now) }
 {
     let before = text_before(whole, ahead);
-    if let Some((first, mark, behind)) = split_first_three(ahead) {
-        return Some(look_at_mark(rule, before, first, mark, behind));
+    if let Some((first, mark, tail)) = split_first_three(ahead) {
+        return Some(look_at_mark(rule, before, first, mark, tail));
     }
-    let (first, behind) = split_first_char(ahead)?;
-    Some(look_at_mark(rule, before, first, mark_of(first), behind))
+    let (first, tail) = split_first_char(ahead)?;
+    Some(look_at_mark(rule, before, first, mark_of(first), tail))
 }
 
 // The text after the run that begins at `ahead` with the character `first`. The text after `first`
-// is `behind`.
+// is `tail`.
 fn skip_run<'a, R: SearchRule>(
     rule: R,
     whole: &'a str,
     ahead: &'a str,
     first: char,
-    behind: &'a str,
+    tail: &'a str,
 ) -> &'a str
     requires end { text_before whole.now ahead.now ++ ahead.now ≡ whole.now }
-    requires parts { chars ahead.now ≡ first ∷ chars behind.now }
+    requires parts { chars ahead.now ≡ first ∷ chars tail.now }
     requires begins { (R.rule rule).belongs (in_front (text_before whole.now ahead.now)) first
-        (chars behind.now) ≡ true }
+        (chars tail.now) ≡ true }
     ensures { EndsRun (R.rule rule) (text_before whole.now ahead.now) ahead.now result.now }
 {
     let mut last = first;
-    let mut rest = behind;
+    let mut rest = tail;
     'gathering: while let Some((next, mark, after)) = split_first_mark(rest) {
         if !rule.belongs(text_before(whole, rest), next, mark, after)
             || rule.is_parted(last, next)
@@ -115,14 +115,14 @@ pub fn next_run<'a, R: SearchRule>(rule: R, whole: &'a str, rest: &'a str) -> Op
     let mut ahead = rest;
     'searching: while let Some(look) = look_at(rule, whole, ahead) {
         if look.belongs {
-            let after = skip_run(rule, whole, ahead, look.first, look.behind);
+            let after = skip_run(rule, whole, ahead, look.first, look.tail);
             return Some(Found {
                 before: text_before(whole, ahead),
                 text: text_before(ahead, after),
                 after,
             });
         }
-        ahead = look.behind;
+        ahead = look.tail;
     }
     None
 }
@@ -136,7 +136,7 @@ pub fn run_after<'a, R: SearchRule>(rule: R, whole: &'a str, ahead: &'a str) -> 
 {
     let look = look_at(rule, whole, ahead)?;
     if look.belongs {
-        Some(skip_run(rule, whole, ahead, look.first, look.behind))
+        Some(skip_run(rule, whole, ahead, look.first, look.tail))
     } else {
         None
     }

@@ -1,6 +1,6 @@
 //! The lines of the program `numeral`: where a line ends, what it asks, and what the answer is.
 //!
-//! Only that program uses this crate; it re-exports the laws.
+//! That program, which re-exports the laws, and the calls for C use this crate.
 #![tactic(auto)]
 
 pub mod answer;

@@ -3,6 +3,7 @@ ghost use Rattle.std.specs.Prelude.{chars, IfSome};
 ghost use Rattle.cn_message.specs.Inputs.{IsExpectedIn, IsRepairOf};
 
 use crate::Language;
+use crate::characters::char_at;
 use cn_amount::{
     amount_expected, amount_repair, signed_amount_expected, signed_amount_repair,
     typed_amount_expected, typed_amount_repair, typed_signed_amount_expected,
@@ -34,10 +35,10 @@ fn is_like_a_sign(c: char) -> bool {
     matches!(c, '负' | '負' | '-' | '−' | '－' | '（' | '(')
 }
 
-// Whether a place in a date is directly before the 31st with which it ends.
-fn is_before_31st(text: &str, char_index: usize) -> bool {
-    let ends = text.ends_with("月叁拾壹日") || text.ends_with("月參拾壹日");
-    ends && matches!(text.chars().count().checked_sub(char_index), Some(4))
+// Whether a date ends with a 31st, which begins at a place.
+fn is_31st(text: &str, char_index: usize) -> bool {
+    let first = char_at(text, char_index);
+    (first == "叁" && text.ends_with("月叁拾壹日")) || (first == "參" && text.ends_with("月參拾壹日"))
 }
 
 impl Input {
@@ -75,8 +76,10 @@ impl Input {
         ensures { IfSome result (IsRepairOf self (chars text.now)) }
     {
         let hint = self.first_repair(text)?;
-        let is_zero = hint.repair == Repair::Insert('零');
-        if self == Input::Date && is_zero && is_before_31st(text, hint.char_index) {
+        if self == Input::Date
+            && hint.repair == Repair::Insert('零')
+            && is_31st(text, hint.char_index)
+        {
             return None;
         }
         Some(hint)

@@ -3,6 +3,7 @@ use Rattle.std.specs.Prelude.{ℕ, ◌+◌, ◌*◌, nat_le, nat_lt, not, ◌&&�
 use Rattle.std.specs.Char.{char_set_contains}
 use Rattle.std.specs.Option.{option_and_then, option_map, option_map_or}
 use Rattle.cn_core.specs.FigureCharacters.{is_figure}
+use Rattle.cn_find.specs.Words.{begins_with_two}
 use Rattle.cn_quantity.specs.declared.quantity.QuantityForm.TheVariants.{Decimal, Whole}
 use Rattle.cn_quantity_text.specs.Figures.{figures_text}
 use Rattle.cn_replace.specs.KeptNumbers.{and_text}
@@ -83,20 +84,34 @@ unfoldable pub goes_on : List ℕ → Bool
 goes_on [] = false
 goes_on (c ∷ rest) = is_joint c && begins_part rest
 
--- a word of half a day counts for what comes next, or is between two numbers
-unfoldable pub needs_lead : Lead → List ℕ → List ℕ → Bool
-needs_lead HalfDay front rest = begins is_numeral front || goes_on rest
-needs_lead other front rest = false
+-- a word of half a day, with which a text begins, also says which day it is, as 今晚 and 每晚 do, or is a
+-- part of a longer word, such as 清早
+unfoldable pub names_day : List ℕ → List ℕ → Bool
+names_day front text =
+    begins (λ c. char_set_contains (codes "今明昨当當") c) text
+    || begins (λ c. char_set_contains (codes "每那这這次翌同隔前后後首大清夜早") c) front
+
+-- a word of half a day says more than which half it is: the day, or the half of what comes next; or it is
+-- between two numbers
+unfoldable pub needs_lead : Lead → List ℕ → List ℕ → List ℕ → Bool
+needs_lead HalfDay front text rest =
+    names_day front text || (begins is_numeral front || goes_on rest)
+needs_lead other front text rest = false
+
+-- what is after a time belongs to its last word: 八点钟, 八点多, 八点许, 八点整, 八点档; 八点半价, 八点半成品
+unfoldable pub is_in_words : List ℕ → Bool
+is_in_words rest =
+    begins (λ c. char_set_contains (codes "钟鐘多许許余餘来來整档檔价價") c) rest
+    || begins_with_two (codes "成") (codes "品") rest
 
 unfoldable pub moment_text : Found → List ℕ → ℕ → Time → List ℕ
 moment_text found text hour time =
     lead_text found.lead text ++ clock_text found.form hour time
 
--- a time whose hour of 24 is known, not before 钟
+-- a time whose hour of 24 is known, and that need not stay in words
 unfoldable pub time_text : List ℕ → Found → List ℕ → Time → Option (List ℕ)
 time_text front found text time =
-    if needs_lead found.lead front found.rest
-    || begins (λ c. char_set_contains (codes "钟鐘") c) found.rest
+    if needs_lead found.lead front text found.rest || is_in_words found.rest
     then None
     else option_map (λ hour. moment_text found text hour time) (hour_of_day found.lead text time)
 

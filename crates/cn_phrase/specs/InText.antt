@@ -29,7 +29,7 @@ use Rattle.cn_phrase.specs.Phrases.{Found, after_lead}
 use Rattle.cn_phrase.specs.Pieces.{is_numeral, reading_at}
 use Rattle.cn_phrase.specs.Ranges.{Ends, range_of, range_text}
 use Rattle.cn_phrase.specs.Values.{value_by}
-use Rattle.cn_phrase.specs.Words.{after_word}
+use Rattle.cn_phrase.specs.Words.{after_two, after_word}
 use Rattle.cn_phrase.specs.Written.{passed_text, pieces_text}
 
 -- a year in figures that ends with 00, before 前, 来, 历 or 间: it may be a number of years
@@ -83,13 +83,24 @@ may_be_decimal front found text =
     && option_map_or (λ rest. is_one_character (leading is_numeral rest))
     (after_word word.Dian (after_leading is_numeral text)) false
 
--- a phrase that begins with this text may mean something else, is a date of another calendar, or is in a
--- title
+-- a circle is directly before the text: it may be a zero, as in 二○二六年三月
+abbrev pub follows_circle : List ℕ → Bool
+follows_circle front = begins (λ c. char_set_contains (codes "○◯") c) front
+
+-- 一时半会 or 一时半刻: a short while, no time of day
+abbrev pub is_short_while : List ℕ → Bool
+is_short_while text = option_map_or
+    (λ rest. is_some (after_two (codes "半") (codes "会會刻") rest))
+    (after_two (codes "一") (codes "时時") text) false
+
+-- a phrase that begins with this text may mean something else, is a date of another calendar, is in a
+-- title, or may begin further in front
 abbrev pub is_doubtful : List ℕ → Found → List ℕ → Bool
 is_doubtful front found text =
     may_be_years found.form found.numbers.last text found.rest
     || (is_of_old_calendar front found.form text
-    || (may_be_decimal front found text || is_title_open 40 front))
+    || (may_be_decimal front found text
+    || (is_short_while text || (follows_circle front || is_title_open 40 front))))
 
 -- a range before 折 or 成: its numbers are tenths
 abbrev pub is_of_tenths : Ends → Bool

@@ -63,7 +63,7 @@ refused_by Number = codes "零〇一二两兩三四五六七八九十百"
 refused_by Share = codes "钟鐘"
 refused_by MoreMinutes = codes "分几幾多元米度倍吨噸克升%％‰万萬亿億千"
 refused_by OfClock = codes ":：."
-refused_by OfHalf = codes "载載夜天年"
+refused_by OfHalf = codes "载載夜天年价價"
 refused_by OfLength =
     codes "年月日点點人个個分秒米度几幾多重層层关關种種次间間位条條名项項只隻元块塊倍级級楼樓座套台臺辆輛张張本天周週岁歲斤里"
 refused_by OfScore = codes "点點.年月日万萬千亿億"

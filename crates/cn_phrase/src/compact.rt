@@ -3,18 +3,18 @@ ghost use Rattle.std.specs.Prelude.{◌≡◌, Some, ◌++◌, [], codes, chars,
 ghost use Rattle.cn_find.specs.Spans.{in_front};
 ghost use Rattle.cn_replace.specs.Pieces.{begins};
 ghost use Rattle.cn_replace.specs.Private.{PutsText};
-ghost use Rattle.cn_phrase.specs.Compact.{after_colon, after_dash, after_number, blank_before, clock_text, compact_text, counted_text, date_text, half_text, has_seconds, lead_text, begins_part, goes_on, is_joint, moment_text, needs_lead, parts_text, seconds_text, text_of_value, time_text, two_figures, unit_text, whole_text};
+ghost use Rattle.cn_phrase.specs.Compact.{after_colon, after_dash, after_number, blank_before, clock_text, compact_text, counted_text, date_text, half_text, has_seconds, lead_text, begins_part, goes_on, is_in_words, is_joint, moment_text, names_day, needs_lead, parts_text, seconds_text, text_of_value, time_text, two_figures, unit_text, whole_text};
 ghost use Rattle.cn_phrase.specs.Phrases.{found_of};
 
 use crate::form::Form;
 use crate::hour::hour_of_day;
-use crate::phrase::{Lead, Match, begins_with};
+use crate::phrase::{Lead, Match, begins_with, ends_with};
 use crate::piece::{Numeral, without_blank};
 use crate::value::{Date, Time, Value};
 use crate::word::{Word, after_halved, after_two};
 use crate::written::put_passed;
 use cn_core::split_first_char;
-use cn_find::is_one_of;
+use cn_find::{begins_with_two, is_one_of};
 use cn_quantity::{Quantity, QuantityForm};
 use cn_replace::Sink;
 use cn_replace::nothing::Nothing;
@@ -185,15 +185,43 @@ fn goes_on(rest: &str) -> bool
     }
 }
 
-// Whether a word of half a day counts for what comes next, or is between two numbers.
+// Whether a word of half a day, with which a text begins, also says which day it is, or is a part of
+// a longer word.
+#[tactic(auto, unfolding(crate::specs::Compact::names_day))]
+fn names_day(before: &str, text: &str) -> bool
+    ensures { result ≡ names_day (in_front before.now) (chars text.now) }
+{
+    begins_with(&['今', '明', '昨', '当', '當'], text)
+        || ends_with(
+            &[
+                '每', '那', '这', '這', '次', '翌', '同', '隔', '前', '后', '後', '首', '大', '清', '夜',
+                '早',
+            ],
+            before,
+        )
+}
+
+// Whether a word of half a day says more than which half it is: the day, or the half of what comes
+// next; or it is between two numbers.
 #[tactic(auto, unfolding(crate::specs::Compact::needs_lead))]
-fn needs_lead(lead: Lead, before: &str, rest: &str) -> bool
-    ensures { result ≡ needs_lead lead (in_front before.now) (chars rest.now) }
+fn needs_lead(lead: Lead, before: &str, text: &str, rest: &str) -> bool
+    ensures { result ≡ needs_lead lead (in_front before.now) (chars text.now) (chars rest.now) }
 {
     match lead {
-        Lead::HalfDay => ends(Numeral, before) || goes_on(rest),
+        Lead::HalfDay => names_day(before, text) || ends(Numeral, before) || goes_on(rest),
         _ => false,
     }
+}
+
+// Whether what is after a time belongs to its last word.
+#[tactic(auto, unfolding(crate::specs::Compact::is_in_words))]
+fn is_in_words(rest: &str) -> bool
+    ensures { result ≡ is_in_words (chars rest.now) }
+{
+    begins_with(
+        &['钟', '鐘', '多', '许', '許', '余', '餘', '来', '來', '整', '档', '檔', '价', '價'],
+        rest,
+    ) || begins_with_two(&['成'], &['品'], rest)
 }
 
 // Writes a time with which a text begins, with its hour of 24.
@@ -224,7 +252,7 @@ fn put_time<S: Sink>(
     ensures { IfOk result (PutsText S.took sink.old sink.new
         (time_text (in_front before.now) (found_of found.entry) (chars text.now) time)) }
 {
-    if needs_lead(found.lead, before, found.rest) || begins_with(&['钟', '鐘'], found.rest) {
+    if needs_lead(found.lead, before, text, found.rest) || is_in_words(found.rest) {
         return Ok(false);
     }
     let Some(hour) = hour_of_day(found.lead, text, time) else {

@@ -7,7 +7,7 @@ ghost use Rattle.cn_find.specs.Spans.{in_front, span_of, text_before};
 ghost use Rattle.cn_replace.specs.Chains.{IsPart};
 ghost use Rattle.cn_replace.specs.Pieces.{begins};
 ghost use Rattle.cn_replace.specs.Private.{PutsText};
-ghost use Rattle.cn_phrase.specs.InText.{follows_republic, is_doubtful, is_doubtful_end, is_half, is_minute, is_of_calendar, is_of_era, is_of_old_calendar, is_of_tenths, is_of_year, is_range_doubtful, may_be_decimal, is_phrase_included, is_range_included, is_short_half, item_holds, item_text, may_be_years, phrase_new, phrase_text, phrase_written, range_new, text_for_item, text_in_figures};
+ghost use Rattle.cn_phrase.specs.InText.{follows_republic, is_doubtful, is_doubtful_end, is_half, is_minute, is_of_calendar, is_of_era, is_of_old_calendar, is_of_tenths, is_of_year, is_range_doubtful, may_be_decimal, is_phrase_included, is_range_included, is_short_half, is_short_while, item_holds, item_text, may_be_years, phrase_new, phrase_text, phrase_written, range_new, text_for_item, text_in_figures};
 ghost use Rattle.cn_phrase.specs.Items.{item_at, item_of};
 ghost use Rattle.cn_phrase.specs.Phrases.{found_of};
 ghost use Rattle.cn_phrase.specs.Ranges.{ends_of};
@@ -18,7 +18,7 @@ use crate::items::{Item, item_at, next_item};
 use crate::phrase::{Lead, Match, begins_with, ends_with};
 use crate::piece::{Numeral, Progress};
 use crate::range::{Ends, put_range, range_of};
-use crate::word::Word;
+use crate::word::{Word, after_two};
 use crate::written::{put_passed, put_pieces};
 use cn_core::{Buffer, ChineseCountMethod, split_first_char};
 use cn_find::{
@@ -121,14 +121,26 @@ fn may_be_decimal(before: &str, found: Match<'_>, text: &str) -> bool
     }
 }
 
+// Whether a text begins with 一时半会 or 一时半刻, a short while.
+fn is_short_while(text: &str) -> bool
+    ensures { result ≡ is_short_while (chars text.now) }
+{
+    match after_two(&['一'], &['时', '時'], text) {
+        Some(rest) => after_two(&['半'], &['会', '會', '刻'], rest).is_some(),
+        None => false,
+    }
+}
+
 /// Whether a phrase that begins with this text, after another text, may mean something else, is a date
-/// of another calendar, or is in a title.
+/// of another calendar, is in a title, or may begin further in front: a circle may be a zero.
 pub fn is_doubtful(before: &str, found: Match<'_>, text: &str) -> bool
     ensures { result ≡ is_doubtful (in_front before.now) (found_of found.entry) (chars text.now) }
 {
     may_be_years(found.form, found.numbers.last, text, found.rest)
         || is_of_old_calendar(before, found.form, text)
         || may_be_decimal(before, found, text)
+        || is_short_while(text)
+        || ends_with(&['○', '◯'], before)
         || is_title_open(before)
 }
 

@@ -11,4 +11,4 @@ mod write_figures;
 
 pub use error::QuantityToChineseError;
 pub use numerals::{MOST_QUANTITY_BYTES, greatest_spelled, put_quantity, quantity_to_chinese};
-pub use write_figures::{MOST_FIGURES_BYTES, put_figures, quantity_to_figures};
+pub use write_figures::{MOST_FIGURES_BYTES, put_figures, put_number, quantity_to_figures};

@@ -31,8 +31,8 @@ impl Hand for Ascii {
     }
 }
 
-// Writes a number.
-fn put_number(text: &mut EndBuffer, number: u128)
+/// Writes a number in decimal figures before the text that is there.
+pub fn put_number(text: &mut EndBuffer, number: u128)
     requires { 39 ≤ text.old.free }
     ensures put { Prepends text.old text.new (decimal number) }
     ensures room { text.old.free ≤ text.new.free + 39 }

@@ -1,5 +1,5 @@
 // Reads the input block by block, and answers its lines.
-ghost use Rattle.std.specs.Prelude.{◌≡◌, ◌<◌, ◌≤◌, ◌++◌, [], ◌∷◌, false, length, take, drop, slice_index, OnOk, OnErr, IfOk, IfSome, MatchOption, string_bytes};
+ghost use Rattle.std.specs.Prelude.{◌≡◌, ◌<◌, ◌≤◌, ◌++◌, [], ◌∷◌, false, length, take, drop, slice_index, OnOk, OnErr, IfOk, IfSome, MatchOption};
 ghost use Rattle.std.specs.Io.KnownBytes.{Keeps, ReadConsumes};
 ghost use Rattle.cn_lines.specs.Lines.{HasNoFeed, last_line, lines};
 ghost use Rattle.cn_lines.specs.Answer.{Answers};
@@ -9,21 +9,13 @@ ghost use Rattle.numeral.specs.Steps.{Fails, Puts, Replies, AnswersEnded};
 
 use crate::devices::{Sink, Source};
 use crate::fault::RunError;
-use cn_lines::answer::answer;
+use cn_lines::answer::{MOST_ANSWER_BYTES, answer};
 use cn_lines::lines::split_line;
-use std::alloc::{AllocError, Global};
+use std::alloc::Global;
 
 // The number of bytes that are read at a time.
 // Same answer (65536 → 65535, 65536 → 65537): the lines are the same for every block size.
 const BLOCK: usize = 65536;
-
-// What is kept from line to line: the start of a line that continues in the next block, and the
-// buffer that an answer is written into.
-#[derive(Drop)]
-struct Buffers {
-    line: Vec<u8>,
-    answer: String,
-}
 
 // The rest of the bytes after the first `count`.
 #[inline(always)]
@@ -49,75 +41,71 @@ fn write_all<W: Sink>(writer: &mut W, bytes: &[u8]) -> Result<(), RunError>
     Ok(())
 }
 
-// Ends the line of an answer.
-#[inline(always)]
-fn push_line_feed(answer: &mut String) -> Result<(), AllocError>
-    ensures { OnOk result (string_bytes answer.new ≡ string_bytes answer.old ++ 10 ∷ []) }
+// Writes an answer and a line feed.
+fn write_answer<W: Sink>(writer: &mut W, answer: &str) -> Result<(), RunError>
+    requires { (W.state writer.old).failed ≡ false }
+    ensures { Puts (W.state writer.old) (W.state writer.new) (answer.now ++ 10 ∷ []) result }
 {
-    answer.push('\n')
+    write_all(writer, answer.as_bytes())?;
+    write_all(writer, b"\n")
 }
 
 // Answers a line. The whole answer is computed before any of it is written.
-fn answer_line<W: Sink>(writer: &mut W, text: &mut String, line: &[u8]) -> Result<(), RunError>
+fn answer_line<W: Sink>(writer: &mut W, line: &[u8]) -> Result<(), RunError>
     requires { (W.state writer.old).failed ≡ false }
     ensures { Replies (W.state writer.old) (W.state writer.new) (line.now ∷ []) result }
 {
-    text.clear();
-    answer(text, line)?;
-    push_line_feed(text)?;
-    write_all(writer, text.as_bytes())
+    let mut room = [0; MOST_ANSWER_BYTES];
+    write_answer(writer, answer(&mut room, line))
 }
 
-// Answers the kept line with this piece appended, and then keeps nothing.
-// Same answer (if buffers.line.is_empty() → nothing): the answers are equal; only
-// tests/test_numeral.py shows which lines need memory.
-fn answer_kept<W: Sink>(writer: &mut W, buffers: &mut Buffers, piece: &[u8]) -> Result<(), RunError>
+// Answers the line that begins with the bytes that are kept and ends with this piece, and then keeps
+// nothing.
+// Same answer (if kept.is_empty() → nothing): the answers are equal; only tests/test_numeral.py
+// shows which lines need memory.
+fn answer_kept<W: Sink>(writer: &mut W, kept: &mut Vec<u8>, piece: &[u8]) -> Result<(), RunError>
     requires { (W.state writer.old).failed ≡ false }
     ensures replies { Replies (W.state writer.old) (W.state writer.new)
-        ((buffers.old.line.items ++ piece.now) ∷ []) result }
-    ensures kept { OnOk result (buffers.new.line.items ≡ []) }
+        ((kept.old.items ++ piece.now) ∷ []) result }
+    ensures kept { OnOk result (kept.new.items ≡ []) }
 {
-    if buffers.line.is_empty() {
-        return answer_line(writer, &mut buffers.answer, piece);
+    if kept.is_empty() {
+        return answer_line(writer, piece);
     }
-    buffers.line.extend_from_slice(piece)?;
-    answer_line(writer, &mut buffers.answer, buffers.line.as_slice())?;
-    buffers.line.clear();
+    kept.extend_from_slice(piece)?;
+    answer_line(writer, kept.as_slice())?;
+    kept.clear();
     Ok(())
 }
 
 // Processes the next bytes: answers each line that ends in them, and keeps the rest.
-fn answer_ended<W: Sink>(
-    writer: &mut W,
-    buffers: &mut Buffers,
-    block: &[u8],
-) -> Result<(), RunError>
+fn answer_ended<W: Sink>(writer: &mut W, kept: &mut Vec<u8>, block: &[u8]) -> Result<(), RunError>
     requires works { (W.state writer.old).failed ≡ false }
-    requires unended { HasNoFeed buffers.old.line.items }
+    requires unended { HasNoFeed kept.old.items }
     ensures { AnswersEnded (W.state writer.old) (W.state writer.new)
-        (buffers.old.line.items ++ block.now) buffers.new.line.items result }
+        (kept.old.items ++ block.now) kept.new.items result }
 {
     let mut rest = block;
     'lines: while let Some((line, after)) = split_line(rest) {
-        answer_kept(writer, buffers, line)?;
+        answer_kept(writer, kept, line)?;
         rest = after;
     }
     if !rest.is_empty() {
-        buffers.line.extend_from_slice(rest)?;
+        kept.extend_from_slice(rest)?;
     }
     Ok(())
 }
 
 // Answers the bytes that are kept at the end of the input, if they are a line.
-fn answer_last<W: Sink>(writer: &mut W, buffers: &mut Buffers) -> Result<(), RunError>
+fn answer_last<W: Sink>(writer: &mut W, kept: &[u8]) -> Result<(), RunError>
     requires { (W.state writer.old).failed ≡ false }
     ensures replies { Replies (W.state writer.old) (W.state writer.new)
-        (last_line buffers.old.line.items) result }
-    ensures some { OnErr result (0 < length buffers.old.line.items) }
+        (last_line kept.now) result }
+    ensures some { OnErr result (0 < length kept.now) }
 {
-    match buffers.line.as_slice() {
+    match kept {
         [] => Ok(()),
-        line => answer_line(writer, &mut buffers.answer, line),
+        line => answer_line(writer, line),
     }
 }
 
@@ -170,18 +158,16 @@ fn run_by<R: Source, W: Sink>(
         (W.state writer.old) (W.state writer.new) result }
     ensures stops { Stops (R.state reader.old) (R.state reader.new) result }
 {
-    let mut buffers = Buffers {
-        line: Vec::new(alloc),
-        answer: String::new(alloc),
-    };
+    // the start of a line that continues in the next block
+    let mut kept = Vec::new(alloc);
     'reads: loop {
         let count = flush_and_read(reader, writer, block)?;
         if count == 0 {
             break;
         }
-        answer_ended(writer, &mut buffers, first_bytes(block, count))?;
+        answer_ended(writer, &mut kept, first_bytes(block, count))?;
     }
-    answer_last(writer, &mut buffers)
+    answer_last(writer, kept.as_slice())
 }
 
 /// Reads the input to its end, and writes the answers to its lines, each followed by a line feed.

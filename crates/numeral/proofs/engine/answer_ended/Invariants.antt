@@ -6,7 +6,7 @@ abbrev pub invariant-lines : goal.invariant-lines
 invariant-lines g l =
     (seen : List ℕ) × (l.fn.block ≡ seen ++ l.rest)
     × State (g.W.Sink.state l.fn.writer) (g.W.Sink.state l.writer)
-    (l.fn.buffers.line.items ++ seen) l.buffers.line.items
+    (l.fn.kept.items ++ seen) l.kept.items
     × ((g.W.Sink.state l.writer).failed ≡ false)
 
 abbrev pub decreases-lines : goal.decreases-lines

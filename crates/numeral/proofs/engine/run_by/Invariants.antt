@@ -7,7 +7,7 @@ abbrev pub invariant-reads : goal.invariant-reads
 invariant-reads g l =
     (got : List ℕ) × Consumes (g.R.Source.state l.fn.reader).remaining
     (g.R.Source.state l.reader).remaining got
-    × State (g.W.Sink.state l.fn.writer) (g.W.Sink.state l.writer) got l.buffers.line.items
+    × State (g.W.Sink.state l.fn.writer) (g.W.Sink.state l.writer) got l.kept.items
     × ((g.R.Source.state l.reader).failed ≡ false) × ((g.W.Sink.state l.writer).failed ≡ false)
     × ((g.R.Source.state l.reader).empty.count ≡ (g.R.Source.state l.fn.reader).empty.count)
 
