@@ -993,8 +993,8 @@ static void try_numbers_of(const search *of) {
         cn_reading read;
         uint32_t status = chinese_number_read(now.text + it->start, it->end - it->start, CN_U128, CN_DIGITS,
                                               &read);
-        expect((it->flags & CN_PLAIN_DIGITS) != 0 ? status == CN_DONE || status == CN_TOO_LARGE
-                                                  : status == CN_INCORRECT,
+        expect(status == CN_TOO_LARGE
+                   || status == (uint32_t)((it->flags & CN_PLAIN_DIGITS) != 0 ? CN_DONE : CN_INCORRECT),
                "plain digits are read as such");
         expect(it->flags / 16 == CN_NO_DOUBT, "a number has no doubt");
     }
