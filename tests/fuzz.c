@@ -9,21 +9,17 @@
  * first wrong answer, sanitizer report or abort() it prints the case, the call and its input in
  * hexadecimal, and ends with status 1. */
 #define _DEFAULT_SOURCE
-#include "misuse/calls.h"
+#include "misuse/texts.h"
 
 #include <signal.h>
 #include <time.h>
 #include <unistd.h>
 
-__extension__ typedef unsigned __int128 whole;
-
-/* A draft has room for one character after a text. */
-enum { MOST_WRITTEN = 12 * MOST_TEXT, MOST_OF_TEXT = 480, MOST_OF_DRAFT = MOST_OF_TEXT + 4, VALUES = 6 };
+enum { VALUES = 6 };
 
 /* What is tried now, for the report. */
 static struct {
     unsigned long long seed, number;
-    uint64_t state;
     const char *call;
     uint64_t values[VALUES];
     const uint8_t *text;
@@ -67,211 +63,6 @@ static void trying(const char *call, uint64_t one, uint64_t two) {
     now.call = call;
     now.values[0] = one;
     now.values[1] = two;
-}
-
-/* ---- Random values ---- */
-
-static uint64_t below(uint64_t limit) { return next_random(&now.state) % limit; }
-
-static int once_in(uint64_t times) { return below(times) == 0; }
-
-static uint64_t random_bits(unsigned bits) {
-    uint64_t all = next_random(&now.state) << 32 ^ next_random(&now.state);
-    return bits == 0 ? 0 : all >> (64 - bits);
-}
-
-/* A number of up to this many bits; or one with zeros in between. */
-static whole random_whole(unsigned most_bits) {
-    unsigned bits = (unsigned)below(most_bits + 1);
-    whole value = bits <= 64 ? random_bits(bits) : (whole)random_bits(bits - 64) << 64 | random_bits(64);
-    if (once_in(3)) {
-        value = 0;
-        for (uint64_t digits = below(17); digits > 0; digits--)
-            value = value * 10 + (once_in(2) ? 0 : below(10));
-    }
-    return value;
-}
-
-static whole power_of_ten(uint64_t exponent) {
-    whole power = 1;
-    while (exponent-- > 0)
-        power *= 10;
-    return power;
-}
-
-static cn_number halves(whole value) { return (cn_number){(uint64_t)value, (uint64_t)(value >> 64)}; }
-
-static whole joined(cn_number number) { return (whole)number.high << 64 | number.low; }
-
-/* Whether a type holds a number, which is given in two's complement if it is below 0. */
-static int holds(uint32_t kind, whole value, int is_negative) {
-    unsigned bits = 8u << kind % 5;
-    if (kind >= CN_I8)
-        return (is_negative ? ~value : value) >> (bits - 1) == 0;
-    return !is_negative && (bits == 128 || value >> bits == 0);
-}
-
-static int is_negative_of(uint32_t kind, whole value) { return kind >= CN_I8 && value >> 127 != 0; }
-
-static uint32_t days_of(uint64_t year, uint64_t month) {
-    static const uint32_t days[] = {31, 28, 31, 30, 31, 30, 31, 31, 30, 31, 30, 31};
-    int is_leap = year % 4 == 0 && (year % 100 != 0 || year % 400 == 0);
-    return month < 1 || month > 12 ? 0 : days[month - 1] + (month == 2 && is_leap);
-}
-
-/* ---- Texts ---- */
-
-typedef struct draft {
-    uint8_t bytes[MOST_WRITTEN];
-    size_t length;
-} draft;
-
-static void add_bytes(draft *to, const uint8_t *bytes, size_t length) {
-    if (length > MOST_OF_DRAFT - to->length)
-        return;
-    memcpy(to->bytes + to->length, bytes, length);
-    to->length += length;
-}
-
-static void add(draft *to, const char *text) { add_bytes(to, (const uint8_t *)text, strlen(text)); }
-
-static void add_code_point(draft *to, uint32_t code) {
-    uint8_t bytes[4] = {(uint8_t)code};
-    size_t more = code < 0x80 ? 0 : code < 0x800 ? 1 : code < 0x10000 ? 2 : 3;
-    for (size_t at = more; at > 0; at--, code >>= 6)
-        bytes[at] = (uint8_t)(0x80 | (code & 0x3F));
-    if (more > 0)
-        bytes[0] = (uint8_t)(0xFF00u >> (more + 1) | code);
-    add_bytes(to, bytes, more + 1);
-}
-
-/* The characters of the digits and of the units that have several, each list in docs/RULES.md. */
-static const char *const same[] = {"零〇", "一壹", "二貳贰貮兩两", "三參叁叄参", "四肆", "五伍", "六陸陆", "七柒", "八捌",
-                                   "九玖", "個个", "十拾", "百佰", "千仟", "萬万", "億亿", "溝沟", "澗涧", "載载", "極极",
-                                   "負负"};
-static const char *const greater[] = {"兆", "京", "垓", "秭", "穰", "正", "廿", "卅", "又", "零下", "‰", "％"};
-/* In a template, # is a number below 64, @ a year, $ a numeral, and ~ a link. */
-static const char *const templates[] = {
-    "@年#月#日", "@-#-#", "@/#/#", "#月#号", "#月底", "@年", "#时#分#秒", "下午#点半", "晚上#点", "#:#", "上午#:#:#",
-    "#点#刻", "#小时#分#秒", "#个半小时", "#年半", "#米#", "#比#", "$~$万", "#%~#%", "#月~#月", "@年~@年", "#日~#日",
-    "百分之$", "$分之$", "$点$万", "周三#点", "两$", "$两", "廿#", "第#条", "乾隆@年", "农历#月#日", "#.#", "#,000",
-    "几$", "$多", "#折", "#成", "#个#", "#十#", "$又#分之#", "-$", "¥#", "《$》", "_$", "#进制", "#0", "人民币$元"};
-static const char *const links[] = {"到", "至", "~", "～", "–", "—", "〜", "-"};
-
-#define ONE_OF(list) (list)[below(LENGTH_OF(list))]
-
-/* One of the characters of a text, each of which has three bytes. */
-static void add_one_of(draft *to, const char *characters) {
-    add_bytes(to, (const uint8_t *)characters + 3 * below(strlen(characters) / 3), 3);
-}
-
-static void add_number(draft *to, whole value, uint32_t kind, uint32_t way) {
-    uint8_t text[CN_MOST_BYTES];
-    size_t length;
-    cn_number number = halves(value);
-    uint32_t script = (uint32_t)below(2), letter_case = (uint32_t)!once_in(4);
-    if (chinese_number_print(number.low, number.high, kind, way, script, letter_case, text, sizeof text,
-                             &length) == CN_DONE)
-        add_bytes(to, text, length);
-}
-
-/* A number below 100, in figures, as a count in Chinese, or digit by digit. */
-static void add_count(draft *to, uint64_t value, uint64_t form) {
-    char figures[8];
-    snprintf(figures, sizeof figures, form == 0 ? "%02u" : "%u", (unsigned)value);
-    if (form < 2)
-        add(to, figures);
-    else if (value == 0)
-        add(to, "〇");
-    else {
-        if (value >= 20)
-            add_bytes(to, (const uint8_t *)same[value / 10], 3);
-        add(to, value >= 10 ? "十" : "");
-        add_bytes(to, (const uint8_t *)same[value % 10], value % 10 == 0 ? 0 : 3);
-    }
-}
-
-static void add_year(draft *to, uint64_t year, int in_figures) {
-    char figures[8];
-    snprintf(figures, sizeof figures, "%04u", (unsigned)year);
-    for (const char *at = figures; *at != 0; at++)
-        if (in_figures)
-            add_bytes(to, (const uint8_t *)at, 1);
-        else
-            add_bytes(to, (const uint8_t *)same[*at - '0'], 3);
-}
-
-static void add_template(draft *to, const char *template) {
-    for (const char *at = template; *at != 0; at++)
-        if (*at == '#')
-            add_count(to, below(64), below(3));
-        else if (*at == '@')
-            add_year(to, 1000 + below(2000), once_in(2));
-        else if (*at == '~')
-            add(to, ONE_OF(links));
-        else if (*at == '$')
-            add_number(to, random_whole(40), CN_U128, CN_LOW + (uint32_t)below(5));
-        else
-            add_bytes(to, (const uint8_t *)at, 1);
-}
-
-static void add_amount(draft *to) {
-    uint8_t text[CN_MOST_SIGNED_AMOUNT_BYTES];
-    size_t length;
-    int64_t fen = (int64_t)random_whole(60) * (once_in(4) ? -1 : 1);
-    if (chinese_signed_amount_print(fen, (uint32_t)below(2), (uint32_t)below(16), text, sizeof text, &length)
-        == CN_DONE)
-        add_bytes(to, text, length);
-}
-
-static void add_date(draft *to) {
-    uint8_t text[CN_MOST_DATE_BYTES];
-    size_t length;
-    if (chinese_date_print((uint32_t)below(10000), (uint32_t)below(13), (uint32_t)below(32),
-                           (uint32_t)below(2), text, sizeof text, &length) == CN_DONE)
-        add_bytes(to, text, length);
-}
-
-static void add_pieces(draft *to) {
-    for (uint64_t count = below(16); count > 0; count--)
-        switch (below(8)) {
-        case 0: add(to, ONE_OF(greater)); break;
-        case 1: add_code_point(to, (uint32_t)below(once_in(9) ? 0xD800 : 0xA000)); break;
-        case 2: add(to, once_in(20) ? ONE_OF(broken) : ONE_OF(links)); break;
-        case 3:
-        case 4: add_one_of(to, ONE_OF(same)); break;
-        default: add(to, ONE_OF(parts));
-        }
-}
-
-/* Changes a byte, or cuts, inserts or doubles something, mostly at a character. */
-static void edit(draft *text) {
-    draft old = *text;
-    size_t at = below(old.length + 1), to = at + below(4);
-    while (!once_in(30) && at > 0 && at < old.length && (old.bytes[at] & 0xC0) == 0x80)
-        at--;
-    to = to < at ? at : to > old.length ? old.length : to;
-    while (!once_in(30) && to < old.length && (old.bytes[to] & 0xC0) == 0x80)
-        to++;
-    text->length = at;
-    if (once_in(2))
-        add(text, once_in(2) ? ONE_OF(parts) : once_in(40) ? ONE_OF(broken) : ONE_OF(greater));
-    if (once_in(4))
-        add_bytes(text, old.bytes + at, to - at);
-    if (once_in(20))
-        to = old.length;
-    add_bytes(text, old.bytes + to, old.length - to);
-}
-
-static void add_text(draft *to) {
-    switch (below(8)) {
-    case 0:
-    case 1: add_template(to, ONE_OF(templates)); break;
-    case 2: add_number(to, random_whole(128), once_in(2) ? CN_I128 : CN_U128, (uint32_t)below(6)); break;
-    case 3: add_amount(to); break;
-    case 4: add_date(to); break;
-    default: add_pieces(to);
-    }
 }
 
 /* Puts a draft into a block that has exactly its bytes. */
@@ -417,21 +208,6 @@ static void expect_number(const draft *text, uint32_t kind, uint32_t way, whole 
     expect(joined(read.number) == (status == CN_DONE ? value : 0), "the number that was printed");
 }
 
-/* Writes one of the characters of the same meaning in the place of each. */
-static void vary(const draft *text, draft *to) {
-    to->length = 0;
-    for (size_t at = 0; at < text->length; at += 3) {
-        const char *list = NULL;
-        for (size_t which = 0; which < LENGTH_OF(same) && list == NULL; which++)
-            for (const char *one = same[which]; *one != 0; one += 3)
-                list = memcmp(one, text->bytes + at, 3) == 0 ? same[which] : list;
-        if (list == NULL)
-            add_bytes(to, text->bytes + at, 3);
-        else
-            add_one_of(to, list);
-    }
-}
-
 static void try_number(void) {
     uint32_t kind = (uint32_t)below(10), way = (uint32_t)below(6), bits = 8u << kind % 5, status;
     draft text, varied;
@@ -559,14 +335,15 @@ static void try_amount(void) {
 }
 
 static void try_date(void) {
-    uint64_t year = once_in(9) ? below(3) * 4999 + below(3) : below(10000), month = below(14);
-    uint32_t day = (uint32_t)(once_in(2) ? 28 + below(5) : below(33)), status;
+    uint32_t date[3];
+    random_date(once_in(9) ? 9990 : 0, once_in(9) ? 20 : 9999, date);
+    uint32_t year = date[0], month = date[1], day = date[2], status;
     int exists = year >= 1 && year <= 9999 && day >= 1 && day <= days_of(year, month);
     cn_date read;
     draft text;
     trying("chinese_date_print, then chinese_date_read", year * 100 + month, day);
-    status = chinese_date_print((uint32_t)year, (uint32_t)month, day, (uint32_t)below(2), text.bytes,
-                                sizeof text.bytes, &text.length);
+    status = chinese_date_print(year, month, day, (uint32_t)below(2), text.bytes, sizeof text.bytes,
+                                &text.length);
     if (!exists) {
         expect(status == CN_NOT_A_DATE && text.length == 0, "no date");
         return;
@@ -578,31 +355,6 @@ static void try_date(void) {
 }
 
 /* ---- Texts whose meaning is known ---- */
-
-static const char *const full_width[] = {"０", "１", "２", "３", "４", "５", "６", "７", "８", "９"};
-
-static void add_figure(draft *to, char figure) {
-    if (once_in(5))
-        add(to, full_width[figure - '0']);
-    else
-        add_bytes(to, (const uint8_t *)&figure, 1);
-}
-
-/* The digits of a number, sometimes with commas, and a point before so many of them. */
-static void add_figures(draft *to, uint64_t value, uint64_t decimals) {
-    char digits[24];
-    int has_commas = once_in(2);
-    size_t length = (size_t)snprintf(digits, sizeof digits, "%0*llu", (int)decimals + 1,
-                                     (unsigned long long)value);
-    for (size_t at = 0; at < length; at++) {
-        size_t left = length - (size_t)decimals - at;
-        if (at + decimals == length)
-            add(to, once_in(5) ? "．" : ".");
-        else if (has_commas && at > 0 && at + decimals < length && left % 3 == 0)
-            add(to, once_in(5) ? "，" : ",");
-        add_figure(to, digits[at]);
-    }
-}
 
 static void try_figures(void) {
     uint64_t value = (uint64_t)random_whole(once_in(5) ? 63 : 59), decimals = below(3);
@@ -656,12 +408,6 @@ static cn_phrase phrase_of(const draft *text) {
     return *found;
 }
 
-/* A count has no zero in Chinese. */
-static void add_slot(draft *to, uint64_t value, const char *word) {
-    add_count(to, value, value == 0 ? below(2) : below(3));
-    add(to, word);
-}
-
 static void expect_phrase(const draft *text, cn_phrase_kind kind, int exists, const uint32_t *numbers) {
     static const uint32_t none[4] = {0};
     cn_phrase found = phrase_of(text);
@@ -672,16 +418,15 @@ static void expect_phrase(const draft *text, cn_phrase_kind kind, int exists, co
 }
 
 static void try_date_in_text(void) {
-    uint32_t year = 1000 + (uint32_t)below(2000), month = (uint32_t)below(15);
-    uint32_t day = (uint32_t)(once_in(2) ? 28 + below(5) : below(35));
-    const uint32_t numbers[] = {year, month, day, 7};
+    uint32_t date[4] = {0, 0, 0, 7};
+    random_date(1000, 2000, date);
     draft text = {.length = 0};
-    trying("chinese_phrase_find, a date", year * 100 + month, day);
-    add_year(&text, year, once_in(2));
+    trying("chinese_phrase_find, a date", date[0] * 100 + date[1], date[2]);
+    add_year(&text, date[0], once_in(2));
     add(&text, "年");
-    add_slot(&text, month, "月");
-    add_slot(&text, day, once_in(2) ? "日" : "号");
-    expect_phrase(&text, CN_PHRASE_KIND_DATE, day >= 1 && day <= days_of(year, month), numbers);
+    add_slot(&text, date[1], "月");
+    add_slot(&text, date[2], once_in(2) ? "日" : "号");
+    expect_phrase(&text, CN_PHRASE_KIND_DATE, date[2] >= 1 && date[2] <= days_of(date[0], date[1]), date);
 }
 
 static void try_time_in_text(void) {
@@ -725,21 +470,6 @@ static place read_input(uint32_t input, const uint8_t *text, size_t length) {
     case CN_DATE: PLACE_OF(cn_date, chinese_date_read)
     default: PLACE_OF(cn_signed_amount, chinese_figures_read)
     }
-}
-
-static size_t characters_of(const uint8_t *text, size_t length) {
-    size_t count = 0;
-    for (size_t at = 0; at < length; at++)
-        count += (text[at] & 0xC0) != 0x80;
-    return count;
-}
-
-/* Where the character with this number begins. */
-static size_t byte_of(const draft *text, size_t number) {
-    size_t at = 0;
-    while (at < text->length && characters_of(text->bytes, at + 1) <= number)
-        at++;
-    return at;
 }
 
 static place read_with(uint32_t input, const draft *begun, uint32_t character) {
@@ -1128,9 +858,11 @@ static void try_text(void) {
         add_text(&text);
     for (uint64_t count = once_in(2) ? 0 : 1 + below(2); count > 0; count--)
         edit(&text);
+    add(&text, once_in(9) ? ONE_OF(broken) : "");
+    add(&text, once_in(2) ? ONE_OF(parts) : "");
     text.length = text.length < MOST_OF_TEXT ? text.length : MOST_OF_TEXT;
     uint8_t *block = exact(&text);
-    if (once_in(4))
+    if (once_in(4) || !is_utf8(now.text, now.length))
         try_calls();
     for (size_t which = 0; which < LENGTH_OF(of_texts) && is_utf8(now.text, now.length); which++)
         of_texts[which]();
@@ -1140,8 +872,8 @@ static void try_text(void) {
 }
 
 static void try_case(void) {
-    now.state = (now.seed << 32 ^ now.number) * UINT64_C(0x9E3779B97F4A7C15) + 1;
-    next_random(&now.state);
+    random_state = (now.seed << 32 ^ now.number) * UINT64_C(0x9E3779B97F4A7C15) + 1;
+    next_random(&random_state);
     for (size_t which = 0; which < LENGTH_OF(known); which++) {
         now.text = NULL;
         now.length = 0;
