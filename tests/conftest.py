@@ -22,7 +22,7 @@ from running import (
 
 
 def pytest_addoption(parser):
-    parser.addoption("--fuzz", default="15s", help="the cases of tests/fuzz.c, or seconds with `s`")
+    parser.addoption("--fuzz", help="the cases of tests/fuzz.c, or seconds with `s`")
     parser.addoption("--seed", default="1", help="the seed of tests/fuzz.c")
     parser.addoption("--library", type=Path, help="a folder that bindings/archive.sh has filled")
     parser.addoption("--packages", type=Path, help="a folder that bindings/packages.sh has filled")

@@ -52,9 +52,7 @@ static void on_abort(int number) {
 }
 
 /* The sanitizers end a program by abort() too, so that the case is printed. */
-const char *__asan_default_options(void);
 const char *__asan_default_options(void) { return "abort_on_error=1"; }
-const char *__ubsan_default_options(void);
 const char *__ubsan_default_options(void) { return "abort_on_error=1:print_stacktrace=1"; }
 
 /* Names the call that is tried, with its codes. */
@@ -673,6 +671,10 @@ static int is_at_character(size_t at) {
     return at == now.length || (at < now.length && (now.text[at] & 0xC0) != 0x80);
 }
 
+static int is_same_span(cn_span one, cn_span other) {
+    return one.start == other.start && one.end == other.end && one.flags == other.flags;
+}
+
 static void expect_spans(const search *of) {
     size_t end = 0;
     for (const cn_span *it = of->spans; it < of->spans + of->count; it++) {
@@ -695,9 +697,7 @@ static void try_in_parts(const search *of, finding *find, finding *trusting) {
         expect(status == CN_DONE && count <= most && count <= of->count - at, "as many spans");
         expect(count == most || at + count == of->count, "all spans, if they are less than the most");
         for (size_t which = 0; which < count; which++, at++) {
-            expect(spans[which].start == of->spans[at].start && spans[which].end == of->spans[at].end
-                       && spans[which].flags == of->spans[at].flags,
-                   "the spans of the whole search");
+            expect(is_same_span(spans[which], of->spans[at]), "the spans of the whole search");
             from = spans[which].end;
         }
         free(spans);
@@ -778,9 +778,7 @@ static void try_phrases(const search *expressions, search *items) {
         if (next.kind == CN_PHRASE_KIND_RANGE)
             expect_range(&next);
         if (next.kind == CN_PHRASE_KIND_EXPRESSION)
-            expect(expression < end && expression->start == next.start && expression->end == next.end
-                       && expression->flags == next.flags,
-                   "the next expression");
+            expect(expression < end && is_same_span(*expression, cn_span_of(&next)), "the next expression");
         while (expression < end && expression->start < next.end)
             expect(expression++->end <= next.end, "an expression in the phrase");
     }
@@ -794,9 +792,7 @@ static void try_phrases_at_once(const search *of) {
                                           of->count + 1, &count);
     expect(status == CN_DONE && count == of->count, "as many phrases at once");
     for (size_t at = 0; at < count; at++)
-        expect(found[at].start == of->spans[at].start && found[at].end == of->spans[at].end
-                   && found[at].flags == of->spans[at].flags,
-               "the same phrases at once");
+        expect(is_same_span(cn_span_of(found + at), of->spans[at]), "the same phrases at once");
     free(found);
 }
 
