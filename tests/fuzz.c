@@ -87,30 +87,6 @@ static answer ask_in(const call *by, question it, size_t room_length, uint8_t *c
     return said;
 }
 
-static void random_values(const call *by, uint64_t *values) {
-    whole one = random_whole(128), other = once_in(3) ? power_of_ten(below(38)) : random_whole(128);
-    one = once_in(3) ? -one : one;
-    for (size_t at = 0; at < 2; at++) {
-        values[at] = (uint64_t)(one >> 64 * at);
-        values[2 + at] = (uint64_t)(other >> 64 * at);
-    }
-    if (by->ask == date_print) {
-        values[0] = below(10050);
-        values[1] = below(14);
-        values[2] = below(33);
-    }
-}
-
-/* Each place has a code that names something, or sometimes another one. */
-static int random_codes(const call *by, uint32_t *codes) {
-    int all = 1;
-    for (size_t place = 0; place < PLACES && by->named[place] != 0; place++) {
-        codes[place] = once_in(20) ? ONE_OF(tried) : (uint32_t)below(by->named[place]);
-        all &= codes[place] < by->named[place];
-    }
-    return all;
-}
-
 static int is_printed(const call *by, answer said) {
     static const uint32_t statuses = STATUS(CN_DONE) | STATUS(CN_TOO_LARGE) | STATUS(CN_TOO_SMALL)
         | STATUS(CN_NOT_HELD) | STATUS(CN_NOT_A_DATE) | STATUS(CN_NOT_A_QUANTITY);
@@ -332,6 +308,23 @@ static void try_amount(void) {
     }
 }
 
+/* The text of a year, and then that of 29 February, which the year may not have. */
+static void try_leap_day(uint32_t year) {
+    draft first, other, day = {.length = 0};
+    cn_date read;
+    uint32_t status = chinese_date_print(year, 1, 1, CN_SIMPLIFIED, first.bytes, sizeof first.bytes, &first.length);
+    if (status != CN_DONE)
+        return;
+    status = chinese_date_print(2000, 2, 29, CN_SIMPLIFIED, other.bytes, sizeof other.bytes, &other.length);
+    expect_printed(status, &other, CN_MOST_DATE_BYTES);
+    add_bytes(&day, first.bytes, 3 * (size_t)snprintf(NULL, 0, "%u", (unsigned)year));
+    add_bytes(&day, other.bytes + 12, other.length - 12);
+    now.text = day.bytes;
+    now.length = day.length;
+    status = chinese_date_read(day.bytes, day.length, &read);
+    expect(status == (uint32_t)(days_of(year, 2) == 29 ? CN_DONE : CN_INCORRECT), "29 February in leap years alone");
+}
+
 static void try_date(void) {
     uint32_t date[3];
     random_date(once_in(9) ? 9990 : 0, once_in(9) ? 20 : 9999, date);
@@ -342,6 +335,7 @@ static void try_date(void) {
     trying("chinese_date_print, then chinese_date_read", year * 100 + month, day);
     status = chinese_date_print(year, month, day, (uint32_t)below(2), text.bytes, sizeof text.bytes,
                                 &text.length);
+    try_leap_day(year);
     if (!exists) {
         expect(status == CN_NOT_A_DATE && text.length == 0, "no date");
         return;

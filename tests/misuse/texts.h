@@ -12,6 +12,8 @@ static uint64_t random_state;
 
 static uint64_t below(uint64_t limit) { return next_random(&random_state) % limit; }
 
+#define ONE_OF(list) (list)[below(LENGTH_OF(list))]
+
 static int once_in(uint64_t times) { return below(times) == 0; }
 
 static uint64_t random_bits(unsigned bits) {
@@ -36,6 +38,31 @@ static whole power_of_ten(uint64_t exponent) {
     while (exponent-- > 0)
         power *= 10;
     return power;
+}
+
+/* The values of a call that prints. */
+static void random_values(const call *by, uint64_t *values) {
+    whole one = random_whole(128), other = once_in(3) ? power_of_ten(below(38)) : random_whole(128);
+    one = once_in(3) ? -one : one;
+    for (size_t at = 0; at < 2; at++) {
+        values[at] = (uint64_t)(one >> 64 * at);
+        values[2 + at] = (uint64_t)(other >> 64 * at);
+    }
+    if (by->ask == date_print) {
+        values[0] = below(10050);
+        values[1] = below(14);
+        values[2] = below(33);
+    }
+}
+
+/* Each place has a code that names something, or sometimes another one. */
+static int random_codes(const call *by, uint32_t *codes) {
+    int all = 1;
+    for (size_t place = 0; place < PLACES && by->named[place] != 0; place++) {
+        codes[place] = once_in(20) ? ONE_OF(tried) : (uint32_t)below(by->named[place]);
+        all &= codes[place] < by->named[place];
+    }
+    return all;
 }
 
 static cn_number halves(whole value) { return (cn_number){(uint64_t)value, (uint64_t)(value >> 64)}; }
@@ -93,11 +120,9 @@ static const char *const greater[] = {"兆", "京", "垓", "秭", "穰", "正", 
 static const char *const templates[] = {
     "@年#月#日", "@-#-#", "@/#/#", "#月#号", "#月底", "@年", "#时#分#秒", "下午#点半", "晚上#点", "#:#", "上午#:#:#",
     "#点#刻", "#小时#分#秒", "#个半小时", "#年半", "#米#", "#比#", "$~$万", "#%~#%", "#月~#月", "@年~@年", "#日~#日",
-    "百分之$", "$分之$", "$点$万", "周三#点", "两$", "$两", "廿#", "第#条", "乾隆@年", "农历#月#日", "#.#", "#,000",
+    "百分之$", "$分之$", "$点$万", "周三#点", "两$", "$两", "$两%", "廿#", "第#条", "乾隆@年", "农历#月#日", "#.#", "#,000",
     "几$", "$多", "#折", "#成", "#个#", "#十#", "$又#分之#", "-$", "¥#", "《$》", "_$", "#进制", "#0", "人民币$元"};
 static const char *const links[] = {"到", "至", "~", "～", "–", "—", "〜", "-"};
-
-#define ONE_OF(list) (list)[below(LENGTH_OF(list))]
 
 /* One of the characters of a text, each of which has three bytes. */
 static void add_one_of(draft *to, const char *characters) {
