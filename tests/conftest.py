@@ -6,10 +6,24 @@ from pathlib import Path
 
 import pytest
 
-from running import HEADER, PYTHON, TOP, Program, leave_out, needs, needs_rt, once, run
+from running import (
+    HEADER,
+    PYTHON,
+    SANITIZERS,
+    TOP,
+    Program,
+    leave_out,
+    needs,
+    needs_compiler,
+    needs_rt,
+    once,
+    run,
+)
 
 
 def pytest_addoption(parser):
+    parser.addoption("--fuzz", help="the cases of tests/fuzz.c, or seconds with `s`")
+    parser.addoption("--seed", default="1", help="the seed of tests/fuzz.c")
     parser.addoption("--library", type=Path, help="a folder that bindings/archive.sh has filled")
     parser.addoption("--packages", type=Path, help="a folder that bindings/packages.sh has filled")
     parser.addoption("--pictures", type=Path, help="a folder for pictures of the page")
@@ -48,6 +62,16 @@ def of_c_source(tmp_path_factory):
         run("cc", "-shared", "chinese_number.o", "-o", "libchinese_number.so", cwd=lib)
 
     return once(tmp_path_factory, "of_c_source", make)
+
+
+@pytest.fixture(scope="session")
+def sanitized(tmp_path_factory):
+    """The object that clang makes from the C source with its sanitizers for addresses and undefined
+    behaviour, without optimization, which costs more time than it saves."""
+    needs_compiler(tmp_path_factory.mktemp("clang"), "clang", *SANITIZERS)
+    words = ("clang", "-O0", *SANITIZERS, "-c", TOP / "dist/chinese_number.c")
+    make = lambda folder: run(*words, "-o", "chinese_number.o", cwd=folder)
+    return once(tmp_path_factory, "sanitized", make) / "chinese_number.o"
 
 
 @pytest.fixture(scope="session", params=["archive", "of_c_source"])

@@ -20,6 +20,7 @@ PYTHON = TOP / "bindings/python"
 HEADER = Path(sysconfig.get_path("include"), "Python.h")
 SECONDS = 10  # the limit for an answer in a dialogue
 WINE = "wine|wine64|/usr/lib/wine/wine64"
+SANITIZERS = ("-fsanitize=address,undefined", "-fno-sanitize-recover=all", "-g")
 
 
 def leave_out(why):

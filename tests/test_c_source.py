@@ -8,7 +8,7 @@ import re
 
 import pytest
 
-from running import TOP, WINE, needs, needs_compiler, of_wine, run, write
+from running import SANITIZERS, TOP, WINE, needs, needs_compiler, of_wine, run, write
 from test_c import EACH_WARNING, FIRST_STEPS, FIRST_STEPS_OF_CPP
 
 DIST, EXAMPLE = TOP / "dist", TOP / "bindings/c/example.c"
@@ -22,7 +22,6 @@ BUILDS = {
     "gcc, freestanding": (("gcc", "-O2", "-ffreestanding", *THREADS), None),
     "clang": (("clang", "-O2", *THREADS), None),
     # Each with the optimization level that needs the least time to compile and run.
-    "addresses": (("clang", "-O0", "-fsanitize=address,undefined", *SANITIZED), None),
     "threads": (("clang", "-O1", "-fsanitize=thread", *SANITIZED), None),
     "memory": (("clang", "-O1", "-fsanitize=memory", *SANITIZED), None),
     "musl": (("musl-gcc", *STATIC), None),
@@ -58,6 +57,10 @@ def test_sum(of_archive, tmp_path, name):
     needs_compiler(tmp_path, *words)
     runner = [needs(runner)] if runner else []
     assert sum_of(tmp_path, words, DIST / "chinese_number.c", runner) == of_archive
+
+
+def test_sum_sanitized(of_archive, sanitized, tmp_path):
+    assert sum_of(tmp_path, ("clang", *SANITIZERS, *THREADS), sanitized) == of_archive
 
 
 def test_sum_without_memory(of_archive, refuse_growth, tmp_path):

@@ -387,7 +387,7 @@ typedef enum cn_flag CN_OF_CODE {
     CN_STANDS_ALONE = 2,
     /* It is approximate, such as 十 in 十几 and 几十, and 五六. */
     CN_ABOUT = 4,
-    /* It is one Chinese character, such as 一 in 一般. */
+    /* It is one character and no figure, such as 一 in 一般, and % in 一两%. */
     CN_ONE_CHARACTER = 8,
 } CN_FLAGS cn_flag;
 
