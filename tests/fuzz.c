@@ -100,7 +100,7 @@ static int is_refused(answer said, uint32_t status) {
 }
 
 static void judge_answer(const call *by, const question *it, answer said, int all_named) {
-    int good = by->statuses == 0 || is_utf8(it->text, it->text_length);
+    int good = by->statuses == 0 || takes_bytes(by) || is_utf8(it->text, it->text_length);
     int right = !all_named
         ? is_refused(said, CN_UNKNOWN) || (!good && is_refused(said, CN_NOT_UTF8))
         : !good ? is_refused(said, CN_NOT_UTF8)

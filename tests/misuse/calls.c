@@ -105,12 +105,12 @@ static void try_replacing(task *mine, const call *by) {
     judge(mine, try_rooms(mine, by, it) == 18, "18 bytes", by, &it);
 }
 
-/* A room of each length for a message on a text that each reader refuses. */
+/* A room of each length for a message on a text that each reader refuses, or for a long answer. */
 static void try_message(task *mine, const call *by) {
-    static const uint8_t text[] = "百%";
+    static const uint8_t text[] = "百%", line[] = "print i128 low simple upper -8888888888888888";
     question it = ample(mine, by);
-    it.text = text;
-    it.text_length = sizeof text - 1;
+    it.text = takes_bytes(by) ? line : text;
+    it.text_length = takes_bytes(by) ? sizeof line - 1 : sizeof text - 1;
     judge(mine, try_rooms(mine, by, it) != 0, "a message", by, &it);
 }
 
@@ -159,7 +159,7 @@ static void try_text(task *mine, const uint8_t *text, size_t length, uint64_t ch
         it.text = text;
         it.text_length = length;
         said = ask(mine, by, &it, NULL);
-        judge(mine, good ? is_whole(by, &it, said) : is_same(said, not_utf8),
+        judge(mine, good || takes_bytes(by) ? is_whole(by, &it, said) : is_same(said, not_utf8),
               good ? "an answer of the status" : "no UTF-8", by, &it);
         judge(mine, by->style == PROVED || is_same(said, before), "the answer of the proved call", by,
               &it);

@@ -675,6 +675,9 @@ static uint64_t next_random(uint64_t *state) {
     return *state >> 8;
 }
 
+/* Whether a text that is not UTF-8 has an answer. */
+static int takes_bytes(const call *by) { return by->ask == line_answer; }
+
 /* Whether bytes are UTF-8, by table 3-7 of the Unicode standard: how many follow the first one, and
  * from where to where the second may go. */
 static int is_utf8(const uint8_t *text, size_t length) {
