@@ -35,7 +35,7 @@ type Found struct {
 	StandsAlone bool
 	// IsAbout says that it is approximate, such as 十 in 十几, and 五六.
 	IsAbout bool
-	// IsOneCharacter says that it is one Chinese character, such as 一 in 一般.
+	// IsOneCharacter says that it is one character and no figure, such as 一 in 一般.
 	IsOneCharacter bool
 	// Doubt says why a reader may understand an expression as something other than its quantity:
 	// DoubtDigits for 五一. A number has NoDoubt.

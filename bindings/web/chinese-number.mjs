@@ -1405,7 +1405,7 @@ class Span {
     this.standsAlone = (flags & STANDS_ALONE) !== 0;
     /** Whether it is approximate, such as 十 in 十几, and 五六. */
     this.isAbout = (flags & ABOUT) !== 0;
-    /** Whether it is one Chinese character, such as 一 in 一般. */
+    /** Whether it is one character and no figure, such as 一 in 一般. */
     this.isOneCharacter = (flags & ONE_CHARACTER) !== 0;
   }
 }

@@ -940,7 +940,7 @@ class Found(_Run):
     is_plain: it is plain digits; a single digit is, 十 is not.
     stands_alone: no letter or digit touches it or is linked to it; neither part of 3.5万 stands alone.
     is_about: it is approximate, such as 十 in 十几, and 五六.
-    is_one_character: it is a single Chinese character, such as 一 in 一般.
+    is_one_character: it is one character and no figure, such as 一 in 一般.
 
     It may hold a reference to the whole text.
     """

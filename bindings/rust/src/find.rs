@@ -85,7 +85,7 @@ impl<'a> Found<'a> {
         self.flags & flag::ABOUT != 0
     }
 
-    /// Whether it is one Chinese character, such as 一 in 一般 and 十 in 十分.
+    /// Whether it is one character and no figure, such as 一 in 一般 and 十 in 十分.
     #[inline]
     #[must_use]
     pub fn is_one_character(self) -> bool {
