@@ -3,25 +3,13 @@ were written from docs/RULES.md alone: what is read and written, each refusal wi
 position, and what may come next. `python3 tests/models/compare_numbers.py 2000000 --seed 5` tries more
 cases."""
 import random
-import sys
 
-import pytest
-
-from running import TOP
-from test_python import module_over
+from test_text import library, models
 
 COUNT, SEED = 100_000, 20261130
 
 
-@pytest.fixture(scope="module")
-def library(of_c_source):
-    with module_over(of_c_source) as module:
-        yield module
-
-
-def test_models(library, monkeypatch):
-    monkeypatch.syspath_prepend(TOP / "tests/models")
-    monkeypatch.setattr(sys, "dont_write_bytecode", True)
+def test_models(library, models):
     import compare_numbers
 
     differences = compare_numbers.differences(library, COUNT, random.Random(SEED))

@@ -25,9 +25,14 @@ def library(of_c_source):
         yield module
 
 
-def test_model(library, monkeypatch):
+@pytest.fixture
+def models(monkeypatch):
+    """The modules of tests/models can be imported."""
     monkeypatch.syspath_prepend(TOP / "tests/models")
     monkeypatch.setattr(sys, "dont_write_bytecode", True)
+
+
+def test_model(library, models):
     import compare
 
     source = random.Random(SEED)
