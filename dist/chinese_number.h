@@ -387,7 +387,7 @@ typedef enum cn_flag CN_OF_CODE {
     CN_STANDS_ALONE = 2,
     /* It is approximate, such as 十 in 十几 and 几十, and 五六. */
     CN_ABOUT = 4,
-    /* It is one Chinese character, such as 一 in 一般. */
+    /* It is one character and no figure, such as 一 in 一般, and % in 一两%. */
     CN_ONE_CHARACTER = 8,
 } CN_FLAGS cn_flag;
 
@@ -419,6 +419,8 @@ typedef enum cn_flag CN_OF_CODE {
 #define CN_MOST_DATE_BYTES 39
 /* The most bytes of a message. */
 #define CN_MOST_MESSAGE_BYTES 512
+/* The most bytes of an answer to a line. */
+#define CN_MOST_ANSWER_BYTES 256
 
 /* The most characters that may come next in a text. */
 #define CN_MOST_EXPECTED 48
@@ -815,6 +817,14 @@ uint32_t chinese_quantity_message(const uint8_t *text, size_t text_length, uint3
  * large to be printed. The message is empty for CN_DONE. Returns CN_DONE, CN_NO_ROOM or CN_UNKNOWN
  * (also if there is no such status). */
 uint32_t chinese_status_message(uint32_t status, uint32_t language, uint8_t *room, size_t room_length, size_t *length);
+
+/* Answers a line, which may be any bytes: `print u128 naive traditional lower 123` with `ok 一二三`, and what
+ * is no question with `bad line`. numeral.c answers each line of its input so. Writes *length, how many
+ * bytes the answer has. Writes to the buffer only at CN_DONE, and then only the answer.
+ *
+ * Returns CN_DONE or CN_NO_ROOM. A buffer of CN_MOST_ANSWER_BYTES is never too small. */
+uint32_t chinese_number_answer_line(const uint8_t *line, size_t line_length, uint8_t *room, size_t room_length,
+                                    size_t *length);
 
 /* The version of the linked library: CN_VERSION_NUMBER of its header. */
 uint32_t chinese_number_version(void);

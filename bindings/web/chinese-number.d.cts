@@ -715,6 +715,17 @@ export function quantityMessage(
  */
 export function statusMessage(status: Status, language: Language): string;
 
+/**
+ * Answers a line as the program `numeral` does:
+ * `answerLine('print u128 naive traditional lower 123')` is 'ok 一二三', and what is no question has
+ * the answer 'bad line'. The line is a string, or bytes, which need not be UTF-8. Throws a TypeError
+ * if it is neither.
+ *
+ * @param {string | Uint8Array} line
+ * @returns {string}
+ */
+export function answerLine(line: string | Uint8Array): string;
+
 /** A refusal, with the place of the wrong character if there is one. */
 declare class Refusal extends Error {
   /**
@@ -916,7 +927,7 @@ declare class Span {
   standsAlone: boolean;
   /** Whether it is approximate, such as 十 in 十几, and 五六. */
   isAbout: boolean;
-  /** Whether it is one Chinese character, such as 一 in 一般. */
+  /** Whether it is one character and no figure, such as 一 in 一般. */
   isOneCharacter: boolean;
 }
 

@@ -263,6 +263,7 @@ const MOST_AMOUNT_BYTES = 117n;
 const MOST_SIGNED_AMOUNT_BYTES = 129n;
 const MOST_DATE_BYTES = 39n;
 const MOST_MESSAGE_BYTES = 512n;
+const MOST_ANSWER_BYTES = 256n;
 
 const TEXTS = {
   empty: 'a chinese number cannot be empty',
@@ -673,6 +674,14 @@ function hand(string, room = 0) {
   refuseNoString(string);
   lend(3 * string.length + room);
   halves[LENGTH_HALF] = string.length > FEW ? encoded(string) : written(string);
+}
+
+// Copies bytes there likewise, whatever they are.
+/** @param {Uint8Array} bytes @param {number} room */
+function handBytes(bytes, room) {
+  lend(bytes.length + room);
+  text.set(bytes);
+  words[LENGTH_WORD] = BigInt(bytes.length);
 }
 
 /** @param {string} string */
@@ -1396,7 +1405,7 @@ class Span {
     this.standsAlone = (flags & STANDS_ALONE) !== 0;
     /** Whether it is approximate, such as 十 in 十几, and 五六. */
     this.isAbout = (flags & ABOUT) !== 0;
-    /** Whether it is one Chinese character, such as 一 in 一般. */
+    /** Whether it is one character and no figure, such as 一 in 一般. */
     this.isOneCharacter = (flags & ONE_CHARACTER) !== 0;
   }
 }
@@ -1992,6 +2001,24 @@ export function quantityMessage(string, language, options = NO_OPTIONS) {
  */
 export function statusMessage(status, language) {
   return statusIn(codeAmong(STATUS, status), codeAmong(LANGUAGE, language));
+}
+
+/**
+ * Answers a line as the program `numeral` does:
+ * `answerLine('print u128 naive traditional lower 123')` is 'ok 一二三', and what is no question has
+ * the answer 'bad line'. The line is a string, or bytes, which need not be UTF-8. Throws a TypeError
+ * if it is neither.
+ *
+ * @param {string | Uint8Array} line
+ * @returns {string}
+ */
+export function answerLine(line) {
+  if (line instanceof Uint8Array) handBytes(line, Number(MOST_ANSWER_BYTES));
+  else hand(line, Number(MOST_ANSWER_BYTES));
+  const length = words[LENGTH_WORD];
+  ended(library.chinese_number_answer_line(TEXT_AT, length, TEXT_AT + length, MOST_ANSWER_BYTES,
+    LENGTH_AT));
+  return decoded(Number(length));
 }
 
 // The message of a call of the module about a string, in a language.
