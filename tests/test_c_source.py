@@ -14,20 +14,20 @@ from test_c import EACH_WARNING, FIRST_STEPS, FIRST_STEPS_OF_CPP
 DIST, EXAMPLE = TOP / "dist", TOP / "bindings/c/example.c"
 THREADS = ("-DTHREADS", "-pthread")
 MINGW = ("x86_64-w64-mingw32-gcc", "-O2", "-static")
-STATIC = ("-O2", "-static", *THREADS)
-SANITIZED = ("-fno-sanitize-recover=all", *THREADS)
-# The compiler, and what runs the program if this machine cannot: the first one that is there.
+EMULATED = ("-O2", "-static")
+CHECKED = ("-O1", "-fno-sanitize-recover=all")
+# The compiler, and what runs the program if this machine cannot: the first one that is there. Four
+# threads would take four times as long where it is emulated or checked, so there is one.
 BUILDS = {
     "gcc": (("gcc", "-O2", *THREADS), None),
-    "gcc, freestanding": (("gcc", "-O2", "-ffreestanding", *THREADS), None),
+    "gcc, freestanding": (("gcc", "-O2", "-ffreestanding"), None),
     "clang": (("clang", "-O2", *THREADS), None),
-    # Each with the optimization level that needs the least time to compile and run.
-    "threads": (("clang", "-O1", "-fsanitize=thread", *SANITIZED), None),
-    "memory": (("clang", "-O1", "-fsanitize=memory", *SANITIZED), None),
-    "musl": (("musl-gcc", *STATIC), None),
-    "aarch64": (("aarch64-linux-gnu-gcc", *STATIC), "qemu-aarch64|qemu-aarch64-static"),
-    "arm": (("arm-linux-gnueabihf-gcc", *STATIC), "qemu-arm|qemu-arm-static"),
-    "s390x": (("s390x-linux-gnu-gcc", *STATIC), "qemu-s390x|qemu-s390x-static"),
+    "threads": (("clang", *CHECKED, "-fsanitize=thread", *THREADS), None),
+    "memory": (("clang", *CHECKED, "-fsanitize=memory"), None),
+    "musl": (("musl-gcc", "-O2", "-static", *THREADS), None),
+    "aarch64": (("aarch64-linux-gnu-gcc", *EMULATED), "qemu-aarch64|qemu-aarch64-static"),
+    "arm": (("arm-linux-gnueabihf-gcc", *EMULATED), "qemu-arm|qemu-arm-static"),
+    "s390x": (("s390x-linux-gnu-gcc", *EMULATED), "qemu-s390x|qemu-s390x-static"),
     "windows": (MINGW, WINE),
 }
 # Each memory request is refused. There are no threads, which would make requests themselves.
@@ -60,7 +60,7 @@ def test_sum(of_archive, tmp_path, name):
 
 
 def test_sum_sanitized(of_archive, sanitized, tmp_path):
-    assert sum_of(tmp_path, ("clang", *SANITIZERS, *THREADS), sanitized) == of_archive
+    assert sum_of(tmp_path, ("clang", *SANITIZERS), sanitized) == of_archive
 
 
 def test_sum_without_memory(of_archive, refuse_growth, tmp_path):
