@@ -108,6 +108,9 @@ LANGUAGES = {
         types={"kind": "kind", "quantity_form": "Form"},
         prefixed=("input", "doubt", "fault", "phrase_kind", "phrase_state"),
     ),
+    "java": Language(
+        *("/** ", " * ", " */", "{@link {Type}#{NAME}}", "{@link ChineseNumbers#{camel}}")
+    ),
     "python": Language('"""', "", '"""', "{NAME}", "{name}", "{NAME}: {text}."),
     "js": JAVASCRIPT,
     "ts": JAVASCRIPT,
@@ -312,16 +315,30 @@ def together(template, each):
 def files(groups):
     """The path of each file, what it has now, and what it must have."""
     for names, part in parts_of(read(TOP / "bindings/codes.in"), "=== ")[1]:
-        name, path = names.split()
-        head, blocks = parts_of(part, "--- ")
-        made = "\n".join(Writer(name, groups).blocks(blocks))
-        found = read(TOP / path) if (TOP / path).is_file() else ""
-        if head.strip():
-            yield path, found, f"{head}\n{made}"
-        elif around := PART.fullmatch(found):
-            yield path, found, f"{around[1]}\n{made}\n{around[2]}"
-        else:
-            sys.exit(f"codes: {path} has no two comments around what is made")
+        name, pattern = names.split()
+        head, all_blocks = parts_of(part, "--- ")
+        for path, blocks in places(pattern, all_blocks):
+            made = "\n".join(Writer(name, groups).blocks(blocks))
+            yield file_of(path, head, made)
+
+
+def places(path, blocks):
+    """The files of a path, each with its blocks: with {Type} in the path, a file for each group."""
+    if "{Type}" not in path:
+        return [(path, blocks)]
+    groups = [(it, template) for names, template in blocks for it in names.split()]
+    return [(fill(path, {"Type": pascal(it)}), [(it, template)]) for it, template in groups]
+
+
+def file_of(path, head, made):
+    """The path of a file, what it has now, and what it must have."""
+    found = read(TOP / path) if (TOP / path).is_file() else ""
+    if head.strip():
+        return path, found, f"{head}\n{made}"
+    around = PART.fullmatch(found)
+    if not around:
+        sys.exit(f"codes: {path} has no two comments around what is made")
+    return path, found, f"{around[1]}\n{made}\n{around[2]}"
 
 
 def repeated():

@@ -1,0 +1,8929 @@
+// The proved module for WebAssembly as Java; made by bindings/java/core.py.
+package chinesenumber;
+
+final class Core5 {
+static int f149_1(State m, long l0, long l1, long l2, long l3, long l6, long l7, long l8, long l9, int l10, int l11, int l12, int l13, int l14, int l15, int l16, int l17) {
+ final byte[] b = m.bytes;
+ int exit = 0;
+ PART: {
+  L2: {
+   L3: {
+    L4: {
+     L5: {
+      L6: {
+       L7: {
+        L8: {
+         L9: {
+          if ((l6 = m.g0) < 16L) { break L9; }
+          L10: {
+           L11: {
+            if (l1 == 0L) { break L11; }
+            L12: {
+             if ((l10 = (int) b[((int) (l0 + (l7 = l1 + -1L))) - 60720]) >= 0) { break L12; }
+             l7 = -2L;
+             L13: {
+              if ((b[((int) ((l8 = l0 + l1) + -2L)) - 60720] & 0xff) + Integer.MIN_VALUE > -2147483457) { break L13; }
+              l7 = ((b[((int) (l8 + -3L)) - 60720] & 0xff) + Integer.MIN_VALUE > -2147483457) ? -3L : -4L;
+             }
+             l10 = (l11 = (int) b[((int) (l8 = l0 + (l7 = l7 + l1))) - 60720]) & 255;
+             if (l11 > -1) { break L12; }
+             l12 = (b[((int) l8) - 60719] & 0xff) & 63;
+             L14: {
+              if (l11 + Integer.MIN_VALUE > 2147483615) { break L14; }
+              l10 = ((l10 << 6) & 1984) | l12;
+              break L12;
+             }
+             l13 = (b[((int) l8) - 60718] & 0xff) & 63;
+             L15: {
+              if (l11 + Integer.MIN_VALUE > 2147483631) { break L15; }
+              l10 = ((l12 << 6) | ((l10 << 12) & 61440)) | l13;
+              break L12;
+             }
+             l10 = ((l13 << 6) | ((l12 << 12) | ((l10 << 18) & 1835008))) | ((b[((int) l8) - 60717] & 0xff) & 63);
+            }
+            L16: {
+             L17: {
+              L18: {
+               L19: {
+                L20: {
+                 if (l10 > 26375) { break L20; }
+                 if (l10 == 21021) { break L10; }
+                 if (l10 == 21452) { break L19; }
+                 if (l10 != 24180) { break L11; }
+                 if (l3 == 0L) { break L2; }
+                 l10 = (l11 = (int) b[((int) l2) - 60720]) & 255;
+                 if (l11 <= -1) { break L18; }
+                 l7 = -1L;
+                 break L3;
+                }
+                if (l10 == 26376) { break L16; }
+                if (l10 == 36947) { break L17; }
+                if (l10 != 38617) { break L11; }
+               }
+               if (l3 == 0L) { break L2; }
+               l10 = (l11 = (int) b[((int) l2) - 60720]) & 255;
+               L21: {
+                if (l11 <= -1) { break L21; }
+                l7 = -1L;
+                break L3;
+               }
+               if (l11 + Integer.MIN_VALUE < 2147483616) { break L7; }
+               l12 = (b[((int) l2) - 60719] & 0xff) & 63;
+               l13 = (b[((int) l2) - 60718] & 0xff) & 63;
+               L22: {
+                L23: {
+                 if (l11 + Integer.MIN_VALUE > 2147483631) { break L23; }
+                 l14 = ((l12 << 6) | ((l10 << 12) & 61440)) | l13;
+                 l7 = 3L;
+                 break L22;
+                }
+                l14 = ((l13 << 6) | ((l12 << 12) | ((l10 << 18) & 1835008))) | ((b[((int) l2) - 60717] & 0xff) & 63);
+                l7 = 4L;
+               }
+               L24: {
+                if (l3 == l7) { break L24; }
+                if (l14 != 21313) { break L24; }
+                if ((l14 = (int) b[((int) (l8 = l2 + l7)) - 60720]) > -1) { break L24; }
+                if (l14 + Integer.MIN_VALUE < 2147483616) { break L24; }
+                l15 = l14 & 255;
+                l16 = (b[((int) l8) - 60719] & 0xff) & 63;
+                l17 = (b[((int) l8) - 60718] & 0xff) & 63;
+                L25: {
+                 L26: {
+                  if (l14 + Integer.MIN_VALUE < 2147483632) { break L26; }
+                  l14 = ((l17 << 6) | ((l16 << 12) | ((l15 << 18) & 1835008))) | ((b[((int) l8) - 60717] & 0xff) & 63);
+                  l8 = 4L;
+                  break L25;
+                 }
+                 l14 = ((l16 << 6) | ((l15 << 12) & 61440)) | l17;
+                 l8 = 3L;
+                }
+                if (l14 != 19968) { break L24; }
+                if (l3 != (l8 + l7)) { break L24; }
+                m.g0 = l6;
+                m.intResult = 1; exit = 1; break PART;
+               }
+               L27: {
+                L28: {
+                 if (l11 + Integer.MIN_VALUE > 2147483631) { break L28; }
+                 l12 = ((l12 << 6) | ((l10 << 12) & 61440)) | l13;
+                 l7 = 3L;
+                 break L27;
+                }
+                l12 = ((l13 << 6) | ((l12 << 12) | ((l10 << 18) & 1835008))) | ((b[((int) l2) - 60717] & 0xff) & 63);
+                l7 = 4L;
+               }
+               if (l3 == l7) { break L5; }
+               if (l12 != 21313) { break L5; }
+               if ((l12 = (int) b[((int) (l8 = l2 + l7)) - 60720]) > -1) { break L5; }
+               if (l12 + Integer.MIN_VALUE < 2147483616) { break L5; }
+               l13 = l12 & 255;
+               l14 = (b[((int) l8) - 60719] & 0xff) & 63;
+               l15 = (b[((int) l8) - 60718] & 0xff) & 63;
+               L29: {
+                L30: {
+                 if (l12 + Integer.MIN_VALUE < 2147483632) { break L30; }
+                 l12 = ((l15 << 6) | ((l14 << 12) | ((l13 << 18) & 1835008))) | ((b[((int) l8) - 60717] & 0xff) & 63);
+                 l8 = 4L;
+                 break L29;
+                }
+                l12 = ((l14 << 6) | ((l13 << 12) & 61440)) | l15;
+                l8 = 3L;
+               }
+               if (l12 != 20108) { break L5; }
+               if (l3 != (l8 + l7)) { break L5; }
+               m.g0 = l6;
+               m.intResult = 1; exit = 1; break PART;
+              }
+              if (l11 + Integer.MIN_VALUE < 2147483616) { break L7; }
+              l12 = (b[((int) l2) - 60719] & 0xff) & 63;
+              l13 = (b[((int) l2) - 60718] & 0xff) & 63;
+              L31: {
+               L32: {
+                if (l11 + Integer.MIN_VALUE > 2147483631) { break L32; }
+                l12 = ((l12 << 6) | ((l10 << 12) & 61440)) | l13;
+                l7 = 3L;
+                break L31;
+               }
+               l12 = ((l13 << 6) | ((l12 << 12) | ((l10 << 18) & 1835008))) | ((b[((int) l2) - 60717] & 0xff) & 63);
+               l7 = 4L;
+              }
+              if (l3 == l7) { break L5; }
+              if (l12 != 19977) { break L5; }
+              if ((l12 = (int) b[((int) (l8 = l2 + l7)) - 60720]) > -1) { break L5; }
+              if (l12 + Integer.MIN_VALUE < 2147483616) { break L5; }
+              l13 = l12 & 255;
+              l14 = (b[((int) l8) - 60719] & 0xff) & 63;
+              l15 = (b[((int) l8) - 60718] & 0xff) & 63;
+              L33: {
+               L34: {
+                if (l12 + Integer.MIN_VALUE < 2147483632) { break L34; }
+                l12 = ((l15 << 6) | ((l14 << 12) | ((l13 << 18) & 1835008))) | ((b[((int) l8) - 60717] & 0xff) & 63);
+                l8 = 4L;
+                break L33;
+               }
+               l12 = ((l14 << 6) | ((l13 << 12) & 61440)) | l15;
+               l8 = 3L;
+              }
+              if (l12 != 21313) { break L5; }
+              if (l3 != (l8 + l7)) { break L5; }
+              m.g0 = l6;
+              m.intResult = 1; exit = 1; break PART;
+             }
+             if (l7 == 0L) { break L11; }
+             if (((int) b[((int) ((l8 = l0 + l7) + -1L)) - 60720]) > -1) { break L11; }
+             l9 = -2L;
+             L35: {
+              if ((b[((int) (l8 + -2L)) - 60720] & 0xff) + Integer.MIN_VALUE > -2147483457) { break L35; }
+              l9 = ((b[((int) (l8 + -3L)) - 60720] & 0xff) + Integer.MIN_VALUE > -2147483457) ? -3L : -4L;
+             }
+             if ((l10 = (int) b[((int) (l7 = (l0 + l9) + l7)) - 60720]) > -1) { break L11; }
+             if (l10 + Integer.MIN_VALUE < 2147483616) { break L11; }
+             l11 = l10 & 255;
+             l12 = (b[((int) l7) - 60719] & 0xff) & 63;
+             l13 = (b[((int) l7) - 60718] & 0xff) & 63;
+             L36: {
+              L37: {
+               if (l10 + Integer.MIN_VALUE > 2147483631) { break L37; }
+               l10 = ((l12 << 6) | ((l11 << 12) & 61440)) | l13;
+               break L36;
+              }
+              l10 = ((l13 << 6) | ((l12 << 12) | ((l11 << 18) & 1835008))) | ((b[((int) l7) - 60717] & 0xff) & 63);
+             }
+             if (l3 == 0L) { break L11; }
+             if (l10 != 21315) { break L11; }
+             l10 = (l11 = (int) b[((int) l2) - 60720]) & 255;
+             L38: {
+              if (l11 <= -1) { break L38; }
+              l7 = -1L;
+              break L3;
+             }
+             if (l11 + Integer.MIN_VALUE < 2147483616) { break L7; }
+             l12 = (b[((int) l2) - 60719] & 0xff) & 63;
+             l13 = (b[((int) l2) - 60718] & 0xff) & 63;
+             L39: {
+              L40: {
+               if (l11 + Integer.MIN_VALUE > 2147483631) { break L40; }
+               l14 = ((l12 << 6) | ((l10 << 12) & 61440)) | l13;
+               l7 = 3L;
+               break L39;
+              }
+              l14 = ((l13 << 6) | ((l12 << 12) | ((l10 << 18) & 1835008))) | ((b[((int) l2) - 60717] & 0xff) & 63);
+              l7 = 4L;
+             }
+             L41: {
+              if (l3 == l7) { break L41; }
+              if (l14 != 19968) { break L41; }
+              if ((l14 = (int) b[((int) (l8 = l2 + l7)) - 60720]) > -1) { break L41; }
+              if (l14 + Integer.MIN_VALUE < 2147483616) { break L41; }
+              l15 = l14 & 255;
+              l16 = (b[((int) l8) - 60719] & 0xff) & 63;
+              l17 = (b[((int) l8) - 60718] & 0xff) & 63;
+              L42: {
+               L43: {
+                if (l14 + Integer.MIN_VALUE < 2147483632) { break L43; }
+                l14 = ((l17 << 6) | ((l16 << 12) | ((l15 << 18) & 1835008))) | ((b[((int) l8) - 60717] & 0xff) & 63);
+                l8 = 4L;
+                break L42;
+               }
+               l14 = ((l16 << 6) | ((l15 << 12) & 61440)) | l17;
+               l8 = 3L;
+              }
+              if (l14 != 19975) { break L41; }
+              if (l3 != (l8 + l7)) { break L41; }
+              m.g0 = l6;
+              m.intResult = 1; exit = 1; break PART;
+             }
+             L44: {
+              L45: {
+               if (l11 + Integer.MIN_VALUE > 2147483631) { break L45; }
+               l12 = ((l12 << 6) | ((l10 << 12) & 61440)) | l13;
+               l7 = 3L;
+               break L44;
+              }
+              l12 = ((l13 << 6) | ((l12 << 12) | ((l10 << 18) & 1835008))) | ((b[((int) l2) - 60717] & 0xff) & 63);
+              l7 = 4L;
+             }
+             if (l3 == l7) { break L5; }
+             if (l12 != 19968) { break L5; }
+             if ((l12 = (int) b[((int) (l8 = l2 + l7)) - 60720]) > -1) { break L5; }
+             if (l12 + Integer.MIN_VALUE < 2147483616) { break L5; }
+             l13 = l12 & 255;
+             l14 = (b[((int) l8) - 60719] & 0xff) & 63;
+             l15 = (b[((int) l8) - 60718] & 0xff) & 63;
+             L46: {
+              L47: {
+               if (l12 + Integer.MIN_VALUE < 2147483632) { break L47; }
+               l12 = ((l15 << 6) | ((l14 << 12) | ((l13 << 18) & 1835008))) | ((b[((int) l8) - 60717] & 0xff) & 63);
+               l8 = 4L;
+               break L46;
+              }
+              l12 = ((l14 << 6) | ((l13 << 12) & 61440)) | l15;
+              l8 = 3L;
+             }
+             if (l12 != 33836) { break L5; }
+             if (l3 != (l8 + l7)) { break L5; }
+             m.g0 = l6;
+             m.intResult = 1; exit = 1; break PART;
+            }
+            if (l7 == 0L) { break L11; }
+            if (((int) b[((int) ((l8 = l0 + l7) + -1L)) - 60720]) > -1) { break L11; }
+            l9 = -2L;
+            L48: {
+             if ((b[((int) (l8 + -2L)) - 60720] & 0xff) + Integer.MIN_VALUE > -2147483457) { break L48; }
+             l9 = ((b[((int) (l8 + -3L)) - 60720] & 0xff) + Integer.MIN_VALUE > -2147483457) ? -3L : -4L;
+            }
+            if ((l10 = (int) b[((int) (l7 = (l0 + l9) + l7)) - 60720]) > -1) { break L11; }
+            if (l10 + Integer.MIN_VALUE < 2147483616) { break L11; }
+            l11 = l10 & 255;
+            l12 = (b[((int) l7) - 60719] & 0xff) & 63;
+            l13 = (b[((int) l7) - 60718] & 0xff) & 63;
+            L49: {
+             L50: {
+              if (l10 + Integer.MIN_VALUE > 2147483631) { break L50; }
+              l11 = ((l12 << 6) | ((l11 << 12) & 61440)) | l13;
+              break L49;
+             }
+             l11 = ((l13 << 6) | ((l12 << 12) | ((l11 << 18) & 1835008))) | ((b[((int) l7) - 60717] & 0xff) & 63);
+            }
+            l10 = 1;
+            if (l11 == 27491) { exit = 2; break PART; }
+            if (l11 == 33098) { exit = 2; break PART; }
+            if (l11 == 33240) { exit = 2; break PART; }
+           }
+           if (l3 == 0L) { break L2; }
+           l10 = (l11 = (int) b[((int) l2) - 60720]) & 255;
+           L51: {
+            if (l11 <= -1) { break L51; }
+            l7 = -1L;
+            break L3;
+           }
+           l12 = (b[((int) l2) - 60719] & 0xff) & 63;
+           if (l11 + Integer.MIN_VALUE > 2147483615) { break L4; }
+           break L6;
+          }
+          if (!(l3 == 0L)) { break L8; }
+          break L2;
+         }
+         throw State.trap();
+        }
+        l10 = (l11 = (int) b[((int) l2) - 60720]) & 255;
+        L52: {
+         if (l11 <= -1) { break L52; }
+         l7 = -1L;
+         break L3;
+        }
+        if (l11 + Integer.MIN_VALUE < 2147483616) { break L7; }
+        l12 = (b[((int) l2) - 60719] & 0xff) & 63;
+        l13 = (b[((int) l2) - 60718] & 0xff) & 63;
+        L53: {
+         L54: {
+          if (l11 + Integer.MIN_VALUE > 2147483631) { break L54; }
+          l12 = ((l12 << 6) | ((l10 << 12) & 61440)) | l13;
+          l7 = 3L;
+          break L53;
+         }
+         l12 = ((l13 << 6) | ((l12 << 12) | ((l10 << 18) & 1835008))) | ((b[((int) l2) - 60717] & 0xff) & 63);
+         l7 = 4L;
+        }
+        if (l3 == l7) { break L5; }
+        if (l12 != 19968) { break L5; }
+        if ((l12 = (int) b[((int) (l8 = l2 + l7)) - 60720]) > -1) { break L5; }
+        if (l12 + Integer.MIN_VALUE < 2147483616) { break L5; }
+        l13 = l12 & 255;
+        l14 = (b[((int) l8) - 60719] & 0xff) & 63;
+        l15 = (b[((int) l8) - 60718] & 0xff) & 63;
+        L55: {
+         L56: {
+          if (l12 + Integer.MIN_VALUE < 2147483632) { break L56; }
+          l12 = ((l15 << 6) | ((l14 << 12) | ((l13 << 18) & 1835008))) | ((b[((int) l8) - 60717] & 0xff) & 63);
+          l9 = 4L;
+          break L55;
+         }
+         l12 = ((l14 << 6) | ((l13 << 12) & 61440)) | l15;
+         l9 = 3L;
+        }
+        if (l12 != 21313) { break L5; }
+        if (l3 == (l7 = l9 + l7)) { break L5; }
+        if ((l12 = (int) b[((int) (l8 = l8 + l9)) - 60720]) > -1) { break L5; }
+        if (l12 + Integer.MIN_VALUE < 2147483616) { break L5; }
+        l13 = l12 & 255;
+        l14 = (b[((int) l8) - 60719] & 0xff) & 63;
+        l15 = (b[((int) l8) - 60718] & 0xff) & 63;
+        L57: {
+         L58: {
+          if (l12 + Integer.MIN_VALUE < 2147483632) { break L58; }
+          l12 = ((l15 << 6) | ((l14 << 12) | ((l13 << 18) & 1835008))) | ((b[((int) l8) - 60717] & 0xff) & 63);
+          l8 = 4L;
+          break L57;
+         }
+         l12 = ((l14 << 6) | ((l13 << 12) & 61440)) | l15;
+         l8 = 3L;
+        }
+        if (l12 != 20116) { break L5; }
+        if (l3 != (l8 + l7)) { break L5; }
+        m.g0 = l6;
+        m.intResult = 1; exit = 1; break PART;
+       }
+       l12 = (b[((int) l2) - 60719] & 0xff) & 63;
+      }
+      l10 = ((l10 << 6) & 1984) | l12;
+      l7 = -2L;
+      break L3;
+     }
+     l12 = (b[((int) l2) - 60719] & 0xff) & 63;
+    }
+    l13 = (b[((int) l2) - 60718] & 0xff) & 63;
+    L59: {
+     if (l11 + Integer.MIN_VALUE > 2147483631) { break L59; }
+     l10 = ((l12 << 6) | ((l10 << 12) & 61440)) | l13;
+     l7 = -3L;
+     break L3;
+    }
+    l10 = ((l13 << 6) | ((l12 << 12) | ((l10 << 18) & 1835008))) | ((b[((int) l2) - 60717] & 0xff) & 63);
+    l7 = -4L;
+   }
+   L60: {
+    L61: {
+     if (l10 > 20844) { break L61; }
+     L62: {
+      switch (l10 + -19968) {
+      case 0: case 9: break L60;
+      case 1: case 2: case 3: case 4: case 5: case 6: case 7: case 8: break L2;
+      default: break L62;
+      }
+     }
+     switch (l10 + -20108) {
+     case 0: case 8: break L60;
+     default: break L2;
+     }
+    }
+    if (l10 == 22235) { break L60; }
+    if (l10 != 20845) { break L2; }
+   }
+   if (l7 == (0L - l3)) { break L2; }
+   if (Core4.f118(m, l0, l1) == 0) { break L2; }
+   m.g0 = l6;
+   m.intResult = 1; exit = 1; break PART;
+  }
+ }
+ m.kept[0] = l6;
+ m.kept[1] = l7;
+ m.kept[2] = l8;
+ m.kept[3] = l9;
+ m.kept[4] = l10;
+ m.kept[5] = l11;
+ m.kept[6] = l12;
+ m.kept[7] = l13;
+ m.kept[8] = l14;
+ m.kept[9] = l15;
+ m.kept[10] = l16;
+ m.kept[11] = l17;
+ return exit;
+}
+
+static int f149_2(State m, long l0, long l1, long l2, long l3, long l4, long l5, int l15, int l16, int l17, int l18, int l19) {
+ final byte[] b = m.bytes;
+ int exit = 0;
+ PART: {
+  L78: {
+   if (l3 == l1) { break L78; }
+   if (l16 != 21313) { break L78; }
+   if ((l16 = (int) b[((int) (l0 = l2 + l1)) - 60720]) > -1) { break L78; }
+   if (l16 + Integer.MIN_VALUE < 2147483616) { break L78; }
+   l17 = l16 & 255;
+   l18 = (b[((int) l0) - 60719] & 0xff) & 63;
+   l19 = (b[((int) l0) - 60718] & 0xff) & 63;
+   L79: {
+    L80: {
+     if (l16 + Integer.MIN_VALUE < 2147483632) { break L80; }
+     l16 = ((l19 << 6) | ((l18 << 12) | ((l17 << 18) & 1835008))) | ((b[((int) l0) - 60717] & 0xff) & 63);
+     l0 = 4L;
+     break L79;
+    }
+    l16 = ((l18 << 6) | ((l17 << 12) & 61440)) | l19;
+    l0 = 3L;
+   }
+   if (l16 != 20843) { break L78; }
+   if (l3 != (l0 + l1)) { break L78; }
+   L81: {
+    if (l15 != 0) { break L81; }
+    if ((l16 = (int) b[((int) l4) - 60720]) > -1) { break L81; }
+    if (l16 + Integer.MIN_VALUE < 2147483616) { break L81; }
+    l17 = l16 & 255;
+    l18 = (b[((int) l4) - 60719] & 0xff) & 63;
+    l19 = (b[((int) l4) - 60718] & 0xff) & 63;
+    L82: {
+     L83: {
+      if (l16 + Integer.MIN_VALUE > 2147483631) { break L83; }
+      l16 = ((l18 << 6) | ((l17 << 12) & 61440)) | l19;
+      break L82;
+     }
+     l16 = ((l19 << 6) | ((l18 << 12) | ((l17 << 18) & 1835008))) | ((b[((int) l4) - 60717] & 0xff) & 63);
+    }
+    if (l16 == 22823) { exit = 1; break PART; }
+    if (l16 == 33324) { exit = 1; break PART; }
+   }
+   if (Core4.f122(m, 84624L, 2L, 84632L, 2L, l4, l5) != 0) { exit = 1; break PART; }
+   if (Core4.f122(m, 84640L, 2L, 84648L, 1L, l4, l5) != 0) { exit = 1; break PART; }
+  }
+ }
+ m.kept[0] = l0;
+ m.kept[1] = l16;
+ m.kept[2] = l17;
+ m.kept[3] = l18;
+ m.kept[4] = l19;
+ return exit;
+}
+
+static int f149_3(State m, long l0, long l1, long l2, long l3, long l4, long l5, int l11, int l12, int l13, int l14, int l15, int l16, int l17, int l18, int l19) {
+ final byte[] b = m.bytes;
+ int exit = 0;
+ PART: {
+  L87: {
+   L88: {
+    L89: {
+     if (l3 == l1) { break L89; }
+     if (l16 != 21313) { break L89; }
+     if ((l16 = (int) b[((int) (l0 = l2 + l1)) - 60720]) > -1) { break L89; }
+     if (l16 + Integer.MIN_VALUE < 2147483616) { break L89; }
+     l17 = l16 & 255;
+     l18 = (b[((int) l0) - 60719] & 0xff) & 63;
+     l19 = (b[((int) l0) - 60718] & 0xff) & 63;
+     L90: {
+      L91: {
+       if (l16 + Integer.MIN_VALUE < 2147483632) { break L91; }
+       l16 = ((l19 << 6) | ((l18 << 12) | ((l17 << 18) & 1835008))) | ((b[((int) l0) - 60717] & 0xff) & 63);
+       l0 = 4L;
+       break L90;
+      }
+      l16 = ((l18 << 6) | ((l17 << 12) & 61440)) | l19;
+      l0 = 3L;
+     }
+     if (l16 != 20061) { break L89; }
+     if (l3 == (l0 + l1)) { break L88; }
+    }
+    L92: {
+     L93: {
+      if (l11 + Integer.MIN_VALUE > 2147483631) { break L93; }
+      l16 = ((l13 << 6) | ((l12 << 12) & 61440)) | l14;
+      l1 = 3L;
+      break L92;
+     }
+     l16 = ((l14 << 6) | ((l13 << 12) | ((l12 << 18) & 1835008))) | ((b[((int) l2) - 60717] & 0xff) & 63);
+     l1 = 4L;
+    }
+    if (l3 == l1) { break L87; }
+    if (l16 != 20108) { break L87; }
+    if ((l16 = (int) b[((int) (l0 = l2 + l1)) - 60720]) > -1) { break L87; }
+    if (l16 + Integer.MIN_VALUE < 2147483616) { break L87; }
+    l17 = l16 & 255;
+    l18 = (b[((int) l0) - 60719] & 0xff) & 63;
+    l19 = (b[((int) l0) - 60718] & 0xff) & 63;
+    L94: {
+     L95: {
+      if (l16 + Integer.MIN_VALUE < 2147483632) { break L95; }
+      l16 = ((l19 << 6) | ((l18 << 12) | ((l17 << 18) & 1835008))) | ((b[((int) l0) - 60717] & 0xff) & 63);
+      l0 = 4L;
+      break L94;
+     }
+     l16 = ((l18 << 6) | ((l17 << 12) & 61440)) | l19;
+     l0 = 3L;
+    }
+    if (l16 != 21313) { break L87; }
+    if (l3 != (l0 + l1)) { break L87; }
+   }
+   L96: {
+    if (l15 != 0) { break L96; }
+    if ((l16 = (int) b[((int) l4) - 60720]) > -1) { break L96; }
+    if (l16 + Integer.MIN_VALUE < 2147483616) { break L96; }
+    l17 = l16 & 255;
+    l18 = (b[((int) l4) - 60719] & 0xff) & 63;
+    l19 = (b[((int) l4) - 60718] & 0xff) & 63;
+    L97: {
+     L98: {
+      if (l16 + Integer.MIN_VALUE > 2147483631) { break L98; }
+      l16 = ((l18 << 6) | ((l17 << 12) & 61440)) | l19;
+      break L97;
+     }
+     l16 = ((l19 << 6) | ((l18 << 12) | ((l17 << 18) & 1835008))) | ((b[((int) l4) - 60717] & 0xff) & 63);
+    }
+    if (l16 == 22823) { exit = 1; break PART; }
+   }
+   if (Core4.f122(m, 84652L, 2L, 84660L, 1L, l4, l5) != 0) { exit = 1; break PART; }
+  }
+ }
+ m.kept[0] = l0;
+ m.kept[1] = l1;
+ m.kept[2] = l16;
+ m.kept[3] = l17;
+ m.kept[4] = l18;
+ m.kept[5] = l19;
+ return exit;
+}
+
+static int f149_4(State m, long l0, long l1, long l2, long l3, long l4, long l5, int l15, int l16, int l17, int l18, int l19) {
+ final byte[] b = m.bytes;
+ int exit = 0;
+ PART: {
+  L102: {
+   if (l3 == l1) { break L102; }
+   if (l16 != 21313) { break L102; }
+   if ((l16 = (int) b[((int) (l0 = l2 + l1)) - 60720]) > -1) { break L102; }
+   if (l16 + Integer.MIN_VALUE < 2147483616) { break L102; }
+   l17 = l16 & 255;
+   l18 = (b[((int) l0) - 60719] & 0xff) & 63;
+   l19 = (b[((int) l0) - 60718] & 0xff) & 63;
+   L103: {
+    L104: {
+     if (l16 + Integer.MIN_VALUE < 2147483632) { break L104; }
+     l16 = ((l19 << 6) | ((l18 << 12) | ((l17 << 18) & 1835008))) | ((b[((int) l0) - 60717] & 0xff) & 63);
+     l0 = 4L;
+     break L103;
+    }
+    l16 = ((l18 << 6) | ((l17 << 12) & 61440)) | l19;
+    l0 = 3L;
+   }
+   if (l16 != 19968) { break L102; }
+   if (l3 != (l0 + l1)) { break L102; }
+   L105: {
+    if (l15 != 0) { break L105; }
+    if ((l16 = (int) b[((int) l4) - 60720]) > -1) { break L105; }
+    if (l16 + Integer.MIN_VALUE < 2147483616) { break L105; }
+    l17 = l16 & 255;
+    l18 = (b[((int) l4) - 60719] & 0xff) & 63;
+    l19 = (b[((int) l4) - 60718] & 0xff) & 63;
+    L106: {
+     L107: {
+      if (l16 + Integer.MIN_VALUE > 2147483631) { break L107; }
+      l16 = ((l18 << 6) | ((l17 << 12) & 61440)) | l19;
+      break L106;
+     }
+     l16 = ((l19 << 6) | ((l18 << 12) | ((l17 << 18) & 1835008))) | ((b[((int) l4) - 60717] & 0xff) & 63);
+    }
+    L108: {
+     if (l16 > 21434) { break L108; }
+     if (l16 == 20877) { exit = 1; break PART; }
+     if (l16 != 20986) { break L105; }
+     exit = 1; break PART;
+    }
+    if (l16 == 21435) { exit = 1; break PART; }
+    if (l16 == 22238) { exit = 1; break PART; }
+    if (l16 == 25918) { exit = 1; break PART; }
+   }
+   if (Core4.f122(m, 84664L, 1L, 82920L, 1L, l4, l5) != 0) { exit = 1; break PART; }
+   if (Core4.f122(m, 84668L, 2L, 84664L, 1L, l4, l5) != 0) { exit = 1; break PART; }
+   if (Core4.f122(m, 84676L, 2L, 84684L, 1L, l4, l5) != 0) { exit = 1; break PART; }
+  }
+ }
+ m.kept[0] = l0;
+ m.kept[1] = l16;
+ m.kept[2] = l17;
+ m.kept[3] = l18;
+ m.kept[4] = l19;
+ return exit;
+}
+
+static int f149_5(State m, long l0, long l1, long l2, long l3, long l4, long l7, int l15, int l16, int l17, int l18, int l19) {
+ final byte[] b = m.bytes;
+ int exit = 0;
+ PART: {
+  L112: {
+   if (l3 == l1) { break L112; }
+   if (l16 != 19977) { break L112; }
+   if ((l16 = (int) b[((int) (l0 = l2 + l1)) - 60720]) > -1) { break L112; }
+   if (l16 + Integer.MIN_VALUE < 2147483616) { break L112; }
+   l17 = l16 & 255;
+   l18 = (b[((int) l0) - 60719] & 0xff) & 63;
+   l19 = (b[((int) l0) - 60718] & 0xff) & 63;
+   L113: {
+    L114: {
+     if (l16 + Integer.MIN_VALUE < 2147483632) { break L114; }
+     l16 = ((l19 << 6) | ((l18 << 12) | ((l17 << 18) & 1835008))) | ((b[((int) l0) - 60717] & 0xff) & 63);
+     l7 = 4L;
+     break L113;
+    }
+    l16 = ((l18 << 6) | ((l17 << 12) & 61440)) | l19;
+    l7 = 3L;
+   }
+   if (l16 != 21313) { break L112; }
+   if (l3 == (l1 = l7 + l1)) { break L112; }
+   if ((l16 = (int) b[((int) (l0 = l0 + l7)) - 60720]) > -1) { break L112; }
+   if (l16 + Integer.MIN_VALUE < 2147483616) { break L112; }
+   l17 = l16 & 255;
+   l18 = (b[((int) l0) - 60719] & 0xff) & 63;
+   l19 = (b[((int) l0) - 60718] & 0xff) & 63;
+   L115: {
+    L116: {
+     if (l16 + Integer.MIN_VALUE < 2147483632) { break L116; }
+     l16 = ((l19 << 6) | ((l18 << 12) | ((l17 << 18) & 1835008))) | ((b[((int) l0) - 60717] & 0xff) & 63);
+     l0 = 4L;
+     break L115;
+    }
+    l16 = ((l18 << 6) | ((l17 << 12) & 61440)) | l19;
+    l0 = 3L;
+   }
+   if (l16 != 20845) { break L112; }
+   if (l15 != 0) { break L112; }
+   if (l3 != (l0 + l1)) { break L112; }
+   if ((l16 = (int) b[((int) l4) - 60720]) > -1) { break L112; }
+   if (l16 + Integer.MIN_VALUE < 2147483616) { break L112; }
+   l17 = l16 & 255;
+   l18 = (b[((int) l4) - 60719] & 0xff) & 63;
+   l19 = (b[((int) l4) - 60718] & 0xff) & 63;
+   L117: {
+    L118: {
+     if (l16 + Integer.MIN_VALUE > 2147483631) { break L118; }
+     l16 = ((l18 << 6) | ((l17 << 12) & 61440)) | l19;
+     break L117;
+    }
+    l16 = ((l19 << 6) | ((l18 << 12) | ((l17 << 18) & 1835008))) | ((b[((int) l4) - 60717] & 0xff) & 63);
+   }
+   if (l16 == 35336) { exit = 1; break PART; }
+   if (l16 == 35745) { exit = 1; break PART; }
+  }
+ }
+ m.kept[0] = l0;
+ m.kept[1] = l1;
+ m.kept[2] = l7;
+ m.kept[3] = l16;
+ m.kept[4] = l17;
+ m.kept[5] = l18;
+ m.kept[6] = l19;
+ return exit;
+}
+
+static int f149_6(State m, long l0, long l1, long l2, long l3, long l4, long l7, int l15, int l16, int l17, int l18, int l19) {
+ final byte[] b = m.bytes;
+ int exit = 0;
+ PART: {
+  L122: {
+   if (l3 == l1) { break L122; }
+   if (l16 != 19971) { break L122; }
+   if ((l16 = (int) b[((int) (l0 = l2 + l1)) - 60720]) > -1) { break L122; }
+   if (l16 + Integer.MIN_VALUE < 2147483616) { break L122; }
+   l17 = l16 & 255;
+   l18 = (b[((int) l0) - 60719] & 0xff) & 63;
+   l19 = (b[((int) l0) - 60718] & 0xff) & 63;
+   L123: {
+    L124: {
+     if (l16 + Integer.MIN_VALUE < 2147483632) { break L124; }
+     l16 = ((l19 << 6) | ((l18 << 12) | ((l17 << 18) & 1835008))) | ((b[((int) l0) - 60717] & 0xff) & 63);
+     l7 = 4L;
+     break L123;
+    }
+    l16 = ((l18 << 6) | ((l17 << 12) & 61440)) | l19;
+    l7 = 3L;
+   }
+   if (l16 != 21313) { break L122; }
+   if (l3 == (l1 = l7 + l1)) { break L122; }
+   if ((l16 = (int) b[((int) (l0 = l0 + l7)) - 60720]) > -1) { break L122; }
+   if (l16 + Integer.MIN_VALUE < 2147483616) { break L122; }
+   l17 = l16 & 255;
+   l18 = (b[((int) l0) - 60719] & 0xff) & 63;
+   l19 = (b[((int) l0) - 60718] & 0xff) & 63;
+   L125: {
+    L126: {
+     if (l16 + Integer.MIN_VALUE < 2147483632) { break L126; }
+     l16 = ((l19 << 6) | ((l18 << 12) | ((l17 << 18) & 1835008))) | ((b[((int) l0) - 60717] & 0xff) & 63);
+     l0 = 4L;
+     break L125;
+    }
+    l16 = ((l18 << 6) | ((l17 << 12) & 61440)) | l19;
+    l0 = 3L;
+   }
+   if (l16 != 20108) { break L122; }
+   if (l15 != 0) { break L122; }
+   if (l3 != (l0 + l1)) { break L122; }
+   if ((l16 = (int) b[((int) l4) - 60720]) > -1) { break L122; }
+   if (l16 + Integer.MIN_VALUE < 2147483616) { break L122; }
+   l17 = l16 & 255;
+   l18 = (b[((int) l4) - 60719] & 0xff) & 63;
+   l19 = (b[((int) l4) - 60718] & 0xff) & 63;
+   L127: {
+    L128: {
+     if (l16 + Integer.MIN_VALUE > 2147483631) { break L128; }
+     l16 = ((l18 << 6) | ((l17 << 12) & 61440)) | l19;
+     break L127;
+    }
+    l16 = ((l19 << 6) | ((l18 << 12) | ((l17 << 18) & 1835008))) | ((b[((int) l4) - 60717] & 0xff) & 63);
+   }
+   if (l16 == 21464) { exit = 1; break PART; }
+   if (l16 == 34892) { exit = 1; break PART; }
+   if (l16 == 35722) { exit = 1; break PART; }
+  }
+ }
+ m.kept[0] = l0;
+ m.kept[1] = l1;
+ m.kept[2] = l7;
+ m.kept[3] = l16;
+ m.kept[4] = l17;
+ m.kept[5] = l18;
+ m.kept[6] = l19;
+ return exit;
+}
+
+static int f149_7(State m, long l0, long l1, long l2, long l3, long l4, long l7, int l15, int l16, int l17, int l18, int l19) {
+ final byte[] b = m.bytes;
+ int exit = 0;
+ PART: {
+  L132: {
+   if (l3 == l1) { break L132; }
+   if (l16 != 19977) { break L132; }
+   if ((l16 = (int) b[((int) (l0 = l2 + l1)) - 60720]) > -1) { break L132; }
+   if (l16 + Integer.MIN_VALUE < 2147483616) { break L132; }
+   l17 = l16 & 255;
+   l18 = (b[((int) l0) - 60719] & 0xff) & 63;
+   l19 = (b[((int) l0) - 60718] & 0xff) & 63;
+   L133: {
+    L134: {
+     if (l16 + Integer.MIN_VALUE < 2147483632) { break L134; }
+     l16 = ((l19 << 6) | ((l18 << 12) | ((l17 << 18) & 1835008))) | ((b[((int) l0) - 60717] & 0xff) & 63);
+     l7 = 4L;
+     break L133;
+    }
+    l16 = ((l18 << 6) | ((l17 << 12) & 61440)) | l19;
+    l7 = 3L;
+   }
+   if (l16 != 30334) { break L132; }
+   if (l3 == (l1 = l7 + l1)) { break L132; }
+   if ((l16 = (int) b[((int) (l0 = l0 + l7)) - 60720]) > -1) { break L132; }
+   if (l16 + Integer.MIN_VALUE < 2147483616) { break L132; }
+   l17 = l16 & 255;
+   l18 = (b[((int) l0) - 60719] & 0xff) & 63;
+   l19 = (b[((int) l0) - 60718] & 0xff) & 63;
+   L135: {
+    L136: {
+     if (l16 + Integer.MIN_VALUE < 2147483632) { break L136; }
+     l16 = ((l19 << 6) | ((l18 << 12) | ((l17 << 18) & 1835008))) | ((b[((int) l0) - 60717] & 0xff) & 63);
+     l7 = 4L;
+     break L135;
+    }
+    l16 = ((l18 << 6) | ((l17 << 12) & 61440)) | l19;
+    l7 = 3L;
+   }
+   if (l16 != 20845) { break L132; }
+   if (l3 == (l1 = l7 + l1)) { break L132; }
+   if ((l16 = (int) b[((int) (l0 = l0 + l7)) - 60720]) > -1) { break L132; }
+   if (l16 + Integer.MIN_VALUE < 2147483616) { break L132; }
+   l17 = l16 & 255;
+   l18 = (b[((int) l0) - 60719] & 0xff) & 63;
+   l19 = (b[((int) l0) - 60718] & 0xff) & 63;
+   L137: {
+    L138: {
+     if (l16 + Integer.MIN_VALUE < 2147483632) { break L138; }
+     l16 = ((l19 << 6) | ((l18 << 12) | ((l17 << 18) & 1835008))) | ((b[((int) l0) - 60717] & 0xff) & 63);
+     l0 = 4L;
+     break L137;
+    }
+    l16 = ((l18 << 6) | ((l17 << 12) & 61440)) | l19;
+    l0 = 3L;
+   }
+   if (l16 != 21313) { break L132; }
+   if (l15 != 0) { break L132; }
+   if (l3 != (l0 + l1)) { break L132; }
+   if ((l16 = (int) b[((int) l4) - 60720]) > -1) { break L132; }
+   if (l16 + Integer.MIN_VALUE < 2147483616) { break L132; }
+   l17 = l16 & 255;
+   l18 = (b[((int) l4) - 60719] & 0xff) & 63;
+   l19 = (b[((int) l4) - 60718] & 0xff) & 63;
+   L139: {
+    L140: {
+     if (l16 + Integer.MIN_VALUE > 2147483631) { break L140; }
+     l16 = ((l18 << 6) | ((l17 << 12) & 61440)) | l19;
+     break L139;
+    }
+    l16 = ((l19 << 6) | ((l18 << 12) | ((l17 << 18) & 1835008))) | ((b[((int) l4) - 60717] & 0xff) & 63);
+   }
+   if (l16 == 34892) { exit = 1; break PART; }
+  }
+ }
+ m.kept[0] = l0;
+ m.kept[1] = l1;
+ m.kept[2] = l7;
+ m.kept[3] = l16;
+ m.kept[4] = l17;
+ m.kept[5] = l18;
+ m.kept[6] = l19;
+ return exit;
+}
+
+static int f149_8(State m, long l0, long l1, long l2, long l3, long l4, long l5, long l7, int l15, int l16, int l17, int l18, int l19) {
+ final byte[] b = m.bytes;
+ int exit = 0;
+ PART: {
+  L144: {
+   if (l3 == l1) { break L144; }
+   if (l16 != 20108) { break L144; }
+   if ((l16 = (int) b[((int) (l0 = l2 + l1)) - 60720]) > -1) { break L144; }
+   if (l16 + Integer.MIN_VALUE < 2147483616) { break L144; }
+   l17 = l16 & 255;
+   l18 = (b[((int) l0) - 60719] & 0xff) & 63;
+   l19 = (b[((int) l0) - 60718] & 0xff) & 63;
+   L145: {
+    L146: {
+     if (l16 + Integer.MIN_VALUE < 2147483632) { break L146; }
+     l16 = ((l19 << 6) | ((l18 << 12) | ((l17 << 18) & 1835008))) | ((b[((int) l0) - 60717] & 0xff) & 63);
+     l7 = 4L;
+     break L145;
+    }
+    l16 = ((l18 << 6) | ((l17 << 12) & 61440)) | l19;
+    l7 = 3L;
+   }
+   if (l16 != 21313) { break L144; }
+   if (l3 == (l1 = l7 + l1)) { break L144; }
+   if ((l16 = (int) b[((int) (l0 = l0 + l7)) - 60720]) > -1) { break L144; }
+   if (l16 + Integer.MIN_VALUE < 2147483616) { break L144; }
+   l17 = l16 & 255;
+   l18 = (b[((int) l0) - 60719] & 0xff) & 63;
+   l19 = (b[((int) l0) - 60718] & 0xff) & 63;
+   L147: {
+    L148: {
+     if (l16 + Integer.MIN_VALUE < 2147483632) { break L148; }
+     l16 = ((l19 << 6) | ((l18 << 12) | ((l17 << 18) & 1835008))) | ((b[((int) l0) - 60717] & 0xff) & 63);
+     l0 = 4L;
+     break L147;
+    }
+    l16 = ((l18 << 6) | ((l17 << 12) & 61440)) | l19;
+    l0 = 3L;
+   }
+   if (l16 != 22235) { break L144; }
+   if (l3 != (l0 + l1)) { break L144; }
+   L149: {
+    if (l15 != 0) { break L149; }
+    if ((l16 = (int) b[((int) l4) - 60720]) > -1) { break L149; }
+    if (l16 + Integer.MIN_VALUE < 2147483616) { break L149; }
+    l17 = l16 & 255;
+    l18 = (b[((int) l4) - 60719] & 0xff) & 63;
+    l19 = (b[((int) l4) - 60718] & 0xff) & 63;
+    L150: {
+     L151: {
+      if (l16 + Integer.MIN_VALUE > 2147483631) { break L151; }
+      l16 = ((l18 << 6) | ((l17 << 12) & 61440)) | l19;
+      break L150;
+     }
+     l16 = ((l19 << 6) | ((l18 << 12) | ((l17 << 18) & 1835008))) | ((b[((int) l4) - 60717] & 0xff) & 63);
+    }
+    if (l16 == 21490) { exit = 1; break PART; }
+   }
+   if (Core4.f122(m, 84688L, 2L, 84696L, 2L, l4, l5) != 0) { exit = 1; break PART; }
+  }
+ }
+ m.kept[0] = l0;
+ m.kept[1] = l1;
+ m.kept[2] = l7;
+ m.kept[3] = l16;
+ m.kept[4] = l17;
+ m.kept[5] = l18;
+ m.kept[6] = l19;
+ return exit;
+}
+
+static int f149_9(State m, long l0, long l1, long l2, long l3, long l4, long l7, int l15, int l16, int l17, int l18, int l19) {
+ final byte[] b = m.bytes;
+ int exit = 0;
+ PART: {
+  L155: {
+   if (l3 == l1) { break L155; }
+   if (l16 != 20108) { break L155; }
+   if ((l16 = (int) b[((int) (l0 = l2 + l1)) - 60720]) > -1) { break L155; }
+   if (l16 + Integer.MIN_VALUE < 2147483616) { break L155; }
+   l17 = l16 & 255;
+   l18 = (b[((int) l0) - 60719] & 0xff) & 63;
+   l19 = (b[((int) l0) - 60718] & 0xff) & 63;
+   L156: {
+    L157: {
+     if (l16 + Integer.MIN_VALUE < 2147483632) { break L157; }
+     l16 = ((l19 << 6) | ((l18 << 12) | ((l17 << 18) & 1835008))) | ((b[((int) l0) - 60717] & 0xff) & 63);
+     l7 = 4L;
+     break L156;
+    }
+    l16 = ((l18 << 6) | ((l17 << 12) & 61440)) | l19;
+    l7 = 3L;
+   }
+   if (l16 != 21313) { break L155; }
+   if (l3 == (l1 = l7 + l1)) { break L155; }
+   if ((l16 = (int) b[((int) (l0 = l0 + l7)) - 60720]) > -1) { break L155; }
+   if (l16 + Integer.MIN_VALUE < 2147483616) { break L155; }
+   l17 = l16 & 255;
+   l18 = (b[((int) l0) - 60719] & 0xff) & 63;
+   l19 = (b[((int) l0) - 60718] & 0xff) & 63;
+   L158: {
+    L159: {
+     if (l16 + Integer.MIN_VALUE < 2147483632) { break L159; }
+     l16 = ((l19 << 6) | ((l18 << 12) | ((l17 << 18) & 1835008))) | ((b[((int) l0) - 60717] & 0xff) & 63);
+     l0 = 4L;
+     break L158;
+    }
+    l16 = ((l18 << 6) | ((l17 << 12) & 61440)) | l19;
+    l0 = 3L;
+   }
+   if (l16 != 20843) { break L155; }
+   if (l15 != 0) { break L155; }
+   if (l3 != (l0 + l1)) { break L155; }
+   if ((l16 = (int) b[((int) l4) - 60720]) > -1) { break L155; }
+   if (l16 + Integer.MIN_VALUE < 2147483616) { break L155; }
+   l17 = l16 & 255;
+   l18 = (b[((int) l4) - 60719] & 0xff) & 63;
+   l19 = (b[((int) l4) - 60718] & 0xff) & 63;
+   L160: {
+    L161: {
+     if (l16 + Integer.MIN_VALUE > 2147483631) { break L161; }
+     l16 = ((l18 << 6) | ((l17 << 12) & 61440)) | l19;
+     break L160;
+    }
+    l16 = ((l19 << 6) | ((l18 << 12) | ((l17 << 18) & 1835008))) | ((b[((int) l4) - 60717] & 0xff) & 63);
+   }
+   if (l16 == 23487) { exit = 1; break PART; }
+  }
+ }
+ m.kept[0] = l0;
+ m.kept[1] = l1;
+ m.kept[2] = l7;
+ m.kept[3] = l16;
+ m.kept[4] = l17;
+ m.kept[5] = l18;
+ m.kept[6] = l19;
+ return exit;
+}
+
+static int f149_10(State m, long l0, long l1, long l2, long l3, long l4, long l7, int l15, int l16, int l17, int l18, int l19) {
+ final byte[] b = m.bytes;
+ int exit = 0;
+ PART: {
+  L172: {
+   if (l3 == l1) { break L172; }
+   if (l16 != 19968) { break L172; }
+   if ((l16 = (int) b[((int) (l0 = l2 + l1)) - 60720]) > -1) { break L172; }
+   if (l16 + Integer.MIN_VALUE < 2147483616) { break L172; }
+   l17 = l16 & 255;
+   l18 = (b[((int) l0) - 60719] & 0xff) & 63;
+   l19 = (b[((int) l0) - 60718] & 0xff) & 63;
+   L173: {
+    L174: {
+     if (l16 + Integer.MIN_VALUE < 2147483632) { break L174; }
+     l16 = ((l19 << 6) | ((l18 << 12) | ((l17 << 18) & 1835008))) | ((b[((int) l0) - 60717] & 0xff) & 63);
+     l7 = 4L;
+     break L173;
+    }
+    l16 = ((l18 << 6) | ((l17 << 12) & 61440)) | l19;
+    l7 = 3L;
+   }
+   if (l16 != 21315) { break L172; }
+   if (l3 == (l1 = l7 + l1)) { break L172; }
+   if ((l16 = (int) b[((int) (l0 = l0 + l7)) - 60720]) > -1) { break L172; }
+   if (l16 + Integer.MIN_VALUE < 2147483616) { break L172; }
+   l17 = l16 & 255;
+   l18 = (b[((int) l0) - 60719] & 0xff) & 63;
+   l19 = (b[((int) l0) - 60718] & 0xff) & 63;
+   L175: {
+    L176: {
+     if (l16 + Integer.MIN_VALUE < 2147483632) { break L176; }
+     l16 = ((l19 << 6) | ((l18 << 12) | ((l17 << 18) & 1835008))) | ((b[((int) l0) - 60717] & 0xff) & 63);
+     l7 = 4L;
+     break L175;
+    }
+    l16 = ((l18 << 6) | ((l17 << 12) & 61440)) | l19;
+    l7 = 3L;
+   }
+   if (l16 != 38646) { break L172; }
+   if (l3 == (l1 = l7 + l1)) { break L172; }
+   if ((l16 = (int) b[((int) (l0 = l0 + l7)) - 60720]) > -1) { break L172; }
+   if (l16 + Integer.MIN_VALUE < 2147483616) { break L172; }
+   l17 = l16 & 255;
+   l18 = (b[((int) l0) - 60719] & 0xff) & 63;
+   l19 = (b[((int) l0) - 60718] & 0xff) & 63;
+   L177: {
+    L178: {
+     if (l16 + Integer.MIN_VALUE < 2147483632) { break L178; }
+     l16 = ((l19 << 6) | ((l18 << 12) | ((l17 << 18) & 1835008))) | ((b[((int) l0) - 60717] & 0xff) & 63);
+     l0 = 4L;
+     break L177;
+    }
+    l16 = ((l18 << 6) | ((l17 << 12) & 61440)) | l19;
+    l0 = 3L;
+   }
+   if (l16 != 19968) { break L172; }
+   if (l15 != 0) { break L172; }
+   if (l3 != (l0 + l1)) { break L172; }
+   if ((l16 = (int) b[((int) l4) - 60720]) > -1) { break L172; }
+   if (l16 + Integer.MIN_VALUE < 2147483616) { break L172; }
+   l17 = l16 & 255;
+   l18 = (b[((int) l4) - 60719] & 0xff) & 63;
+   l19 = (b[((int) l4) - 60718] & 0xff) & 63;
+   L179: {
+    L180: {
+     if (l16 + Integer.MIN_VALUE > 2147483631) { break L180; }
+     l16 = ((l18 << 6) | ((l17 << 12) & 61440)) | l19;
+     break L179;
+    }
+    l16 = ((l19 << 6) | ((l18 << 12) | ((l17 << 18) & 1835008))) | ((b[((int) l4) - 60717] & 0xff) & 63);
+   }
+   if (l16 == 22812) { exit = 1; break PART; }
+  }
+ }
+ m.kept[0] = l0;
+ m.kept[1] = l1;
+ m.kept[2] = l7;
+ m.kept[3] = l16;
+ m.kept[4] = l17;
+ m.kept[5] = l18;
+ m.kept[6] = l19;
+ return exit;
+}
+
+static int f149_11(State m, long l0, long l1, long l2, long l3, long l4, long l5, int l11, int l12, int l13, int l14, int l16, int l17, int l18, int l19) {
+ final byte[] b = m.bytes;
+ int exit = 0;
+ PART: {
+  L189: {
+   L190: {
+    L191: {
+     if (l3 == l1) { break L191; }
+     if (l16 != 21313) { break L191; }
+     if ((l16 = (int) b[((int) (l0 = l2 + l1)) - 60720]) > -1) { break L191; }
+     if (l16 + Integer.MIN_VALUE < 2147483616) { break L191; }
+     l17 = l16 & 255;
+     l18 = (b[((int) l0) - 60719] & 0xff) & 63;
+     l19 = (b[((int) l0) - 60718] & 0xff) & 63;
+     L192: {
+      L193: {
+       if (l16 + Integer.MIN_VALUE < 2147483632) { break L193; }
+       l16 = ((l19 << 6) | ((l18 << 12) | ((l17 << 18) & 1835008))) | ((b[((int) l0) - 60717] & 0xff) & 63);
+       l0 = 4L;
+       break L192;
+      }
+      l16 = ((l18 << 6) | ((l17 << 12) & 61440)) | l19;
+      l0 = 3L;
+     }
+     if (l16 != 19975) { break L191; }
+     if (l3 == (l0 + l1)) { break L190; }
+    }
+    L194: {
+     L195: {
+      if (l11 + Integer.MIN_VALUE > 2147483631) { break L195; }
+      l16 = ((l13 << 6) | ((l12 << 12) & 61440)) | l14;
+      l1 = 3L;
+      break L194;
+     }
+     l16 = ((l14 << 6) | ((l13 << 12) | ((l12 << 18) & 1835008))) | ((b[((int) l2) - 60717] & 0xff) & 63);
+     l1 = 4L;
+    }
+    if (l3 == l1) { break L189; }
+    if (l16 != 21313) { break L189; }
+    if ((l16 = (int) b[((int) (l0 = l2 + l1)) - 60720]) > -1) { break L189; }
+    if (l16 + Integer.MIN_VALUE < 2147483616) { break L189; }
+    l17 = l16 & 255;
+    l18 = (b[((int) l0) - 60719] & 0xff) & 63;
+    l19 = (b[((int) l0) - 60718] & 0xff) & 63;
+    L196: {
+     L197: {
+      if (l16 + Integer.MIN_VALUE < 2147483632) { break L197; }
+      l16 = ((l19 << 6) | ((l18 << 12) | ((l17 << 18) & 1835008))) | ((b[((int) l0) - 60717] & 0xff) & 63);
+      l0 = 4L;
+      break L196;
+     }
+     l16 = ((l18 << 6) | ((l17 << 12) & 61440)) | l19;
+     l0 = 3L;
+    }
+    if (l16 != 33836) { break L189; }
+    if (l3 != (l0 + l1)) { break L189; }
+   }
+   if (Core4.f122(m, 84704L, 1L, 84708L, 1L, l4, l5) != 0) { exit = 1; break PART; }
+  }
+ }
+ m.kept[0] = l0;
+ m.kept[1] = l1;
+ m.kept[2] = l16;
+ m.kept[3] = l17;
+ m.kept[4] = l18;
+ m.kept[5] = l19;
+ return exit;
+}
+
+static int f149_12(State m, long l0, long l1, long l2, long l3, long l4, long l7, int l11, int l12, int l13, int l14, int l15, int l16, int l17, int l18, int l19) {
+ final byte[] b = m.bytes;
+ int exit = 0;
+ PART: {
+  L201: {
+   L202: {
+    L203: {
+     L204: {
+      if (l3 == l1) { break L204; }
+      if (l16 != 21313) { break L204; }
+      if ((l16 = (int) b[((int) (l0 = l2 + l1)) - 60720]) > -1) { break L204; }
+      if (l16 + Integer.MIN_VALUE < 2147483616) { break L204; }
+      l17 = l16 & 255;
+      l18 = (b[((int) l0) - 60719] & 0xff) & 63;
+      l19 = (b[((int) l0) - 60718] & 0xff) & 63;
+      L205: {
+       L206: {
+        if (l16 + Integer.MIN_VALUE < 2147483632) { break L206; }
+        l16 = ((l19 << 6) | ((l18 << 12) | ((l17 << 18) & 1835008))) | ((b[((int) l0) - 60717] & 0xff) & 63);
+        l7 = 4L;
+        break L205;
+       }
+       l16 = ((l18 << 6) | ((l17 << 12) & 61440)) | l19;
+       l7 = 3L;
+      }
+      if (l16 != 19975) { break L204; }
+      if (l3 == (l1 = l7 + l1)) { break L204; }
+      if ((l16 = (int) b[((int) (l0 = l0 + l7)) - 60720]) > -1) { break L204; }
+      if (l16 + Integer.MIN_VALUE < 2147483616) { break L204; }
+      l17 = l16 & 255;
+      l18 = (b[((int) l0) - 60719] & 0xff) & 63;
+      l19 = (b[((int) l0) - 60718] & 0xff) & 63;
+      L207: {
+       L208: {
+        if (l16 + Integer.MIN_VALUE < 2147483632) { break L208; }
+        l16 = ((l19 << 6) | ((l18 << 12) | ((l17 << 18) & 1835008))) | ((b[((int) l0) - 60717] & 0xff) & 63);
+        l7 = 4L;
+        break L207;
+       }
+       l16 = ((l18 << 6) | ((l17 << 12) & 61440)) | l19;
+       l7 = 3L;
+      }
+      if (l16 != 20843) { break L204; }
+      if (l3 == (l1 = l7 + l1)) { break L204; }
+      if ((l16 = (int) b[((int) (l0 = l0 + l7)) - 60720]) > -1) { break L204; }
+      if (l16 + Integer.MIN_VALUE < 2147483616) { break L204; }
+      l17 = l16 & 255;
+      l18 = (b[((int) l0) - 60719] & 0xff) & 63;
+      l19 = (b[((int) l0) - 60718] & 0xff) & 63;
+      L209: {
+       L210: {
+        if (l16 + Integer.MIN_VALUE < 2147483632) { break L210; }
+        l16 = ((l19 << 6) | ((l18 << 12) | ((l17 << 18) & 1835008))) | ((b[((int) l0) - 60717] & 0xff) & 63);
+        l0 = 4L;
+        break L209;
+       }
+       l16 = ((l18 << 6) | ((l17 << 12) & 61440)) | l19;
+       l0 = 3L;
+      }
+      if (l16 != 21315) { break L204; }
+      if (l3 == (l0 + l1)) { break L203; }
+     }
+     L211: {
+      L212: {
+       if (l11 + Integer.MIN_VALUE > 2147483631) { break L212; }
+       l16 = ((l13 << 6) | ((l12 << 12) & 61440)) | l14;
+       l1 = 3L;
+       break L211;
+      }
+      l16 = ((l14 << 6) | ((l13 << 12) | ((l12 << 18) & 1835008))) | ((b[((int) l2) - 60717] & 0xff) & 63);
+      l1 = 4L;
+     }
+     if (l3 == l1) { break L201; }
+     if (l16 != 21313) { break L201; }
+     if ((l16 = (int) b[((int) (l0 = l2 + l1)) - 60720]) > -1) { break L201; }
+     if (l16 + Integer.MIN_VALUE < 2147483616) { break L201; }
+     l17 = l16 & 255;
+     l18 = (b[((int) l0) - 60719] & 0xff) & 63;
+     l19 = (b[((int) l0) - 60718] & 0xff) & 63;
+     L213: {
+      L214: {
+       if (l16 + Integer.MIN_VALUE < 2147483632) { break L214; }
+       l16 = ((l19 << 6) | ((l18 << 12) | ((l17 << 18) & 1835008))) | ((b[((int) l0) - 60717] & 0xff) & 63);
+       l7 = 4L;
+       break L213;
+      }
+      l16 = ((l18 << 6) | ((l17 << 12) & 61440)) | l19;
+      l7 = 3L;
+     }
+     if (l16 != 33836) { break L201; }
+     if (l3 == (l1 = l7 + l1)) { break L201; }
+     if ((l16 = (int) b[((int) (l0 = l0 + l7)) - 60720]) > -1) { break L201; }
+     if (l16 + Integer.MIN_VALUE < 2147483616) { break L201; }
+     l17 = l16 & 255;
+     l18 = (b[((int) l0) - 60719] & 0xff) & 63;
+     l19 = (b[((int) l0) - 60718] & 0xff) & 63;
+     L215: {
+      L216: {
+       if (l16 + Integer.MIN_VALUE < 2147483632) { break L216; }
+       l16 = ((l19 << 6) | ((l18 << 12) | ((l17 << 18) & 1835008))) | ((b[((int) l0) - 60717] & 0xff) & 63);
+       l7 = 4L;
+       break L215;
+      }
+      l16 = ((l18 << 6) | ((l17 << 12) & 61440)) | l19;
+      l7 = 3L;
+     }
+     if (l16 != 20843) { break L201; }
+     if (l3 == (l1 = l7 + l1)) { break L201; }
+     if ((l16 = (int) b[((int) (l0 = l0 + l7)) - 60720]) > -1) { break L201; }
+     if (l16 + Integer.MIN_VALUE < 2147483616) { break L201; }
+     l17 = l16 & 255;
+     l18 = (b[((int) l0) - 60719] & 0xff) & 63;
+     l19 = (b[((int) l0) - 60718] & 0xff) & 63;
+     L217: {
+      L218: {
+       if (l16 + Integer.MIN_VALUE < 2147483632) { break L218; }
+       l16 = ((l19 << 6) | ((l18 << 12) | ((l17 << 18) & 1835008))) | ((b[((int) l0) - 60717] & 0xff) & 63);
+       l0 = 4L;
+       break L217;
+      }
+      l16 = ((l18 << 6) | ((l17 << 12) & 61440)) | l19;
+      l0 = 3L;
+     }
+     if (l16 != 21315) { break L201; }
+     if (l15 != 0) { break L201; }
+     if (l3 == (l0 + l1)) { break L202; }
+     break L201;
+    }
+    if (l15 != 0) { break L201; }
+   }
+   if ((l15 = (int) b[((int) l4) - 60720]) > -1) { break L201; }
+   if (l15 + Integer.MIN_VALUE < 2147483616) { break L201; }
+   l16 = l15 & 255;
+   l17 = (b[((int) l4) - 60719] & 0xff) & 63;
+   l18 = (b[((int) l4) - 60718] & 0xff) & 63;
+   L219: {
+    L220: {
+     if (l15 + Integer.MIN_VALUE > 2147483631) { break L220; }
+     l15 = ((l17 << 6) | ((l16 << 12) & 61440)) | l18;
+     break L219;
+    }
+    l15 = ((l18 << 6) | ((l17 << 12) | ((l16 << 18) & 1835008))) | ((b[((int) l4) - 60717] & 0xff) & 63);
+   }
+   if (l15 == 37324) { exit = 1; break PART; }
+  }
+ }
+ m.kept[0] = l0;
+ m.kept[1] = l1;
+ m.kept[2] = l7;
+ m.kept[3] = l15;
+ m.kept[4] = l16;
+ m.kept[5] = l17;
+ m.kept[6] = l18;
+ m.kept[7] = l19;
+ return exit;
+}
+
+static int f149_13(State m, long l0, long l1, long l2, long l3, long l5, int l15, int l16, int l17, int l18) {
+ final byte[] b = m.bytes;
+ int exit = 0;
+ PART: {
+  L249: {
+   if (l3 == l1) { break L249; }
+   if (l15 != 20108) { break L249; }
+   if ((l15 = (int) b[((int) (l0 = l2 + l1)) - 60720]) > -1) { break L249; }
+   if (l15 + Integer.MIN_VALUE < 2147483616) { break L249; }
+   l16 = l15 & 255;
+   l17 = (b[((int) l0) - 60719] & 0xff) & 63;
+   l18 = (b[((int) l0) - 60718] & 0xff) & 63;
+   L250: {
+    L251: {
+     if (l15 + Integer.MIN_VALUE < 2147483632) { break L251; }
+     l15 = ((l18 << 6) | ((l17 << 12) | ((l16 << 18) & 1835008))) | ((b[((int) l0) - 60717] & 0xff) & 63);
+     l5 = 4L;
+     break L250;
+    }
+    l15 = ((l17 << 6) | ((l16 << 12) & 61440)) | l18;
+    l5 = 3L;
+   }
+   if (l15 != 30334) { break L249; }
+   if (l3 == (l1 = l5 + l1)) { break L249; }
+   if ((l15 = (int) b[((int) (l0 = l0 + l5)) - 60720]) > -1) { break L249; }
+   if (l15 + Integer.MIN_VALUE < 2147483616) { break L249; }
+   l16 = l15 & 255;
+   l17 = (b[((int) l0) - 60719] & 0xff) & 63;
+   l18 = (b[((int) l0) - 60718] & 0xff) & 63;
+   L252: {
+    L253: {
+     if (l15 + Integer.MIN_VALUE < 2147483632) { break L253; }
+     l15 = ((l18 << 6) | ((l17 << 12) | ((l16 << 18) & 1835008))) | ((b[((int) l0) - 60717] & 0xff) & 63);
+     l0 = 4L;
+     break L252;
+    }
+    l15 = ((l17 << 6) | ((l16 << 12) & 61440)) | l18;
+    l0 = 3L;
+   }
+   if (l15 != 20116) { break L249; }
+   if (l3 == (l0 + l1)) { exit = 1; break PART; }
+  }
+ }
+ m.kept[0] = l0;
+ m.kept[1] = l1;
+ m.kept[2] = l5;
+ m.kept[3] = l15;
+ m.kept[4] = l16;
+ m.kept[5] = l17;
+ m.kept[6] = l18;
+ return exit;
+}
+
+static int f149(State m, long l0, long l1, long l2, long l3, long l4, long l5) {
+ final byte[] b = m.bytes;
+ long l6 = 0;
+ long l7 = 0;
+ long l8 = 0;
+ long l9 = 0;
+ int l10 = 0;
+ int l11 = 0;
+ int l12 = 0;
+ int l13 = 0;
+ int l14 = 0;
+ int l15 = 0;
+ int l16 = 0;
+ int l17 = 0;
+ int l18 = 0;
+ int l19 = 0;
+ L1: {
+  final int x63 = f149_1(m, l0, l1, l2, l3, l6, l7, l8, l9, l10, l11, l12, l13, l14, l15, l16, l17);
+  l6 = m.kept[0];
+  l7 = m.kept[1];
+  l8 = m.kept[2];
+  l9 = m.kept[3];
+  l10 = (int) m.kept[4];
+  l11 = (int) m.kept[5];
+  l12 = (int) m.kept[6];
+  l13 = (int) m.kept[7];
+  l14 = (int) m.kept[8];
+  l15 = (int) m.kept[9];
+  l16 = (int) m.kept[10];
+  l17 = (int) m.kept[11];
+  switch (x63) {
+  case 1: return m.intResult;
+  case 2: break L1;
+  }
+  l10 = 1;
+  if (Core4.f148(m, l0, l1) != 0) { break L1; }
+  L64: {
+   if ((l15 = (l5 == 0L) ? 1 : 0) != 0) { break L64; }
+   if ((l11 = (int) b[((int) l4) - 60720]) > -1) { break L64; }
+   if (l11 + Integer.MIN_VALUE < 2147483616) { break L64; }
+   l12 = l11 & 255;
+   l13 = (b[((int) l4) - 60719] & 0xff) & 63;
+   l14 = (b[((int) l4) - 60718] & 0xff) & 63;
+   L65: {
+    L66: {
+     if (l11 + Integer.MIN_VALUE > 2147483631) { break L66; }
+     l11 = ((l13 << 6) | ((l12 << 12) & 61440)) | l14;
+     break L65;
+    }
+    l11 = ((l14 << 6) | ((l13 << 12) | ((l12 << 18) & 1835008))) | ((b[((int) l4) - 60717] & 0xff) & 63);
+   }
+   if (l11 != 24180) { break L64; }
+   if (Core4.f147(m, l0, l1) != 0) { break L1; }
+  }
+  l11 = Core4.f122(m, 84508L, 9L, 84544L, 13L, l2, l3);
+  L67: {
+   if (!(l3 == 0L)) { break L67; }
+   m.g0 = l6;
+   return 0;
+  }
+  L68: {
+   if (l11 != 0) { break L68; }
+   m.g0 = l6;
+   return 0;
+  }
+  L69: {
+   if ((l11 = (int) b[((int) l2) - 60720]) <= -1) { break L69; }
+   m.g0 = l6;
+   return 0;
+  }
+  L70: {
+   if (l11 + Integer.MIN_VALUE >= 2147483616) { break L70; }
+   m.g0 = l6;
+   return 0;
+  }
+  l12 = l11 & 255;
+  l13 = (b[((int) l2) - 60719] & 0xff) & 63;
+  l14 = (b[((int) l2) - 60718] & 0xff) & 63;
+  L71: {
+   L72: {
+    if (l11 + Integer.MIN_VALUE > 2147483631) { break L72; }
+    l16 = ((l13 << 6) | ((l12 << 12) & 61440)) | l14;
+    l1 = 3L;
+    break L71;
+   }
+   l16 = ((l14 << 6) | ((l13 << 12) | ((l12 << 18) & 1835008))) | ((b[((int) l2) - 60717] & 0xff) & 63);
+   l1 = 4L;
+  }
+  L73: {
+   if (l3 == l1) { break L73; }
+   if (l16 != 21313) { break L73; }
+   if ((l16 = (int) b[((int) (l0 = l2 + l1)) - 60720]) > -1) { break L73; }
+   if (l16 + Integer.MIN_VALUE < 2147483616) { break L73; }
+   l17 = l16 & 255;
+   l18 = (b[((int) l0) - 60719] & 0xff) & 63;
+   l19 = (b[((int) l0) - 60718] & 0xff) & 63;
+   L74: {
+    L75: {
+     if (l16 + Integer.MIN_VALUE < 2147483632) { break L75; }
+     l16 = ((l19 << 6) | ((l18 << 12) | ((l17 << 18) & 1835008))) | ((b[((int) l0) - 60717] & 0xff) & 63);
+     l0 = 4L;
+     break L74;
+    }
+    l16 = ((l18 << 6) | ((l17 << 12) & 61440)) | l19;
+    l0 = 3L;
+   }
+   if (l16 != 20108) { break L73; }
+   if (l3 != (l0 + l1)) { break L73; }
+   if (Core4.f122(m, 84596L, 1L, 84600L, 2L, l4, l5) != 0) { break L1; }
+   if (Core4.f122(m, 84608L, 1L, 84612L, 1L, l4, l5) != 0) { break L1; }
+   if (Core4.f122(m, 82772L, 1L, 84616L, 2L, l4, l5) != 0) { break L1; }
+  }
+  L76: {
+   L77: {
+    if (l11 + Integer.MIN_VALUE > 2147483631) { break L77; }
+    l16 = ((l13 << 6) | ((l12 << 12) & 61440)) | l14;
+    l1 = 3L;
+    break L76;
+   }
+   l16 = ((l14 << 6) | ((l13 << 12) | ((l12 << 18) & 1835008))) | ((b[((int) l2) - 60717] & 0xff) & 63);
+   l1 = 4L;
+  }
+  final int x84 = f149_2(m, l0, l1, l2, l3, l4, l5, l15, l16, l17, l18, l19);
+  l0 = m.kept[0];
+  l16 = (int) m.kept[1];
+  l17 = (int) m.kept[2];
+  l18 = (int) m.kept[3];
+  l19 = (int) m.kept[4];
+  switch (x84) {
+  case 1: break L1;
+  }
+  L85: {
+   L86: {
+    if (l11 + Integer.MIN_VALUE > 2147483631) { break L86; }
+    l16 = ((l13 << 6) | ((l12 << 12) & 61440)) | l14;
+    l1 = 3L;
+    break L85;
+   }
+   l16 = ((l14 << 6) | ((l13 << 12) | ((l12 << 18) & 1835008))) | ((b[((int) l2) - 60717] & 0xff) & 63);
+   l1 = 4L;
+  }
+  final int x99 = f149_3(m, l0, l1, l2, l3, l4, l5, l11, l12, l13, l14, l15, l16, l17, l18, l19);
+  l0 = m.kept[0];
+  l1 = m.kept[1];
+  l16 = (int) m.kept[2];
+  l17 = (int) m.kept[3];
+  l18 = (int) m.kept[4];
+  l19 = (int) m.kept[5];
+  switch (x99) {
+  case 1: break L1;
+  }
+  L100: {
+   L101: {
+    if (l11 + Integer.MIN_VALUE > 2147483631) { break L101; }
+    l16 = ((l13 << 6) | ((l12 << 12) & 61440)) | l14;
+    l1 = 3L;
+    break L100;
+   }
+   l16 = ((l14 << 6) | ((l13 << 12) | ((l12 << 18) & 1835008))) | ((b[((int) l2) - 60717] & 0xff) & 63);
+   l1 = 4L;
+  }
+  final int x109 = f149_4(m, l0, l1, l2, l3, l4, l5, l15, l16, l17, l18, l19);
+  l0 = m.kept[0];
+  l16 = (int) m.kept[1];
+  l17 = (int) m.kept[2];
+  l18 = (int) m.kept[3];
+  l19 = (int) m.kept[4];
+  switch (x109) {
+  case 1: break L1;
+  }
+  L110: {
+   L111: {
+    if (l11 + Integer.MIN_VALUE > 2147483631) { break L111; }
+    l16 = ((l13 << 6) | ((l12 << 12) & 61440)) | l14;
+    l1 = 3L;
+    break L110;
+   }
+   l16 = ((l14 << 6) | ((l13 << 12) | ((l12 << 18) & 1835008))) | ((b[((int) l2) - 60717] & 0xff) & 63);
+   l1 = 4L;
+  }
+  final int x119 = f149_5(m, l0, l1, l2, l3, l4, l7, l15, l16, l17, l18, l19);
+  l0 = m.kept[0];
+  l1 = m.kept[1];
+  l7 = m.kept[2];
+  l16 = (int) m.kept[3];
+  l17 = (int) m.kept[4];
+  l18 = (int) m.kept[5];
+  l19 = (int) m.kept[6];
+  switch (x119) {
+  case 1: break L1;
+  }
+  L120: {
+   L121: {
+    if (l11 + Integer.MIN_VALUE > 2147483631) { break L121; }
+    l16 = ((l13 << 6) | ((l12 << 12) & 61440)) | l14;
+    l1 = 3L;
+    break L120;
+   }
+   l16 = ((l14 << 6) | ((l13 << 12) | ((l12 << 18) & 1835008))) | ((b[((int) l2) - 60717] & 0xff) & 63);
+   l1 = 4L;
+  }
+  final int x129 = f149_6(m, l0, l1, l2, l3, l4, l7, l15, l16, l17, l18, l19);
+  l0 = m.kept[0];
+  l1 = m.kept[1];
+  l7 = m.kept[2];
+  l16 = (int) m.kept[3];
+  l17 = (int) m.kept[4];
+  l18 = (int) m.kept[5];
+  l19 = (int) m.kept[6];
+  switch (x129) {
+  case 1: break L1;
+  }
+  L130: {
+   L131: {
+    if (l11 + Integer.MIN_VALUE > 2147483631) { break L131; }
+    l16 = ((l13 << 6) | ((l12 << 12) & 61440)) | l14;
+    l1 = 3L;
+    break L130;
+   }
+   l16 = ((l14 << 6) | ((l13 << 12) | ((l12 << 18) & 1835008))) | ((b[((int) l2) - 60717] & 0xff) & 63);
+   l1 = 4L;
+  }
+  final int x141 = f149_7(m, l0, l1, l2, l3, l4, l7, l15, l16, l17, l18, l19);
+  l0 = m.kept[0];
+  l1 = m.kept[1];
+  l7 = m.kept[2];
+  l16 = (int) m.kept[3];
+  l17 = (int) m.kept[4];
+  l18 = (int) m.kept[5];
+  l19 = (int) m.kept[6];
+  switch (x141) {
+  case 1: break L1;
+  }
+  L142: {
+   L143: {
+    if (l11 + Integer.MIN_VALUE > 2147483631) { break L143; }
+    l16 = ((l13 << 6) | ((l12 << 12) & 61440)) | l14;
+    l1 = 3L;
+    break L142;
+   }
+   l16 = ((l14 << 6) | ((l13 << 12) | ((l12 << 18) & 1835008))) | ((b[((int) l2) - 60717] & 0xff) & 63);
+   l1 = 4L;
+  }
+  final int x152 = f149_8(m, l0, l1, l2, l3, l4, l5, l7, l15, l16, l17, l18, l19);
+  l0 = m.kept[0];
+  l1 = m.kept[1];
+  l7 = m.kept[2];
+  l16 = (int) m.kept[3];
+  l17 = (int) m.kept[4];
+  l18 = (int) m.kept[5];
+  l19 = (int) m.kept[6];
+  switch (x152) {
+  case 1: break L1;
+  }
+  L153: {
+   L154: {
+    if (l11 + Integer.MIN_VALUE > 2147483631) { break L154; }
+    l16 = ((l13 << 6) | ((l12 << 12) & 61440)) | l14;
+    l1 = 3L;
+    break L153;
+   }
+   l16 = ((l14 << 6) | ((l13 << 12) | ((l12 << 18) & 1835008))) | ((b[((int) l2) - 60717] & 0xff) & 63);
+   l1 = 4L;
+  }
+  final int x162 = f149_9(m, l0, l1, l2, l3, l4, l7, l15, l16, l17, l18, l19);
+  l0 = m.kept[0];
+  l1 = m.kept[1];
+  l7 = m.kept[2];
+  l16 = (int) m.kept[3];
+  l17 = (int) m.kept[4];
+  l18 = (int) m.kept[5];
+  l19 = (int) m.kept[6];
+  switch (x162) {
+  case 1: break L1;
+  }
+  L163: {
+   L164: {
+    if (l11 + Integer.MIN_VALUE > 2147483631) { break L164; }
+    l16 = ((l13 << 6) | ((l12 << 12) & 61440)) | l14;
+    l1 = 3L;
+    break L163;
+   }
+   l16 = ((l14 << 6) | ((l13 << 12) | ((l12 << 18) & 1835008))) | ((b[((int) l2) - 60717] & 0xff) & 63);
+   l1 = 4L;
+  }
+  L165: {
+   if (l3 == l1) { break L165; }
+   if (l16 != 21313) { break L165; }
+   if ((l16 = (int) b[((int) (l0 = l2 + l1)) - 60720]) > -1) { break L165; }
+   if (l16 + Integer.MIN_VALUE < 2147483616) { break L165; }
+   l17 = l16 & 255;
+   l18 = (b[((int) l0) - 60719] & 0xff) & 63;
+   l19 = (b[((int) l0) - 60718] & 0xff) & 63;
+   L166: {
+    L167: {
+     if (l16 + Integer.MIN_VALUE < 2147483632) { break L167; }
+     l16 = ((l19 << 6) | ((l18 << 12) | ((l17 << 18) & 1835008))) | ((b[((int) l0) - 60717] & 0xff) & 63);
+     l0 = 4L;
+     break L166;
+    }
+    l16 = ((l18 << 6) | ((l17 << 12) & 61440)) | l19;
+    l0 = 3L;
+   }
+   if (l16 != 19977) { break L165; }
+   if (l15 != 0) { break L165; }
+   if (l3 != (l0 + l1)) { break L165; }
+   if ((l16 = (int) b[((int) l4) - 60720]) > -1) { break L165; }
+   if (l16 + Integer.MIN_VALUE < 2147483616) { break L165; }
+   l17 = l16 & 255;
+   l18 = (b[((int) l4) - 60719] & 0xff) & 63;
+   l19 = (b[((int) l4) - 60718] & 0xff) & 63;
+   L168: {
+    L169: {
+     if (l16 + Integer.MIN_VALUE > 2147483631) { break L169; }
+     l16 = ((l18 << 6) | ((l17 << 12) & 61440)) | l19;
+     break L168;
+    }
+    l16 = ((l19 << 6) | ((l18 << 12) | ((l17 << 18) & 1835008))) | ((b[((int) l4) - 60717] & 0xff) & 63);
+   }
+   if (l16 == 22969) { break L1; }
+   if (l16 == 38517) { break L1; }
+  }
+  L170: {
+   L171: {
+    if (l11 + Integer.MIN_VALUE > 2147483631) { break L171; }
+    l16 = ((l13 << 6) | ((l12 << 12) & 61440)) | l14;
+    l1 = 3L;
+    break L170;
+   }
+   l16 = ((l14 << 6) | ((l13 << 12) | ((l12 << 18) & 1835008))) | ((b[((int) l2) - 60717] & 0xff) & 63);
+   l1 = 4L;
+  }
+  final int x181 = f149_10(m, l0, l1, l2, l3, l4, l7, l15, l16, l17, l18, l19);
+  l0 = m.kept[0];
+  l1 = m.kept[1];
+  l7 = m.kept[2];
+  l16 = (int) m.kept[3];
+  l17 = (int) m.kept[4];
+  l18 = (int) m.kept[5];
+  l19 = (int) m.kept[6];
+  switch (x181) {
+  case 1: break L1;
+  }
+  L182: {
+   L183: {
+    if (l11 + Integer.MIN_VALUE > 2147483631) { break L183; }
+    l14 = ((l13 << 6) | ((l12 << 12) & 61440)) | l14;
+    l1 = 3L;
+    break L182;
+   }
+   l14 = ((l14 << 6) | ((l13 << 12) | ((l12 << 18) & 1835008))) | ((b[((int) l2) - 60717] & 0xff) & 63);
+   l1 = 4L;
+  }
+  L184: {
+   if (l3 == l1) { break L184; }
+   if (l14 != 20108) { break L184; }
+   if ((l14 = (int) b[((int) (l0 = l2 + l1)) - 60720]) > -1) { break L184; }
+   if (l14 + Integer.MIN_VALUE < 2147483616) { break L184; }
+   l16 = l14 & 255;
+   l17 = (b[((int) l0) - 60719] & 0xff) & 63;
+   l18 = (b[((int) l0) - 60718] & 0xff) & 63;
+   L185: {
+    L186: {
+     if (l14 + Integer.MIN_VALUE < 2147483632) { break L186; }
+     l14 = ((l18 << 6) | ((l17 << 12) | ((l16 << 18) & 1835008))) | ((b[((int) l0) - 60717] & 0xff) & 63);
+     l0 = 4L;
+     break L185;
+    }
+    l14 = ((l17 << 6) | ((l16 << 12) & 61440)) | l18;
+    l0 = 3L;
+   }
+   if (l14 != 20843) { break L184; }
+   if (l3 != (l0 + l1)) { break L184; }
+   if (Core4.f122(m, 82768L, 1L, 83452L, 2L, l4, l5) != 0) { break L1; }
+  }
+  l14 = (b[((int) l2) - 60718] & 0xff) & 63;
+  L187: {
+   L188: {
+    if (l11 + Integer.MIN_VALUE > 2147483631) { break L188; }
+    l16 = ((l13 << 6) | ((l12 << 12) & 61440)) | l14;
+    l1 = 3L;
+    break L187;
+   }
+   l16 = ((l14 << 6) | ((l13 << 12) | ((l12 << 18) & 1835008))) | ((b[((int) l2) - 60717] & 0xff) & 63);
+   l1 = 4L;
+  }
+  final int x198 = f149_11(m, l0, l1, l2, l3, l4, l5, l11, l12, l13, l14, l16, l17, l18, l19);
+  l0 = m.kept[0];
+  l1 = m.kept[1];
+  l16 = (int) m.kept[2];
+  l17 = (int) m.kept[3];
+  l18 = (int) m.kept[4];
+  l19 = (int) m.kept[5];
+  switch (x198) {
+  case 1: break L1;
+  }
+  L199: {
+   L200: {
+    if (l11 + Integer.MIN_VALUE > 2147483631) { break L200; }
+    l16 = ((l13 << 6) | ((l12 << 12) & 61440)) | l14;
+    l1 = 3L;
+    break L199;
+   }
+   l16 = ((l14 << 6) | ((l13 << 12) | ((l12 << 18) & 1835008))) | ((b[((int) l2) - 60717] & 0xff) & 63);
+   l1 = 4L;
+  }
+  final int x221 = f149_12(m, l0, l1, l2, l3, l4, l7, l11, l12, l13, l14, l15, l16, l17, l18, l19);
+  l0 = m.kept[0];
+  l1 = m.kept[1];
+  l7 = m.kept[2];
+  l15 = (int) m.kept[3];
+  l16 = (int) m.kept[4];
+  l17 = (int) m.kept[5];
+  l18 = (int) m.kept[6];
+  l19 = (int) m.kept[7];
+  switch (x221) {
+  case 1: break L1;
+  }
+  L222: {
+   L223: {
+    if (l11 + Integer.MIN_VALUE > 2147483631) { break L223; }
+    l15 = ((l13 << 6) | ((l12 << 12) & 61440)) | l14;
+    l1 = 3L;
+    break L222;
+   }
+   l15 = ((l14 << 6) | ((l13 << 12) | ((l12 << 18) & 1835008))) | ((b[((int) l2) - 60717] & 0xff) & 63);
+   l1 = 4L;
+  }
+  L224: {
+   if (l3 == l1) { break L224; }
+   if (l15 != 19968) { break L224; }
+   if ((l15 = (int) b[((int) (l0 = l2 + l1)) - 60720]) > -1) { break L224; }
+   if (l15 + Integer.MIN_VALUE < 2147483616) { break L224; }
+   l16 = l15 & 255;
+   l17 = (b[((int) l0) - 60719] & 0xff) & 63;
+   l18 = (b[((int) l0) - 60718] & 0xff) & 63;
+   L225: {
+    L226: {
+     if (l15 + Integer.MIN_VALUE < 2147483632) { break L226; }
+     l15 = ((l18 << 6) | ((l17 << 12) | ((l16 << 18) & 1835008))) | ((b[((int) l0) - 60717] & 0xff) & 63);
+     l0 = 4L;
+     break L225;
+    }
+    l15 = ((l17 << 6) | ((l16 << 12) & 61440)) | l18;
+    l0 = 3L;
+   }
+   if (l15 != 21315) { break L224; }
+   if (l3 != (l0 + l1)) { break L224; }
+   if (Core4.f122(m, 84348L, 1L, 83144L, 1L, l4, l5) != 0) { break L1; }
+  }
+  L227: {
+   L228: {
+    if (l11 + Integer.MIN_VALUE > 2147483631) { break L228; }
+    l15 = ((l13 << 6) | ((l12 << 12) & 61440)) | l14;
+    l1 = 3L;
+    break L227;
+   }
+   l15 = ((l14 << 6) | ((l13 << 12) | ((l12 << 18) & 1835008))) | ((b[((int) l2) - 60717] & 0xff) & 63);
+   l1 = 4L;
+  }
+  L229: {
+   if (l3 == l1) { break L229; }
+   if (l15 != 19977) { break L229; }
+   if ((l15 = (int) b[((int) (l0 = l2 + l1)) - 60720]) > -1) { break L229; }
+   if (l15 + Integer.MIN_VALUE < 2147483616) { break L229; }
+   l16 = l15 & 255;
+   l17 = (b[((int) l0) - 60719] & 0xff) & 63;
+   l18 = (b[((int) l0) - 60718] & 0xff) & 63;
+   L230: {
+    L231: {
+     if (l15 + Integer.MIN_VALUE < 2147483632) { break L231; }
+     l15 = ((l18 << 6) | ((l17 << 12) | ((l16 << 18) & 1835008))) | ((b[((int) l0) - 60717] & 0xff) & 63);
+     l0 = 4L;
+     break L230;
+    }
+    l15 = ((l17 << 6) | ((l16 << 12) & 61440)) | l18;
+    l0 = 3L;
+   }
+   if (l15 != 21313) { break L229; }
+   if (l3 != (l0 + l1)) { break L229; }
+   if (Core4.f122(m, 84712L, 1L, 84716L, 1L, l4, l5) != 0) { break L1; }
+   if (Core4.f122(m, 82768L, 1L, 84720L, 1L, l4, l5) != 0) { break L1; }
+  }
+  L232: {
+   L233: {
+    if (l11 + Integer.MIN_VALUE > 2147483631) { break L233; }
+    l15 = ((l13 << 6) | ((l12 << 12) & 61440)) | l14;
+    l1 = 3L;
+    break L232;
+   }
+   l15 = ((l14 << 6) | ((l13 << 12) | ((l12 << 18) & 1835008))) | ((b[((int) l2) - 60717] & 0xff) & 63);
+   l1 = 4L;
+  }
+  L234: {
+   if (l3 == l1) { break L234; }
+   if (l15 != 22235) { break L234; }
+   if ((l15 = (int) b[((int) (l0 = l2 + l1)) - 60720]) > -1) { break L234; }
+   if (l15 + Integer.MIN_VALUE < 2147483616) { break L234; }
+   l16 = l15 & 255;
+   l17 = (b[((int) l0) - 60719] & 0xff) & 63;
+   l18 = (b[((int) l0) - 60718] & 0xff) & 63;
+   L235: {
+    L236: {
+     if (l15 + Integer.MIN_VALUE < 2147483632) { break L236; }
+     l15 = ((l18 << 6) | ((l17 << 12) | ((l16 << 18) & 1835008))) | ((b[((int) l0) - 60717] & 0xff) & 63);
+     l0 = 4L;
+     break L235;
+    }
+    l15 = ((l17 << 6) | ((l16 << 12) & 61440)) | l18;
+    l0 = 3L;
+   }
+   if (l15 != 21313) { break L234; }
+   if (l3 != (l0 + l1)) { break L234; }
+   if (Core4.f122(m, 84724L, 1L, 84728L, 1L, l4, l5) != 0) { break L1; }
+  }
+  L237: {
+   L238: {
+    if (l11 + Integer.MIN_VALUE > 2147483631) { break L238; }
+    l15 = ((l13 << 6) | ((l12 << 12) & 61440)) | l14;
+    l1 = 3L;
+    break L237;
+   }
+   l15 = ((l14 << 6) | ((l13 << 12) | ((l12 << 18) & 1835008))) | ((b[((int) l2) - 60717] & 0xff) & 63);
+   l1 = 4L;
+  }
+  L239: {
+   if (l3 == l1) { break L239; }
+   if (l15 != 20116) { break L239; }
+   if ((l15 = (int) b[((int) (l0 = l2 + l1)) - 60720]) > -1) { break L239; }
+   if (l15 + Integer.MIN_VALUE < 2147483616) { break L239; }
+   l16 = l15 & 255;
+   l17 = (b[((int) l0) - 60719] & 0xff) & 63;
+   l18 = (b[((int) l0) - 60718] & 0xff) & 63;
+   L240: {
+    L241: {
+     if (l15 + Integer.MIN_VALUE < 2147483632) { break L241; }
+     l15 = ((l18 << 6) | ((l17 << 12) | ((l16 << 18) & 1835008))) | ((b[((int) l0) - 60717] & 0xff) & 63);
+     l0 = 4L;
+     break L240;
+    }
+    l15 = ((l17 << 6) | ((l16 << 12) & 61440)) | l18;
+    l0 = 3L;
+   }
+   if (l15 != 21313) { break L239; }
+   if (l3 != (l0 + l1)) { break L239; }
+   if (Core4.f122(m, 84732L, 1L, 84736L, 1L, l4, l5) != 0) { break L1; }
+  }
+  L242: {
+   L243: {
+    if (l11 + Integer.MIN_VALUE > 2147483631) { break L243; }
+    l15 = ((l13 << 6) | ((l12 << 12) & 61440)) | l14;
+    l1 = 3L;
+    break L242;
+   }
+   l15 = ((l14 << 6) | ((l13 << 12) | ((l12 << 18) & 1835008))) | ((b[((int) l2) - 60717] & 0xff) & 63);
+   l1 = 4L;
+  }
+  L244: {
+   if (l3 == l1) { break L244; }
+   if (l15 != 21313) { break L244; }
+   if ((l15 = (int) b[((int) (l0 = l2 + l1)) - 60720]) > -1) { break L244; }
+   if (l15 + Integer.MIN_VALUE < 2147483616) { break L244; }
+   l16 = l15 & 255;
+   l17 = (b[((int) l0) - 60719] & 0xff) & 63;
+   l18 = (b[((int) l0) - 60718] & 0xff) & 63;
+   L245: {
+    L246: {
+     if (l15 + Integer.MIN_VALUE < 2147483632) { break L246; }
+     l15 = ((l18 << 6) | ((l17 << 12) | ((l16 << 18) & 1835008))) | ((b[((int) l0) - 60717] & 0xff) & 63);
+     l0 = 4L;
+     break L245;
+    }
+    l15 = ((l17 << 6) | ((l16 << 12) & 61440)) | l18;
+    l0 = 3L;
+   }
+   if (l15 != 20116) { break L244; }
+   if (l3 != (l0 + l1)) { break L244; }
+   if (Core4.f122(m, 84740L, 4L, 84756L, 1L, l4, l5) != 0) { break L1; }
+  }
+  L247: {
+   L248: {
+    if (l11 + Integer.MIN_VALUE > 2147483631) { break L248; }
+    l15 = ((l13 << 6) | ((l12 << 12) & 61440)) | l14;
+    l1 = 3L;
+    break L247;
+   }
+   l15 = ((l14 << 6) | ((l13 << 12) | ((l12 << 18) & 1835008))) | ((b[((int) l2) - 60717] & 0xff) & 63);
+   l1 = 4L;
+  }
+  final int x254 = f149_13(m, l0, l1, l2, l3, l5, l15, l16, l17, l18);
+  l0 = m.kept[0];
+  l1 = m.kept[1];
+  l5 = m.kept[2];
+  l15 = (int) m.kept[3];
+  l16 = (int) m.kept[4];
+  l17 = (int) m.kept[5];
+  l18 = (int) m.kept[6];
+  switch (x254) {
+  case 1: break L1;
+  }
+  L255: {
+   L256: {
+    if (l11 + Integer.MIN_VALUE > 2147483631) { break L256; }
+    l15 = ((l13 << 6) | ((l12 << 12) & 61440)) | l14;
+    l1 = 3L;
+    break L255;
+   }
+   l15 = ((l14 << 6) | ((l13 << 12) | ((l12 << 18) & 1835008))) | ((b[((int) l2) - 60717] & 0xff) & 63);
+   l1 = 4L;
+  }
+  L257: {
+   if (l3 == l1) { break L257; }
+   if (l15 != 20159) { break L257; }
+   if ((l15 = (int) b[((int) (l0 = l2 + l1)) - 60720]) > -1) { break L257; }
+   if (l15 + Integer.MIN_VALUE < 2147483616) { break L257; }
+   l16 = l15 & 255;
+   l17 = (b[((int) l0) - 60719] & 0xff) & 63;
+   l18 = (b[((int) l0) - 60718] & 0xff) & 63;
+   L258: {
+    L259: {
+     if (l15 + Integer.MIN_VALUE < 2147483632) { break L259; }
+     l15 = ((l18 << 6) | ((l17 << 12) | ((l16 << 18) & 1835008))) | ((b[((int) l0) - 60717] & 0xff) & 63);
+     l0 = 4L;
+     break L258;
+    }
+    l15 = ((l17 << 6) | ((l16 << 12) & 61440)) | l18;
+    l0 = 3L;
+   }
+   if (l15 != 19975) { break L257; }
+   if (l3 == (l0 + l1)) { break L1; }
+  }
+  L260: {
+   L261: {
+    if (l11 + Integer.MIN_VALUE > 2147483631) { break L261; }
+    l10 = ((l13 << 6) | ((l12 << 12) & 61440)) | l14;
+    l1 = 3L;
+    break L260;
+   }
+   l10 = ((l14 << 6) | ((l13 << 12) | ((l12 << 18) & 1835008))) | ((b[((int) l2) - 60717] & 0xff) & 63);
+   l1 = 4L;
+  }
+  L262: {
+   if (l3 != l1) { break L262; }
+   m.g0 = l6;
+   return 0;
+  }
+  L263: {
+   if (l10 == 20740) { break L263; }
+   m.g0 = l6;
+   return 0;
+  }
+  L264: {
+   if ((l10 = (int) b[((int) (l2 = l2 + l1)) - 60720]) <= -1) { break L264; }
+   m.g0 = l6;
+   return 0;
+  }
+  L265: {
+   if (l10 + Integer.MIN_VALUE >= 2147483616) { break L265; }
+   m.g0 = l6;
+   return 0;
+  }
+  l11 = l10 & 255;
+  l12 = (b[((int) l2) - 60719] & 0xff) & 63;
+  l13 = (b[((int) l2) - 60718] & 0xff) & 63;
+  L266: {
+   L267: {
+    if (l10 + Integer.MIN_VALUE < 2147483632) { break L267; }
+    l11 = ((l13 << 6) | ((l12 << 12) | ((l11 << 18) & 1835008))) | ((b[((int) l2) - 60717] & 0xff) & 63);
+    l2 = 4L;
+    break L266;
+   }
+   l11 = ((l12 << 6) | ((l11 << 12) & 61440)) | l13;
+   l2 = 3L;
+  }
+  l10 = 0;
+  if (l11 != 33836) { break L1; }
+  l10 = (l3 == (l2 + l1)) ? 1 : 0;
+ }
+ m.g0 = l6;
+ return l10;
+}
+
+static int f150(State m, int l0) {
+ final byte[] b = m.bytes;
+ long l1 = 0;
+ long l2 = 0;
+ int l3 = 0;
+ m.g0 = l1 = m.g0 - 16L;
+ L1: {
+  if ((l1 = l1) < 16L) { break L1; }
+  Core2.f50(m, l1 + 8L, l0);
+  l3 = 1;
+  L2: {
+   if ((l0 + -65296) + Integer.MIN_VALUE < -2147483638) { break L2; }
+   if (((b[((int) l1) - 60712] & 0xff) & 255) == 1) { break L2; }
+   L3: {
+    if (l0 != 21317) { break L3; }
+    l3 = 1;
+    break L2;
+   }
+   L4: {
+    if (l0 != 24319) { break L4; }
+    l3 = 1;
+    break L2;
+   }
+   L5: {
+    if ((l0 + -2048) + Integer.MIN_VALUE > -2147420161) { break L5; }
+    if (Words.get32(b, State.far((int) (l2 = ((((l3 = (((l0 >>> 12) | ((l0 << 2) & 16128)) | ((l0 << 16) & 4128768)) | 8421600) & 0xffffffffL) * 953497L) >>> 22L) & 1016L), 80936)) != l3) { break L5; }
+    if (((b[((int) (l2 + 80940L)) - 60720] & 0xff) & 255) != 1) { break L5; }
+    if (((b[((int) (l2 + 80941L)) - 60720] & 0xff) & 255) == 0) { break L5; }
+    l3 = 1;
+    break L2;
+   }
+   L6: {
+    L7: {
+     if (l0 > 28856) { break L7; }
+     l3 = 1;
+     L8: {
+      switch (l0 + -37) {
+      case 0: case 9: break L2;
+      case 1: case 2: case 3: case 4: case 5: case 6: case 7: case 8: break L6;
+      default: break L8;
+      }
+     }
+     L9: {
+      if (l0 != 20043) { break L9; }
+      l3 = 1;
+      break L2;
+     }
+     l3 = 1;
+     if (l0 != 20998) { break L6; }
+     break L2;
+    }
+    l3 = 1;
+    L10: {
+     switch (l0 + -65285) {
+     case 0: case 9: break L2;
+     case 1: case 2: case 3: case 4: case 5: case 6: case 7: case 8: break L6;
+     default: break L10;
+     }
+    }
+    L11: {
+     if (l0 != 28857) { break L11; }
+     l3 = 1;
+     break L2;
+    }
+    l3 = 1;
+    if (l0 == 40670) { break L2; }
+   }
+   l3 = 0;
+  }
+  m.g0 = l1 + 16L;
+  final int t12 = l3;
+  return t12;
+ }
+ throw State.trap();
+}
+
+static int f151(State m, int l0, long l1, long l2, long l3, long l4) {
+ final byte[] b = m.bytes;
+ long l5 = 0;
+ long l6 = 0;
+ long l7 = 0;
+ long l8 = 0;
+ long l9 = 0;
+ long l10 = 0;
+ long l11 = 0;
+ long l12 = 0;
+ long l13 = 0;
+ long l14 = 0;
+ long l15 = 0;
+ long l16 = 0;
+ long l17 = 0;
+ long l18 = 0;
+ int l19 = 0;
+ int l20 = 0;
+ int l21 = 0;
+ int l22 = 0;
+ int l23 = 0;
+ m.g0 = l5 = m.g0 - 160L;
+ L1: {
+  L2: {
+   L3: {
+    L4: {
+     L5: {
+      if ((l5 = l5) < 16L) { break L5; }
+      L6: {
+       L7: {
+        L8: {
+         if (l0 > 21039) { break L8; }
+         if (l0 == 45) { break L6; }
+         if (l0 == 126) { break L6; }
+         if (l0 != 12316) { break L7; }
+         break L6;
+        }
+        L9: {
+         if (l0 > 65292) { break L9; }
+         if (l0 == 21040) { break L6; }
+         if (l0 != 33267) { break L7; }
+         break L6;
+        }
+        if (l0 == 65293) { break L6; }
+        if (l0 == 65374) { break L6; }
+       }
+       if ((l0 + -8211) + Integer.MIN_VALUE < -2147483646) { break L6; }
+       l19 = 0;
+       if (l0 != 12289) { break L1; }
+       if (l2 == 0L) { break L1; }
+       l20 = (l0 = (int) b[((int) l1) - 60720]) & 255;
+       l6 = 1L;
+       L10: {
+        if (l0 > -1) { break L10; }
+        l21 = (b[((int) l1) - 60719] & 0xff) & 63;
+        L11: {
+         if (l0 + Integer.MIN_VALUE > 2147483615) { break L11; }
+         l20 = ((l20 << 6) & 1984) | l21;
+         l6 = 2L;
+         break L10;
+        }
+        l22 = (b[((int) l1) - 60718] & 0xff) & 63;
+        L12: {
+         if (l0 + Integer.MIN_VALUE > 2147483631) { break L12; }
+         l20 = ((l21 << 6) | ((l20 << 12) & 61440)) | l22;
+         l6 = 3L;
+         break L10;
+        }
+        l20 = ((l22 << 6) | ((l21 << 12) | ((l20 << 18) & 1835008))) | ((b[((int) l1) - 60717] & 0xff) & 63);
+        l6 = 4L;
+       }
+       if (l4 == 0L) { break L1; }
+       l21 = (l0 = (int) b[((int) l3) - 60720]) & 255;
+       L13: {
+        if (l0 > -1) { break L13; }
+        l22 = (b[((int) l3) - 60719] & 0xff) & 63;
+        L14: {
+         if (l0 + Integer.MIN_VALUE > 2147483615) { break L14; }
+         l21 = ((l21 << 6) & 1984) | l22;
+         break L13;
+        }
+        l23 = (b[((int) l3) - 60718] & 0xff) & 63;
+        L15: {
+         if (l0 + Integer.MIN_VALUE > 2147483631) { break L15; }
+         l21 = ((l22 << 6) | ((l21 << 12) & 61440)) | l23;
+         break L13;
+        }
+        l21 = ((l23 << 6) | ((l22 << 12) | ((l21 << 18) & 1835008))) | ((b[((int) l3) - 60717] & 0xff) & 63);
+       }
+       if (l2 != l6) { break L1; }
+       Core2.f50(m, l5 + 88L, l20);
+       if ((l20 + -58) + Integer.MIN_VALUE > 2147483637) { break L1; }
+       if (((b[((int) l5) - 60632] & 0xff) & 255) != 1) { break L1; }
+       Core2.f50(m, l5 + 80L, l21);
+       if ((l21 + -58) + Integer.MIN_VALUE > 2147483637) { break L1; }
+       if (((b[((int) l5) - 60640] & 0xff) & 255) != 1) { break L1; }
+       Core2.f50(m, l5 + 72L, l20);
+       l0 = b[((int) l5) - 60648] & 0xff;
+       l20 = b[((int) l5) - 60647] & 0xff;
+       Core2.f50(m, l5 + 64L, l21);
+       if ((l0 & (b[((int) l5) - 60656] & 0xff)) == 0) { break L1; }
+       if (((b[((int) l5) - 60655] & 0xff) & 255) != ((l20 + 1) & 255)) { break L1; }
+      }
+      Words.put64(b, ((int) l5) - 60568, 0L);
+      Words.put64(b, ((int) l5) - 60576, 0L);
+      Words.put64(b, ((int) l5) - 60584, 0L);
+      Words.put64(b, ((int) l5) - 60592, 0L);
+      Words.put64(b, ((int) l5) - 60600, 0L);
+      Words.put64(b, ((int) l5) - 60608, 0L);
+      Words.put64(b, ((int) l5) - 60616, 0L);
+      Words.put64(b, ((int) l5) - 60624, 0L);
+      l19 = 1;
+      Core2.f62(m, l5 + 96L, l1, l2, 1);
+      l6 = Words.get64(b, ((int) l5) - 60584);
+      l7 = Words.get64(b, ((int) l5) - 60592);
+      l8 = Words.get64(b, ((int) l5) - 60600);
+      l9 = Words.get64(b, ((int) l5) - 60608);
+      l20 = b[((int) l5) - 60576] & 0xff;
+      l0 = b[((int) l5) - 60624] & 0xff;
+      Words.put64(b, ((int) l5) - 60568, 0L);
+      Words.put64(b, ((int) l5) - 60576, 0L);
+      Words.put64(b, ((int) l5) - 60584, 0L);
+      Words.put64(b, ((int) l5) - 60592, 0L);
+      Words.put64(b, ((int) l5) - 60600, 0L);
+      Words.put64(b, ((int) l5) - 60608, 0L);
+      Words.put64(b, ((int) l5) - 60616, 0L);
+      Words.put64(b, ((int) l5) - 60624, 0L);
+      Core2.f62(m, l5 + 96L, l3, l4, 1);
+      L16: {
+       if ((l0 | ((b[((int) l5) - 60624] & 0xff) & 255)) == 0) { break L16; }
+       l19 = 0;
+       break L1;
+      }
+      if (((l20 & 255) == 2) ^ (((b[((int) l5) - 60576] & 0xff) & 255) == 2)) { break L1; }
+      L17: {
+       if (!(l4 == 0L)) { break L17; }
+       l19 = 0;
+       break L1;
+      }
+      L18: {
+       L19: {
+        if ((l0 = (int) b[((int) l3) - 60720]) <= -1) { break L19; }
+        l10 = -1L;
+        break L18;
+       }
+       L20: {
+        if (l0 + Integer.MIN_VALUE >= 2147483616) { break L20; }
+        l10 = -2L;
+        break L18;
+       }
+       l10 = (l0 + Integer.MIN_VALUE < 2147483632) ? -3L : -4L;
+      }
+      L21: {
+       if (l10 != (0L - l4)) { break L21; }
+       l19 = 0;
+       break L1;
+      }
+      L22: {
+       if (((int) b[((int) ((l10 = l3 + l4) + -1L)) - 60720]) <= -1) { break L22; }
+       l19 = 0;
+       break L1;
+      }
+      l11 = -2L;
+      L23: {
+       if ((b[((int) (l10 + -2L)) - 60720] & 0xff) + Integer.MIN_VALUE > -2147483457) { break L23; }
+       l11 = ((b[((int) (l10 + -3L)) - 60720] & 0xff) + Integer.MIN_VALUE > -2147483457) ? -3L : -4L;
+      }
+      L24: {
+       if ((l0 = (int) b[((int) (l4 = l3 + (l10 = l11 + l4))) - 60720]) <= -1) { break L24; }
+       l19 = 0;
+       break L1;
+      }
+      L25: {
+       if (l0 + Integer.MIN_VALUE >= 2147483616) { break L25; }
+       l19 = 0;
+       break L1;
+      }
+      l19 = l0 & 255;
+      l20 = (b[((int) l4) - 60719] & 0xff) & 63;
+      l21 = (b[((int) l4) - 60718] & 0xff) & 63;
+      L26: {
+       L27: {
+        if (l0 + Integer.MIN_VALUE > 2147483631) { break L27; }
+        l0 = ((l20 << 6) | ((l19 << 12) & 61440)) | l21;
+        break L26;
+       }
+       l0 = ((l21 << 6) | ((l20 << 12) | ((l19 << 18) & 1835008))) | ((b[((int) l4) - 60717] & 0xff) & 63);
+      }
+      l19 = 0;
+      if ((l0 + -2048) + Integer.MIN_VALUE > -2147420161) { break L1; }
+      l19 = 0;
+      if ((l20 = Words.get32(b, State.far((int) (l4 = ((((l0 = (((l0 >>> 12) | ((l0 << 2) & 16128)) | ((l0 << 16) & 4128768)) | 8421600) & 0xffffffffL) * 953497L) >>> 22L) & 1016L), 80936))) != l0) { break L1; }
+      if (((b[((int) (l4 + 80940L)) - 60720] & 0xff) & 255) != 1) { break L1; }
+      final int t28 = b[((int) (l4 + 80941L)) - 60720] & 0xff;
+      final int t29 = (l20 == l0) ? 1 : 0;
+      if (((l20 = t29 != 0 ? t28 : 0) & 255) == 0) { break L1; }
+      L30: {
+       if (l2 == 0L) { break L30; }
+       L31: {
+        if ((l0 = (int) b[((int) ((l4 = l1 + l2) + -1L)) - 60720]) >= 0) { break L31; }
+        l11 = -2L;
+        L32: {
+         if ((b[((int) (l4 + -2L)) - 60720] & 0xff) + Integer.MIN_VALUE > -2147483457) { break L32; }
+         l11 = ((b[((int) (l4 + -3L)) - 60720] & 0xff) + Integer.MIN_VALUE > -2147483457) ? -3L : -4L;
+        }
+        l0 = (l19 = (int) b[((int) (l4 = (l1 + l11) + l2)) - 60720]) & 255;
+        if (l19 > -1) { break L31; }
+        l21 = (b[((int) l4) - 60719] & 0xff) & 63;
+        L33: {
+         if (l19 + Integer.MIN_VALUE > 2147483615) { break L33; }
+         l0 = ((l0 << 6) & 1984) | l21;
+         break L31;
+        }
+        l22 = (b[((int) l4) - 60718] & 0xff) & 63;
+        L34: {
+         if (l19 + Integer.MIN_VALUE > 2147483631) { break L34; }
+         l0 = ((l21 << 6) | ((l0 << 12) & 61440)) | l22;
+         break L31;
+        }
+        l0 = ((l22 << 6) | ((l21 << 12) | ((l0 << 18) & 1835008))) | ((b[((int) l4) - 60717] & 0xff) & 63);
+       }
+       if ((l0 + -2048) + Integer.MIN_VALUE > -2147420161) { break L30; }
+       if ((l0 = (Words.get32(b, State.far((int) (l4 = ((((l0 = (((l0 >>> 12) | ((l0 << 2) & 16128)) | ((l0 << 16) & 4128768)) | 8421600) & 0xffffffffL) * 953497L) >>> 22L) & 1016L), 80936)) != l0) ? 1 : 0) != 0) { break L30; }
+       if (((b[((int) (l4 + 80940L)) - 60720] & 0xff) & 255) != 1) { break L30; }
+       l19 = 0;
+       final int t35 = b[((int) (l4 + 80941L)) - 60720] & 0xff;
+       final int t36 = l0;
+       if (((t36 != 0 ? 0 : t35) & 255) + Integer.MIN_VALUE >= (l20 & 255) + Integer.MIN_VALUE) { break L1; }
+      }
+      l11 = 0L;
+      Words.put64(b, ((int) l5) - 60568, 0L);
+      Words.put64(b, ((int) l5) - 60576, 0L);
+      Words.put64(b, ((int) l5) - 60584, 0L);
+      Words.put64(b, ((int) l5) - 60592, 0L);
+      Words.put64(b, ((int) l5) - 60600, 0L);
+      Words.put64(b, ((int) l5) - 60608, 0L);
+      Words.put64(b, ((int) l5) - 60616, 0L);
+      Words.put64(b, ((int) l5) - 60624, 0L);
+      Core2.f62(m, l5 + 96L, l3, l10, 1);
+      l19 = 0;
+      if ((b[((int) l5) - 60624] & 0xff) != 0) { break L1; }
+      l12 = Words.get64(b, ((int) l5) - 60584);
+      l13 = Words.get64(b, ((int) l5) - 60592);
+      l14 = Words.get64(b, ((int) l5) - 60600);
+      l15 = Words.get64(b, ((int) l5) - 60608);
+      L37: {
+       if ((l0 = ((l7 | l6) == 0L) ? 1 : 0) == 0) { break L37; }
+       l16 = 0L;
+       break L2;
+      }
+      final long t38 = 0L - (l8 + ((l9 != 0L) ? 1L : 0L));
+      final long t39 = l8;
+      final int t40 = l19 = (l8 < 0L) ? 1 : 0;
+      final long t41 = l1 = t40 != 0 ? t38 : t39;
+      final int t42 = l0;
+      final long t43 = l1;
+      final long t44 = 0L - l9;
+      final long t45 = l9;
+      final int t46 = l19;
+      final int t47 = t42 | (((t43 | (l8 = t46 != 0 ? t44 : t45)) == 0L) ? 1 : 0);
+      final long t48 = (long) Long.numberOfLeadingZeros(l6);
+      final long t49 = ((long) Long.numberOfLeadingZeros(l7)) + 64L;
+      final int t50 = (l6 != 0L) ? 1 : 0;
+      final long t51 = l4 = t50 != 0 ? t48 : t49;
+      final long t52 = (long) Long.numberOfLeadingZeros(l1);
+      final long t53 = ((long) Long.numberOfLeadingZeros(l8)) + 64L;
+      final int t54 = (l1 != 0L) ? 1 : 0;
+      final int t55 = ((l3 = t51 - (l2 = t54 != 0 ? t52 : t53)) + Long.MIN_VALUE > -9223372036854775681L) ? 1 : 0;
+      final int t56 = ((l9 = 0L - ((l4 + Long.MIN_VALUE < l2 + Long.MIN_VALUE) ? 1L : 0L)) != 0L) ? 1 : 0;
+      final int t57 = (l9 == 0L) ? 1 : 0;
+      l11 = ((l0 = t47 | (t57 != 0 ? t55 : t56)) != 0) ? 0L : t41;
+      l16 = l0 != 0 ? 0L : l8;
+      if (l0 != 0) { break L2; }
+      if (((l3 ^ 127L) | l9) == 0L) { break L2; }
+      Core1.f4(m, l5 + 48L, l8, l1, 127 - ((int) l3));
+      l2 = Words.get64(b, ((int) l5) - 60664);
+      l4 = Words.get64(b, ((int) l5) - 60672);
+      if (((l3 = l3 + 1L) | (l9 = l9 + ((l3 == 0L) ? 1L : 0L))) == 0L) { break L4; }
+      Core1.f5(m, l5 + 32L, l8, l1, (int) l3);
+      l17 = l7 + -1L;
+      l16 = l6 - ((l7 == 0L) ? 1L : 0L);
+      l10 = Words.get64(b, ((int) l5) - 60680);
+      l1 = Words.get64(b, ((int) l5) - 60688);
+      l8 = 0L;
+      L58: while (true) {
+       l11 = l8;
+       l10 = ((l8 = (l10 << 1L) | (l1 >>> 63L)) - ((l8 = ((l16 - l8) - ((l17 + Long.MIN_VALUE < (l1 = (l1 << 1L) | (l2 >>> 63L)) + Long.MIN_VALUE) ? 1L : 0L)) >> 63L) & l6)) - ((l1 + Long.MIN_VALUE < (l18 = l8 & l7) + Long.MIN_VALUE) ? 1L : 0L);
+       l8 = l8 & 1L;
+       l1 = l1 - l18;
+       l2 = 0L | ((l2 << 1L) | (l4 >>> 63L));
+       l0 = (l3 == 0L) ? 1 : 0;
+       l4 = l11 | (l4 << 1L);
+       l3 = l11 = l3 + -1L;
+       if (!((l11 | (l9 = l9 - (l0 & 0xffffffffL))) == 0L)) { continue L58; }
+       break L3;
+      }
+     }
+     throw State.trap();
+    }
+    l8 = 0L;
+   }
+   l11 = (l2 << 1L) | (l4 >>> 63L);
+   l16 = l8 | (l4 << 1L);
+  }
+  L59: {
+   L60: {
+    if ((l0 = ((l13 | l12) == 0L) ? 1 : 0) == 0) { break L60; }
+    l3 = 0L;
+    l4 = 0L;
+    break L59;
+   }
+   final long t61 = 0L - (l14 + ((l15 != 0L) ? 1L : 0L));
+   final long t62 = l14;
+   final int t63 = l19 = (l14 < 0L) ? 1 : 0;
+   final long t64 = l1 = t63 != 0 ? t61 : t62;
+   final int t65 = l0;
+   final long t66 = l1;
+   final long t67 = 0L - l15;
+   final long t68 = l15;
+   final int t69 = l19;
+   final int t70 = t65 | (((t66 | (l6 = t69 != 0 ? t67 : t68)) == 0L) ? 1 : 0);
+   final long t71 = (long) Long.numberOfLeadingZeros(l12);
+   final long t72 = ((long) Long.numberOfLeadingZeros(l13)) + 64L;
+   final int t73 = (l12 != 0L) ? 1 : 0;
+   final long t74 = l4 = t73 != 0 ? t71 : t72;
+   final long t75 = (long) Long.numberOfLeadingZeros(l1);
+   final long t76 = ((long) Long.numberOfLeadingZeros(l6)) + 64L;
+   final int t77 = (l1 != 0L) ? 1 : 0;
+   final int t78 = ((l8 = t74 - (l3 = t77 != 0 ? t75 : t76)) + Long.MIN_VALUE > -9223372036854775681L) ? 1 : 0;
+   final int t79 = ((l7 = 0L - ((l4 + Long.MIN_VALUE < l3 + Long.MIN_VALUE) ? 1L : 0L)) != 0L) ? 1 : 0;
+   final int t80 = (l7 == 0L) ? 1 : 0;
+   l3 = ((l0 = t70 | (t80 != 0 ? t78 : t79)) != 0) ? 0L : t64;
+   l4 = l0 != 0 ? 0L : l6;
+   if (l0 != 0) { break L59; }
+   if (((l8 ^ 127L) | l7) == 0L) { break L59; }
+   Core1.f4(m, l5 + 16L, l6, l1, 127 - ((int) l8));
+   l2 = Words.get64(b, ((int) l5) - 60696);
+   l4 = Words.get64(b, ((int) l5) - 60704);
+   L81: {
+    L82: {
+     if (((l3 = l8 + 1L) | (l7 = l7 + ((l3 == 0L) ? 1L : 0L))) == 0L) { break L82; }
+     Core1.f5(m, l5, l6, l1, (int) l3);
+     l18 = l13 + -1L;
+     l17 = l12 - ((l13 == 0L) ? 1L : 0L);
+     l8 = Words.get64(b, ((int) l5) - 60712);
+     l1 = Words.get64(b, ((int) l5) - 60720);
+     l6 = 0L;
+     L83: while (true) {
+      l9 = l6;
+      l8 = ((l6 = (l8 << 1L) | (l1 >>> 63L)) - ((l6 = ((l17 - l6) - ((l18 + Long.MIN_VALUE < (l1 = (l1 << 1L) | (l2 >>> 63L)) + Long.MIN_VALUE) ? 1L : 0L)) >> 63L) & l12)) - ((l1 + Long.MIN_VALUE < (l10 = l6 & l13) + Long.MIN_VALUE) ? 1L : 0L);
+      l6 = l6 & 1L;
+      l1 = l1 - l10;
+      l2 = 0L | ((l2 << 1L) | (l4 >>> 63L));
+      l0 = (l3 == 0L) ? 1 : 0;
+      l4 = l9 | (l4 << 1L);
+      l3 = l9 = l3 + -1L;
+      if (!((l9 | (l7 = l7 - (l0 & 0xffffffffL))) == 0L)) { continue L83; }
+      break L81;
+     }
+    }
+    l6 = 0L;
+   }
+   l3 = (l2 << 1L) | (l4 >>> 63L);
+   l4 = l6 | (l4 << 1L);
+  }
+  final int t84 = (l16 + Long.MIN_VALUE <= l4 + Long.MIN_VALUE) ? 1 : 0;
+  final int t85 = (l11 + Long.MIN_VALUE <= l3 + Long.MIN_VALUE) ? 1 : 0;
+  final int t86 = (l11 == l3) ? 1 : 0;
+  l19 = t86 != 0 ? t84 : t85;
+ }
+ m.g0 = l5 + 160L;
+ return l19;
+}
+
+static int f152(State m, long l0, long l1, long l2, int l3, int l4, long l5, long l6, long l7) {
+ final byte[] b = m.bytes;
+ long l8 = 0;
+ long l9 = 0;
+ long l10 = 0;
+ long l11 = 0;
+ long l12 = 0;
+ long l13 = 0;
+ long l14 = 0;
+ long l15 = 0;
+ long l16 = 0;
+ long l17 = 0;
+ long l18 = 0;
+ int l19 = 0;
+ int l20 = 0;
+ int l21 = 0;
+ int l22 = 0;
+ int l23 = 0;
+ int l24 = 0;
+ int l25 = 0;
+ m.g0 = l8 = m.g0 - 64L;
+ L1: {
+  if ((l8 = l8) < 16L) { break L1; }
+  l19 = 8;
+  l9 = 0L;
+  L2: {
+   if (l3 + Integer.MIN_VALUE > -2147483647) { break L2; }
+   if (l4 + Integer.MIN_VALUE > -2147483633) { break L2; }
+   L3: {
+    if (l1 == l2) { break L3; }
+    l19 = 5;
+    if (l1 + Long.MIN_VALUE < l2 + Long.MIN_VALUE) { break L2; }
+    if (((int) b[((int) (l0 + l2)) - 60720]) < -64) { break L2; }
+   }
+   l19 = 0;
+   if (l6 == 0L) { break L2; }
+   l10 = l0 + l2;
+   l2 = l1 - l2;
+   l11 = l8 + 24L;
+   l9 = 0L;
+   L4: while (true) {
+    Words.put64(b, ((int) l8) - 60664, 0L);
+    Words.put64(b, ((int) l8) - 60672, 0L);
+    Words.put64(b, ((int) l8) - 60680, 0L);
+    Words.put64(b, ((int) l8) - 60688, 0L);
+    Words.put64(b, ((int) l8) - 60696, 0L);
+    Words.put64(b, ((int) l8) - 60704, 0L);
+    Words.put64(b, ((int) l8) - 60712, 0L);
+    if (l2 == 0L) { break L2; }
+    f153(m, l8 + 8L, l3, l4, l0, l1, l10, l2);
+    if ((b[((int) l8) - 60712] & 0xff) != 1) { break L2; }
+    l12 = Words.get64(b, ((int) l8) - 60680);
+    l13 = Words.get64(b, ((int) l8) - 60688);
+    l14 = Words.get64(b, ((int) l8) - 60704);
+    l2 = Words.get64(b, ((int) l8) - 60664);
+    l10 = Words.get64(b, ((int) l8) - 60672);
+    L5: {
+     L6: {
+      L7: {
+       L8: {
+        L9: {
+         L10: {
+          L11: {
+           L12: {
+            L13: {
+             L14: {
+              L15: {
+               if ((l15 = Words.get64(b, ((int) l8) - 60696)) + Long.MIN_VALUE < -9223372036854775805L) { break L15; }
+               if (((l20 = b[((int) ((l16 = l14 + l15) + -3L)) - 60720] & 0xff) & 240) != 224) { break L14; }
+               l23 = (((l20 << 12) | (l21 = b[((int) (l16 + -1L)) - 60720] & 0xff)) + ((l22 = b[((int) (l16 + -2L)) - 60720] & 0xff) << 6)) + -925824;
+               l16 = l15 + -3L;
+               if (Words.get32(b, ((int) ((l17 = ((((l20 = ((l22 << 8) | (l21 << 16)) | l20) & 0xffffffffL) * 953497L) >>> 22L) & 1016L) + 80936L)) - 60720) == l20) { break L13; }
+               break L11;
+              }
+              if (l15 == 0L) { break L6; }
+             }
+             l20 = 0;
+             if ((l23 = (int) b[((int) (l14 + (l16 = l15 + -1L))) - 60720]) >= 0) { break L12; }
+             l16 = -2L;
+             L16: {
+              if ((b[((int) ((l17 = l14 + l15) + -2L)) - 60720] & 0xff) + Integer.MIN_VALUE > -2147483457) { break L16; }
+              l16 = ((b[((int) (l17 + -3L)) - 60720] & 0xff) + Integer.MIN_VALUE > -2147483457) ? -3L : -4L;
+             }
+             l23 = (l21 = (int) b[((int) (l17 = l14 + (l16 = l16 + l15))) - 60720]) & 255;
+             if (l21 > -1) { break L12; }
+             l22 = (b[((int) l17) - 60719] & 0xff) & 63;
+             L17: {
+              if (l21 + Integer.MIN_VALUE > 2147483615) { break L17; }
+              l23 = ((l23 << 6) & 1984) | l22;
+              break L12;
+             }
+             l24 = (b[((int) l17) - 60718] & 0xff) & 63;
+             L18: {
+              L19: {
+               if (l21 + Integer.MIN_VALUE > 2147483631) { break L19; }
+               l23 = ((l22 << 6) | ((l23 << 12) & 61440)) | l24;
+               break L18;
+              }
+              l23 = ((l24 << 6) | ((l22 << 12) | ((l23 << 18) & 1835008))) | ((b[((int) l17) - 60717] & 0xff) & 63);
+             }
+             if ((l23 + -2048) + Integer.MIN_VALUE > -2147420161) { break L12; }
+             if (Words.get32(b, ((int) ((l17 = ((((l20 = (((l23 >>> 12) | ((l23 << 2) & 16128)) | ((l23 << 16) & 4128768)) | 8421600) & 0xffffffffL) * 953497L) >>> 22L) & 1016L) + 80936L)) - 60720) != l20) { break L10; }
+            }
+            if ((b[((int) (l17 + 80940L)) - 60720] & 0xff) != 0) { break L11; }
+            break L8;
+           }
+           if ((l23 + -48) + Integer.MIN_VALUE >= -2147483638) { break L11; }
+           l22 = 1;
+           break L5;
+          }
+          if (l23 + Integer.MIN_VALUE > -2147483521) { break L10; }
+          l22 = 1;
+          l20 = 0;
+          if (l23 == 95) { break L5; }
+          if ((l23 + -44) + Integer.MIN_VALUE < -2147483645) { break L9; }
+          if ((l23 + -48) + Integer.MIN_VALUE < -2147483638) { break L5; }
+          if (((l23 & 95) + -65) + Integer.MIN_VALUE >= -2147483622) { break L6; }
+          break L5;
+         }
+         l22 = 0;
+         l20 = 1;
+         L20: {
+          L21: {
+           if (l23 > 24185) { break L21; }
+           L22: {
+            if (l23 > 21316) { break L22; }
+            L23: {
+             if (l23 > 20959) { break L23; }
+             if (l23 == 20313) { break L6; }
+             if (l23 == 20358) { break L6; }
+             break L20;
+            }
+            if (l23 == 20960) { break L5; }
+            if (l23 == 20986) { break L6; }
+            break L20;
+           }
+           L24: {
+            switch (l23 + -21317) {
+            case 0: case 7: break L8;
+            case 1: case 2: case 3: case 4: case 5: case 6: break L20;
+            default: break L24;
+            }
+           }
+           if (l23 == 22810) { break L6; }
+           if (l23 == 22909) { break L6; }
+           break L20;
+          }
+          L25: {
+           if (l23 > 26468) { break L25; }
+           L26: {
+            switch (l23 + -24186) {
+            case 0: break L8;
+            case 1: case 2: case 3: break L20;
+            case 4: break L5;
+            default: break L26;
+            }
+           }
+           L27: {
+            switch (l23 + -25968) {
+            case 0: case 8: break L5;
+            case 1: case 2: case 3: case 4: case 5: case 6: case 7: break L20;
+            default: break L27;
+            }
+           }
+           if (l23 == 24319) { break L8; }
+           break L20;
+          }
+          L28: {
+           if (l23 > 39191) { break L28; }
+           if (l23 == 26469) { break L6; }
+           if (l23 != 28857) { break L20; }
+           break L9;
+          }
+          if (l23 == 39192) { break L6; }
+          if (l23 == 40670) { break L9; }
+         }
+         if ((l23 + -65296) + Integer.MIN_VALUE > -2147483639) { break L6; }
+         break L8;
+        }
+        Words.put64(b, ((int) l8) - 60688, 0L);
+        Words.put64(b, ((int) l8) - 60696, 0L);
+        Words.put64(b, ((int) l8) - 60704, 0L);
+        Words.put64(b, ((int) l8) - 60712, 0L);
+        L29: {
+         L30: {
+          L31: {
+           L32: {
+            L33: {
+             L34: {
+              if (l16 + Long.MIN_VALUE < -9223372036854775805L) { break L34; }
+              if (((l23 = b[((int) ((l17 = l14 + l16) + -3L)) - 60720] & 0xff) & 240) != 224) { break L33; }
+              Words.put64(b, ((int) l8) - 60696, l14);
+              Words.put64(b, ((int) l8) - 60712, 1L);
+              Words.put64(b, ((int) l8) - 60688, l16 + -3L);
+              Words.put32(b, ((int) l8) - 60704, (((l23 << 12) | (l20 = b[((int) (l17 + -1L)) - 60720] & 0xff)) + ((l21 = b[((int) (l17 + -2L)) - 60720] & 0xff) << 6)) + -925824);
+              final int t35 = (int) l8;
+              final int t36 = b[((int) ((l16 = ((((l23 = ((l21 << 8) | (l20 << 16)) | l23) & 0xffffffffL) * 953497L) >>> 22L) & 1016L) + 80941L)) - 60720] & 0xff;
+              final int t37 = l23 = (Words.get32(b, State.far((int) l16, 80936)) == l23) ? 1 : 0;
+              b[t35 - 60699] = (byte) (t37 != 0 ? t36 : 0);
+              final int t38 = (int) l8;
+              final int t39 = b[((int) (l16 + 80940L)) - 60720] & 0xff;
+              final int t40 = l23;
+              b[t38 - 60700] = (byte) (t40 != 0 ? t39 : 2);
+              break L29;
+             }
+             if (l16 == 0L) { break L32; }
+            }
+            if ((l23 = (int) b[((int) (l14 + (l17 = l16 + -1L))) - 60720]) >= 0) { break L31; }
+            l17 = -2L;
+            L41: {
+             if ((b[((int) ((l18 = l14 + l16) + -2L)) - 60720] & 0xff) + Integer.MIN_VALUE > -2147483457) { break L41; }
+             l17 = ((b[((int) (l18 + -3L)) - 60720] & 0xff) + Integer.MIN_VALUE > -2147483457) ? -3L : -4L;
+            }
+            l23 = (l20 = (int) b[((int) (l16 = l14 + (l17 = l17 + l16))) - 60720]) & 255;
+            if (l20 > -1) { break L31; }
+            l21 = (b[((int) l16) - 60719] & 0xff) & 63;
+            L42: {
+             if (l20 + Integer.MIN_VALUE > 2147483615) { break L42; }
+             l23 = ((l23 << 6) & 1984) | l21;
+             break L31;
+            }
+            l22 = (b[((int) l16) - 60718] & 0xff) & 63;
+            L43: {
+             L44: {
+              if (l20 + Integer.MIN_VALUE > 2147483631) { break L44; }
+              l23 = ((l21 << 6) | ((l23 << 12) & 61440)) | l22;
+              break L43;
+             }
+             l23 = ((l22 << 6) | ((l21 << 12) | ((l23 << 18) & 1835008))) | ((b[((int) l16) - 60717] & 0xff) & 63);
+            }
+            if ((l23 + -2048) + Integer.MIN_VALUE > -2147420161) { break L31; }
+            final int t45 = b[((int) ((l16 = ((((l20 = (((l23 >>> 12) | ((l23 << 2) & 16128)) | ((l23 << 16) & 4128768)) | 8421600) & 0xffffffffL) * 953497L) >>> 22L) & 1016L) + 80941L)) - 60720] & 0xff;
+            final int t46 = l21 = (Words.get32(b, State.far((int) l16, 80936)) == l20) ? 1 : 0;
+            l20 = t46 != 0 ? t45 : 0;
+            final int t47 = b[((int) (l16 + 80940L)) - 60720] & 0xff;
+            final int t48 = l21;
+            l21 = t48 != 0 ? t47 : 2;
+            break L30;
+           }
+           Words.put64(b, ((int) l11) - 60720, 0L);
+           Words.put64(b, ((int) l11) - 60712, 0L);
+           Words.put64(b, ((int) l8) - 60706, 0L);
+           Words.put64(b, ((int) l8) - 60712, 0L);
+           break L29;
+          }
+          final int t49 = l20 = l23 + -48;
+          final int t50 = l21 = (l20 + Integer.MIN_VALUE < -2147483638) ? 1 : 0;
+          l20 = t50 != 0 ? t49 : 0;
+          l21 = l21 != 0 ? 0 : 2;
+         }
+         Words.put64(b, ((int) l8) - 60688, l17);
+         Words.put64(b, ((int) l8) - 60696, l14);
+         b[((int) l8) - 60699] = (byte) l20;
+         b[((int) l8) - 60700] = (byte) l21;
+         Words.put32(b, ((int) l8) - 60704, l23);
+         Words.put64(b, ((int) l8) - 60712, 1L);
+        }
+        l22 = Core3.f94(m, l8 + 8L);
+        break L7;
+       }
+       l22 = 1;
+      }
+      l20 = 0;
+      break L5;
+     }
+     l20 = 0;
+     l22 = 0;
+    }
+    L51: {
+     L52: {
+      L53: {
+       L54: {
+        L55: {
+         L56: {
+          L57: {
+           L58: {
+            L59: {
+             L60: {
+              if (l2 + Long.MIN_VALUE < -9223372036854775805L) { break L60; }
+              if (((l23 = b[((int) l10) - 60720] & 0xff) & 240) != 224) { break L59; }
+              l21 = (((l24 = b[((int) l10) - 60719] & 0xff) << 8) | ((l25 = b[((int) l10) - 60718] & 0xff) << 16)) | l23;
+              l23 = (((l23 << 12) | l25) + (l24 << 6)) + -925824;
+              l17 = l2 + -3L;
+              l16 = l10 + 3L;
+              if (l21 != Words.get32(b, ((int) ((l18 = (((l21 & 0xffffffffL) * 953497L) >>> 22L) & 1016L) + 80936L)) - 60720)) { break L57; }
+              break L58;
+             }
+             if (l2 == 0L) { break L52; }
+             l23 = b[((int) l10) - 60720] & 0xff;
+            }
+            l16 = 1L;
+            L61: {
+             if (((int) (byte) l23) > -1) { break L61; }
+             l21 = (b[((int) l10) - 60719] & 0xff) & 63;
+             L62: {
+              if (l23 + Integer.MIN_VALUE > -2147483425) { break L62; }
+              l23 = ((l23 << 6) & 1984) | l21;
+              l16 = 2L;
+              break L61;
+             }
+             l24 = (b[((int) l10) - 60718] & 0xff) & 63;
+             L63: {
+              if (l23 + Integer.MIN_VALUE > -2147483409) { break L63; }
+              l23 = ((l21 << 6) | ((l23 << 12) & 61440)) | l24;
+              l16 = 3L;
+              break L61;
+             }
+             l23 = ((l24 << 6) | ((l21 << 12) | ((l23 << 18) & 1835008))) | ((b[((int) l10) - 60717] & 0xff) & 63);
+             l16 = 4L;
+            }
+            l17 = l2 - l16;
+            l16 = l10 + l16;
+            L64: {
+             if ((l23 + -2048) + Integer.MIN_VALUE > -2147420161) { break L64; }
+             if (Words.get32(b, ((int) ((l18 = ((((l21 = (((l23 >>> 12) | ((l23 << 2) & 16128)) | ((l23 << 16) & 4128768)) | 8421600) & 0xffffffffL) * 953497L) >>> 22L) & 1016L) + 80936L)) - 60720) == l21) { break L58; }
+             break L56;
+            }
+            if ((l23 + -48) + Integer.MIN_VALUE >= -2147483638) { break L57; }
+            break L54;
+           }
+           if ((b[((int) (l18 + 80940L)) - 60720] & 0xff) == 0) { break L54; }
+          }
+          if (l23 + Integer.MIN_VALUE > -2147483521) { break L56; }
+          l24 = 1;
+          l21 = 0;
+          if (l23 == 95) { break L51; }
+          if ((l23 + -44) + Integer.MIN_VALUE < -2147483645) { break L55; }
+          if ((l23 + -48) + Integer.MIN_VALUE < -2147483638) { break L51; }
+          if (((l23 & 95) + -65) + Integer.MIN_VALUE >= -2147483622) { break L52; }
+          break L51;
+         }
+         l24 = 0;
+         l21 = 1;
+         L65: {
+          L66: {
+           if (l23 > 24185) { break L66; }
+           L67: {
+            L68: {
+             if (l23 > 21316) { break L68; }
+             L69: {
+              if (l23 > 20959) { break L69; }
+              if (l23 == 20313) { break L51; }
+              if (l23 != 20358) { break L65; }
+              break L51;
+             }
+             if (l23 == 20960) { break L51; }
+             if (l23 == 20986) { break L67; }
+             break L65;
+            }
+            L70: {
+             switch (l23 + -21317) {
+             case 0: case 7: break L54;
+             case 1: case 2: case 3: case 4: case 5: case 6: break L65;
+             default: break L70;
+             }
+            }
+            if (l23 == 22810) { break L51; }
+            if (l23 != 22909) { break L65; }
+           }
+           l21 = Core3.f95(m, l23, l16, l17);
+           break L51;
+          }
+          L71: {
+           if (l23 > 26468) { break L71; }
+           L72: {
+            switch (l23 + -24186) {
+            case 0: break L54;
+            case 1: case 2: case 3: break L65;
+            case 4: break L51;
+            default: break L72;
+            }
+           }
+           L73: {
+            switch (l23 + -25968) {
+            case 0: case 8: break L52;
+            case 1: case 2: case 3: case 4: case 5: case 6: case 7: break L65;
+            default: break L73;
+            }
+           }
+           if (l23 == 24319) { break L54; }
+           break L65;
+          }
+          L74: {
+           if (l23 > 39191) { break L74; }
+           if (l23 == 26469) { break L51; }
+           if (l23 != 28857) { break L65; }
+           break L55;
+          }
+          if (l23 == 39192) { break L51; }
+          if (l23 == 40670) { break L55; }
+         }
+         if ((l23 + -65296) + Integer.MIN_VALUE > -2147483639) { break L52; }
+         break L54;
+        }
+        Words.put64(b, ((int) l8) - 60688, 0L);
+        Words.put64(b, ((int) l8) - 60696, 0L);
+        Words.put64(b, ((int) l8) - 60704, 0L);
+        Words.put64(b, ((int) l8) - 60712, 0L);
+        L75: {
+         L76: {
+          L77: {
+           L78: {
+            if (l17 + Long.MIN_VALUE < -9223372036854775805L) { break L78; }
+            if (((l23 = b[((int) l16) - 60720] & 0xff) & 240) != 224) { break L77; }
+            l21 = b[((int) l16) - 60718] & 0xff;
+            l24 = b[((int) l16) - 60719] & 0xff;
+            Words.put64(b, ((int) l8) - 60688, l17 + -3L);
+            Words.put64(b, ((int) l8) - 60696, l16 + 3L);
+            Words.put64(b, ((int) l8) - 60712, 1L);
+            Words.put32(b, ((int) l8) - 60704, ((l21 | (l23 << 12)) + (l24 << 6)) + -925824);
+            final int t79 = (int) l8;
+            final int t80 = b[((int) ((l16 = ((((l23 = ((l24 << 8) | (l21 << 16)) | l23) & 0xffffffffL) * 953497L) >>> 22L) & 1016L) + 80941L)) - 60720] & 0xff;
+            final int t81 = l23 = (Words.get32(b, State.far((int) l16, 80936)) == l23) ? 1 : 0;
+            b[t79 - 60699] = (byte) (t81 != 0 ? t80 : 0);
+            final int t82 = (int) l8;
+            final int t83 = b[((int) (l16 + 80940L)) - 60720] & 0xff;
+            final int t84 = l23;
+            b[t82 - 60700] = (byte) (t84 != 0 ? t83 : 2);
+            break L75;
+           }
+           if (l17 == 0L) { break L76; }
+           l23 = b[((int) l16) - 60720] & 0xff;
+          }
+          l18 = 1L;
+          L85: {
+           if (((int) (byte) l23) > -1) { break L85; }
+           l21 = (b[((int) l16) - 60719] & 0xff) & 63;
+           L86: {
+            if (l23 + Integer.MIN_VALUE > -2147483425) { break L86; }
+            l23 = ((l23 << 6) & 1984) | l21;
+            l18 = 2L;
+            break L85;
+           }
+           l24 = (b[((int) l16) - 60718] & 0xff) & 63;
+           L87: {
+            if (l23 + Integer.MIN_VALUE > -2147483409) { break L87; }
+            l23 = ((l21 << 6) | ((l23 << 12) & 61440)) | l24;
+            l18 = 3L;
+            break L85;
+           }
+           l23 = ((l24 << 6) | ((l21 << 12) | ((l23 << 18) & 1835008))) | ((b[((int) l16) - 60717] & 0xff) & 63);
+           l18 = 4L;
+          }
+          l17 = l17 - l18;
+          l16 = l16 + l18;
+          L88: {
+           L89: {
+            if ((l23 + -2048) + Integer.MIN_VALUE > -2147420161) { break L89; }
+            final int t90 = b[((int) ((l18 = ((((l21 = (((l23 >>> 12) | ((l23 << 2) & 16128)) | ((l23 << 16) & 4128768)) | 8421600) & 0xffffffffL) * 953497L) >>> 22L) & 1016L) + 80941L)) - 60720] & 0xff;
+            final int t91 = l24 = (Words.get32(b, State.far((int) l18, 80936)) == l21) ? 1 : 0;
+            l21 = t91 != 0 ? t90 : 0;
+            final int t92 = b[((int) (l18 + 80940L)) - 60720] & 0xff;
+            final int t93 = l24;
+            l24 = t93 != 0 ? t92 : 2;
+            break L88;
+           }
+           final int t94 = l21 = l23 + -48;
+           final int t95 = l24 = (l21 + Integer.MIN_VALUE < -2147483638) ? 1 : 0;
+           l21 = t95 != 0 ? t94 : 0;
+           l24 = l24 != 0 ? 0 : 2;
+          }
+          Words.put64(b, ((int) l8) - 60688, l17);
+          Words.put64(b, ((int) l8) - 60696, l16);
+          b[((int) l8) - 60699] = (byte) l21;
+          b[((int) l8) - 60700] = (byte) l24;
+          Words.put32(b, ((int) l8) - 60704, l23);
+          Words.put64(b, ((int) l8) - 60712, 1L);
+          break L75;
+         }
+         Words.put64(b, ((int) l11) - 60720, 0L);
+         Words.put64(b, ((int) l11) - 60712, 0L);
+         Words.put64(b, ((int) l8) - 60706, 0L);
+         Words.put64(b, ((int) l8) - 60712, 0L);
+        }
+        l24 = Core3.f96(m, l8 + 8L);
+        break L53;
+       }
+       l24 = 1;
+      }
+      l21 = 0;
+      break L51;
+     }
+     l21 = 0;
+     l24 = 0;
+    }
+    l16 = l12 + l15;
+    Words.put32(b, ((int) l8) - 60712, 0);
+    l23 = l22 | l24;
+    L96: {
+     L97: {
+      L98: {
+       L99: {
+        L100: {
+         L101: {
+          L102: {
+           L103: {
+            if ((l17 = l12 + -1L) + Long.MIN_VALUE > -9223372036854775806L) { break L103; }
+            L104: {
+             switch ((int) l17) {
+             case 1: break L103;
+             case 2: break L104;
+             default: break L100;
+             }
+            }
+            if ((l24 = (Words.get32(b, State.far((int) (l17 = ((((l22 = (((b[((int) l13) - 60719] & 0xff) << 8) | (l25 = b[((int) l13) - 60720] & 0xff)) | ((b[((int) l13) - 60718] & 0xff) << 16)) & 0xffffffffL) * 953497L) >>> 22L) & 1016L), 80936)) != l22) ? 1 : 0) != 0) { break L102; }
+            l22 = 1;
+            final int t105 = b[((int) (l17 + 80940L)) - 60720] & 0xff;
+            final int t106 = l24;
+            if (((l24 = t106 != 0 ? 0 : t105) & 255) == 2) { break L102; }
+            break L99;
+           }
+           if (l12 + Long.MIN_VALUE > -9223372036854775804L) { break L98; }
+           if (l12 == 0L) { break L101; }
+           l25 = b[((int) l13) - 60720] & 0xff;
+          }
+          if (((int) (byte) l25) > -1) { break L98; }
+         }
+         Core3.f97(m, l8 + 8L, l13, l12);
+         if ((b[((int) l8) - 60712] & 0xff) != 1) { break L98; }
+         l22 = b[((int) l8) - 60709] & 0xff;
+         l24 = b[((int) l8) - 60711] & 0xff;
+         break L99;
+        }
+        l24 = ((l22 = ((((b[((int) l13) - 60720] & 0xff) + -58) & 255) + Integer.MIN_VALUE < -2147483402) ? 1 : 0) != 0) ? 2 : 0;
+       }
+       l23 = (l23 != 0 ? 0 : 2) | (((l24 = l24 & 255) == 0) ? 1 : 0);
+       l22 = ((l22 & 1) != 0) ? 8 : 0;
+       if ((l21 | (l20 & ((l24 == 1) ? 1 : 0))) != 0) { break L97; }
+       break L96;
+      }
+      l24 = Core3.f98(m, l13, l12);
+      L107: {
+       L108: {
+        L109: {
+         if (l20 == 0) { break L109; }
+         if ((l21 | Core3.f99(m, l13, l12)) != 0) { break L108; }
+         break L107;
+        }
+        if (l21 == 0) { break L107; }
+       }
+       l22 = 0;
+       l23 = (l23 != 0 ? 0 : 2) | l24;
+       break L97;
+      }
+      l22 = 0;
+      l23 = (l23 != 0 ? 0 : 2) | l24;
+      if (Core3.f100(m, l13, l12) == 0) { break L96; }
+     }
+     l23 = l23 | 4;
+    }
+    Words.put64(b, ((int) l8) - 60672, l2);
+    Words.put64(b, ((int) l8) - 60680, l10);
+    Words.put64(b, ((int) l8) - 60688, l12);
+    Words.put64(b, ((int) l8) - 60696, l13);
+    Words.put64(b, ((int) l8) - 60704, l15);
+    Words.put64(b, ((int) l8) - 60712, l14);
+    Core3.f108(m, l8, l8 + 8L);
+    l20 = b[((int) l8) - 60719] & 0xff;
+    l21 = b[((int) l8) - 60720] & 0xff;
+    Words.put32(b, ((int) (l5 + 20L)) - 60720, 0);
+    Words.put64(b, ((int) (l5 + 8L)) - 60720, l16);
+    Words.put64(b, ((int) l5) - 60720, l15);
+    final int t110 = (int) (l5 + 16L);
+    final int t111 = l22 | l23;
+    final int t112 = ((l20 + 1) & 255) << 4;
+    final int t113 = l21 & 1;
+    Words.put32(b, t110 - 60720, t111 | (t113 != 0 ? t112 : 0));
+    l5 = l5 + 24L;
+    if (l6 != (l9 = l9 + 1L)) { continue L4; }
+    break L4;
+   }
+   l9 = l6;
+   l19 = 0;
+  }
+  Words.put64(b, ((int) l7) - 60720, l9);
+  m.g0 = l8 + 64L;
+  final int t114 = l19;
+  return t114;
+ }
+ throw State.trap();
+}
+
+static void f153(State m, long l0, int l1, int l2, long l3, long l4, long l5, long l6) {
+ final byte[] b = m.bytes;
+ long l7 = 0;
+ long l8 = 0;
+ long l9 = 0;
+ long l10 = 0;
+ int l11 = 0;
+ int l12 = 0;
+ int l13 = 0;
+ int l14 = 0;
+ int l15 = 0;
+ m.g0 = l7 = m.g0 - 16L;
+ L1: {
+  L2: {
+   L3: {
+    if ((l8 = l7) < 16L) { break L3; }
+    L4: while (true) {
+     l7 = l5;
+     l10 = l4 - (l9 = l6);
+     L5: {
+      L6: {
+       L7: {
+        L8: {
+         L9: {
+          if (l9 + Long.MIN_VALUE < -9223372036854775805L) { break L9; }
+          if (((l11 = b[((int) l7) - 60720] & 0xff) & 240) != 224) { break L8; }
+          final int t10 = b[((int) ((l6 = ((((l14 = (((l12 = b[((int) l7) - 60719] & 0xff) << 8) | ((l13 = b[((int) l7) - 60718] & 0xff) << 16)) | l11) & 0xffffffffL) * 953497L) >>> 22L) & 1016L) + 80941L)) - 60720] & 0xff;
+          final int t11 = l14 = (Words.get32(b, State.far((int) l6, 80936)) == l14) ? 1 : 0;
+          l15 = t11 != 0 ? t10 : 0;
+          final int t12 = b[((int) (l6 + 80940L)) - 60720] & 0xff;
+          final int t13 = l14;
+          l14 = t13 != 0 ? t12 : 2;
+          l12 = (l11 = ((l12 << 6) + l13) + (l11 << 12)) + -925824;
+          l6 = l9 + -3L;
+          l5 = l7 + 3L;
+          L14: {
+           L15: {
+            if (l11 == 947141) { break L15; }
+            if (l11 == 950143) { break L15; }
+            if ((l11 + -991120) + Integer.MIN_VALUE < -2147483638) { break L15; }
+            L16: {
+             L17: {
+              if (l11 > 946314) { break L17; }
+              L18: {
+               if (l11 > 945802) { break L18; }
+               L19: {
+                if (l11 > 934063) { break L19; }
+                L20: {
+                 switch (l11 + -925856) {
+                 case 0: case 5: break L15;
+                 case 1: case 2: case 3: case 4: break L16;
+                 default: break L20;
+                 }
+                }
+                if (l11 != 925989) { break L16; }
+                break L15;
+               }
+               if (l11 == 934064) { break L15; }
+               if (l11 != 934546) { break L16; }
+               break L15;
+              }
+              L21: {
+               if (l11 > 945866) { break L21; }
+               L22: {
+                switch (l11 + -945828) {
+                case 0: case 6: break L15;
+                case 1: case 2: case 3: case 4: case 5: break L16;
+                default: break L22;
+                }
+               }
+               if (l11 != 945803) { break L16; }
+               break L15;
+              }
+              if (l11 == 945867) { break L15; }
+              if (l11 != 946015) { break L16; }
+              break L15;
+             }
+             L23: {
+              if (l11 > 954680) { break L23; }
+              L24: {
+               if (l11 > 946821) { break L24; }
+               if (l11 == 946315) { break L15; }
+               if (l11 != 946665) { break L16; }
+               break L15;
+              }
+              if (l11 == 946822) { break L15; }
+              if (l11 == 947139) { break L15; }
+              if (l11 != 947272) { break L16; }
+              break L15;
+             }
+             L25: {
+              if (l11 > 966493) { break L25; }
+              if (l11 == 954681) { break L15; }
+              if (l11 == 961824) { break L15; }
+              if (l11 != 961951) { break L16; }
+              break L15;
+             }
+             if (l11 == 966494) { break L15; }
+             if (l11 == 991109) { break L15; }
+             if (l11 == 991333) { break L15; }
+            }
+            if (l12 + Integer.MIN_VALUE < -2147483604) { break L14; }
+            if (l12 + Integer.MIN_VALUE < -2147483601) { break L15; }
+            if ((l11 + -991116) + Integer.MIN_VALUE > -2147483646) { break L14; }
+           }
+           L26: {
+            L27: {
+             if ((l14 & 255) != 2) { break L27; }
+             if (l11 == 947141) { break L2; }
+             if (l11 == 950143) { break L2; }
+             if ((l11 + -991120) + Integer.MIN_VALUE >= -2147483638) { break L26; }
+             break L2;
+            }
+            if (Core4.f138(m, l1, l2, l12, l14, l15, l5, l6) == 0) { break L26; }
+            if (Core4.f139(m, l1, l2, l3, l10, l12, l5, l6) == 0) { break L2; }
+           }
+           if (Core4.f140(m, l1, l2, l3, l10, l12, l5, l6) == 0) { continue L4; }
+           break L2;
+          }
+          L28: {
+           L29: {
+            switch ((int) ((l14 & 0xffffffffL) & 255L)) {
+            case 1: break L29;
+            case 2: continue L4;
+            default: break L28;
+            }
+           }
+           if ((l2 & 255) + Integer.MIN_VALUE < (l15 & 255) + Integer.MIN_VALUE) { continue L4; }
+          }
+          L30: {
+           if ((l1 & 1) != 0) { break L30; }
+           L31: {
+            L32: {
+             if (l11 > 955413) { break L32; }
+             L33: {
+              if (l11 > 948600) { break L33; }
+              if (l11 == 946015) { continue L4; }
+              if (l11 == 946061) { continue L4; }
+              if (l11 == 946160) { continue L4; }
+              break L31;
+             }
+             L34: {
+              if (l11 > 951243) { break L34; }
+              if (l11 == 948601) { continue L4; }
+              if (l11 == 951166) { continue L4; }
+              break L31;
+             }
+             if (l11 == 951244) { continue L4; }
+             if (l11 == 952402) { continue L4; }
+             break L31;
+            }
+            L35: {
+             if (l11 > 961967) { break L35; }
+             L36: {
+              switch (l11 + -961838) {
+              case 0: case 5: continue L4;
+              case 1: case 2: case 3: case 4: break L31;
+              default: break L36;
+              }
+             }
+             if (l11 == 955414) { continue L4; }
+             if (l11 == 958726) { continue L4; }
+             break L31;
+            }
+            if (l11 == 961968) { continue L4; }
+            if (l11 == 964294) { continue L4; }
+            if (l11 == 964344) { continue L4; }
+           }
+           if ((l11 + -947265) + Integer.MIN_VALUE < -2147483644) { continue L4; }
+          }
+          if ((l14 & 255) != 1) { break L2; }
+          if ((l11 = l15 & 255) == 0) { break L7; }
+          if (l11 != 6) { break L2; }
+          if (Core3.f92(m, l5, l6) != 0) { continue L4; }
+          break L2;
+         }
+         if (l9 == 0L) { break L6; }
+         l11 = b[((int) l7) - 60720] & 0xff;
+        }
+        l12 = l11 & 255;
+        l5 = 1L;
+        L37: {
+         if (((int) (byte) l11) > -1) { break L37; }
+         l14 = (b[((int) l7) - 60719] & 0xff) & 63;
+         L38: {
+          if ((l11 & 255) + Integer.MIN_VALUE > -2147483425) { break L38; }
+          l12 = ((l12 << 6) & 1984) | l14;
+          l5 = 2L;
+          break L37;
+         }
+         l13 = (b[((int) l7) - 60718] & 0xff) & 63;
+         L39: {
+          if ((l11 & 255) + Integer.MIN_VALUE > -2147483409) { break L39; }
+          l12 = ((l14 << 6) | ((l12 << 12) & 61440)) | l13;
+          l5 = 3L;
+          break L37;
+         }
+         l12 = ((l13 << 6) | ((l14 << 12) | ((l12 << 18) & 1835008))) | ((b[((int) l7) - 60717] & 0xff) & 63);
+         l5 = 4L;
+        }
+        L40: {
+         L41: {
+          if ((l12 + -2048) + Integer.MIN_VALUE > -2147420161) { break L41; }
+          final int t42 = b[((int) ((l6 = ((((l11 = (((l12 >>> 12) | ((l12 << 2) & 16128)) | ((l12 << 16) & 4128768)) | 8421600) & 0xffffffffL) * 953497L) >>> 22L) & 1016L) + 80941L)) - 60720] & 0xff;
+          final int t43 = l11 = (Words.get32(b, State.far((int) l6, 80936)) == l11) ? 1 : 0;
+          l14 = t43 != 0 ? t42 : 0;
+          final int t44 = b[((int) (l6 + 80940L)) - 60720] & 0xff;
+          final int t45 = l11;
+          l11 = t45 != 0 ? t44 : 2;
+          break L40;
+         }
+         final int t46 = l11 = l12 + -48;
+         final int t47 = l11 = (l11 + Integer.MIN_VALUE < -2147483638) ? 1 : 0;
+         l14 = t47 != 0 ? t46 : 0;
+         l11 = l11 != 0 ? 0 : 2;
+        }
+        l6 = l9 - l5;
+        l5 = l7 + l5;
+        L48: {
+         L49: {
+          if (l12 == 21317) { break L49; }
+          if (l12 == 24319) { break L49; }
+          if ((l12 + -65296) + Integer.MIN_VALUE < -2147483638) { break L49; }
+          L50: {
+           L51: {
+            if (l12 > 20490) { break L51; }
+            L52: {
+             if (l12 > 19978) { break L52; }
+             L53: {
+              if (l12 > 8239) { break L53; }
+              L54: {
+               switch (l12 + -32) {
+               case 0: case 5: break L49;
+               case 1: case 2: case 3: case 4: break L50;
+               default: break L54;
+               }
+              }
+              if (l12 != 165) { break L50; }
+              break L49;
+             }
+             if (l12 == 8240) { break L49; }
+             if (l12 != 8722) { break L50; }
+             break L49;
+            }
+            L55: {
+             if (l12 > 20042) { break L55; }
+             L56: {
+              switch (l12 + -20004) {
+              case 0: case 6: break L49;
+              case 1: case 2: case 3: case 4: case 5: break L50;
+              default: break L56;
+              }
+             }
+             if (l12 != 19979) { break L50; }
+             break L49;
+            }
+            if (l12 == 20043) { break L49; }
+            if (l12 != 20191) { break L50; }
+            break L49;
+           }
+           L57: {
+            if (l12 > 28856) { break L57; }
+            L58: {
+             if (l12 > 20997) { break L58; }
+             if (l12 == 20491) { break L49; }
+             if (l12 != 20841) { break L50; }
+             break L49;
+            }
+            if (l12 == 20998) { break L49; }
+            if (l12 == 21315) { break L49; }
+            if (l12 != 21448) { break L50; }
+            break L49;
+           }
+           L59: {
+            if (l12 > 40669) { break L59; }
+            if (l12 == 28857) { break L49; }
+            if (l12 == 36000) { break L49; }
+            if (l12 != 36127) { break L50; }
+            break L49;
+           }
+           if (l12 == 40670) { break L49; }
+           if (l12 == 65285) { break L49; }
+           if (l12 == 65509) { break L49; }
+          }
+          if (l12 + Integer.MIN_VALUE < -2147483604) { break L48; }
+          if (l12 + Integer.MIN_VALUE < -2147483601) { break L49; }
+          if ((l12 + -65292) + Integer.MIN_VALUE > -2147483646) { break L48; }
+         }
+         L60: {
+          L61: {
+           if ((l11 & 255) != 2) { break L61; }
+           if (l12 == 21317) { break L2; }
+           if (l12 == 24319) { break L2; }
+           if ((l12 + -65296) + Integer.MIN_VALUE >= -2147483638) { break L60; }
+           break L2;
+          }
+          if (Core4.f138(m, l1, l2, l12, l11, l14, l5, l6) == 0) { break L60; }
+          if (Core4.f139(m, l1, l2, l3, l10, l12, l5, l6) == 0) { break L2; }
+         }
+         if (Core4.f140(m, l1, l2, l3, l10, l12, l5, l6) == 0) { continue L4; }
+         break L2;
+        }
+        L62: {
+         L63: {
+          switch ((int) ((l11 & 0xffffffffL) & 255L)) {
+          case 1: break L63;
+          case 2: continue L4;
+          default: break L62;
+          }
+         }
+         if ((l2 & 255) + Integer.MIN_VALUE < (l14 & 255) + Integer.MIN_VALUE) { continue L4; }
+        }
+        L64: {
+         if ((l1 & 1) != 0) { break L64; }
+         L65: {
+          L66: {
+           if (l12 > 29589) { break L66; }
+           L67: {
+            if (l12 > 22776) { break L67; }
+            if (l12 == 20191) { continue L4; }
+            if (l12 == 20237) { continue L4; }
+            if (l12 == 20336) { continue L4; }
+            break L65;
+           }
+           L68: {
+            if (l12 > 25419) { break L68; }
+            if (l12 == 22777) { continue L4; }
+            if (l12 == 25342) { continue L4; }
+            break L65;
+           }
+           if (l12 == 25420) { continue L4; }
+           if (l12 == 26578) { continue L4; }
+           break L65;
+          }
+          L69: {
+           if (l12 > 36143) { break L69; }
+           L70: {
+            switch (l12 + -36014) {
+            case 0: case 5: continue L4;
+            case 1: case 2: case 3: case 4: break L65;
+            default: break L70;
+            }
+           }
+           if (l12 == 29590) { continue L4; }
+           if (l12 == 32902) { continue L4; }
+           break L65;
+          }
+          if (l12 == 36144) { continue L4; }
+          if (l12 == 38470) { continue L4; }
+          if (l12 == 38520) { continue L4; }
+         }
+         if ((l12 + -21441) + Integer.MIN_VALUE < -2147483644) { continue L4; }
+        }
+        if ((l11 & 255) != 1) { break L2; }
+        if ((l11 = l14 & 255) == 0) { break L5; }
+        if (l11 != 6) { break L2; }
+        if (Core3.f92(m, l5, l6) != 0) { continue L4; }
+        break L2;
+       }
+       if (Core3.f93(m, l1, l2, l5, l6) == 0) { continue L4; }
+       break L2;
+      }
+      Words.put64(b, ((int) l0) - 60672, 0L);
+      Words.put64(b, ((int) l0) - 60680, 0L);
+      Words.put64(b, ((int) l0) - 60688, 0L);
+      Words.put64(b, ((int) l0) - 60696, 0L);
+      Words.put64(b, ((int) l0) - 60704, 0L);
+      Words.put64(b, ((int) l0) - 60712, 0L);
+      Words.put64(b, ((int) l0) - 60720, 0L);
+      break L1;
+     }
+     if (Core3.f93(m, l1, l2, l5, l6) == 0) { continue L4; }
+     break L2;
+    }
+   }
+   throw State.trap();
+  }
+  Core4.f141(m, l8, l1, l2, l3, l4, l12, l5, l6);
+  l6 = Words.get64(b, ((int) l8) - 60720);
+  Words.put64(b, ((int) (l0 + 48L)) - 60720, l5 = Words.get64(b, ((int) l8) - 60712));
+  Words.put64(b, ((int) (l0 + 40L)) - 60720, l6);
+  Words.put64(b, ((int) (l0 + 24L)) - 60720, l7);
+  Words.put64(b, ((int) (l0 + 16L)) - 60720, l10);
+  Words.put64(b, ((int) (l0 + 8L)) - 60720, l3);
+  Words.put64(b, ((int) l0) - 60720, 1L);
+  Words.put64(b, ((int) (l0 + 32L)) - 60720, l9 - l5);
+ }
+ m.g0 = l8 + 16L;
+}
+
+static void f154(State m, long l0, int l1, long l2, long l3) {
+ final byte[] b = m.bytes;
+ long l4 = 0;
+ long l5 = 0;
+ long l6 = 0;
+ long l7 = 0;
+ int l8 = 0;
+ int l9 = 0;
+ int l10 = 0;
+ int l11 = 0;
+ m.g0 = l4 = m.g0 - 16L;
+ L1: {
+  L2: {
+   L3: {
+    L4: {
+     L5: {
+      L6: {
+       L7: {
+        L8: {
+         if ((l5 = l4) < 16L) { break L8; }
+         L9: {
+          if ((l1 & 255) + Integer.MIN_VALUE >= -2147483643) { break L9; }
+          l4 = l2;
+          l6 = l3;
+          break L2;
+         }
+         l8 = 0;
+         if (l3 == 0L) { break L1; }
+         L10: while (true) {
+          L11: {
+           L12: {
+            if ((l1 = b[((int) l2) - 60720] & 0xff) + Integer.MIN_VALUE > -2147483616) { break L12; }
+            if (((1L << (l1 & 0xffffffffL)) & 4294983168L) == 0L) { break L12; }
+            l4 = 1L;
+            break L11;
+           }
+           L13: {
+            L14: {
+             L15: {
+              if (l1 == 194) { break L15; }
+              if (l3 + Long.MIN_VALUE < -9223372036854775805L) { break L14; }
+              if (((l1 + 28) & 255) + Integer.MIN_VALUE < -2147483395) { break L14; }
+              l9 = b[((int) (l2 + 1L)) - 60720] & 0xff;
+              l11 = (int) (byte) (l10 = b[((int) (l2 + 2L)) - 60720] & 0xff);
+              if (l1 != 226) { break L13; }
+              if ((l9 & 255) != 128) { break L13; }
+              l4 = 3L;
+              if (l11 < -117) { break L11; }
+              if ((l1 = l10 + -168) + Integer.MIN_VALUE > -2147483641) { break L7; }
+              if (((1 << l1) & 131) == 0) { break L7; }
+              break L11;
+             }
+             l7 = 1L;
+             l1 = b[((int) l2) - 60719] & 0xff;
+             L16: {
+              if (l3 != 1L) { break L16; }
+              l11 = l1 & 63;
+              l1 = 194;
+              break L5;
+             }
+             l4 = 2L;
+             if (l1 == 133) { break L11; }
+             if (l1 == 160) { break L11; }
+            }
+            if (l3 + Long.MIN_VALUE >= -9223372036854775805L) { break L7; }
+            l9 = b[((int) l2) - 60720] & 0xff;
+            break L6;
+           }
+           L17: {
+            L18: {
+             L19: {
+              L20: {
+               switch (l1 + -225) {
+               case 1: break L19;
+               case 2: break L18;
+               default: break L20;
+               }
+              }
+              if ((l9 & 255) != 154) { break L7; }
+              if (l11 != -128) { break L7; }
+              break L17;
+             }
+             if ((l9 & 255) != 129) { break L7; }
+             if (l11 == -97) { break L17; }
+             break L7;
+            }
+            if ((l9 & 255) != 128) { break L7; }
+            if (l11 != -128) { break L7; }
+           }
+           l4 = 3L;
+          }
+          l2 = l2 + l4;
+          if (!((l3 = l3 - l4) == 0L)) { continue L10; }
+          break L1;
+         }
+        }
+        throw State.trap();
+       }
+       if (((l9 = b[((int) l2) - 60720] & 0xff) & 240) != 224) { break L6; }
+       l1 = (((b[((int) l2) - 60718] & 0xff) + ((b[((int) l2) - 60719] & 0xff) << 6)) + (l9 << 12)) + -925824;
+       l6 = l3 + -3L;
+       l4 = l2 + 3L;
+       l7 = l3;
+       break L3;
+      }
+      l1 = l9 & 255;
+      l4 = 1L;
+      L21: {
+       if (((int) (byte) l9) > -1) { break L21; }
+       l11 = (b[((int) l2) - 60719] & 0xff) & 63;
+       L22: {
+        if ((l9 & 255) + Integer.MIN_VALUE > -2147483425) { break L22; }
+        l7 = l3;
+        break L5;
+       }
+       l10 = (b[((int) l2) - 60718] & 0xff) & 63;
+       L23: {
+        if ((l9 & 255) + Integer.MIN_VALUE > -2147483409) { break L23; }
+        l1 = ((l11 << 6) | ((l1 << 12) & 61440)) | l10;
+        l4 = 3L;
+        break L21;
+       }
+       l1 = ((l10 << 6) | ((l11 << 12) | ((l1 << 18) & 1835008))) | ((b[((int) l2) - 60717] & 0xff) & 63);
+       l4 = 4L;
+      }
+      l7 = l3;
+      break L4;
+     }
+     l1 = ((l1 << 6) & 1984) | l11;
+     l4 = 2L;
+    }
+    l6 = l7 - l4;
+    l4 = l2 + l4;
+   }
+   if (l1 == 27491) { break L2; }
+   if (l1 == 36000) { break L2; }
+   if (l1 == 36127) { break L2; }
+   l4 = l2;
+   l6 = l7;
+  }
+  l8 = 0;
+  if (l6 == 0L) { break L1; }
+  L24: while (true) {
+   l1 = (l9 = (int) b[((int) l4) - 60720]) & 255;
+   l2 = 1L;
+   L25: {
+    if (l9 > -1) { break L25; }
+    l11 = (b[((int) l4) - 60719] & 0xff) & 63;
+    L26: {
+     if (l9 + Integer.MIN_VALUE > 2147483615) { break L26; }
+     l1 = ((l1 << 6) & 1984) | l11;
+     l2 = 2L;
+     break L25;
+    }
+    l10 = (b[((int) l4) - 60718] & 0xff) & 63;
+    L27: {
+     if (l9 + Integer.MIN_VALUE > 2147483631) { break L27; }
+     l1 = ((l11 << 6) | ((l1 << 12) & 61440)) | l10;
+     l2 = 3L;
+     break L25;
+    }
+    l1 = ((l10 << 6) | ((l11 << 12) | ((l1 << 18) & 1835008))) | ((b[((int) l4) - 60717] & 0xff) & 63);
+    l2 = 4L;
+   }
+   Core2.f50(m, l5 + 8L, l1);
+   L28: {
+    if ((b[((int) l5) - 60712] & 0xff) == 1) { break L28; }
+    L29: {
+     if (l1 + Integer.MIN_VALUE > -2147483521) { break L29; }
+     if ((l1 + -9) + Integer.MIN_VALUE < -2147483643) { break L28; }
+     if (l1 == 32) { break L28; }
+     l8 = 1;
+     break L1;
+    }
+    if (l1 == 12288) { break L28; }
+    if (l1 == 8287) { break L28; }
+    if (l1 == 8239) { break L28; }
+    if ((l1 & 2097150) == 8232) { break L28; }
+    if ((l1 + -8192) + Integer.MIN_VALUE < -2147483637) { break L28; }
+    if (l1 == 5760) { break L28; }
+    if (l1 == 133) { break L28; }
+    if (l1 == 160) { break L28; }
+    l8 = 1;
+    break L1;
+   }
+   l4 = l4 + l2;
+   if ((l6 = l6 - l2) != 0L) { continue L24; }
+   break L24;
+  }
+ }
+ b[((int) l0) - 60719] = (byte) l8;
+ b[((int) l0) - 60720] = (byte) l8;
+ m.g0 = l5 + 16L;
+}
+
+static void f155(State m, long l0, int l1, int l2, int l3, long l4, long l5) {
+ final byte[] b = m.bytes;
+ long l6 = 0;
+ long l7 = 0;
+ long l8 = 0;
+ long l9 = 0;
+ long l10 = 0;
+ long l11 = 0;
+ long l12 = 0;
+ int l13 = 0;
+ int l14 = 0;
+ int l15 = 0;
+ int l16 = 0;
+ m.g0 = l6 = m.g0 - 32L;
+ L1: {
+  L2: {
+   L3: {
+    L4: {
+     L5: {
+      L6: {
+       L7: {
+        L8: {
+         L9: {
+          L10: {
+           L11: {
+            L12: {
+             L13: {
+              L14: {
+               L15: {
+                L16: {
+                 L17: {
+                  L18: {
+                   if ((l7 = l6) < 16L) { break L18; }
+                   if ((l2 & 255) != 0) { break L17; }
+                   l8 = 0L;
+                   Words.put64(b, ((int) l7) - 60696, 0L);
+                   Words.put64(b, ((int) l7) - 60704, 0L);
+                   Words.put64(b, ((int) l7) - 60712, 0L);
+                   Words.put64(b, ((int) l7) - 60720, 0L);
+                   l6 = l4;
+                   l9 = l5;
+                   if ((l1 & 255) + Integer.MIN_VALUE < -2147483643) { break L10; }
+                   l9 = 0L;
+                   L19: {
+                    if (!(l5 == 0L)) { break L19; }
+                    l8 = 0L;
+                    l6 = l4;
+                    break L10;
+                   }
+                   l10 = 1L;
+                   l8 = l5;
+                   l6 = l4;
+                   L20: while (true) {
+                    L21: {
+                     L22: {
+                      if ((l13 = b[((int) l6) - 60720] & 0xff) + Integer.MIN_VALUE > -2147483616) { break L22; }
+                      l9 = 1L;
+                      if (((1L << (l13 & 0xffffffffL)) & 4294983168L) != 0L) { break L21; }
+                     }
+                     L23: {
+                      if (l13 != 194) { break L23; }
+                      l9 = 1L;
+                      l13 = b[((int) l6) - 60719] & 0xff;
+                      L24: {
+                       if (l8 != 1L) { break L24; }
+                       l14 = l13 & 63;
+                       l13 = 194;
+                       break L13;
+                      }
+                      l9 = 2L;
+                      if (l13 == 133) { break L21; }
+                      if (l13 == 160) { break L21; }
+                      break L16;
+                     }
+                     if (l8 + Long.MIN_VALUE < -9223372036854775805L) { break L16; }
+                     if (((l13 + 28) & 255) + Integer.MIN_VALUE < -2147483395) { break L16; }
+                     l3 = b[((int) (l6 + 1L)) - 60720] & 0xff;
+                     l14 = (int) (byte) (l15 = b[((int) (l6 + 2L)) - 60720] & 0xff);
+                     L25: {
+                      if (l13 != 226) { break L25; }
+                      if ((l3 & 255) != 128) { break L25; }
+                      l9 = 3L;
+                      if (l14 < -117) { break L21; }
+                      if ((l13 = l15 + -168) + Integer.MIN_VALUE > -2147483641) { break L15; }
+                      if (((1 << l13) & 131) == 0) { break L15; }
+                      break L21;
+                     }
+                     L26: {
+                      L27: {
+                       L28: {
+                        L29: {
+                         switch (l13 + -225) {
+                         case 1: break L28;
+                         case 2: break L27;
+                         default: break L29;
+                         }
+                        }
+                        if ((l3 & 255) != 154) { break L15; }
+                        if (l14 != -128) { break L15; }
+                        break L26;
+                       }
+                       if ((l3 & 255) != 129) { break L15; }
+                       if (l14 == -97) { break L26; }
+                       break L15;
+                      }
+                      if ((l3 & 255) != 128) { break L15; }
+                      if (l14 != -128) { break L15; }
+                     }
+                     l9 = 3L;
+                    }
+                    l10 = l10 + 1L;
+                    l6 = l6 + l9;
+                    if (!((l8 = l8 - l9) == 0L)) { continue L20; }
+                    break L20;
+                   }
+                   l8 = l10 + -1L;
+                   l9 = 0L;
+                   break L10;
+                  }
+                  throw State.trap();
+                 }
+                 l8 = 0L;
+                 Words.put64(b, ((int) l7) - 60696, 0L);
+                 Words.put64(b, ((int) l7) - 60704, 0L);
+                 Words.put64(b, ((int) l7) - 60712, 0L);
+                 Words.put64(b, ((int) l7) - 60720, 0L);
+                 l6 = l4;
+                 l9 = l5;
+                 L30: {
+                  L31: {
+                   L32: {
+                    L33: {
+                     if ((l1 & 255) + Integer.MIN_VALUE < -2147483643) { break L33; }
+                     l9 = 0L;
+                     L34: {
+                      if (!(l5 == 0L)) { break L34; }
+                      l8 = 0L;
+                      l6 = l4;
+                      break L33;
+                     }
+                     l10 = 1L;
+                     l8 = l5;
+                     l6 = l4;
+                     L35: {
+                      L36: {
+                       L37: {
+                        L38: {
+                         L39: {
+                          L40: {
+                           L41: while (true) {
+                            L42: {
+                             L43: {
+                              if ((l13 = b[((int) l6) - 60720] & 0xff) + Integer.MIN_VALUE > -2147483616) { break L43; }
+                              l9 = 1L;
+                              if (((1L << (l13 & 0xffffffffL)) & 4294983168L) != 0L) { break L42; }
+                             }
+                             L44: {
+                              if (l13 != 194) { break L44; }
+                              l9 = 1L;
+                              l13 = b[((int) l6) - 60719] & 0xff;
+                              L45: {
+                               if (l8 != 1L) { break L45; }
+                               l15 = l13 & 63;
+                               l13 = 194;
+                               break L37;
+                              }
+                              l9 = 2L;
+                              if (l13 == 133) { break L42; }
+                              if (l13 == 160) { break L42; }
+                              break L40;
+                             }
+                             if (l8 + Long.MIN_VALUE < -9223372036854775805L) { break L40; }
+                             if (((l13 + 28) & 255) + Integer.MIN_VALUE < -2147483395) { break L40; }
+                             l14 = b[((int) (l6 + 1L)) - 60720] & 0xff;
+                             l15 = (int) (byte) (l16 = b[((int) (l6 + 2L)) - 60720] & 0xff);
+                             L46: {
+                              if (l13 != 226) { break L46; }
+                              if ((l14 & 255) != 128) { break L46; }
+                              l9 = 3L;
+                              if (l15 < -117) { break L42; }
+                              if ((l13 = l16 + -168) + Integer.MIN_VALUE > -2147483641) { break L39; }
+                              if (((1 << l13) & 131) == 0) { break L39; }
+                              break L42;
+                             }
+                             L47: {
+                              L48: {
+                               L49: {
+                                L50: {
+                                 switch (l13 + -225) {
+                                 case 1: break L49;
+                                 case 2: break L48;
+                                 default: break L50;
+                                 }
+                                }
+                                if ((l14 & 255) != 154) { break L39; }
+                                if (l15 != -128) { break L39; }
+                                break L47;
+                               }
+                               if ((l14 & 255) != 129) { break L39; }
+                               if (l15 == -97) { break L47; }
+                               break L39;
+                              }
+                              if ((l14 & 255) != 128) { break L39; }
+                              if (l15 != -128) { break L39; }
+                             }
+                             l9 = 3L;
+                            }
+                            l10 = l10 + 1L;
+                            l6 = l6 + l9;
+                            if (!((l8 = l8 - l9) == 0L)) { continue L41; }
+                            break L41;
+                           }
+                           l8 = l10 + -1L;
+                           l9 = 0L;
+                           break L33;
+                          }
+                          if (l8 + Long.MIN_VALUE >= -9223372036854775805L) { break L39; }
+                          l14 = b[((int) l6) - 60720] & 0xff;
+                          break L38;
+                         }
+                         if (((l14 = b[((int) l6) - 60720] & 0xff) & 240) != 224) { break L38; }
+                         l13 = (((b[((int) l6) - 60718] & 0xff) + ((b[((int) l6) - 60719] & 0xff) << 6)) + (l14 << 12)) + -925824;
+                         l11 = l8 + -3L;
+                         l12 = l6 + 3L;
+                         l9 = l8;
+                         break L35;
+                        }
+                        l13 = l14 & 255;
+                        l12 = 1L;
+                        L51: {
+                         if (((int) (byte) l14) > -1) { break L51; }
+                         l15 = (b[((int) l6) - 60719] & 0xff) & 63;
+                         L52: {
+                          if ((l14 & 255) + Integer.MIN_VALUE > -2147483425) { break L52; }
+                          l9 = l8;
+                          break L37;
+                         }
+                         l16 = (b[((int) l6) - 60718] & 0xff) & 63;
+                         L53: {
+                          if ((l14 & 255) + Integer.MIN_VALUE > -2147483409) { break L53; }
+                          l13 = ((l15 << 6) | ((l13 << 12) & 61440)) | l16;
+                          l12 = 3L;
+                          break L51;
+                         }
+                         l13 = ((l16 << 6) | ((l15 << 12) | ((l13 << 18) & 1835008))) | ((b[((int) l6) - 60717] & 0xff) & 63);
+                         l12 = 4L;
+                        }
+                        l9 = l8;
+                        break L36;
+                       }
+                       l13 = ((l13 << 6) & 1984) | l15;
+                       l12 = 2L;
+                      }
+                      l11 = l9 - l12;
+                      l12 = l6 + l12;
+                     }
+                     L54: {
+                      if (l13 != 27491) { break L54; }
+                      l14 = 0;
+                      break L31;
+                     }
+                     if (l13 == 36000) { break L32; }
+                     if (l13 == 36127) { break L32; }
+                     l8 = l10 + -1L;
+                    }
+                    f156(m, l7, l3, l8, l6, l9);
+                    l13 = 2;
+                    l14 = 0;
+                    break L30;
+                   }
+                   l14 = 1;
+                  }
+                  f156(m, l7, l3, l10, l12, l11);
+                  l13 = l14 != 0 ? 3 : 2;
+                 }
+                 l9 = Words.get64(b, ((int) l7) - 60696);
+                 l6 = Words.get64(b, ((int) l7) - 60704);
+                 L55: {
+                  if ((b[((int) l7) - 60720] & 0xff) != 0) { break L55; }
+                  final int t56 = (l6 + Long.MIN_VALUE > Words.get64(b, ((int) (l8 = (((l1 & 0xffffffffL) & 255L) << 5L) + (l14 != 0 ? 84816L : 84800L))) - 60720) + Long.MIN_VALUE) ? 1 : 0;
+                  final int t57 = (l9 + Long.MIN_VALUE > (l6 = Words.get64(b, ((int) l8) - 60712)) + Long.MIN_VALUE) ? 1 : 0;
+                  final int t58 = (l9 == l6) ? 1 : 0;
+                  if ((t58 != 0 ? t56 : t57) != 0) { break L6; }
+                  l6 = l14 & 0xffffffffL;
+                  break L4;
+                 }
+                 final int t59 = l13;
+                 final int t60 = l1 = b[((int) l7) - 60712] & 0xff;
+                 final int t61 = l1 = (l1 == 2) ? 1 : 0;
+                 l13 = t61 != 0 ? t59 : t60;
+                 l6 = l1 != 0 ? 0L : l6;
+                 break L2;
+                }
+                if (l8 + Long.MIN_VALUE >= -9223372036854775805L) { break L15; }
+                l3 = b[((int) l6) - 60720] & 0xff;
+                break L14;
+               }
+               if (((l3 = b[((int) l6) - 60720] & 0xff) & 240) != 224) { break L14; }
+               l13 = (((b[((int) l6) - 60718] & 0xff) + ((b[((int) l6) - 60719] & 0xff) << 6)) + (l3 << 12)) + -925824;
+               l11 = l8 + -3L;
+               l12 = l6 + 3L;
+               l9 = l8;
+               break L11;
+              }
+              l13 = l3 & 255;
+              l12 = 1L;
+              L62: {
+               if (((int) (byte) l3) > -1) { break L62; }
+               l14 = (b[((int) l6) - 60719] & 0xff) & 63;
+               L63: {
+                if ((l3 & 255) + Integer.MIN_VALUE > -2147483425) { break L63; }
+                l9 = l8;
+                break L13;
+               }
+               l15 = (b[((int) l6) - 60718] & 0xff) & 63;
+               L64: {
+                if ((l3 & 255) + Integer.MIN_VALUE > -2147483409) { break L64; }
+                l13 = ((l14 << 6) | ((l13 << 12) & 61440)) | l15;
+                l12 = 3L;
+                break L62;
+               }
+               l13 = ((l15 << 6) | ((l14 << 12) | ((l13 << 18) & 1835008))) | ((b[((int) l6) - 60717] & 0xff) & 63);
+               l12 = 4L;
+              }
+              l9 = l8;
+              break L12;
+             }
+             l13 = ((l13 << 6) & 1984) | l14;
+             l12 = 2L;
+            }
+            l11 = l9 - l12;
+            l12 = l6 + l12;
+           }
+           L65: {
+            if (l13 != 27491) { break L65; }
+            l3 = 0;
+            break L8;
+           }
+           if (l13 == 36000) { break L9; }
+           if (l13 == 36127) { break L9; }
+           l8 = l10 + -1L;
+          }
+          Core2.f86(m, l7, l8, l6, l9);
+          l13 = 2;
+          l3 = 0;
+          break L7;
+         }
+         l3 = 1;
+        }
+        Core2.f86(m, l7, l10, l12, l11);
+        l13 = l3 != 0 ? 3 : 2;
+       }
+       l9 = Words.get64(b, ((int) l7) - 60696);
+       l6 = Words.get64(b, ((int) l7) - 60704);
+       if ((b[((int) l7) - 60720] & 0xff) != 0) { break L3; }
+       final int t66 = (l6 + Long.MIN_VALUE > Words.get64(b, ((int) (l8 = (((l1 & 0xffffffffL) & 255L) << 5L) + (l3 != 0 ? 84816L : 84800L))) - 60720) + Long.MIN_VALUE) ? 1 : 0;
+       final int t67 = (l9 + Long.MIN_VALUE > (l6 = Words.get64(b, ((int) l8) - 60712)) + Long.MIN_VALUE) ? 1 : 0;
+       final int t68 = (l9 == l6) ? 1 : 0;
+       if ((t68 != 0 ? t66 : t67) == 0) { break L5; }
+      }
+      l1 = 1;
+      l6 = 0L;
+      break L1;
+     }
+     l6 = l3 & 0xffffffffL;
+    }
+    l1 = 0;
+    l13 = 0;
+    break L1;
+   }
+   final int t69 = l13;
+   final int t70 = l1 = b[((int) l7) - 60712] & 0xff;
+   final int t71 = l1 = (l1 == 2) ? 1 : 0;
+   l13 = t71 != 0 ? t69 : t70;
+   l6 = l1 != 0 ? 0L : l6;
+  }
+  l1 = 1;
+ }
+ L72: {
+  L73: {
+   if (l1 != 0) { break L73; }
+   l13 = 0;
+   break L72;
+  }
+  L74: {
+   if ((l2 & 255) == 0) { break L74; }
+   l13 = f157(m, l4, l5, l13, l6) & 255;
+   break L72;
+  }
+  l13 = 33620992 >>> (l13 << 3);
+ }
+ b[((int) l0) - 60719] = (byte) l13;
+ b[((int) l0) - 60720] = (byte) l1;
+ m.g0 = l7 + 32L;
+}
+
+static void f156(State m, long l0, int l1, long l2, long l3, long l4) {
+ final byte[] b = m.bytes;
+ long l5 = 0;
+ long l6 = 0;
+ long l7 = 0;
+ long l8 = 0;
+ long l9 = 0;
+ long l10 = 0;
+ long l11 = 0;
+ long l12 = 0;
+ long l13 = 0;
+ long l14 = 0;
+ long l15 = 0;
+ long l16 = 0;
+ long l17 = 0;
+ int l18 = 0;
+ int l19 = 0;
+ int l20 = 0;
+ int l21 = 0;
+ int l22 = 0;
+ int l23 = 0;
+ m.g0 = l5 = m.g0 - 240L;
+ L1: {
+  L2: {
+   L3: {
+    L4: {
+     L5: {
+      if ((l6 = l5) < 16L) { break L5; }
+      Words.put64(b, ((int) l6) - 60488, 0L);
+      Words.put64(b, ((int) l6) - 60496, 0L);
+      Words.put64(b, ((int) l6) - 60504, 0L);
+      Words.put64(b, ((int) l6) - 60512, 0L);
+      Words.put64(b, ((int) l6) - 60520, 0L);
+      if (l4 + Long.MIN_VALUE < -9223372036854775805L) { break L2; }
+      l7 = l4 + -3L;
+      if ((l1 & 255) == 0) { break L4; }
+      l8 = (((l1 & 0xffffffffL) & 255L) << 5L) + 81960L;
+      l9 = l6 + 198L;
+      l10 = 0L;
+      l11 = 0L;
+      l12 = l4;
+      l13 = 0L;
+      l14 = 0L;
+      L6: while (true) {
+       L7: {
+        if (l12 + Long.MIN_VALUE >= -9223372036854775804L) { break L7; }
+        l18 = 0;
+        l19 = 0;
+        break L3;
+       }
+       if (Words.get32(b, State.far((int) (l15 = ((((l18 = Words.get32(b, ((int) ((l3 + l12) + -4L)) - 60720) >>> 8) & 0xffffffffL) * 953497L) >>> 22L) & 1016L), 80936)) != l18) { break L2; }
+       l18 = b[((int) (l15 + 80941L)) - 60720] & 0xff;
+       l5 = l12 + -3L;
+       l20 = 0;
+       L8: {
+        L9: {
+         L10: {
+          L11: {
+           switch ((int) (b[((int) (l15 + 80940L)) - 60720] & 0xffL)) {
+           case 1: break L11;
+           case 2: break L2;
+           default: break L10;
+           }
+          }
+          L12: {
+           if ((l20 = l18 & 255) + Integer.MIN_VALUE <= -2147483645) { break L12; }
+           l20 = 0;
+           l21 = 1;
+           l15 = 0L;
+           break L8;
+          }
+          if (l20 == 0) { break L2; }
+          L13: {
+           if (l5 + Long.MIN_VALUE >= -9223372036854775804L) { break L13; }
+           l19 = 0;
+           l10 = 0L;
+           l12 = l5;
+           break L3;
+          }
+          if (Words.get32(b, ((int) ((l16 = ((((l20 = Words.get32(b, ((int) ((l3 + l5) + -4L)) - 60720) >>> 8) & 0xffffffffL) * 953497L) >>> 22L) & 1016L) + 80936L)) - 60720) != l20) { break L2; }
+          l5 = l12 + -6L;
+          l15 = 0L;
+          l20 = l18;
+          l18 = l19 = b[((int) (l16 + 80941L)) - 60720] & 0xff;
+          switch ((int) (b[((int) (l16 + 80940L)) - 60720] & 0xffL)) {
+          case 1: break L9;
+          case 2: break L2;
+          default: break L10;
+          }
+         }
+         l15 = Words.get64(b, State.far((int) (((l20 & 0xffffffffL) & 255L) << 3L), 85120)) * ((l18 & 0xffffffffL) & 255L);
+         L14: while (true) {
+          L15: {
+           if ((l19 = (l5 + Long.MIN_VALUE < -9223372036854775804L) ? 1 : 0) == 0) { break L15; }
+           l10 = l15;
+           l18 = l20;
+           l12 = l5;
+           break L3;
+          }
+          if (Words.get32(b, State.far((int) (l16 = ((((l18 = Words.get32(b, ((int) ((l3 + l5) + -4L)) - 60720) >>> 8) & 0xffffffffL) * 953497L) >>> 22L) & 1016L), 80936)) != l18) { break L2; }
+          l18 = b[((int) (l16 + 80941L)) - 60720] & 0xff;
+          l12 = l5 + -3L;
+          L16: {
+           L17: {
+            L18: {
+             L19: {
+              switch ((int) (b[((int) (l16 + 80940L)) - 60720] & 0xffL)) {
+              case 1: break L19;
+              case 2: break L2;
+              default: break L18;
+              }
+             }
+             L20: {
+              if (l5 != l7) { break L20; }
+              if ((l18 & 255) + Integer.MIN_VALUE > -2147483647) { break L2; }
+             }
+             if ((l22 = l18 & 255) + Integer.MIN_VALUE > -2147483645) { break L16; }
+             if ((l20 & 255) + Integer.MIN_VALUE >= l22 + Integer.MIN_VALUE) { break L2; }
+             L21: {
+              if (l12 + Long.MIN_VALUE >= -9223372036854775804L) { break L21; }
+              l10 = l15;
+              break L3;
+             }
+             if (Words.get32(b, ((int) ((l12 = ((((l20 = Words.get32(b, ((int) ((l3 + l12) + -4L)) - 60720) >>> 8) & 0xffffffffL) * 953497L) >>> 22L) & 1016L) + 80936L)) - 60720) != l20) { break L2; }
+             l5 = l5 + -6L;
+             l19 = b[((int) (l12 + 80941L)) - 60720] & 0xff;
+             L22: {
+              if ((l20 = b[((int) (l12 + 80940L)) - 60720] & 0xff) != 0) { break L22; }
+              l20 = l18;
+              l18 = l19;
+              break L17;
+             }
+             switch (l20 + -1) {
+             case 1: break L2;
+             default: break L9;
+             }
+            }
+            l5 = l12;
+            if ((l18 & 255) != 0) { break L2; }
+           }
+           l18 = (l15 + Long.MIN_VALUE > ((l12 = Words.get64(b, State.far((int) (((l20 & 0xffffffffL) & 255L) << 3L), 85120)) * ((l18 & 0xffffffffL) & 255L)) ^ -1L) + Long.MIN_VALUE) ? 1 : 0;
+           l15 = l12 + l15;
+           if (l18 == 0) { continue L14; }
+           break L2;
+          }
+          break L14;
+         }
+         l21 = ((l20 & 255) == 0) ? 1 : 0;
+         l20 = 1;
+         l5 = l12;
+         break L8;
+        }
+        if ((l19 & 255) + Integer.MIN_VALUE <= -2147483645) { break L2; }
+        l21 = 0;
+        l18 = l19;
+        l20 = 0;
+       }
+       L23: {
+        L24: {
+         L25: {
+          L26: {
+           L27: {
+            L28: {
+             L29: {
+              L30: {
+               L31: {
+                L32: {
+                 L33: {
+                  if ((l22 = (l11 == 0L) ? 1 : 0) == 0) { break L33; }
+                  l16 = 1L;
+                  l17 = 0L;
+                  break L32;
+                 }
+                 if ((l19 = b[((int) (((l6 + 200L) + (l12 = l11 << 1L)) + -1L)) - 60720] & 0xff) + Integer.MIN_VALUE > -2147483610) { break L2; }
+                 l17 = Words.get64(b, ((int) ((l16 = (l19 & 0xffffffffL) << 4L) + 82104L)) - 60720);
+                 l16 = Words.get64(b, ((int) (l16 + 82096L)) - 60720);
+                 if (l19 + Integer.MIN_VALUE > -2147483629) { break L31; }
+                }
+                Core1.f3(m, l6 + 48L, l16, l17, l15, 0L);
+                final int t34 = (l13 + Long.MIN_VALUE > ((l12 = Words.get64(b, ((int) l6) - 60672)) ^ -1L) + Long.MIN_VALUE) ? 1 : 0;
+                final int t35 = (l14 + Long.MIN_VALUE > (l15 = (l16 = Words.get64(b, ((int) l6) - 60664)) ^ -1L) + Long.MIN_VALUE) ? 1 : 0;
+                final int t36 = (l14 == l15) ? 1 : 0;
+                if ((t36 != 0 ? t34 : t35) != 0) { break L2; }
+                l14 = (l16 + l14) + (((l13 = l12 + l13) + Long.MIN_VALUE < l12 + Long.MIN_VALUE) ? 1L : 0L);
+                if (l20 == 0) { break L28; }
+                if (l22 == 0) { break L30; }
+                break L24;
+               }
+               Core1.f3(m, l6 + 64L, l16, 0L, l15, 0L);
+               Core1.f3(m, l6 + 80L, l17, 0L, l15, 0L);
+               if ((Words.get64(b, ((int) l6) - 60632) + (((l15 = (l16 = Words.get64(b, ((int) l6) - 60648)) + Words.get64(b, ((int) l6) - 60640)) + Long.MIN_VALUE < l16 + Long.MIN_VALUE) ? 1L : 0L)) != 0L) { break L2; }
+               final int t37 = (l13 + Long.MIN_VALUE > ((l16 = Words.get64(b, ((int) l6) - 60656)) ^ -1L) + Long.MIN_VALUE) ? 1 : 0;
+               final int t38 = (l14 + Long.MIN_VALUE > (l17 = l15 ^ -1L) + Long.MIN_VALUE) ? 1 : 0;
+               final int t39 = (l14 == l17) ? 1 : 0;
+               if ((t39 != 0 ? t37 : t38) != 0) { break L2; }
+               l14 = (l15 + l14) + (((l13 = l16 + l13) + Long.MIN_VALUE < l16 + Long.MIN_VALUE) ? 1L : 0L);
+               if (l20 == 0) { break L29; }
+              }
+              l12 = l11 << 1L;
+              l15 = l11 + -1L;
+              L40: while (true) {
+               if ((l20 = b[((int) (l9 + l12)) - 60720] & 0xff) + Integer.MIN_VALUE >= (l19 = l18 & 255) + Integer.MIN_VALUE) { break L26; }
+               l12 = l12 + -2L;
+               Words.put64(b, ((int) l6) - 60488, l15);
+               if ((l15 = l15 + -1L) == -1L) { break L24; }
+               continue L40;
+              }
+             }
+             if (l21 != 0) { break L27; }
+             break L2;
+            }
+            if (l21 == 0) { break L2; }
+            if (l22 != 0) { break L24; }
+            l12 = l11 << 1L;
+           }
+           if ((l18 & 255) + Integer.MIN_VALUE >= (b[((int) (((l6 + 200L) + l12) + -2L)) - 60720] & 0xff) + Integer.MIN_VALUE) { break L2; }
+           break L25;
+          }
+          if (l19 + Integer.MIN_VALUE >= l20 + Integer.MIN_VALUE) { break L2; }
+         }
+         l15 = b[((int) (((l6 + 200L) + l12) + -1L)) - 60720] & 0xffL;
+         break L23;
+        }
+        l12 = 0L;
+        l15 = 0L;
+       }
+       if ((l15 = l15 + (Words.get16(b, ((int) (l8 + (((l18 & 0xffffffffL) & 255L) << 1L))) - 60720) & 0xffffL)) + Long.MIN_VALUE > -9223372036854775770L) { break L2; }
+       b[((int) (l12 = (l6 + 200L) + l12)) - 60719] = (byte) l15;
+       b[((int) l12) - 60720] = (byte) l18;
+       Words.put64(b, ((int) l6) - 60488, l11 = Words.get64(b, ((int) l6) - 60488) + 1L);
+       l12 = l5;
+       continue L6;
+      }
+     }
+     throw State.trap();
+    }
+    L41: {
+     if (l4 != 3L) { break L41; }
+     l11 = 0L;
+     l18 = 0;
+     l13 = 0L;
+     l14 = 0L;
+     l10 = 0L;
+     l19 = 0;
+     l12 = l4;
+     break L3;
+    }
+    if (Words.get32(b, State.far((int) (l5 = ((((l18 = Words.get32(b, ((int) ((l3 + l4) + -4L)) - 60720) >>> 8) & 0xffffffffL) * 953497L) >>> 22L) & 1016L), 80936)) != l18) { break L2; }
+    l18 = b[((int) (l5 + 80941L)) - 60720] & 0xff;
+    l12 = l4 + -3L;
+    l20 = 0;
+    L42: {
+     L43: {
+      switch ((int) (b[((int) (l5 + 80940L)) - 60720] & 0xffL)) {
+      case 1: break L43;
+      case 2: break L2;
+      default: break L42;
+      }
+     }
+     if ((l18 & 255) == 0) { break L2; }
+     L44: {
+      if (l12 + Long.MIN_VALUE >= -9223372036854775804L) { break L44; }
+      l11 = 0L;
+      l19 = 0;
+      l13 = 0L;
+      l14 = 0L;
+      l10 = 0L;
+      break L3;
+     }
+     if (Words.get32(b, ((int) ((l5 = ((((l20 = Words.get32(b, ((int) ((l3 + l12) + -4L)) - 60720) >>> 8) & 0xffffffffL) * 953497L) >>> 22L) & 1016L) + 80936L)) - 60720) != l20) { break L2; }
+     if ((b[((int) (l5 + 80940L)) - 60720] & 0xff) != 0) { break L2; }
+     l12 = l4 + -6L;
+     l20 = l18;
+     l18 = b[((int) (l5 + 80941L)) - 60720] & 0xff;
+    }
+    l10 = Words.get64(b, State.far((int) (((l20 & 0xffffffffL) & 255L) << 3L), 85120)) * ((l18 & 0xffffffffL) & 255L);
+    L45: while (true) {
+     L46: {
+      if ((l19 = (l12 + Long.MIN_VALUE < -9223372036854775804L) ? 1 : 0) == 0) { break L46; }
+      l11 = 0L;
+      l13 = 0L;
+      l14 = 0L;
+      l18 = l20;
+      break L3;
+     }
+     if (Words.get32(b, State.far((int) (l5 = ((((l18 = Words.get32(b, ((int) ((l3 + l12) + -4L)) - 60720) >>> 8) & 0xffffffffL) * 953497L) >>> 22L) & 1016L), 80936)) != l18) { break L2; }
+     l18 = b[((int) (l5 + 80941L)) - 60720] & 0xff;
+     l15 = l12 + -3L;
+     L47: {
+      L48: {
+       L49: {
+        switch ((int) (b[((int) (l5 + 80940L)) - 60720] & 0xffL)) {
+        case 1: break L49;
+        case 2: break L2;
+        default: break L48;
+        }
+       }
+       if ((l12 == l7) & ((l22 = l18 & 255) + Integer.MIN_VALUE > -2147483647)) { break L2; }
+       if ((l20 & 255) + Integer.MIN_VALUE >= l22 + Integer.MIN_VALUE) { break L2; }
+       L50: {
+        if (l15 + Long.MIN_VALUE >= -9223372036854775804L) { break L50; }
+        l14 = 0L;
+        l11 = 0L;
+        l13 = 0L;
+        l12 = l15;
+        break L3;
+       }
+       if (Words.get32(b, ((int) ((l5 = ((((l20 = Words.get32(b, ((int) ((l3 + l15) + -4L)) - 60720) >>> 8) & 0xffffffffL) * 953497L) >>> 22L) & 1016L) + 80936L)) - 60720) != l20) { break L2; }
+       if ((b[((int) (l5 + 80940L)) - 60720] & 0xff) != 0) { break L2; }
+       l12 = l12 + -6L;
+       l20 = l18;
+       l18 = b[((int) (l5 + 80941L)) - 60720] & 0xff;
+       break L47;
+      }
+      l12 = l15;
+      if ((l18 & 255) != 0) { break L2; }
+     }
+     l18 = (l10 + Long.MIN_VALUE > ((l5 = Words.get64(b, State.far((int) (((l20 & 0xffffffffL) & 255L) << 3L), 85120)) * ((l18 & 0xffffffffL) & 255L)) ^ -1L) + Long.MIN_VALUE) ? 1 : 0;
+     l10 = l5 + l10;
+     if (l18 == 0) { continue L45; }
+     break L2;
+    }
+   }
+   if (l12 != 3L) { break L2; }
+   if (Words.get32(b, State.far((int) (l5 = ((((l20 = (Words.get16(b, ((int) l3) - 60720) & 0xffff) | ((b[((int) l3) - 60718] & 0xff) << 16)) & 0xffffffffL) * 953497L) >>> 22L) & 1016L), 80936)) != l20) { break L2; }
+   l20 = b[((int) (l5 + 80941L)) - 60720] & 0xff;
+   L51: {
+    L52: {
+     L53: {
+      switch ((int) (b[((int) (l5 + 80940L)) - 60720] & 0xffL)) {
+      case 1: break L52;
+      case 2: break L2;
+      default: break L53;
+      }
+     }
+     if ((l19 & (((l20 & 255) != 0) ? 1 : 0)) != 0) { break L2; }
+     final long t54 = (l20 & 0xffffffffL) & 255L;
+     final int t55 = l19;
+     l5 = t55 != 0 ? 0L : t54;
+     break L51;
+    }
+    l5 = 10L;
+    if ((l20 & 255) != 1) { break L2; }
+   }
+   if (l10 + Long.MIN_VALUE > ((l5 = Words.get64(b, State.far((int) (((l18 & 0xffffffffL) & 255L) << 3L), 85120)) * l5) ^ -1L) + Long.MIN_VALUE) { break L2; }
+   l5 = l5 + l10;
+   l12 = 0L;
+   L56: {
+    L57: {
+     L58: {
+      if (!(l11 == 0L)) { break L58; }
+      l15 = 1L;
+      l16 = 0L;
+      break L57;
+     }
+     if ((l18 = b[((int) (((l6 + 200L) + (l11 << 1L)) + -1L)) - 60720] & 0xff) + Integer.MIN_VALUE > -2147483610) { break L2; }
+     l16 = Words.get64(b, ((int) ((l15 = (l18 & 0xffffffffL) << 4L) + 82104L)) - 60720);
+     l15 = Words.get64(b, ((int) (l15 + 82096L)) - 60720);
+     if (l18 + Integer.MIN_VALUE > -2147483629) { break L56; }
+    }
+    Core1.f3(m, l6, l15, l16, l5, 0L);
+    final int t59 = (l13 + Long.MIN_VALUE > ((l15 = Words.get64(b, ((int) l6) - 60720)) ^ -1L) + Long.MIN_VALUE) ? 1 : 0;
+    final int t60 = (l14 + Long.MIN_VALUE > (l5 = (l16 = Words.get64(b, ((int) l6) - 60712)) ^ -1L) + Long.MIN_VALUE) ? 1 : 0;
+    final int t61 = (l14 == l5) ? 1 : 0;
+    if ((t61 != 0 ? t59 : t60) != 0) { break L2; }
+    l3 = (l16 + l14) + (((l5 = l15 + l13) + Long.MIN_VALUE < l15 + Long.MIN_VALUE) ? 1L : 0L);
+    l4 = 0L;
+    break L1;
+   }
+   l12 = 0L;
+   Core1.f3(m, l6 + 16L, l15, 0L, l5, 0L);
+   Core1.f3(m, l6 + 32L, l16, 0L, l5, 0L);
+   if (!((Words.get64(b, ((int) l6) - 60680) + (((l15 = (l5 = Words.get64(b, ((int) l6) - 60696)) + Words.get64(b, ((int) l6) - 60688)) + Long.MIN_VALUE < l5 + Long.MIN_VALUE) ? 1L : 0L)) == 0L)) { break L2; }
+   final int t62 = (l13 + Long.MIN_VALUE <= ((l16 = Words.get64(b, ((int) l6) - 60704)) ^ -1L) + Long.MIN_VALUE) ? 1 : 0;
+   final int t63 = (l14 + Long.MIN_VALUE <= (l5 = l15 ^ -1L) + Long.MIN_VALUE) ? 1 : 0;
+   final int t64 = (l14 == l5) ? 1 : 0;
+   if ((t64 != 0 ? t62 : t63) == 0) { break L2; }
+   l3 = (l15 + l14) + (((l5 = l16 + l13) + Long.MIN_VALUE < l16 + Long.MIN_VALUE) ? 1L : 0L);
+   l4 = 0L;
+   break L1;
+  }
+  l5 = 0L;
+  Words.put64(b, ((int) l6) - 60560, 0L);
+  Words.put64(b, ((int) l6) - 60552, 0L);
+  Words.put64(b, ((int) l6) - 60544, 0L);
+  Words.put64(b, ((int) l6) - 60536, 0L);
+  Words.put64(b, ((int) l6) - 60592, 0L);
+  Words.put64(b, ((int) l6) - 60584, 0L);
+  Words.put64(b, ((int) l6) - 60576, 0L);
+  Words.put64(b, ((int) l6) - 60568, 0L);
+  Words.put64(b, ((int) l6) - 60624, 0L);
+  Words.put64(b, ((int) l6) - 60616, 0L);
+  Words.put64(b, ((int) l6) - 60608, 0L);
+  Words.put64(b, ((int) l6) - 60600, 0L);
+  L65: {
+   L66: {
+    if (l4 == 0L) { break L66; }
+    L67: {
+     L68: {
+      L69: {
+       L70: {
+        L71: {
+         L72: while (true) {
+          L73: {
+           L74: {
+            if ((l18 = b[((int) l3) - 60720] & 0xff) + Integer.MIN_VALUE > -2147483616) { break L74; }
+            if (((1L << (l18 & 0xffffffffL)) & 4294983168L) == 0L) { break L74; }
+            l5 = 1L;
+            break L73;
+           }
+           L75: {
+            L76: {
+             L77: {
+              if (l18 == 194) { break L77; }
+              if (l4 + Long.MIN_VALUE < -9223372036854775805L) { break L76; }
+              if (((l18 + 28) & 255) + Integer.MIN_VALUE < -2147483395) { break L76; }
+              l20 = b[((int) (l3 + 1L)) - 60720] & 0xff;
+              l19 = (int) (byte) (l22 = b[((int) (l3 + 2L)) - 60720] & 0xff);
+              if (l18 != 226) { break L75; }
+              if ((l20 & 255) != 128) { break L75; }
+              l5 = 3L;
+              if (l19 < -117) { break L73; }
+              if ((l22 + -168) + Integer.MIN_VALUE < -2147483646) { break L73; }
+              if (l22 != 175) { break L71; }
+              break L73;
+             }
+             l5 = 1L;
+             l18 = b[((int) l3) - 60719] & 0xff;
+             L78: {
+              if (l4 != 1L) { break L78; }
+              l19 = l18 & 63;
+              l18 = 194;
+              break L69;
+             }
+             l5 = 2L;
+             if (l18 == 133) { break L73; }
+             if (l18 == 160) { break L73; }
+            }
+            if (l4 + Long.MIN_VALUE >= -9223372036854775805L) { break L71; }
+            l20 = b[((int) l3) - 60720] & 0xff;
+            break L70;
+           }
+           L79: {
+            L80: {
+             L81: {
+              L82: {
+               switch (l18 + -225) {
+               case 1: break L81;
+               case 2: break L80;
+               default: break L82;
+               }
+              }
+              if ((l20 & 255) != 154) { break L71; }
+              if (l19 != -128) { break L71; }
+              break L79;
+             }
+             if ((l20 & 255) != 129) { break L71; }
+             if (l19 == -97) { break L79; }
+             break L71;
+            }
+            if ((l20 & 255) != 128) { break L71; }
+            if (l19 != -128) { break L71; }
+           }
+           l5 = 3L;
+          }
+          l2 = l2 + 1L;
+          l3 = l3 + l5;
+          if (!((l4 = l4 - l5) == 0L)) { continue L72; }
+          break L72;
+         }
+         l5 = 0L;
+         break L66;
+        }
+        if (((l20 = b[((int) l3) - 60720] & 0xff) & 240) != 224) { break L70; }
+        l18 = (((b[((int) l3) - 60718] & 0xff) + ((b[((int) l3) - 60719] & 0xff) << 6)) + (l20 << 12)) + -925824;
+        l5 = l4 + -3L;
+        l3 = l3 + 3L;
+        break L67;
+       }
+       l18 = l20 & 255;
+       l12 = 1L;
+       L83: {
+        if (((int) (byte) l20) > -1) { break L83; }
+        l19 = (b[((int) l3) - 60719] & 0xff) & 63;
+        L84: {
+         if ((l20 & 255) + Integer.MIN_VALUE > -2147483425) { break L84; }
+         l5 = l4;
+         break L69;
+        }
+        l22 = (b[((int) l3) - 60718] & 0xff) & 63;
+        L85: {
+         if ((l20 & 255) + Integer.MIN_VALUE > -2147483409) { break L85; }
+         l18 = ((l19 << 6) | ((l18 << 12) & 61440)) | l22;
+         l12 = 3L;
+         break L83;
+        }
+        l18 = ((l22 << 6) | ((l19 << 12) | ((l18 << 18) & 1835008))) | ((b[((int) l3) - 60717] & 0xff) & 63);
+        l12 = 4L;
+       }
+       l5 = l4;
+       break L68;
+      }
+      l18 = ((l18 << 6) & 1984) | l19;
+      l12 = 2L;
+     }
+     l5 = l5 - l12;
+     l3 = l3 + l12;
+    }
+    Words.put64(b, ((int) l6) - 60496, 0L);
+    Words.put64(b, ((int) l6) - 60504, 0L);
+    Words.put64(b, ((int) l6) - 60512, 0L);
+    Words.put64(b, ((int) l6) - 60520, 0L);
+    L86: {
+     L87: {
+      L88: {
+       L89: {
+        L90: {
+         L91: {
+          if (l5 + Long.MIN_VALUE < -9223372036854775804L) { break L91; }
+          if (Words.get32(b, ((int) ((l15 = ((((l20 = Words.get32(b, ((int) ((l3 + l5) + -4L)) - 60720) >>> 8) & 0xffffffffL) * 953497L) >>> 22L) & 1016L) + 80936L)) - 60720) != l20) { break L89; }
+          l4 = l5 + -3L;
+          l12 = l3;
+          break L90;
+         }
+         if (l5 != 3L) { break L89; }
+         if (Words.get32(b, ((int) ((l15 = ((((l20 = (Words.get16(b, ((int) l3) - 60720) & 0xffff) | ((b[((int) l3) - 60718] & 0xff) << 16)) & 0xffffffffL) * 953497L) >>> 22L) & 1016L) + 80936L)) - 60720) != l20) { break L89; }
+         l12 = l3 + 3L;
+         l4 = 0L;
+        }
+        l22 = b[((int) (l15 + 80940L)) - 60720] & 0xff;
+        l21 = b[((int) (l15 + 80941L)) - 60720] & 0xff;
+        break L88;
+       }
+       Core2.f87(m, l6 + 200L, l3, l5);
+       if ((b[((int) l6) - 60520] & 0xff) != 1) { break L87; }
+       l4 = Words.get64(b, ((int) l6) - 60496);
+       l12 = Words.get64(b, ((int) l6) - 60504);
+       l21 = b[((int) l6) - 60511] & 0xff;
+       l22 = b[((int) l6) - 60512] & 0xff;
+      }
+      Words.put64(b, ((int) l6) - 60496, 0L);
+      Words.put64(b, ((int) l6) - 60504, 0L);
+      Words.put64(b, ((int) l6) - 60512, 0L);
+      Words.put64(b, ((int) l6) - 60520, 0L);
+      L92: {
+       L93: {
+        L94: {
+         if (l4 + Long.MIN_VALUE < -9223372036854775804L) { break L94; }
+         if (Words.get32(b, ((int) ((l15 = ((((l20 = Words.get32(b, ((int) ((l12 + l4) + -4L)) - 60720) >>> 8) & 0xffffffffL) * 953497L) >>> 22L) & 1016L) + 80936L)) - 60720) != l20) { break L93; }
+         l19 = b[((int) (l15 + 80940L)) - 60720] & 0xff;
+         l23 = b[((int) (l15 + 80941L)) - 60720] & 0xff;
+         l20 = 1;
+         break L92;
+        }
+        if (l4 != 3L) { break L93; }
+        if (Words.get32(b, ((int) ((l15 = ((((l20 = (Words.get16(b, ((int) l12) - 60720) & 0xffff) | ((b[((int) l12) - 60718] & 0xff) << 16)) & 0xffffffffL) * 953497L) >>> 22L) & 1016L) + 80936L)) - 60720) != l20) { break L93; }
+        l19 = b[((int) (l15 + 80940L)) - 60720] & 0xff;
+        l23 = b[((int) (l15 + 80941L)) - 60720] & 0xff;
+        l20 = 1;
+        break L92;
+       }
+       Core2.f87(m, l6 + 200L, l12, l4);
+       l20 = ((b[((int) l6) - 60520] & 0xff) == 1) ? 1 : 0;
+       l23 = b[((int) l6) - 60511] & 0xff;
+       l19 = b[((int) l6) - 60512] & 0xff;
+      }
+      if (l20 == 0) { break L87; }
+      if ((l19 & 255) != 1) { break L87; }
+      if (((((l22 & 255) != 1) | ((l21 & 255) == 0)) ? 1 : 0) != 1) { break L87; }
+      if ((l23 & 255) + Integer.MIN_VALUE <= -2147483647) { break L87; }
+      Core2.f88(m, l6 + 128L, l1, l2, l18, l12, l4);
+      l5 = Words.get64(b, ((int) l6) - 60576);
+      if ((b[((int) l6) - 60592] & 0xff) != 0) { break L86; }
+      L95: {
+       if ((l22 & 255) != 0) { break L95; }
+       Core2.f89(m, l6 + 96L, l1, l5, Words.get64(b, ((int) l6) - 60568), l23, l21);
+       final long t96 = Words.get64(b, ((int) l6) - 60600);
+       final int t97 = l18 = ((b[((int) l6) - 60624] & 0xff) != 1) ? 1 : 0;
+       l3 = t97 != 0 ? 0L : t96;
+       final long t98 = Words.get64(b, ((int) l6) - 60608);
+       final int t99 = l18;
+       l5 = t99 != 0 ? 0L : t98;
+       l20 = l18 != 0 ? 2 : 0;
+       break L65;
+      }
+      Words.put64(b, ((int) l6) - 60544, l5 = (Core1.f35(m, l12, l4) + l2) + 1L);
+      l18 = 1;
+      l3 = Words.get64(b, ((int) l6) - 60536);
+      l20 = 1;
+      break L65;
+     }
+     Core2.f88(m, l6 + 160L, l1, l2, l18, l3, l5);
+     l3 = Words.get64(b, ((int) l6) - 60536);
+     l5 = Words.get64(b, ((int) l6) - 60544);
+     l20 = b[((int) l6) - 60552] & 0xff;
+     l18 = b[((int) l6) - 60560] & 0xff;
+     break L65;
+    }
+    l3 = 0L;
+    Words.put64(b, ((int) l6) - 60536, 0L);
+    Words.put64(b, ((int) l6) - 60544, l5);
+    l18 = 1;
+    l20 = b[((int) l6) - 60584] & 0xff;
+    break L65;
+   }
+   Words.put64(b, ((int) l6) - 60544, l5);
+   Words.put64(b, ((int) l6) - 60552, l5);
+   l3 = Words.get64(b, ((int) l6) - 60536);
+   l20 = 0;
+   l18 = 1;
+  }
+  l4 = (l20 & 0xffffffffL) & 255L;
+  l12 = (l18 & 0xffffffffL) & 255L;
+ }
+ Words.put64(b, ((int) l0) - 60720, l12);
+ Words.put64(b, ((int) (l0 + 24L)) - 60720, l3);
+ Words.put64(b, ((int) (l0 + 16L)) - 60720, l5);
+ Words.put64(b, ((int) (l0 + 8L)) - 60720, l4);
+ m.g0 = l6 + 240L;
+}
+
+static int f157(State m, long l0, long l1, int l2, long l3) {
+ final byte[] b = m.bytes;
+ long l4 = 0;
+ long l5 = 0;
+ long l6 = 0;
+ int l7 = 0;
+ int l8 = 0;
+ int l9 = 0;
+ m.g0 = l4 = m.g0 - 80L;
+ L1: {
+  L2: {
+   L3: {
+    if ((l5 = l4) < 16L) { break L3; }
+    L4: {
+     L5: {
+      L6: {
+       switch ((int) ((l2 & 0xffffffffL) & 255L)) {
+       case 1: break L6;
+       case 2: break L5;
+       case 3: break L4;
+       default: break L1;
+       }
+      }
+      l4 = 0L;
+      L7: {
+       if (l3 + Long.MIN_VALUE < -9223372036854775792L) { break L7; }
+       Core1.f25(m, l5, l0, l1, l3);
+       l3 = Words.get64(b, ((int) l5) - 60712);
+       l4 = Words.get64(b, ((int) l5) - 60720);
+      }
+      L8: {
+       if (l3 + Long.MIN_VALUE < -9223372036854775805L) { break L8; }
+       L9: while (true) {
+        if ((l1 - l4) + Long.MIN_VALUE < -9223372036854775800L) { break L8; }
+        L10: {
+         L11: {
+          if (((l6 = Words.get64(b, ((int) (l0 + l4)) - 60720)) & 67553998437089520L) != 63050398541283552L) { break L11; }
+          l3 = l3 + -3L;
+          l4 = l4 + 9L;
+          break L10;
+         }
+         if (l3 + Long.MIN_VALUE < -9223372036854775800L) { break L8; }
+         if ((l6 & -9187201950435737472L) != 0L) { break L8; }
+         l3 = l3 + -8L;
+         l4 = l4 + 8L;
+        }
+        if (l3 + Long.MIN_VALUE > -9223372036854775806L) { continue L9; }
+        break L9;
+       }
+      }
+      L12: {
+       if (l3 == 0L) { break L12; }
+       if (l1 + Long.MIN_VALUE <= l4 + Long.MIN_VALUE) { break L12; }
+       l3 = l3 + -1L;
+       L13: while (true) {
+        l4 = Words.get64(b, ((int) (((((b[((int) (l0 + l4)) - 60720] & 0xff) >>> 1) & 0xffffffffL) & 120L) + 66680L)) - 60720) + l4;
+        if (l3 == 0L) { break L12; }
+        l3 = l3 + -1L;
+        if (l1 + Long.MIN_VALUE > l4 + Long.MIN_VALUE) { continue L13; }
+        break L13;
+       }
+      }
+      Words.put64(b, ((int) l5) - 60680, 0L);
+      Words.put64(b, ((int) l5) - 60688, 0L);
+      Words.put64(b, ((int) l5) - 60696, 0L);
+      Words.put64(b, ((int) l5) - 60704, 0L);
+      f158(m, l5 + 16L, l0 + l4, l1 - l4);
+      l2 = 3;
+      if ((b[((int) l5) - 60704] & 0xff) != 1) { break L1; }
+      l2 = 4;
+      L14: {
+       L15: {
+        switch ((int) (b[((int) l5) - 60696] & 0xffL)) {
+        case 1: break L14;
+        case 2: break L1;
+        default: break L15;
+        }
+       }
+       l2 = b[((int) l5) - 60695] & 0xff;
+       l4 = Words.get64(b, ((int) l5) - 60680);
+       l3 = Words.get64(b, ((int) l5) - 60688);
+       Words.put64(b, ((int) l5) - 60648, 0L);
+       Words.put64(b, ((int) l5) - 60656, 0L);
+       Words.put64(b, ((int) l5) - 60664, 0L);
+       Words.put64(b, ((int) l5) - 60672, 0L);
+       f158(m, l5 + 48L, l3, l4);
+       final int t16 = (((b[((int) l5) - 60664] & 0xff) & 255) != 0) ? 3 : 5;
+       final int t17 = ((b[((int) l5) - 60672] & 0xff) != 1) ? 1 : 0;
+       final int t18 = t17 != 0 ? 3 : t16;
+       final int t19 = l2;
+       l2 = t19 != 0 ? t18 : 3;
+       break L1;
+      }
+      l7 = b[((int) l5) - 60695] & 0xff;
+      l4 = Words.get64(b, ((int) l5) - 60680);
+      l3 = Words.get64(b, ((int) l5) - 60688);
+      Words.put64(b, ((int) l5) - 60648, 0L);
+      Words.put64(b, ((int) l5) - 60656, 0L);
+      Words.put64(b, ((int) l5) - 60664, 0L);
+      Words.put64(b, ((int) l5) - 60672, 0L);
+      f158(m, l5 + 48L, l3, l4);
+      L20: {
+       if ((l8 = (((b[((int) l5) - 60672] & 0xff) == 1) & (((b[((int) l5) - 60664] & 0xff) & 255) == 1)) ? 1 : 0) != 1) { break L20; }
+       final int t21 = l7 & 255;
+       final int t22 = b[((int) l5) - 60663] & 0xff;
+       final int t23 = l8;
+       if (t21 + Integer.MIN_VALUE < ((l9 = t23 != 0 ? t22 : 0) & 255) + Integer.MIN_VALUE) { break L20; }
+       l2 = 6;
+       if ((l7 & 255) != 1) { break L1; }
+       if ((l9 & 255) != 0) { break L1; }
+      }
+      L24: {
+       if (((l7 | l8) & 255) != 0) { break L24; }
+       l2 = 7;
+       break L1;
+      }
+      Words.put64(b, ((int) l5) - 60648, 0L);
+      Words.put64(b, ((int) l5) - 60656, 0L);
+      Words.put64(b, ((int) l5) - 60664, 0L);
+      Words.put64(b, ((int) l5) - 60672, 0L);
+      f158(m, l5 + 48L, l3, l4);
+      if ((b[((int) l5) - 60672] & 0xff) != 1) { break L2; }
+      L25: {
+       L26: while (true) {
+        L27: {
+         if ((b[((int) l5) - 60664] & 0xff) != 1) { break L27; }
+         if ((l2 = (b[((int) l5) - 60663] & 0xff) & 255) + Integer.MIN_VALUE >= (l8 = l7 & 255) + Integer.MIN_VALUE) { break L25; }
+        }
+        f158(m, l5 + 48L, Words.get64(b, ((int) l5) - 60656), Words.get64(b, ((int) l5) - 60648));
+        if ((b[((int) l5) - 60672] & 0xff) == 1) { continue L26; }
+        break L2;
+       }
+      }
+      if (l8 + Integer.MIN_VALUE < l2 + Integer.MIN_VALUE) { break L2; }
+      l2 = 8;
+      break L1;
+     }
+     l2 = 1;
+     break L1;
+    }
+    l2 = 2;
+    break L1;
+   }
+   throw State.trap();
+  }
+  l2 = 3;
+ }
+ m.g0 = l5 + 80L;
+ return l2;
+}
+
+static void f158(State m, long l0, long l1, long l2) {
+ final byte[] b = m.bytes;
+ int l3 = 0;
+ int l4 = 0;
+ int l5 = 0;
+ int l6 = 0;
+ long l7 = 0;
+ long l8 = 0;
+ L1: {
+  L2: {
+   L3: {
+    L4: {
+     L5: {
+      L6: {
+       if (m.g0 < 16L) { break L6; }
+       L7: {
+        if (l2 == 0L) { break L7; }
+        L8: while (true) {
+         L9: {
+          L10: {
+           if ((l3 = b[((int) l1) - 60720] & 0xff) + Integer.MIN_VALUE > -2147483616) { break L10; }
+           if (((1L << (l3 & 0xffffffffL)) & 4294983168L) == 0L) { break L10; }
+           l7 = 1L;
+           break L9;
+          }
+          L11: {
+           L12: {
+            L13: {
+             if (l3 == 194) { break L13; }
+             if (l2 + Long.MIN_VALUE < -9223372036854775805L) { break L12; }
+             if (((l3 + 28) & 255) + Integer.MIN_VALUE < -2147483395) { break L12; }
+             l4 = b[((int) (l1 + 1L)) - 60720] & 0xff;
+             l6 = (int) (byte) (l5 = b[((int) (l1 + 2L)) - 60720] & 0xff);
+             if (l3 != 226) { break L11; }
+             if ((l4 & 255) != 128) { break L11; }
+             l7 = 3L;
+             if (l6 < -117) { break L9; }
+             if ((l3 = l5 + -168) + Integer.MIN_VALUE > -2147483641) { break L5; }
+             if (((1 << l3) & 131) == 0) { break L5; }
+             break L9;
+            }
+            l7 = 1L;
+            l3 = b[((int) l1) - 60719] & 0xff;
+            L14: {
+             if (l2 != 1L) { break L14; }
+             l6 = l3 & 63;
+             l3 = 194;
+             break L3;
+            }
+            l7 = 2L;
+            if (l3 == 133) { break L9; }
+            if (l3 == 160) { break L9; }
+           }
+           if (l2 + Long.MIN_VALUE >= -9223372036854775805L) { break L5; }
+           l4 = b[((int) l1) - 60720] & 0xff;
+           break L4;
+          }
+          L15: {
+           L16: {
+            L17: {
+             L18: {
+              switch (l3 + -225) {
+              case 1: break L17;
+              case 2: break L16;
+              default: break L18;
+              }
+             }
+             if ((l4 & 255) != 154) { break L5; }
+             if (l6 != -128) { break L5; }
+             break L15;
+            }
+            if ((l4 & 255) != 129) { break L5; }
+            if (l6 == -97) { break L15; }
+            break L5;
+           }
+           if ((l4 & 255) != 128) { break L5; }
+           if (l6 != -128) { break L5; }
+          }
+          l7 = 3L;
+         }
+         l1 = l1 + l7;
+         if (!((l2 = l2 - l7) == 0L)) { continue L8; }
+         break L8;
+        }
+       }
+       Words.put64(b, ((int) l0) - 60720, 0L);
+       Words.put64(b, ((int) (l0 + 16L)) - 60720, 0L);
+       Words.put16(b, ((int) (l0 + 8L)) - 60720, (short) 0);
+       Words.put64(b, ((int) (l0 + 24L)) - 60720, 0L);
+       return;
+      }
+      throw State.trap();
+     }
+     if (((l4 = b[((int) l1) - 60720] & 0xff) & 240) != 224) { break L4; }
+     l3 = (((b[((int) l1) - 60718] & 0xff) + ((b[((int) l1) - 60719] & 0xff) << 6)) + (l4 << 12)) + -925824;
+     l7 = l2 + -3L;
+     l1 = l1 + 3L;
+     break L1;
+    }
+    l3 = l4 & 255;
+    l8 = 1L;
+    L19: {
+     if (((int) (byte) l4) > -1) { break L19; }
+     l6 = (b[((int) l1) - 60719] & 0xff) & 63;
+     L20: {
+      if ((l4 & 255) + Integer.MIN_VALUE > -2147483425) { break L20; }
+      l7 = l2;
+      break L3;
+     }
+     l5 = (b[((int) l1) - 60718] & 0xff) & 63;
+     L21: {
+      if ((l4 & 255) + Integer.MIN_VALUE > -2147483409) { break L21; }
+      l3 = ((l6 << 6) | ((l3 << 12) & 61440)) | l5;
+      l8 = 3L;
+      break L19;
+     }
+     l3 = ((l5 << 6) | ((l6 << 12) | ((l3 << 18) & 1835008))) | ((b[((int) l1) - 60717] & 0xff) & 63);
+     l8 = 4L;
+    }
+    l7 = l2;
+    break L2;
+   }
+   l3 = ((l3 << 6) & 1984) | l6;
+   l8 = 2L;
+  }
+  l7 = l7 - l8;
+  l1 = l1 + l8;
+ }
+ L22: {
+  L23: {
+   if ((l3 + -2048) + Integer.MIN_VALUE > -2147420161) { break L23; }
+   final int t24 = b[((int) ((l2 = ((((l3 = (((l3 >>> 12) | ((l3 << 2) & 16128)) | ((l3 << 16) & 4128768)) | 8421600) & 0xffffffffL) * 953497L) >>> 22L) & 1016L) + 80941L)) - 60720] & 0xff;
+   final int t25 = l4 = (Words.get32(b, State.far((int) l2, 80936)) == l3) ? 1 : 0;
+   l3 = t25 != 0 ? t24 : 0;
+   final int t26 = b[((int) (l2 + 80940L)) - 60720] & 0xff;
+   final int t27 = l4;
+   l4 = t27 != 0 ? t26 : 2;
+   break L22;
+  }
+  final int t28 = l3 = l3 + -48;
+  final int t29 = l4 = (l3 + Integer.MIN_VALUE < -2147483638) ? 1 : 0;
+  l3 = t29 != 0 ? t28 : 0;
+  l4 = l4 != 0 ? 0 : 2;
+ }
+ Words.put64(b, ((int) l0) - 60720, 1L);
+ Words.put64(b, ((int) (l0 + 24L)) - 60720, l7);
+ Words.put64(b, ((int) (l0 + 16L)) - 60720, l1);
+ b[((int) (l0 + 9L)) - 60720] = (byte) l3;
+ b[((int) (l0 + 8L)) - 60720] = (byte) l4;
+}
+
+static int f159(State m, long l0, long l1, int l2, int l3, int l4, long l5) {
+ final byte[] b = m.bytes;
+ long l6 = 0;
+ long l7 = 0;
+ long l8 = 0;
+ long l9 = 0;
+ long l10 = 0;
+ long l11 = 0;
+ long l12 = 0;
+ int l13 = 0;
+ int l14 = 0;
+ int l15 = 0;
+ m.g0 = l6 = m.g0 - 48L;
+ L1: {
+  L2: {
+   L3: {
+    L4: {
+     L5: {
+      L6: {
+       L7: {
+        L8: {
+         L9: {
+          L10: {
+           L11: {
+            L12: {
+             L13: {
+              L14: {
+               L15: {
+                L16: {
+                 L17: {
+                  L18: {
+                   if ((l7 = l6) < 16L) { break L18; }
+                   if ((l3 & 255) != 0) { break L17; }
+                   l8 = 0L;
+                   Words.put64(b, ((int) l7) - 60680, 0L);
+                   Words.put64(b, ((int) l7) - 60688, 0L);
+                   Words.put64(b, ((int) l7) - 60696, 0L);
+                   Words.put64(b, ((int) l7) - 60704, 0L);
+                   l6 = l0;
+                   l9 = l1;
+                   if ((l2 & 255) + Integer.MIN_VALUE < -2147483643) { break L10; }
+                   l9 = 0L;
+                   L19: {
+                    if (!(l1 == 0L)) { break L19; }
+                    l8 = 0L;
+                    l6 = l0;
+                    break L10;
+                   }
+                   l10 = 1L;
+                   l8 = l1;
+                   l6 = l0;
+                   L20: while (true) {
+                    L21: {
+                     L22: {
+                      if ((l3 = b[((int) l6) - 60720] & 0xff) + Integer.MIN_VALUE > -2147483616) { break L22; }
+                      l9 = 1L;
+                      if (((1L << (l3 & 0xffffffffL)) & 4294983168L) != 0L) { break L21; }
+                     }
+                     L23: {
+                      if (l3 != 194) { break L23; }
+                      l9 = 1L;
+                      l3 = b[((int) l6) - 60719] & 0xff;
+                      L24: {
+                       if (l8 != 1L) { break L24; }
+                       l13 = l3 & 63;
+                       l3 = 194;
+                       break L13;
+                      }
+                      l9 = 2L;
+                      if (l3 == 133) { break L21; }
+                      if (l3 == 160) { break L21; }
+                      break L16;
+                     }
+                     if (l8 + Long.MIN_VALUE < -9223372036854775805L) { break L16; }
+                     if (((l3 + 28) & 255) + Integer.MIN_VALUE < -2147483395) { break L16; }
+                     l4 = b[((int) (l6 + 1L)) - 60720] & 0xff;
+                     l13 = (int) (byte) (l14 = b[((int) (l6 + 2L)) - 60720] & 0xff);
+                     L25: {
+                      if (l3 != 226) { break L25; }
+                      if ((l4 & 255) != 128) { break L25; }
+                      l9 = 3L;
+                      if (l13 < -117) { break L21; }
+                      if ((l3 = l14 + -168) + Integer.MIN_VALUE > -2147483641) { break L15; }
+                      if (((1 << l3) & 131) == 0) { break L15; }
+                      break L21;
+                     }
+                     L26: {
+                      L27: {
+                       L28: {
+                        L29: {
+                         switch (l3 + -225) {
+                         case 1: break L28;
+                         case 2: break L27;
+                         default: break L29;
+                         }
+                        }
+                        if ((l4 & 255) != 154) { break L15; }
+                        if (l13 != -128) { break L15; }
+                        break L26;
+                       }
+                       if ((l4 & 255) != 129) { break L15; }
+                       if (l13 == -97) { break L26; }
+                       break L15;
+                      }
+                      if ((l4 & 255) != 128) { break L15; }
+                      if (l13 != -128) { break L15; }
+                     }
+                     l9 = 3L;
+                    }
+                    l10 = l10 + 1L;
+                    l6 = l6 + l9;
+                    if (!((l8 = l8 - l9) == 0L)) { continue L20; }
+                    break L20;
+                   }
+                   l8 = l10 + -1L;
+                   l9 = 0L;
+                   break L10;
+                  }
+                  throw State.trap();
+                 }
+                 l8 = 0L;
+                 Words.put64(b, ((int) l7) - 60680, 0L);
+                 Words.put64(b, ((int) l7) - 60688, 0L);
+                 Words.put64(b, ((int) l7) - 60696, 0L);
+                 Words.put64(b, ((int) l7) - 60704, 0L);
+                 l6 = l0;
+                 l9 = l1;
+                 L30: {
+                  L31: {
+                   L32: {
+                    L33: {
+                     if ((l2 & 255) + Integer.MIN_VALUE < -2147483643) { break L33; }
+                     l9 = 0L;
+                     L34: {
+                      if (!(l1 == 0L)) { break L34; }
+                      l8 = 0L;
+                      l6 = l0;
+                      break L33;
+                     }
+                     l10 = 1L;
+                     l8 = l1;
+                     l6 = l0;
+                     L35: {
+                      L36: {
+                       L37: {
+                        L38: {
+                         L39: {
+                          L40: {
+                           L41: while (true) {
+                            L42: {
+                             L43: {
+                              if ((l3 = b[((int) l6) - 60720] & 0xff) + Integer.MIN_VALUE > -2147483616) { break L43; }
+                              l9 = 1L;
+                              if (((1L << (l3 & 0xffffffffL)) & 4294983168L) != 0L) { break L42; }
+                             }
+                             L44: {
+                              if (l3 != 194) { break L44; }
+                              l9 = 1L;
+                              l3 = b[((int) l6) - 60719] & 0xff;
+                              L45: {
+                               if (l8 != 1L) { break L45; }
+                               l14 = l3 & 63;
+                               l3 = 194;
+                               break L37;
+                              }
+                              l9 = 2L;
+                              if (l3 == 133) { break L42; }
+                              if (l3 == 160) { break L42; }
+                              break L40;
+                             }
+                             if (l8 + Long.MIN_VALUE < -9223372036854775805L) { break L40; }
+                             if (((l3 + 28) & 255) + Integer.MIN_VALUE < -2147483395) { break L40; }
+                             l13 = b[((int) (l6 + 1L)) - 60720] & 0xff;
+                             l14 = (int) (byte) (l15 = b[((int) (l6 + 2L)) - 60720] & 0xff);
+                             L46: {
+                              if (l3 != 226) { break L46; }
+                              if ((l13 & 255) != 128) { break L46; }
+                              l9 = 3L;
+                              if (l14 < -117) { break L42; }
+                              if ((l3 = l15 + -168) + Integer.MIN_VALUE > -2147483641) { break L39; }
+                              if (((1 << l3) & 131) == 0) { break L39; }
+                              break L42;
+                             }
+                             L47: {
+                              L48: {
+                               L49: {
+                                L50: {
+                                 switch (l3 + -225) {
+                                 case 1: break L49;
+                                 case 2: break L48;
+                                 default: break L50;
+                                 }
+                                }
+                                if ((l13 & 255) != 154) { break L39; }
+                                if (l14 != -128) { break L39; }
+                                break L47;
+                               }
+                               if ((l13 & 255) != 129) { break L39; }
+                               if (l14 == -97) { break L47; }
+                               break L39;
+                              }
+                              if ((l13 & 255) != 128) { break L39; }
+                              if (l14 != -128) { break L39; }
+                             }
+                             l9 = 3L;
+                            }
+                            l10 = l10 + 1L;
+                            l6 = l6 + l9;
+                            if (!((l8 = l8 - l9) == 0L)) { continue L41; }
+                            break L41;
+                           }
+                           l8 = l10 + -1L;
+                           l9 = 0L;
+                           break L33;
+                          }
+                          if (l8 + Long.MIN_VALUE >= -9223372036854775805L) { break L39; }
+                          l13 = b[((int) l6) - 60720] & 0xff;
+                          break L38;
+                         }
+                         if (((l13 = b[((int) l6) - 60720] & 0xff) & 240) != 224) { break L38; }
+                         l3 = (((b[((int) l6) - 60718] & 0xff) + ((b[((int) l6) - 60719] & 0xff) << 6)) + (l13 << 12)) + -925824;
+                         l11 = l8 + -3L;
+                         l12 = l6 + 3L;
+                         l9 = l8;
+                         break L35;
+                        }
+                        l3 = l13 & 255;
+                        l12 = 1L;
+                        L51: {
+                         if (((int) (byte) l13) > -1) { break L51; }
+                         l14 = (b[((int) l6) - 60719] & 0xff) & 63;
+                         L52: {
+                          if ((l13 & 255) + Integer.MIN_VALUE > -2147483425) { break L52; }
+                          l9 = l8;
+                          break L37;
+                         }
+                         l15 = (b[((int) l6) - 60718] & 0xff) & 63;
+                         L53: {
+                          if ((l13 & 255) + Integer.MIN_VALUE > -2147483409) { break L53; }
+                          l3 = ((l14 << 6) | ((l3 << 12) & 61440)) | l15;
+                          l12 = 3L;
+                          break L51;
+                         }
+                         l3 = ((l15 << 6) | ((l14 << 12) | ((l3 << 18) & 1835008))) | ((b[((int) l6) - 60717] & 0xff) & 63);
+                         l12 = 4L;
+                        }
+                        l9 = l8;
+                        break L36;
+                       }
+                       l3 = ((l3 << 6) & 1984) | l14;
+                       l12 = 2L;
+                      }
+                      l11 = l9 - l12;
+                      l12 = l6 + l12;
+                     }
+                     L54: {
+                      if (l3 != 27491) { break L54; }
+                      l13 = 0;
+                      break L31;
+                     }
+                     if (l3 == 36000) { break L32; }
+                     if (l3 == 36127) { break L32; }
+                     l8 = l10 + -1L;
+                    }
+                    f156(m, l7 + 16L, l4, l8, l6, l9);
+                    l3 = 2;
+                    l13 = 0;
+                    break L30;
+                   }
+                   l13 = 1;
+                  }
+                  f156(m, l7 + 16L, l4, l10, l12, l11);
+                  l3 = l13 != 0 ? 3 : 2;
+                 }
+                 l8 = Words.get64(b, ((int) l7) - 60680);
+                 l6 = Words.get64(b, ((int) l7) - 60688);
+                 L55: {
+                  if ((b[((int) l7) - 60704] & 0xff) != 0) { break L55; }
+                  final int t56 = (l6 + Long.MIN_VALUE > Words.get64(b, ((int) (l9 = (((l2 & 0xffffffffL) & 255L) << 5L) + (l13 != 0 ? 84816L : 84800L))) - 60720) + Long.MIN_VALUE) ? 1 : 0;
+                  final int t57 = (l8 + Long.MIN_VALUE > (l9 = Words.get64(b, ((int) l9) - 60712)) + Long.MIN_VALUE) ? 1 : 0;
+                  final int t58 = (l8 == l9) ? 1 : 0;
+                  if ((t58 != 0 ? t56 : t57) != 0) { break L6; }
+                  l9 = l13 & 0xffffffffL;
+                  break L4;
+                 }
+                 final int t59 = l3;
+                 final int t60 = l2 = b[((int) l7) - 60696] & 0xff;
+                 final int t61 = l2 = (l2 == 2) ? 1 : 0;
+                 l3 = t61 != 0 ? t59 : t60;
+                 l8 = 0L;
+                 l9 = l2 != 0 ? 0L : l6;
+                 break L2;
+                }
+                if (l8 + Long.MIN_VALUE >= -9223372036854775805L) { break L15; }
+                l4 = b[((int) l6) - 60720] & 0xff;
+                break L14;
+               }
+               if (((l4 = b[((int) l6) - 60720] & 0xff) & 240) != 224) { break L14; }
+               l3 = (((b[((int) l6) - 60718] & 0xff) + ((b[((int) l6) - 60719] & 0xff) << 6)) + (l4 << 12)) + -925824;
+               l11 = l8 + -3L;
+               l12 = l6 + 3L;
+               l9 = l8;
+               break L11;
+              }
+              l3 = l4 & 255;
+              l12 = 1L;
+              L62: {
+               if (((int) (byte) l4) > -1) { break L62; }
+               l13 = (b[((int) l6) - 60719] & 0xff) & 63;
+               L63: {
+                if ((l4 & 255) + Integer.MIN_VALUE > -2147483425) { break L63; }
+                l9 = l8;
+                break L13;
+               }
+               l14 = (b[((int) l6) - 60718] & 0xff) & 63;
+               L64: {
+                if ((l4 & 255) + Integer.MIN_VALUE > -2147483409) { break L64; }
+                l3 = ((l13 << 6) | ((l3 << 12) & 61440)) | l14;
+                l12 = 3L;
+                break L62;
+               }
+               l3 = ((l14 << 6) | ((l13 << 12) | ((l3 << 18) & 1835008))) | ((b[((int) l6) - 60717] & 0xff) & 63);
+               l12 = 4L;
+              }
+              l9 = l8;
+              break L12;
+             }
+             l3 = ((l3 << 6) & 1984) | l13;
+             l12 = 2L;
+            }
+            l11 = l9 - l12;
+            l12 = l6 + l12;
+           }
+           L65: {
+            if (l3 != 27491) { break L65; }
+            l4 = 0;
+            break L8;
+           }
+           if (l3 == 36000) { break L9; }
+           if (l3 == 36127) { break L9; }
+           l8 = l10 + -1L;
+          }
+          Core2.f86(m, l7 + 16L, l8, l6, l9);
+          l3 = 2;
+          l4 = 0;
+          break L7;
+         }
+         l4 = 1;
+        }
+        Core2.f86(m, l7 + 16L, l10, l12, l11);
+        l3 = l4 != 0 ? 3 : 2;
+       }
+       l8 = Words.get64(b, ((int) l7) - 60680);
+       l6 = Words.get64(b, ((int) l7) - 60688);
+       if ((b[((int) l7) - 60704] & 0xff) != 0) { break L3; }
+       final int t66 = (l6 + Long.MIN_VALUE > Words.get64(b, ((int) (l9 = (((l2 & 0xffffffffL) & 255L) << 5L) + (l4 != 0 ? 84816L : 84800L))) - 60720) + Long.MIN_VALUE) ? 1 : 0;
+       final int t67 = (l8 + Long.MIN_VALUE > (l9 = Words.get64(b, ((int) l9) - 60712)) + Long.MIN_VALUE) ? 1 : 0;
+       final int t68 = (l8 == l9) ? 1 : 0;
+       if ((t68 != 0 ? t66 : t67) == 0) { break L5; }
+      }
+      l6 = 0L;
+      l2 = 1;
+      l8 = 0L;
+      l9 = 0L;
+      break L1;
+     }
+     l9 = l4 & 0xffffffffL;
+    }
+    l2 = 0;
+    l3 = 0;
+    break L1;
+   }
+   final int t69 = l3;
+   final int t70 = l2 = b[((int) l7) - 60696] & 0xff;
+   final int t71 = l2 = (l2 == 2) ? 1 : 0;
+   l3 = t71 != 0 ? t69 : t70;
+   l8 = 0L;
+   l9 = l2 != 0 ? 0L : l6;
+  }
+  l2 = 1;
+  l6 = 0L;
+ }
+ L72: {
+  L73: {
+   if (l2 != 0) { break L73; }
+   Words.put64(b, ((int) l5) - 60704, 0L);
+   Words.put64(b, ((int) l5) - 60696, 0L);
+   final int t74 = (int) l5;
+   final long t75 = 0L - l6;
+   final long t76 = l6;
+   final int t77 = l3 = ((int) l9) & 1;
+   Words.put64(b, t74 - 60720, t77 != 0 ? t75 : t76);
+   final int t78 = (int) l5;
+   final long t79 = 0L - (l8 + ((l6 != 0L) ? 1L : 0L));
+   final long t80 = l8;
+   final int t81 = l3;
+   Words.put64(b, t78 - 60712, t81 != 0 ? t79 : t80);
+   l2 = 0;
+   break L72;
+  }
+  l6 = 0L;
+  Words.put64(b, ((int) l5) - 60696, 0L);
+  Words.put64(b, ((int) l5) - 60704, 0L);
+  Words.put64(b, ((int) l5) - 60712, 0L);
+  Words.put64(b, ((int) l5) - 60720, 0L);
+  l2 = 1;
+  L82: {
+   L83: {
+    L84: {
+     switch (l3) {
+     case 1: break L84;
+     case 2: break L83;
+     case 3: break L82;
+     default: break L72;
+     }
+    }
+    Words.put64(b, ((int) l5) - 60704, l9);
+    L85: {
+     if (l9 + Long.MIN_VALUE < -9223372036854775792L) { break L85; }
+     Core1.f25(m, l7, l0, l1, l9);
+     l9 = Words.get64(b, ((int) l7) - 60712);
+     l6 = Words.get64(b, ((int) l7) - 60720);
+    }
+    L86: {
+     if (l9 + Long.MIN_VALUE < -9223372036854775805L) { break L86; }
+     L87: while (true) {
+      if ((l1 - l6) + Long.MIN_VALUE < -9223372036854775800L) { break L86; }
+      L88: {
+       L89: {
+        if (((l8 = Words.get64(b, ((int) (l0 + l6)) - 60720)) & 67553998437089520L) != 63050398541283552L) { break L89; }
+        l9 = l9 + -3L;
+        l6 = l6 + 9L;
+        break L88;
+       }
+       if (l9 + Long.MIN_VALUE < -9223372036854775800L) { break L86; }
+       if ((l8 & -9187201950435737472L) != 0L) { break L86; }
+       l9 = l9 + -8L;
+       l6 = l6 + 8L;
+      }
+      if (l9 + Long.MIN_VALUE > -9223372036854775806L) { continue L87; }
+      break L87;
+     }
+    }
+    L90: {
+     if (l9 == 0L) { break L90; }
+     if (l1 + Long.MIN_VALUE <= l6 + Long.MIN_VALUE) { break L90; }
+     l9 = l9 + -1L;
+     L91: while (true) {
+      l6 = Words.get64(b, ((int) (((((b[((int) (l0 + l6)) - 60720] & 0xff) >>> 1) & 0xffffffffL) & 120L) + 66680L)) - 60720) + l6;
+      if (l9 == 0L) { break L90; }
+      l9 = l9 + -1L;
+      if (l1 + Long.MIN_VALUE > l6 + Long.MIN_VALUE) { continue L91; }
+      break L91;
+     }
+    }
+    Words.put64(b, ((int) l5) - 60696, l6);
+    l2 = 2;
+    break L72;
+   }
+   l2 = 3;
+   break L72;
+  }
+  l2 = 4;
+ }
+ m.g0 = l7 + 48L;
+ return l2;
+}
+
+static int f160(State m, long l0, long l1, int l2, int l3, int l4, long l5) {
+ final byte[] b = m.bytes;
+ long l6 = 0;
+ long l7 = 0;
+ long l8 = 0;
+ long l9 = 0;
+ m.g0 = l6 = m.g0 - 48L;
+ L1: {
+  L2: {
+   L3: {
+    if ((l7 = l6) < 16L) { break L3; }
+    Words.put64(b, ((int) l7) - 60680, 0L);
+    Words.put64(b, ((int) l7) - 60688, 0L);
+    Words.put64(b, ((int) l7) - 60696, 0L);
+    Words.put64(b, ((int) l7) - 60704, 0L);
+    L4: {
+     L5: {
+      if ((l3 & 255) != 0) { break L5; }
+      Core2.f86(m, l7 + 16L, 0L, l0, l1);
+      break L4;
+     }
+     f156(m, l7 + 16L, l4, 0L, l0, l1);
+    }
+    l8 = Words.get64(b, ((int) l7) - 60688);
+    L6: {
+     if ((b[((int) l7) - 60704] & 0xff) != 0) { break L6; }
+     L7: {
+      final int t8 = (Words.get64(b, State.far((int) (l6 = ((l2 & 0xffffffffL) & 255L) << 5L), 84800)) + Long.MIN_VALUE >= l8 + Long.MIN_VALUE) ? 1 : 0;
+      final int t9 = ((l1 = Words.get64(b, State.far((int) l6, 84808))) + Long.MIN_VALUE >= (l6 = Words.get64(b, ((int) l7) - 60680)) + Long.MIN_VALUE) ? 1 : 0;
+      final int t10 = (l1 == l6) ? 1 : 0;
+      if ((t10 != 0 ? t8 : t9) != 0) { break L7; }
+      Words.put64(b, ((int) l5) - 60696, 0L);
+      Words.put64(b, ((int) l5) - 60704, 0L);
+      Words.put64(b, ((int) l5) - 60712, 0L);
+      Words.put64(b, ((int) l5) - 60720, 0L);
+      break L2;
+     }
+     Words.put64(b, ((int) l5) - 60704, 0L);
+     Words.put64(b, ((int) l5) - 60720, l8);
+     Words.put64(b, ((int) l5) - 60696, 0L);
+     Words.put64(b, ((int) l5) - 60712, l6);
+     l3 = 0;
+     break L1;
+    }
+    l9 = b[((int) l7) - 60696] & 0xffL;
+    l6 = 0L;
+    Words.put64(b, ((int) l5) - 60696, 0L);
+    Words.put64(b, ((int) l5) - 60704, 0L);
+    Words.put64(b, ((int) l5) - 60712, 0L);
+    Words.put64(b, ((int) l5) - 60720, 0L);
+    l3 = 1;
+    L11: {
+     L12: {
+      switch ((int) l9) {
+      case 1: break L12;
+      case 2: break L2;
+      case 3: break L11;
+      default: break L1;
+      }
+     }
+     Words.put64(b, ((int) l5) - 60704, l8);
+     L13: {
+      if (l8 + Long.MIN_VALUE < -9223372036854775792L) { break L13; }
+      Core1.f25(m, l7, l0, l1, l8);
+      l8 = Words.get64(b, ((int) l7) - 60712);
+      l6 = Words.get64(b, ((int) l7) - 60720);
+     }
+     L14: {
+      if (l8 + Long.MIN_VALUE < -9223372036854775805L) { break L14; }
+      L15: while (true) {
+       if ((l1 - l6) + Long.MIN_VALUE < -9223372036854775800L) { break L14; }
+       L16: {
+        L17: {
+         if (((l9 = Words.get64(b, ((int) (l0 + l6)) - 60720)) & 67553998437089520L) != 63050398541283552L) { break L17; }
+         l8 = l8 + -3L;
+         l6 = l6 + 9L;
+         break L16;
+        }
+        if (l8 + Long.MIN_VALUE < -9223372036854775800L) { break L14; }
+        if ((l9 & -9187201950435737472L) != 0L) { break L14; }
+        l8 = l8 + -8L;
+        l6 = l6 + 8L;
+       }
+       if (l8 + Long.MIN_VALUE > -9223372036854775806L) { continue L15; }
+       break L15;
+      }
+     }
+     L18: {
+      if (l8 == 0L) { break L18; }
+      if (l1 + Long.MIN_VALUE <= l6 + Long.MIN_VALUE) { break L18; }
+      l8 = l8 + -1L;
+      L19: while (true) {
+       l6 = Words.get64(b, ((int) (((((b[((int) (l0 + l6)) - 60720] & 0xff) >>> 1) & 0xffffffffL) & 120L) + 66680L)) - 60720) + l6;
+       if (l8 == 0L) { break L18; }
+       l8 = l8 + -1L;
+       if (l1 + Long.MIN_VALUE > l6 + Long.MIN_VALUE) { continue L19; }
+       break L19;
+      }
+     }
+     Words.put64(b, ((int) l5) - 60696, l6);
+     l3 = 2;
+     break L1;
+    }
+    l3 = 4;
+    break L1;
+   }
+   throw State.trap();
+  }
+  l3 = 3;
+ }
+ m.g0 = l7 + 48L;
+ return l3;
+}
+
+static int f161(State m, long l0, long l1, int l2, long l3) {
+ final byte[] b = m.bytes;
+ long l4 = 0;
+ int l5 = 0;
+ int l6 = 0;
+ m.g0 = l4 = m.g0 - 16L;
+ L1: {
+  if ((l4 = l4) < 16L) { break L1; }
+  f154(m, l4 + 8L, l2, l0, l1);
+  l5 = b[((int) l4) - 60711] & 0xff;
+  l6 = b[((int) l4) - 60712] & 0xff;
+  L2: {
+   L3: {
+    if ((l2 & 255) + Integer.MIN_VALUE < -2147483643) { break L3; }
+    l2 = f159(m, l0, l1, l2, l6, l5, l3);
+    break L2;
+   }
+   l2 = f160(m, l0, l1, l2, l6, l5, l3);
+  }
+  m.g0 = l4 + 16L;
+  final int t4 = l2;
+  return t4;
+ }
+ throw State.trap();
+}
+
+static int f162(State m, long l0, long l1) {
+ final byte[] b = m.bytes;
+ long l2 = 0;
+ long l3 = 0;
+ long l4 = 0;
+ long l5 = 0;
+ int l6 = 0;
+ int l7 = 0;
+ int l8 = 0;
+ int l9 = 0;
+ int l10 = 0;
+ int l11 = 0;
+ m.g0 = l2 = m.g0 - 16L;
+ L1: {
+  L2: {
+   L3: {
+    L4: {
+     L5: {
+      if ((l2 = l2) < 16L) { break L5; }
+      L6: {
+       if ((l3 = Words.get64(b, ((int) l1) - 60712)) != l0) { break L6; }
+       l6 = 0;
+       break L1;
+      }
+      l3 = l3 - l0;
+      l7 = (l6 = (int) b[((int) (l4 = Words.get64(b, ((int) l1) - 60720) + l0)) - 60720]) & 255;
+      l0 = 1L;
+      L7: {
+       if (l6 > -1) { break L7; }
+       l8 = (b[((int) l4) - 60719] & 0xff) & 63;
+       L8: {
+        if (l6 + Integer.MIN_VALUE > 2147483615) { break L8; }
+        l7 = ((l7 << 6) & 1984) | l8;
+        l0 = 2L;
+        break L7;
+       }
+       l9 = (b[((int) l4) - 60718] & 0xff) & 63;
+       L9: {
+        if (l6 + Integer.MIN_VALUE > 2147483631) { break L9; }
+        l7 = ((l8 << 6) | ((l7 << 12) & 61440)) | l9;
+        l0 = 3L;
+        break L7;
+       }
+       l7 = ((l9 << 6) | ((l8 << 12) | ((l7 << 18) & 1835008))) | ((b[((int) l4) - 60717] & 0xff) & 63);
+       l0 = 4L;
+      }
+      L10: {
+       L11: {
+        L12: {
+         L13: {
+          L14: {
+           if (l3 == l0) { break L14; }
+           l8 = (l6 = (int) b[((int) (l4 = l4 + l0)) - 60720]) & 255;
+           l1 = 1L;
+           L15: {
+            if (l6 > -1) { break L15; }
+            l9 = (b[((int) l4) - 60719] & 0xff) & 63;
+            L16: {
+             if (l6 + Integer.MIN_VALUE > 2147483615) { break L16; }
+             l8 = ((l8 << 6) & 1984) | l9;
+             l1 = 2L;
+             break L15;
+            }
+            l10 = (b[((int) l4) - 60718] & 0xff) & 63;
+            L17: {
+             if (l6 + Integer.MIN_VALUE > 2147483631) { break L17; }
+             l8 = ((l9 << 6) | ((l8 << 12) & 61440)) | l10;
+             l1 = 3L;
+             break L15;
+            }
+            l8 = ((l10 << 6) | ((l9 << 12) | ((l8 << 18) & 1835008))) | ((b[((int) l4) - 60717] & 0xff) & 63);
+            l1 = 4L;
+           }
+           if (l3 == (l0 = l1 + l0)) { break L11; }
+           l9 = (l6 = (int) b[((int) (l4 = l4 + l1)) - 60720]) & 255;
+           l1 = 1L;
+           if (l6 > -1) { break L12; }
+           l10 = (b[((int) l4) - 60719] & 0xff) & 63;
+           L18: {
+            if (l6 + Integer.MIN_VALUE > 2147483615) { break L18; }
+            l9 = ((l9 << 6) & 1984) | l10;
+            l1 = 2L;
+            break L12;
+           }
+           l11 = (b[((int) l4) - 60718] & 0xff) & 63;
+           if (l6 + Integer.MIN_VALUE > 2147483631) { break L13; }
+           l9 = ((l10 << 6) | ((l9 << 12) & 61440)) | l11;
+           l1 = 3L;
+           break L12;
+          }
+          l3 = Words.get64(b, ((int) l1) - 60704);
+          l0 = Words.get64(b, ((int) l1) - 60696);
+          l4 = Words.get64(b, ((int) l1) - 60688);
+          l1 = Words.get64(b, ((int) l1) - 60680);
+          L19: {
+           L20: {
+            if (l7 > 21039) { break L20; }
+            L21: {
+             if (l7 != 45) { break L21; }
+             l6 = 1;
+             break L1;
+            }
+            L22: {
+             if (l7 != 126) { break L22; }
+             l6 = 1;
+             break L1;
+            }
+            if (l7 != 12316) { break L19; }
+            l6 = 1;
+            break L1;
+           }
+           L23: {
+            if (l7 > 65292) { break L23; }
+            L24: {
+             if (l7 != 21040) { break L24; }
+             l6 = 1;
+             break L1;
+            }
+            if (l7 != 33267) { break L19; }
+            l6 = 1;
+            break L1;
+           }
+           L25: {
+            if (l7 != 65293) { break L25; }
+            l6 = 1;
+            break L1;
+           }
+           if (l7 != 65374) { break L19; }
+           l6 = 1;
+           break L1;
+          }
+          L26: {
+           if ((l7 + -8211) + Integer.MIN_VALUE >= -2147483646) { break L26; }
+           l6 = 1;
+           break L1;
+          }
+          L27: {
+           L28: {
+            if (l7 > 24229) { break L28; }
+            L29: {
+             if (l7 > 21332) { break L29; }
+             L30: {
+              if (l7 > 20942) { break L30; }
+              L31: {
+               if (l7 > 20802) { break L31; }
+               if (l7 == 20004) { break L3; }
+               l6 = 1;
+               if (l7 != 20056) { break L2; }
+               break L1;
+              }
+              if (l7 == 20803) { break L3; }
+              if (l7 == 20841) { break L3; }
+              break L2;
+             }
+             L32: {
+              if (l7 > 21050) { break L32; }
+              if (l7 != 20943) { break L27; }
+              l6 = 1;
+              break L1;
+             }
+             if (l7 == 21051) { break L4; }
+             l6 = 1;
+             if (l7 != 21152) { break L2; }
+             break L1;
+            }
+            L33: {
+             if (l7 > 22277) { break L33; }
+             L34: {
+              if (l7 != 21333) { break L34; }
+              l6 = 1;
+              break L1;
+             }
+             if (l7 == 21495) { break L4; }
+             l6 = 1;
+             if (l7 != 21934) { break L2; }
+             break L1;
+            }
+            L35: {
+             if (l7 > 22601) { break L35; }
+             L36: {
+              switch (l7 + -22278) {
+              case 0: case 13: break L3;
+              case 1: case 2: case 3: case 4: case 5: case 6: case 7: case 8: case 9: case 10: case 11: case 12: break L2;
+              default: break L36;
+              }
+             }
+             if (l7 == 22359) { break L3; }
+             break L2;
+            }
+            if (l7 == 22602) { break L3; }
+            if (l7 != 24180) { break L2; }
+            break L4;
+           }
+           L37: {
+            if (l7 > 28186) { break L37; }
+            L38: {
+             if (l7 > 26177) { break L38; }
+             l6 = 1;
+             L39: {
+              switch (l7 + -26085) {
+              case 0: break L4;
+              case 1: case 2: case 3: case 4: case 5: case 6: case 7: case 8: case 9: case 10: case 11: case 12: case 13: case 14: case 15: case 16: break L2;
+              case 17: break L1;
+              default: break L39;
+              }
+             }
+             if (l7 == 24230) { break L3; }
+             if (l7 == 26020) { break L3; }
+             break L2;
+            }
+            l6 = 1;
+            L40: {
+             switch (l7 + -26376) {
+             case 0: break L4;
+             case 1: break L1;
+             default: break L40;
+             }
+            }
+            l6 = 1;
+            L41: {
+             switch (l7 + -27604) {
+             case 0: break L1;
+             case 1: case 2: case 3: case 4: case 5: case 6: break L2;
+             case 7: break L3;
+             default: break L41;
+             }
+            }
+            l6 = 1;
+            if (l7 != 26178) { break L2; }
+            break L1;
+           }
+           L42: {
+            if (l7 > 34398) { break L42; }
+            L43: {
+             if (l7 > 31185) { break L43; }
+             L44: {
+              if (l7 != 28187) { break L44; }
+              l6 = 1;
+              break L1;
+             }
+             l6 = 1;
+             if (l7 != 28857) { break L2; }
+             break L1;
+            }
+            if (l7 == 31186) { break L4; }
+            if (l7 == 31859) { break L3; }
+            break L2;
+           }
+           L45: {
+            if (l7 > 38499) { break L45; }
+            if (l7 == 34399) { break L4; }
+            if (l7 == 35282) { break L3; }
+            break L2;
+           }
+           L46: {
+            if (l7 != 38500) { break L46; }
+            l6 = 1;
+            break L1;
+           }
+           l6 = 1;
+           if (l7 != 40670) { break L2; }
+           break L1;
+          }
+          if (l7 == 20998) { break L4; }
+          break L2;
+         }
+         l9 = ((l11 << 6) | ((l10 << 12) | ((l9 << 18) & 1835008))) | ((b[((int) l4) - 60717] & 0xff) & 63);
+         l1 = 4L;
+        }
+        if (l3 == (l1 + l0)) { break L10; }
+        l6 = 0;
+        break L1;
+       }
+       L47: {
+        if (f163(m, l7) == 0) { break L47; }
+        l6 = 1;
+        L48: {
+         L49: {
+          if (l8 > 21039) { break L49; }
+          if (l8 == 45) { break L1; }
+          if (l8 == 126) { break L1; }
+          if (l8 != 12316) { break L48; }
+          break L1;
+         }
+         L50: {
+          if (l8 > 65292) { break L50; }
+          if (l8 == 21040) { break L1; }
+          if (l8 != 33267) { break L48; }
+          break L1;
+         }
+         if (l8 == 65293) { break L1; }
+         if (l8 == 65374) { break L1; }
+        }
+        if ((l8 + -8211) + Integer.MIN_VALUE < -2147483646) { break L1; }
+       }
+       L51: {
+        L52: {
+         L53: {
+          if (l7 > 23566) { break L53; }
+          if (l7 == 20056) { break L52; }
+          l6 = 0;
+          if (l7 != 20998) { break L1; }
+          l6 = ((l8 == 38047) | (l8 == 37912)) ? 1 : 0;
+          break L1;
+         }
+         L54: {
+          if (l7 == 23567) { break L54; }
+          if (l7 == 31561) { break L51; }
+          if (l7 == 38500) { break L52; }
+          l6 = 0;
+          break L1;
+         }
+         l6 = ((l8 == 26178) | (l8 == 26102)) ? 1 : 0;
+         break L1;
+        }
+        l6 = 1;
+        if (l8 == 20197) { break L1; }
+        l6 = 0;
+        if (l7 != 31561) { break L1; }
+       }
+       l6 = ((l8 == 20110) | (l8 == 26044)) ? 1 : 0;
+       break L1;
+      }
+      L55: {
+       if (l7 == 20491) { break L55; }
+       if (l7 == 20010) { break L55; }
+       l6 = 0;
+       break L1;
+      }
+      l6 = 0;
+      if (l8 != 23567) { break L1; }
+      l6 = ((l9 == 26102) | (l9 == 26178)) ? 1 : 0;
+      break L1;
+     }
+     throw State.trap();
+    }
+    L56: {
+     if (f164(m, l3, l0, l4, l1) != 0) { break L56; }
+     l6 = 1;
+     break L1;
+    }
+    L57: {
+     if (l7 > 24229) { break L57; }
+     L58: {
+      switch (l7 + -22278) {
+      case 0: case 13: break L3;
+      case 1: case 2: case 3: case 4: case 5: case 6: case 7: case 8: case 9: case 10: case 11: case 12: break L2;
+      default: break L58;
+      }
+     }
+     if (l7 == 22359) { break L3; }
+     if (l7 == 22602) { break L3; }
+     break L2;
+    }
+    L59: {
+     if (l7 > 27610) { break L59; }
+     if (l7 == 24230) { break L3; }
+     if (l7 == 26020) { break L3; }
+     break L2;
+    }
+    if (l7 == 31859) { break L3; }
+    if (l7 != 27611) { break L2; }
+   }
+   l6 = 0;
+   if (f164(m, l3, l0, l4, l1) != 0) { break L1; }
+   Words.put32(b, ((int) l2) - 60708, 0);
+   L60: {
+    L61: {
+     L62: {
+      L63: {
+       L64: {
+        L65: {
+         if ((l5 = l0 + -1L) + Long.MIN_VALUE > -9223372036854775806L) { break L65; }
+         L66: {
+          switch ((int) l5) {
+          case 1: break L65;
+          case 2: break L66;
+          default: break L61;
+          }
+         }
+         if (Words.get32(b, State.far((int) (l5 = ((((l6 = (((b[((int) l3) - 60719] & 0xff) << 8) | (l7 = b[((int) l3) - 60720] & 0xff)) | ((b[((int) l3) - 60718] & 0xff) << 16)) & 0xffffffffL) * 953497L) >>> 22L) & 1016L), 80936)) != l6) { break L64; }
+         if (((b[((int) (l5 + 80940L)) - 60720] & 0xff) & 255) == 2) { break L64; }
+         if (!(l1 == 0L)) { break L60; }
+         l6 = 1;
+         break L1;
+        }
+        if (l0 + Long.MIN_VALUE > -9223372036854775804L) { break L62; }
+        if (l0 == 0L) { break L63; }
+        l7 = b[((int) l3) - 60720] & 0xff;
+       }
+       if (((int) (byte) l7) > -1) { break L62; }
+      }
+      Core3.f97(m, l2 + 12L, l3, l0);
+      L67: {
+       if (!(l1 == 0L)) { break L67; }
+       l6 = 1;
+       break L1;
+      }
+      L68: {
+       if (((b[((int) l2) - 60708] & 0xff) & 255) == 1) { break L68; }
+       l6 = 1;
+       break L1;
+      }
+      if (((b[((int) l2) - 60705] & 0xff) & 1) != 0) { break L60; }
+     }
+     l6 = 1;
+     break L1;
+    }
+    L69: {
+     if (!(l1 == 0L)) { break L69; }
+     l6 = 1;
+     break L1;
+    }
+    if ((((b[((int) l3) - 60720] & 0xff) + -48) & 255) + Integer.MIN_VALUE >= -2147483638) { break L60; }
+    l6 = 1;
+    break L1;
+   }
+   l7 = (l6 = (int) b[((int) l4) - 60720]) & 255;
+   L70: {
+    if (l6 > -1) { break L70; }
+    l8 = (b[((int) l4) - 60719] & 0xff) & 63;
+    L71: {
+     if (l6 + Integer.MIN_VALUE > 2147483615) { break L71; }
+     l7 = ((l7 << 6) & 1984) | l8;
+     break L70;
+    }
+    l9 = (b[((int) l4) - 60718] & 0xff) & 63;
+    L72: {
+     if (l6 + Integer.MIN_VALUE > 2147483631) { break L72; }
+     l7 = ((l8 << 6) | ((l7 << 12) & 61440)) | l9;
+     break L70;
+    }
+    l7 = ((l9 << 6) | ((l8 << 12) | ((l7 << 18) & 1835008))) | ((b[((int) l4) - 60717] & 0xff) & 63);
+   }
+   l6 = 0;
+   L73: {
+    L74: {
+     if (l7 > 24372) { break L74; }
+     L75: {
+      if (l7 > 21252) { break L75; }
+      L76: {
+       if (l7 > 20213) { break L76; }
+       if (l7 == 20010) { break L1; }
+       if (l7 != 20154) { break L73; }
+       break L1;
+      }
+      L77: {
+       switch (l7 + -20214) {
+       case 0: case 7: break L1;
+       case 1: case 2: case 3: case 4: case 5: case 6: break L73;
+       default: break L77;
+       }
+      }
+      if (l7 == 20301) { break L1; }
+      if (l7 != 20491) { break L73; }
+      break L1;
+     }
+     L78: {
+      if (l7 > 21516) { break L78; }
+      L79: {
+       switch (l7 + -21482) {
+       case 0: case 6: break L1;
+       case 1: case 2: case 3: case 4: case 5: break L73;
+       default: break L79;
+       }
+      }
+      if (l7 != 21253) { break L73; }
+      break L1;
+     }
+     if (l7 == 21517) { break L1; }
+     if (l7 == 22871) { break L1; }
+     if (l7 != 24352) { break L73; }
+     break L1;
+    }
+    L80: {
+     if (l7 > 27424) { break L80; }
+     L81: {
+      if (l7 > 26464) { break L81; }
+      if (l7 == 24373) { break L1; }
+      if (l7 == 26020) { break L1; }
+      if (l7 != 26412) { break L73; }
+      break L1;
+     }
+     L82: {
+      switch (l7 + -26465) {
+      case 0: case 14: break L1;
+      case 1: case 2: case 3: case 4: case 5: case 6: case 7: case 8: case 9: case 10: case 11: case 12: case 13: break L73;
+      default: break L82;
+      }
+     }
+     if (l7 != 26781) { break L73; }
+     break L1;
+    }
+    L83: {
+     if (l7 > 30870) { break L83; }
+     if (l7 == 27425) { break L1; }
+     if (l7 == 29942) { break L1; }
+     if (l7 != 30418) { break L73; }
+     break L1;
+    }
+    if (l7 == 30871) { break L1; }
+    if (l7 == 31665) { break L1; }
+    if (l7 == 38587) { break L1; }
+   }
+   l6 = 1;
+   break L1;
+  }
+  l6 = 0;
+ }
+ m.g0 = l2 + 16L;
+ return l6;
+}
+
+static int f163(State m, int l0) {
+ int l1 = 0;
+ L1: {
+  if (m.g0 < 16L) { break L1; }
+  l1 = 1;
+  L2: {
+   L3: {
+    L4: {
+     if (l0 > 26019) { break L4; }
+     L5: {
+      if (l0 > 22277) { break L5; }
+      L6: {
+       if (l0 > 20997) { break L6; }
+       if (l0 == 20004) { break L2; }
+       if (l0 == 20803) { break L2; }
+       if (l0 != 20841) { break L3; }
+       break L2;
+      }
+      if (l0 == 20998) { break L2; }
+      if (l0 == 21051) { break L2; }
+      if (l0 != 21495) { break L3; }
+      break L2;
+     }
+     L7: {
+      if (l0 > 22601) { break L7; }
+      L8: {
+       switch (l0 + -22278) {
+       case 0: case 13: break L2;
+       case 1: case 2: case 3: case 4: case 5: case 6: case 7: case 8: case 9: case 10: case 11: case 12: break L3;
+       default: break L8;
+       }
+      }
+      if (l0 != 22359) { break L3; }
+      break L2;
+     }
+     if (l0 == 22602) { break L2; }
+     if (l0 == 24180) { break L2; }
+     if (l0 != 24230) { break L3; }
+     break L2;
+    }
+    L9: {
+     if (l0 > 28856) { break L9; }
+     L10: {
+      if (l0 > 26177) { break L10; }
+      L11: {
+       switch (l0 + -26085) {
+       case 0: case 17: break L2;
+       case 1: case 2: case 3: case 4: case 5: case 6: case 7: case 8: case 9: case 10: case 11: case 12: case 13: case 14: case 15: case 16: break L3;
+       default: break L11;
+       }
+      }
+      if (l0 != 26020) { break L3; }
+      break L2;
+     }
+     if (l0 == 26178) { break L2; }
+     if (l0 == 26376) { break L2; }
+     if (l0 != 27611) { break L3; }
+     break L2;
+    }
+    L12: {
+     if (l0 > 34398) { break L12; }
+     if (l0 == 28857) { break L2; }
+     if (l0 == 31186) { break L2; }
+     if (l0 != 31859) { break L3; }
+     break L2;
+    }
+    if (l0 == 34399) { break L2; }
+    if (l0 == 35282) { break L2; }
+    if (l0 == 40670) { break L2; }
+   }
+   l1 = 0;
+  }
+  final int t13 = l1;
+  return t13;
+ }
+ throw State.trap();
+}
+
+static int f164(State m, long l0, long l1, long l2, long l3) {
+ final byte[] b = m.bytes;
+ long l4 = 0;
+ int l5 = 0;
+ int l6 = 0;
+ int l7 = 0;
+ int l8 = 0;
+ int l9 = 0;
+ L1: {
+  if ((l4 = m.g0) < 16L) { break L1; }
+  l5 = 0;
+  L2: {
+   if (l1 == 0L) { break L2; }
+   if ((l6 = (int) b[((int) l0) - 60720]) > -1) { break L2; }
+   if (l6 + Integer.MIN_VALUE < 2147483616) { break L2; }
+   l7 = l6 & 255;
+   l8 = (b[((int) l0) - 60719] & 0xff) & 63;
+   l9 = (b[((int) l0) - 60718] & 0xff) & 63;
+   L3: {
+    L4: {
+     if (l6 + Integer.MIN_VALUE > 2147483631) { break L4; }
+     l6 = ((l8 << 6) | ((l7 << 12) & 61440)) | l9;
+     l0 = 3L;
+     break L3;
+    }
+    l6 = ((l9 << 6) | ((l8 << 12) | ((l7 << 18) & 1835008))) | ((b[((int) l0) - 60717] & 0xff) & 63);
+    l0 = 4L;
+   }
+   if (l6 != 19968) { break L2; }
+   if (l1 != l0) { break L2; }
+   if (l3 == 0L) { break L2; }
+   l6 = (l7 = (int) b[((int) l2) - 60720]) & 255;
+   L5: {
+    if (l7 > -1) { break L5; }
+    l8 = (b[((int) l2) - 60719] & 0xff) & 63;
+    L6: {
+     if (l7 + Integer.MIN_VALUE > 2147483615) { break L6; }
+     l6 = ((l6 << 6) & 1984) | l8;
+     break L5;
+    }
+    l9 = (b[((int) l2) - 60718] & 0xff) & 63;
+    L7: {
+     if (l7 + Integer.MIN_VALUE > 2147483631) { break L7; }
+     l6 = ((l8 << 6) | ((l6 << 12) & 61440)) | l9;
+     break L5;
+    }
+    l6 = ((l9 << 6) | ((l8 << 12) | ((l6 << 18) & 1835008))) | ((b[((int) l2) - 60717] & 0xff) & 63);
+   }
+   if ((l6 + -19968) + Integer.MIN_VALUE > -2147462657) { break L2; }
+   if (l6 == 21040) { break L2; }
+   if (l6 == 33267) { break L2; }
+   if (f163(m, l6) != 0) { break L2; }
+   L8: {
+    L9: {
+     if (l6 > 23566) { break L9; }
+     L10: {
+      if (l6 > 20942) { break L10; }
+      if (l6 == 20010) { break L2; }
+      if (l6 == 20056) { break L2; }
+      if (l6 != 20491) { break L8; }
+      break L2;
+     }
+     L11: {
+      if (l6 > 21332) { break L11; }
+      if (l6 == 20943) { break L2; }
+      if (l6 != 21152) { break L8; }
+      break L2;
+     }
+     if (l6 == 21333) { break L2; }
+     if (l6 != 21934) { break L8; }
+     break L2;
+    }
+    L12: {
+     if (l6 > 30339) { break L12; }
+     L13: {
+      if (l6 > 27603) { break L13; }
+      if (l6 == 23567) { break L2; }
+      if (l6 != 26377) { break L8; }
+      break L2;
+     }
+     if (l6 == 27604) { break L2; }
+     if (l6 != 28187) { break L8; }
+     break L2;
+    }
+    L14: {
+     if (l6 > 38046) { break L14; }
+     if (l6 == 30340) { break L2; }
+     if (l6 != 37912) { break L8; }
+     break L2;
+    }
+    if (l6 == 38047) { break L2; }
+    if (l6 == 38500) { break L2; }
+   }
+   l5 = 1;
+  }
+  m.g0 = l4;
+  final int t15 = l5;
+  return t15;
+ }
+ throw State.trap();
+}
+
+static int f165(State m, long l0, long l1) {
+ final byte[] b = m.bytes;
+ long l2 = 0;
+ long l3 = 0;
+ long l4 = 0;
+ long l5 = 0;
+ int l6 = 0;
+ int l7 = 0;
+ int l8 = 0;
+ int l9 = 0;
+ int l10 = 0;
+ int l11 = 0;
+ m.g0 = l2 = m.g0 - 256L;
+ L1: {
+  L2: {
+   L3: {
+    if ((l2 = l2) < 16L) { break L3; }
+    l3 = Words.get64(b, ((int) l1) - 60704);
+    l6 = b[((int) l0) - 60715] & 0xff;
+    l7 = b[((int) l0) - 60716] & 0xff;
+    l8 = b[((int) l0) - 60720] & 0xff;
+    Words.put64(b, ((int) l2) - 60624, l4 = Words.get64(b, ((int) l1) - 60696));
+    Words.put64(b, ((int) l2) - 60632, l3);
+    b[((int) l2) - 60594] = (byte) (b[((int) l0) - 60717] & 0xff);
+    Words.put16(b, ((int) l2) - 60596, (short) (Words.get16(b, ((int) l0) - 60719) & 0xffff));
+    Words.put64(b, ((int) l2) - 60648, Words.get64(b, ((int) l1) - 60720));
+    Words.put64(b, ((int) l2) - 60640, Words.get64(b, ((int) l1) - 60712));
+    Words.put64(b, ((int) l2) - 60616, Words.get64(b, ((int) l1) - 60688));
+    Words.put64(b, ((int) l2) - 60608, Words.get64(b, ((int) l1) - 60680));
+    l9 = 0;
+    if (f166(m, l8, l2 + 124L, l2 + 72L) == 0) { break L1; }
+    L4: {
+     if (f167(m, l3, l4) != 0) { break L4; }
+     l6 = f168(m, l3, l4);
+     L5: {
+      if ((l7 & 255) != 0) { break L5; }
+      if (l6 != 0) { break L1; }
+      l1 = l3;
+      l5 = l4;
+      L6: {
+       L7: while (true) {
+        if (l5 == 0L) { break L6; }
+        l6 = (l7 = (int) b[((int) l1) - 60720]) & 255;
+        l0 = 1L;
+        L8: {
+         if (l7 > -1) { break L8; }
+         l10 = (b[((int) l1) - 60719] & 0xff) & 63;
+         L9: {
+          if (l7 + Integer.MIN_VALUE > 2147483615) { break L9; }
+          l6 = ((l6 << 6) & 1984) | l10;
+          l0 = 2L;
+          break L8;
+         }
+         l11 = (b[((int) l1) - 60718] & 0xff) & 63;
+         L10: {
+          if (l7 + Integer.MIN_VALUE > 2147483631) { break L10; }
+          l6 = ((l10 << 6) | ((l6 << 12) & 61440)) | l11;
+          l0 = 3L;
+          break L8;
+         }
+         l6 = ((l11 << 6) | ((l10 << 12) | ((l6 << 18) & 1835008))) | ((b[((int) l1) - 60717] & 0xff) & 63);
+         l0 = 4L;
+        }
+        l5 = l5 - l0;
+        l1 = l1 + l0;
+        if (l6 != 21448) { continue L7; }
+        break L1;
+       }
+      }
+      Words.put64(b, ((int) l2) - 60528, 0L);
+      Words.put64(b, ((int) l2) - 60536, 0L);
+      Words.put64(b, ((int) l2) - 60544, 0L);
+      f169(m, l2 + 176L, l3, l4);
+      L11: {
+       if ((b[((int) l2) - 60544] & 0xff) != 1) { break L11; }
+       f170(m, l2 + 24L, l8, Words.get64(b, ((int) l2) - 60536), Words.get64(b, ((int) l2) - 60528));
+       l9 = b[((int) l2) - 60695] & 0xff;
+       break L1;
+      }
+      if (l4 == 0L) { break L2; }
+      l6 = (l9 = (int) b[((int) l3) - 60720]) & 255;
+      l1 = 1L;
+      L12: {
+       if (l9 > -1) { break L12; }
+       l7 = (b[((int) l3) - 60719] & 0xff) & 63;
+       L13: {
+        if (l9 + Integer.MIN_VALUE > 2147483615) { break L13; }
+        l6 = ((l6 << 6) & 1984) | l7;
+        l1 = 2L;
+        break L12;
+       }
+       l10 = (b[((int) l3) - 60718] & 0xff) & 63;
+       L14: {
+        if (l9 + Integer.MIN_VALUE > 2147483631) { break L14; }
+        l6 = ((l7 << 6) | ((l6 << 12) & 61440)) | l10;
+        l1 = 3L;
+        break L12;
+       }
+       l6 = ((l10 << 6) | ((l7 << 12) | ((l6 << 18) & 1835008))) | ((b[((int) l3) - 60717] & 0xff) & 63);
+       l1 = 4L;
+      }
+      L15: {
+       L16: {
+        if (l6 > 35999) { break L16; }
+        if (l6 == 45) { break L15; }
+        if (l6 == 8722) { break L15; }
+        break L2;
+       }
+       if (l6 == 36000) { break L15; }
+       if (l6 == 65293) { break L15; }
+       if (l6 != 36127) { break L2; }
+      }
+      f170(m, l2 + 40L, l8, l3 + l1, l4 - l1);
+      l9 = b[((int) l2) - 60679] & 0xff;
+      break L1;
+     }
+     L17: {
+      if (l6 == 0) { break L17; }
+      l1 = l3;
+      l5 = l4;
+      L18: while (true) {
+       if (l5 == 0L) { break L1; }
+       l6 = (l7 = (int) b[((int) l1) - 60720]) & 255;
+       l0 = 1L;
+       L19: {
+        if (l7 > -1) { break L19; }
+        l10 = (b[((int) l1) - 60719] & 0xff) & 63;
+        L20: {
+         if (l7 + Integer.MIN_VALUE > 2147483615) { break L20; }
+         l6 = ((l6 << 6) & 1984) | l10;
+         l0 = 2L;
+         break L19;
+        }
+        l11 = (b[((int) l1) - 60718] & 0xff) & 63;
+        L21: {
+         if (l7 + Integer.MIN_VALUE > 2147483631) { break L21; }
+         l6 = ((l10 << 6) | ((l6 << 12) & 61440)) | l11;
+         l0 = 3L;
+         break L19;
+        }
+        l6 = ((l11 << 6) | ((l10 << 12) | ((l6 << 18) & 1835008))) | ((b[((int) l1) - 60717] & 0xff) & 63);
+        l0 = 4L;
+       }
+       Core2.f48(m, l2 + 64L, l6);
+       L22: {
+        if ((b[((int) l2) - 60656] & 0xff) != 1) { break L22; }
+        if (((b[((int) l2) - 60655] & 0xff) & 255) != 0) { break L17; }
+       }
+       if (l6 == 38646) { break L17; }
+       l1 = l1 + l0;
+       l5 = l5 - l0;
+       if (l6 != 12295) { continue L18; }
+       break L18;
+      }
+     }
+     Words.put64(b, ((int) l2) - 60488, 0L);
+     Words.put64(b, ((int) l2) - 60496, 0L);
+     Words.put64(b, ((int) l2) - 60504, 0L);
+     Words.put64(b, ((int) l2) - 60512, 0L);
+     Words.put64(b, ((int) l2) - 60520, 0L);
+     Words.put64(b, ((int) l2) - 60528, 0L);
+     Words.put64(b, ((int) l2) - 60536, 0L);
+     Words.put64(b, ((int) l2) - 60544, 0L);
+     Core2.f62(m, l2 + 176L, l3, l4, l8);
+     Words.put64(b, ((int) l2) - 60592, Words.get64(b, ((int) l2) - 60528));
+     Words.put64(b, ((int) l2) - 60584, Words.get64(b, ((int) l2) - 60520));
+     Words.put64(b, ((int) l2) - 60576, Words.get64(b, ((int) l2) - 60512));
+     Words.put64(b, ((int) l2) - 60568, Words.get64(b, ((int) l2) - 60504));
+     Words.put64(b, ((int) l2) - 60560, Words.get64(b, ((int) l2) - 60496));
+     Words.put64(b, ((int) l2) - 60552, Words.get64(b, ((int) l2) - 60488));
+     L23: {
+      if ((l6 = b[((int) l2) - 60544] & 0xff) != 0) { break L23; }
+      m.fill((int) (l2 + 176L), 0, (int) 80L);
+      Core2.f38(m, l2 + 48L, l2 + 176L, l2 + 128L);
+     }
+     l9 = (l6 == 0) ? 1 : 0;
+     break L1;
+    }
+    if ((l6 & 1) == 0) { break L1; }
+    l9 = 1;
+    if (l4 == 0L) { break L1; }
+    l8 = 0;
+    L24: while (true) {
+     l6 = (l9 = (int) b[((int) l3) - 60720]) & 255;
+     l1 = 1L;
+     L25: {
+      if (l9 > -1) { break L25; }
+      l7 = (b[((int) l3) - 60719] & 0xff) & 63;
+      L26: {
+       if (l9 + Integer.MIN_VALUE > 2147483615) { break L26; }
+       l6 = ((l6 << 6) & 1984) | l7;
+       l1 = 2L;
+       break L25;
+      }
+      l10 = (b[((int) l3) - 60718] & 0xff) & 63;
+      L27: {
+       if (l9 + Integer.MIN_VALUE > 2147483631) { break L27; }
+       l6 = ((l7 << 6) | ((l6 << 12) & 61440)) | l10;
+       l1 = 3L;
+       break L25;
+      }
+      l6 = ((l10 << 6) | ((l7 << 12) | ((l6 << 18) & 1835008))) | ((b[((int) l3) - 60717] & 0xff) & 63);
+      l1 = 4L;
+     }
+     l4 = l4 - l1;
+     l3 = l3 + l1;
+     l9 = 0;
+     L28: {
+      if ((l8 & 1) != 0) { break L28; }
+      L29: {
+       if (l6 == 65296) { break L29; }
+       if (l6 != 48) { break L28; }
+      }
+      if (l4 == 0L) { break L28; }
+      l9 = (l7 = (int) b[((int) l3) - 60720]) & 255;
+      L30: {
+       if (l7 > -1) { break L30; }
+       l10 = (b[((int) l3) - 60719] & 0xff) & 63;
+       L31: {
+        if (l7 + Integer.MIN_VALUE > 2147483615) { break L31; }
+        l9 = ((l9 << 6) & 1984) | l10;
+        break L30;
+       }
+       l11 = (b[((int) l3) - 60718] & 0xff) & 63;
+       L32: {
+        if (l7 + Integer.MIN_VALUE > 2147483631) { break L32; }
+        l9 = ((l10 << 6) | ((l9 << 12) & 61440)) | l11;
+        break L30;
+       }
+       l9 = ((l11 << 6) | ((l10 << 12) | ((l9 << 18) & 1835008))) | ((b[((int) l3) - 60717] & 0xff) & 63);
+      }
+      l9 = (((l9 + -48) + Integer.MIN_VALUE < -2147483638) | ((l9 + -65296) + Integer.MIN_VALUE < -2147483638)) ? 1 : 0;
+     }
+     f171(m, l2 + 8L, l9, l6);
+     L33: {
+      L34: {
+       if (((l8 | l9) & 1) == 0) { break L34; }
+       l8 = l8 & (l9 ^ 1);
+       break L33;
+      }
+      l8 = (((l6 + -48) + Integer.MIN_VALUE < -2147483638) | ((l6 + -65296) + Integer.MIN_VALUE < -2147483638)) ? 1 : 0;
+     }
+     if (l4 != 0L) { continue L24; }
+     break L24;
+    }
+    l9 = 1;
+    break L1;
+   }
+   throw State.trap();
+  }
+  f170(m, l2 + 32L, l8, l3, l4);
+  l9 = b[((int) l2) - 60687] & 0xff;
+ }
+ m.g0 = l2 + 256L;
+ return l9 & 1;
+}
+
+static int f166(State m, int l0, long l1, long l2) {
+ final byte[] b = m.bytes;
+ long l3 = 0;
+ long l4 = 0;
+ long l5 = 0;
+ long l6 = 0;
+ long l7 = 0;
+ long l8 = 0;
+ long l9 = 0;
+ int l10 = 0;
+ int l11 = 0;
+ int l12 = 0;
+ int l13 = 0;
+ int l14 = 0;
+ int l15 = 0;
+ int l16 = 0;
+ m.g0 = l3 = m.g0 - 128L;
+ L1: {
+  L2: {
+   L3: {
+    L4: {
+     L5: {
+      L6: {
+       if ((l3 = l3) < 16L) { break L6; }
+       l4 = Words.get64(b, ((int) l2) - 60680);
+       l5 = Words.get64(b, ((int) l2) - 60688);
+       l6 = Words.get64(b, ((int) l2) - 60696);
+       l7 = Words.get64(b, ((int) l2) - 60704);
+       l8 = Words.get64(b, ((int) l2) - 60712);
+       l2 = Words.get64(b, ((int) l2) - 60720);
+       l10 = b[((int) l1) - 60718] & 0xff;
+       l11 = b[((int) l1) - 60720] & 0xff;
+       if (((b[((int) l1) - 60719] & 0xff) & 1) != 0) { break L3; }
+       Words.put32(b, ((int) l3) - 60660, 0);
+       L7: {
+        L8: {
+         L9: {
+          if ((l1 = l6 + -1L) + Long.MIN_VALUE > -9223372036854775806L) { break L9; }
+          L10: {
+           switch ((int) l1) {
+           case 1: break L9;
+           case 2: break L10;
+           default: break L5;
+           }
+          }
+          if (Words.get32(b, State.far((int) (l1 = ((((l13 = (((b[((int) l7) - 60719] & 0xff) << 8) | (l12 = b[((int) l7) - 60720] & 0xff)) | ((b[((int) l7) - 60718] & 0xff) << 16)) & 0xffffffffL) * 953497L) >>> 22L) & 1016L), 80936)) != l13) { break L8; }
+          if (((b[((int) (l1 + 80940L)) - 60720] & 0xff) & 255) == 2) { break L8; }
+          break L4;
+         }
+         if (l6 + Long.MIN_VALUE > -9223372036854775804L) { break L3; }
+         if (l6 == 0L) { break L7; }
+         l12 = b[((int) l7) - 60720] & 0xff;
+        }
+        if (((int) (byte) l12) > -1) { break L3; }
+       }
+       Core3.f97(m, l3 + 60L, l7, l6);
+       if ((b[((int) l3) - 60660] & 0xff) != 1) { break L3; }
+       if (((b[((int) l3) - 60657] & 0xff) & 1) == 0) { break L3; }
+       if (l6 == 0L) { break L2; }
+       l12 = b[((int) l7) - 60720] & 0xff;
+       break L4;
+      }
+      throw State.trap();
+     }
+     if ((((l12 = b[((int) l7) - 60720] & 0xff) + -58) & 255) + Integer.MIN_VALUE >= -2147483402) { break L3; }
+    }
+    if (((int) (byte) l12) > -1) { break L2; }
+    if ((l13 = l12 & 255) + Integer.MIN_VALUE < -2147483424) { break L2; }
+    l14 = (b[((int) l7) - 60719] & 0xff) & 63;
+    l15 = (b[((int) l7) - 60718] & 0xff) & 63;
+    L11: {
+     L12: {
+      if ((l12 & 255) + Integer.MIN_VALUE > -2147483409) { break L12; }
+      l12 = ((l14 << 6) | ((l13 << 12) & 61440)) | l15;
+      l1 = 3L;
+      break L11;
+     }
+     l12 = ((l15 << 6) | ((l14 << 12) | ((l13 << 18) & 1835008))) | ((b[((int) l7) - 60717] & 0xff) & 63);
+     l1 = 4L;
+    }
+    if (l12 != 21313) { break L2; }
+    if (l6 != l1) { break L2; }
+    L13: {
+     L14: {
+      L15: {
+       if (l4 == 0L) { break L15; }
+       if ((l12 = (int) b[((int) l5) - 60720]) > -1) { break L15; }
+       if (l12 + Integer.MIN_VALUE < 2147483616) { break L15; }
+       l13 = l12 & 255;
+       l14 = (b[((int) l5) - 60719] & 0xff) & 63;
+       l15 = (b[((int) l5) - 60718] & 0xff) & 63;
+       L16: {
+        L17: {
+         if (l12 + Integer.MIN_VALUE > 2147483631) { break L17; }
+         l12 = ((l14 << 6) | ((l13 << 12) & 61440)) | l15;
+         break L16;
+        }
+        l12 = ((l15 << 6) | ((l14 << 12) | ((l13 << 18) & 1835008))) | ((b[((int) l5) - 60717] & 0xff) & 63);
+       }
+       L18: {
+        L19: {
+         if (l12 > 23680) { break L19; }
+         L20: {
+          if (l12 > 21494) { break L20; }
+          switch (l12 + -20803) {
+          case 0: case 8: break L14;
+          case 1: case 2: case 3: case 4: case 5: case 6: case 7: break L15;
+          default: break L18;
+          }
+         }
+         if (l12 == 21495) { break L14; }
+         if (l12 == 21544) { break L14; }
+         if (l12 != 22136) { break L15; }
+         break L14;
+        }
+        L21: {
+         if (l12 > 31185) { break L21; }
+         if (l12 == 23681) { break L14; }
+         if (l12 == 24230) { break L14; }
+         if (l12 != 27506) { break L15; }
+         break L14;
+        }
+        if (l12 == 31186) { break L14; }
+        if (l12 == 31859) { break L14; }
+        if (l12 == 34399) { break L14; }
+        break L15;
+       }
+       if (l12 == 21319) { break L14; }
+      }
+      if (Core4.f122(m, 85248L, 7L, 85276L, 9L, l5, l4) != 0) { break L14; }
+      if (Core4.f122(m, 85312L, 2L, 85320L, 4L, l5, l4) != 0) { break L14; }
+      if (Core4.f122(m, 85336L, 5L, 85356L, 1L, l5, l4) != 0) { break L14; }
+      if (Core4.f122(m, 84504L, 1L, 82784L, 1L, l5, l4) != 0) { break L14; }
+      if (l8 == 0L) { break L2; }
+      if (((int) b[((int) ((l1 = l2 + l8) + -1L)) - 60720]) > -1) { break L2; }
+      l9 = -2L;
+      L22: {
+       if ((l12 = b[((int) (l1 + -2L)) - 60720] & 0xff) + Integer.MIN_VALUE > -2147483457) { break L22; }
+       l9 = ((b[((int) (l1 + -3L)) - 60720] & 0xff) + Integer.MIN_VALUE > -2147483457) ? -3L : -4L;
+      }
+      if ((l13 = (int) b[((int) (l1 = (l2 + l9) + l8)) - 60720]) > -1) { break L2; }
+      if (l13 + Integer.MIN_VALUE < 2147483616) { break L2; }
+      l14 = l13 & 255;
+      l15 = (b[((int) l1) - 60719] & 0xff) & 63;
+      l16 = (b[((int) l1) - 60718] & 0xff) & 63;
+      L23: {
+       L24: {
+        if (l13 + Integer.MIN_VALUE > 2147483631) { break L24; }
+        l13 = ((l15 << 6) | ((l14 << 12) & 61440)) | l16;
+        break L23;
+       }
+       l13 = ((l16 << 6) | ((l15 << 12) | ((l14 << 18) & 1835008))) | ((b[((int) l1) - 60717] & 0xff) & 63);
+      }
+      if (l13 == 27599) { break L13; }
+      break L2;
+     }
+     if (l8 == 0L) { break L3; }
+     if (((int) b[((int) ((l1 = l2 + l8) + -1L)) - 60720]) > -1) { break L3; }
+     l12 = b[((int) (l1 + -2L)) - 60720] & 0xff;
+    }
+    l1 = -2L;
+    L25: {
+     if ((l12 & 255) + Integer.MIN_VALUE > -2147483457) { break L25; }
+     l1 = ((b[((int) ((l2 + l8) + -3L)) - 60720] & 0xff) + Integer.MIN_VALUE > -2147483457) ? -3L : -4L;
+    }
+    if ((l12 = (int) b[((int) (l1 = (l2 + l1) + l8)) - 60720]) > -1) { break L3; }
+    if (l12 + Integer.MIN_VALUE < 2147483616) { break L3; }
+    l13 = l12 & 255;
+    l14 = (b[((int) l1) - 60719] & 0xff) & 63;
+    l15 = (b[((int) l1) - 60718] & 0xff) & 63;
+    L26: {
+     L27: {
+      if (l12 + Integer.MIN_VALUE > 2147483631) { break L27; }
+      l12 = ((l14 << 6) | ((l13 << 12) & 61440)) | l15;
+      break L26;
+     }
+     l12 = ((l15 << 6) | ((l14 << 12) | ((l13 << 18) & 1835008))) | ((b[((int) l1) - 60717] & 0xff) & 63);
+    }
+    L28: {
+     if (l12 > 21643) { break L28; }
+     if (l12 == 12289) { break L2; }
+     if (l12 == 19982) { break L2; }
+     if (l12 == 21040) { break L2; }
+     break L3;
+    }
+    L29: {
+     if (l12 > 33266) { break L29; }
+     if (l12 == 21644) { break L2; }
+     if (l12 == 25110) { break L2; }
+     break L3;
+    }
+    if (l12 == 33267) { break L2; }
+    if (l12 == 33287) { break L2; }
+   }
+   L30: {
+    if ((l11 & 1) != 0) { break L30; }
+    Words.put64(b, ((int) l3) - 60616, l4);
+    Words.put64(b, ((int) l3) - 60624, l5);
+    Words.put64(b, ((int) l3) - 60632, l6);
+    Words.put64(b, ((int) l3) - 60640, l7);
+    Words.put64(b, ((int) l3) - 60648, l8);
+    Words.put64(b, ((int) l3) - 60656, l2);
+    if (Core4.f116(m, l3 + 64L) != 0) { break L2; }
+   }
+   Words.put64(b, ((int) l3) - 60672, l4);
+   Words.put64(b, ((int) l3) - 60680, l5);
+   Words.put64(b, ((int) l3) - 60688, l6);
+   Words.put64(b, ((int) l3) - 60696, l7);
+   Words.put64(b, ((int) l3) - 60704, l8);
+   Words.put64(b, ((int) l3) - 60712, l2);
+   Core3.f108(m, l3, l3 + 8L);
+   L31: {
+    if (((b[((int) l3) - 60720] & 0xff) & 1) == 0) { break L31; }
+    l11 = 0;
+    if (((b[((int) l3) - 60719] & 0xff) & 255) == 3) { break L1; }
+    if ((l10 & 1) == 0) { break L1; }
+   }
+   l11 = 0;
+   if (Core4.f117(m, l2, l8, l5, l4) != 0) { break L1; }
+   Words.put64(b, ((int) l3) - 60600, 0L);
+   Words.put64(b, ((int) l3) - 60608, 0L);
+   Words.put64(b, ((int) l3) - 60616, 0L);
+   Words.put64(b, ((int) l3) - 60624, 0L);
+   Words.put64(b, ((int) l3) - 60632, 0L);
+   Words.put64(b, ((int) l3) - 60640, 0L);
+   Words.put64(b, ((int) l3) - 60648, 0L);
+   Words.put64(b, ((int) l3) - 60656, 0L);
+   Core2.f62(m, l3 + 64L, l7, l6, l0);
+   l11 = ((b[((int) l3) - 60656] & 0xff) == 0) ? 1 : 0;
+   break L1;
+  }
+  l11 = 0;
+ }
+ m.g0 = l3 + 128L;
+ return l11;
+}
+
+static int f167(State m, long l0, long l1) {
+ final byte[] b = m.bytes;
+ int l2 = 0;
+ int l3 = 0;
+ int l4 = 0;
+ int l5 = 0;
+ long l6 = 0;
+ L1: {
+  if (m.g0 < 16L) { break L1; }
+  L2: {
+   if (l1 == 0L) { break L2; }
+   L3: while (true) {
+    l3 = (l2 = (int) b[((int) l0) - 60720]) & 255;
+    l6 = 1L;
+    L4: {
+     if (l2 > -1) { break L4; }
+     l4 = (b[((int) l0) - 60719] & 0xff) & 63;
+     L5: {
+      if (l2 + Integer.MIN_VALUE > 2147483615) { break L5; }
+      l3 = ((l3 << 6) & 1984) | l4;
+      l6 = 2L;
+      break L4;
+     }
+     l5 = (b[((int) l0) - 60718] & 0xff) & 63;
+     L6: {
+      if (l2 + Integer.MIN_VALUE > 2147483631) { break L6; }
+      l3 = ((l4 << 6) | ((l3 << 12) & 61440)) | l5;
+      l6 = 3L;
+      break L4;
+     }
+     l3 = ((l5 << 6) | ((l4 << 12) | ((l3 << 18) & 1835008))) | ((b[((int) l0) - 60717] & 0xff) & 63);
+     l6 = 4L;
+    }
+    L7: {
+     if ((l3 + -48) + Integer.MIN_VALUE < -2147483638) { break L7; }
+     if ((l3 + -65296) + Integer.MIN_VALUE < -2147483638) { break L7; }
+     if ((l3 + -44) + Integer.MIN_VALUE < -2147483645) { break L7; }
+     if ((l3 + -65292) + Integer.MIN_VALUE < -2147483645) { break L7; }
+     if (l3 == 8722) { break L7; }
+     return 0;
+    }
+    l0 = l0 + l6;
+    if ((l1 = l1 - l6) != 0L) { continue L3; }
+    break L3;
+   }
+  }
+  return 1;
+ }
+ throw State.trap();
+}
+
+static int f168(State m, long l0, long l1) {
+ final byte[] b = m.bytes;
+ long l2 = 0;
+ long l3 = 0;
+ long l4 = 0;
+ long l5 = 0;
+ int l6 = 0;
+ int l7 = 0;
+ int l8 = 0;
+ int l9 = 0;
+ m.g0 = l2 = m.g0 - 48L;
+ L1: {
+  if ((l3 = l2) < 16L) { break L1; }
+  Words.put64(b, ((int) l3) - 60680, 0L);
+  Words.put64(b, ((int) l3) - 60688, 0L);
+  Words.put64(b, ((int) l3) - 60696, 0L);
+  Words.put64(b, ((int) l3) - 60704, 0L);
+  Words.put64(b, ((int) l3) - 60712, 0L);
+  l2 = l0;
+  l4 = l1;
+  L2: {
+   L3: while (true) {
+    L4: {
+     if (!(l4 == 0L)) { break L4; }
+     l6 = 0;
+     break L2;
+    }
+    l6 = (l7 = (int) b[((int) l2) - 60720]) & 255;
+    l5 = 1L;
+    L5: {
+     if (l7 > -1) { break L5; }
+     l8 = (b[((int) l2) - 60719] & 0xff) & 63;
+     L6: {
+      if (l7 + Integer.MIN_VALUE > 2147483615) { break L6; }
+      l6 = ((l6 << 6) & 1984) | l8;
+      l5 = 2L;
+      break L5;
+     }
+     l9 = (b[((int) l2) - 60718] & 0xff) & 63;
+     L7: {
+      if (l7 + Integer.MIN_VALUE > 2147483631) { break L7; }
+      l6 = ((l8 << 6) | ((l6 << 12) & 61440)) | l9;
+      l5 = 3L;
+      break L5;
+     }
+     l6 = ((l9 << 6) | ((l8 << 12) | ((l6 << 18) & 1835008))) | ((b[((int) l2) - 60717] & 0xff) & 63);
+     l5 = 4L;
+    }
+    L8: {
+     if ((l6 + -48) + Integer.MIN_VALUE < -2147483638) { break L8; }
+     l4 = l4 - l5;
+     l2 = l2 + l5;
+     if ((l6 + -65296) + Integer.MIN_VALUE > -2147483639) { continue L3; }
+    }
+    break L3;
+   }
+   f172(m, l3 + 8L, l0, l1);
+   l6 = ((b[((int) l3) - 60712] & 0xff) != 1) ? 1 : 0;
+  }
+  m.g0 = l3 + 48L;
+  final int t9 = l6;
+  return t9;
+ }
+ throw State.trap();
+}
+
+static void f169(State m, long l0, long l1, long l2) {
+ final byte[] b = m.bytes;
+ int l3 = 0;
+ int l4 = 0;
+ int l5 = 0;
+ int l6 = 0;
+ int l7 = 0;
+ long l8 = 0;
+ long l9 = 0;
+ L1: {
+  if (m.g0 < 16L) { break L1; }
+  L2: {
+   L3: {
+    L4: {
+     L5: {
+      if (l2 == 0L) { break L5; }
+      l4 = (l3 = (int) b[((int) l1) - 60720]) & 255;
+      l8 = 1L;
+      L6: {
+       if (l3 > -1) { break L6; }
+       l5 = (b[((int) l1) - 60719] & 0xff) & 63;
+       L7: {
+        if (l3 + Integer.MIN_VALUE > 2147483615) { break L7; }
+        l4 = ((l4 << 6) & 1984) | l5;
+        l8 = 2L;
+        break L6;
+       }
+       l6 = (b[((int) l1) - 60718] & 0xff) & 63;
+       L8: {
+        if (l3 + Integer.MIN_VALUE > 2147483631) { break L8; }
+        l4 = ((l5 << 6) | ((l4 << 12) & 61440)) | l6;
+        l8 = 3L;
+        break L6;
+       }
+       l4 = ((l6 << 6) | ((l5 << 12) | ((l4 << 18) & 1835008))) | ((b[((int) l1) - 60717] & 0xff) & 63);
+       l8 = 4L;
+      }
+      if (l2 == l8) { break L2; }
+      l3 = (l5 = (int) b[((int) (l9 = l1 + l8)) - 60720]) & 255;
+      l1 = 1L;
+      if (l5 > -1) { break L3; }
+      l6 = (b[((int) l9) - 60719] & 0xff) & 63;
+      L9: {
+       if (l5 + Integer.MIN_VALUE > 2147483615) { break L9; }
+       l3 = ((l3 << 6) & 1984) | l6;
+       l1 = 2L;
+       break L3;
+      }
+      l7 = (b[((int) l9) - 60718] & 0xff) & 63;
+      if (l5 + Integer.MIN_VALUE > 2147483631) { break L4; }
+      l3 = ((l6 << 6) | ((l3 << 12) & 61440)) | l7;
+      l1 = 3L;
+      break L3;
+     }
+     Words.put64(b, ((int) l0) - 60704, 0L);
+     Words.put64(b, ((int) l0) - 60712, 0L);
+     Words.put64(b, ((int) l0) - 60720, 0L);
+     return;
+    }
+    l3 = ((l7 << 6) | ((l6 << 12) | ((l3 << 18) & 1835008))) | ((b[((int) l9) - 60717] & 0xff) & 63);
+    l1 = 4L;
+   }
+   final int t10 = (int) (l0 + 16L);
+   final long t11 = l2 - (l8 + l1);
+   final int t12 = l3 = ((l4 == 38646) & (l3 == 19979)) ? 1 : 0;
+   Words.put64(b, t10 - 60720, t12 != 0 ? t11 : 0L);
+   final int t13 = (int) (l0 + 8L);
+   final long t14 = l9 + l1;
+   final int t15 = l3;
+   Words.put64(b, t13 - 60720, t15 != 0 ? t14 : 0L);
+   Words.put64(b, ((int) l0) - 60720, l3 & 0xffffffffL);
+   return;
+  }
+  Words.put64(b, ((int) l0) - 60704, 0L);
+  Words.put64(b, ((int) l0) - 60712, 0L);
+  Words.put64(b, ((int) l0) - 60720, 0L);
+  return;
+ }
+ throw State.trap();
+}
+
+static void f170(State m, long l0, int l1, long l2, long l3) {
+ final byte[] b = m.bytes;
+ long l4 = 0;
+ long l5 = 0;
+ long l6 = 0;
+ long l7 = 0;
+ long l8 = 0;
+ long l9 = 0;
+ long l10 = 0;
+ long l11 = 0;
+ int l12 = 0;
+ int l13 = 0;
+ int l14 = 0;
+ int l15 = 0;
+ int l16 = 0;
+ int l17 = 0;
+ m.g0 = l4 = m.g0 - 240L;
+ L1: {
+  L2: {
+   L3: {
+    L4: {
+     L5: {
+      L6: {
+       if ((l4 = l4) < 16L) { break L6; }
+       Words.put64(b, ((int) l4) - 60616, 0L);
+       Words.put64(b, ((int) l4) - 60624, 0L);
+       Words.put64(b, ((int) l4) - 60632, 0L);
+       Words.put64(b, ((int) l4) - 60640, 0L);
+       Words.put64(b, ((int) l4) - 60648, 0L);
+       f172(m, l4 + 72L, l2, l3);
+       if ((b[((int) l4) - 60648] & 0xff) != 1) { break L2; }
+       l5 = Words.get64(b, ((int) l4) - 60616);
+       l6 = Words.get64(b, ((int) l4) - 60624);
+       l7 = Words.get64(b, ((int) l4) - 60632);
+       l8 = Words.get64(b, ((int) l4) - 60640);
+       Words.put64(b, ((int) l4) - 60552, 0L);
+       Words.put64(b, ((int) l4) - 60560, 0L);
+       Words.put64(b, ((int) l4) - 60568, 0L);
+       Words.put64(b, ((int) l4) - 60576, 0L);
+       Words.put64(b, ((int) l4) - 60584, 0L);
+       Words.put64(b, ((int) l4) - 60592, 0L);
+       Words.put64(b, ((int) l4) - 60600, 0L);
+       Words.put64(b, ((int) l4) - 60608, 0L);
+       Core2.f62(m, l4 + 112L, l2, l3, l1);
+       l12 = 0;
+       if ((b[((int) l4) - 60608] & 0xff) != 0) { break L1; }
+       l9 = Words.get64(b, ((int) l4) - 60584);
+       l10 = Words.get64(b, ((int) l4) - 60592);
+       l13 = b[((int) l4) - 60560] & 0xff;
+       l3 = l6;
+       l11 = l5;
+       L7: {
+        L8: while (true) {
+         if (l11 == 0L) { break L7; }
+         l15 = (l14 = (int) b[((int) l3) - 60720]) & 255;
+         l2 = 1L;
+         L9: {
+          if (l14 > -1) { break L9; }
+          l16 = (b[((int) l3) - 60719] & 0xff) & 63;
+          L10: {
+           if (l14 + Integer.MIN_VALUE > 2147483615) { break L10; }
+           l15 = ((l15 << 6) & 1984) | l16;
+           l2 = 2L;
+           break L9;
+          }
+          l17 = (b[((int) l3) - 60718] & 0xff) & 63;
+          L11: {
+           if (l14 + Integer.MIN_VALUE > 2147483631) { break L11; }
+           l15 = ((l16 << 6) | ((l15 << 12) & 61440)) | l17;
+           l2 = 3L;
+           break L9;
+          }
+          l15 = ((l17 << 6) | ((l16 << 12) | ((l15 << 18) & 1835008))) | ((b[((int) l3) - 60717] & 0xff) & 63);
+          l2 = 4L;
+         }
+         Core2.f48(m, l4 + 48L, l15);
+         L12: {
+          if ((b[((int) l4) - 60672] & 0xff) != 1) { break L12; }
+          l11 = l11 - l2;
+          l3 = l3 + l2;
+          if (((b[((int) l4) - 60671] & 0xff) & 255) + Integer.MIN_VALUE > -2147483647) { continue L8; }
+         }
+         break L8;
+        }
+        if (l5 == 0L) { break L5; }
+        l15 = (l14 = (int) b[((int) l6) - 60720]) & 255;
+        l3 = 1L;
+        L13: {
+         if (l14 > -1) { break L13; }
+         l16 = (b[((int) l6) - 60719] & 0xff) & 63;
+         L14: {
+          if (l14 + Integer.MIN_VALUE > 2147483615) { break L14; }
+          l15 = ((l15 << 6) & 1984) | l16;
+          l3 = 2L;
+          break L13;
+         }
+         l17 = (b[((int) l6) - 60718] & 0xff) & 63;
+         L15: {
+          if (l14 + Integer.MIN_VALUE > 2147483631) { break L15; }
+          l15 = ((l16 << 6) | ((l15 << 12) & 61440)) | l17;
+          l3 = 3L;
+          break L13;
+         }
+         l15 = ((l17 << 6) | ((l16 << 12) | ((l15 << 18) & 1835008))) | ((b[((int) l6) - 60717] & 0xff) & 63);
+         l3 = 4L;
+        }
+        L16: {
+         L17: {
+          if (l15 > 35999) { break L17; }
+          if (l15 == 45) { break L16; }
+          if (l15 == 8722) { break L16; }
+          break L5;
+         }
+         if (l15 == 36000) { break L16; }
+         if (l15 == 65293) { break L16; }
+         if (l15 != 36127) { break L5; }
+        }
+        f173(m, l4 + 40L, l1, l6 + l3, l5 - l3);
+        l15 = b[((int) l4) - 60679] & 0xff;
+        break L4;
+       }
+       Words.put64(b, ((int) l4) - 60504, 0L);
+       Words.put64(b, ((int) l4) - 60512, 1L);
+       Words.put64(b, ((int) l4) - 60528, l10);
+       Words.put64(b, ((int) l4) - 60496, 0L);
+       Words.put64(b, ((int) l4) - 60488, 0L);
+       Words.put64(b, ((int) l4) - 60520, l9);
+       m.fill((int) (l4 + 112L), 0, (int) 80L);
+       Core2.f38(m, l4 + 16L, l4 + 112L, l4 + 192L);
+       break L3;
+      }
+      throw State.trap();
+     }
+     f173(m, l4 + 32L, l1, l6, l5);
+     l15 = b[((int) l4) - 60687] & 0xff;
+    }
+    if ((l15 & 1) == 0) { break L1; }
+   }
+   L18: {
+    if ((l13 & 255) != 2) { break L18; }
+    l12 = 1;
+    break L1;
+   }
+   Words.put64(b, ((int) l4) - 60552, 0L);
+   Words.put64(b, ((int) l4) - 60560, 0L);
+   Words.put64(b, ((int) l4) - 60568, 0L);
+   Words.put64(b, ((int) l4) - 60576, 0L);
+   Words.put64(b, ((int) l4) - 60584, 0L);
+   Words.put64(b, ((int) l4) - 60592, 0L);
+   Words.put64(b, ((int) l4) - 60600, 0L);
+   Words.put64(b, ((int) l4) - 60608, 0L);
+   Core2.f62(m, l4 + 112L, l8, l7, l1);
+   if ((b[((int) l4) - 60608] & 0xff) != 0) { break L1; }
+   final int t19 = (Words.get64(b, ((int) l4) - 60592) + Long.MIN_VALUE > -9223372036854774809L) ? 1 : 0;
+   final int t20 = ((l3 = Words.get64(b, ((int) l4) - 60584)) > 0L) ? 1 : 0;
+   final int t21 = (l3 == 0L) ? 1 : 0;
+   if ((t21 != 0 ? t19 : t20) != 0) { break L1; }
+   f173(m, l4 + 8L, l1, l8, l7);
+   l12 = b[((int) l4) - 60711] & 0xff;
+   break L1;
+  }
+  L22: {
+   if (!(l3 == 0L)) { break L22; }
+   l12 = 0;
+   break L1;
+  }
+  L23: {
+   if ((l15 = (int) b[((int) (l2 + (l11 = l3 + -1L))) - 60720]) >= 0) { break L23; }
+   l11 = -2L;
+   L24: {
+    if ((b[((int) ((l6 = l2 + l3) + -2L)) - 60720] & 0xff) + Integer.MIN_VALUE > -2147483457) { break L24; }
+    l11 = ((b[((int) (l6 + -3L)) - 60720] & 0xff) + Integer.MIN_VALUE > -2147483457) ? -3L : -4L;
+   }
+   l15 = (l14 = (int) b[((int) (l6 = l2 + (l11 = l11 + l3))) - 60720]) & 255;
+   if (l14 > -1) { break L23; }
+   l16 = (b[((int) l6) - 60719] & 0xff) & 63;
+   L25: {
+    if (l14 + Integer.MIN_VALUE > 2147483615) { break L25; }
+    l15 = ((l15 << 6) & 1984) | l16;
+    break L23;
+   }
+   l12 = (b[((int) l6) - 60718] & 0xff) & 63;
+   L26: {
+    if (l14 + Integer.MIN_VALUE > 2147483631) { break L26; }
+    l15 = ((l16 << 6) | ((l15 << 12) & 61440)) | l12;
+    break L23;
+   }
+   l15 = ((l12 << 6) | ((l16 << 12) | ((l15 << 18) & 1835008))) | ((b[((int) l6) - 60717] & 0xff) & 63);
+  }
+  L27: {
+   L28: {
+    if (l15 == 37) { break L28; }
+    if (l15 == 65285) { break L28; }
+    if (l15 != 8240) { break L27; }
+   }
+   f173(m, l4 + 64L, l1, l2, l11);
+   l12 = (b[((int) l4) - 60655] & 0xff) & 1;
+   break L1;
+  }
+  f173(m, l4 + 56L, l1, l2, l3);
+  l12 = b[((int) l4) - 60663] & 0xff;
+ }
+ b[((int) l0) - 60719] = (byte) l12;
+ b[((int) l0) - 60720] = (byte) 0;
+ m.g0 = l4 + 240L;
+}
+
+static void f171(State m, long l0, int l1, int l2) {
+ final byte[] b = m.bytes;
+ long l3 = 0;
+ long l4 = 0;
+ L1: {
+  L2: {
+   L3: {
+    if (m.g0 < 16L) { break L3; }
+    l3 = 0L;
+    l4 = 79940L;
+    if (l1 != 0) { break L1; }
+    l3 = 1L;
+    l4 = 85360L;
+    L4: {
+     L5: {
+      L6: {
+       L7: {
+        L8: {
+         L9: {
+          L10: {
+           L11: {
+            L12: {
+             L13: {
+              L14: {
+               L15: {
+                L16: {
+                 switch (l2 + -45) {
+                 case 0: break L2;
+                 case 1: break L6;
+                 case 2: break L4;
+                 case 3: break L1;
+                 case 4: break L15;
+                 case 5: break L14;
+                 case 6: break L13;
+                 case 7: break L12;
+                 case 8: break L11;
+                 case 9: break L10;
+                 case 10: break L9;
+                 case 11: break L8;
+                 case 12: break L7;
+                 default: break L16;
+                 }
+                }
+                switch (l2 + -65293) {
+                case 0: break L2;
+                case 1: break L6;
+                case 2: break L4;
+                case 3: break L1;
+                case 4: break L15;
+                case 5: break L14;
+                case 6: break L13;
+                case 7: break L12;
+                case 8: break L11;
+                case 9: break L10;
+                case 10: break L9;
+                case 11: break L8;
+                case 12: break L7;
+                default: break L5;
+                }
+               }
+               l4 = 85361L;
+               break L1;
+              }
+              l4 = 85362L;
+              break L1;
+             }
+             l4 = 85363L;
+             break L1;
+            }
+            l4 = 85364L;
+            break L1;
+           }
+           l4 = 85365L;
+           break L1;
+          }
+          l4 = 85366L;
+          break L1;
+         }
+         l4 = 85367L;
+         break L1;
+        }
+        l4 = 85368L;
+        break L1;
+       }
+       l4 = 85369L;
+       break L1;
+      }
+      l4 = 85370L;
+      break L1;
+     }
+     if (l2 == 8722) { break L2; }
+    }
+    l4 = 79940L;
+    l3 = 0L;
+    break L1;
+   }
+   throw State.trap();
+  }
+  l4 = 73819L;
+ }
+ Words.put64(b, ((int) l0) - 60712, l3);
+ Words.put64(b, ((int) l0) - 60720, l4);
+}
+
+static void f172(State m, long l0, long l1, long l2) {
+ final byte[] b = m.bytes;
+ int l3 = 0;
+ int l4 = 0;
+ int l5 = 0;
+ int l6 = 0;
+ int l7 = 0;
+ long l8 = 0;
+ long l9 = 0;
+ long l10 = 0;
+ long l11 = 0;
+ L1: {
+  if (m.g0 < 16L) { break L1; }
+  L2: {
+   if (l2 == 0L) { break L2; }
+   l3 = b[((int) l1) - 60720] & 0xff;
+   l8 = l2;
+   l9 = l1;
+   L3: while (true) {
+    l10 = l8;
+    l4 = l3 & 255;
+    l11 = 1L;
+    L4: {
+     if (((int) (byte) l3) > -1) { break L4; }
+     l5 = (b[((int) l9) - 60719] & 0xff) & 63;
+     L5: {
+      if ((l3 & 255) + Integer.MIN_VALUE > -2147483425) { break L5; }
+      l4 = ((l4 << 6) & 1984) | l5;
+      l11 = 2L;
+      break L4;
+     }
+     l6 = (b[((int) l9) - 60718] & 0xff) & 63;
+     L6: {
+      if ((l3 & 255) + Integer.MIN_VALUE > -2147483409) { break L6; }
+      l4 = ((l5 << 6) | ((l4 << 12) & 61440)) | l6;
+      l11 = 3L;
+      break L4;
+     }
+     l4 = ((l6 << 6) | ((l5 << 12) | ((l4 << 18) & 1835008))) | ((b[((int) l9) - 60717] & 0xff) & 63);
+     l11 = 4L;
+    }
+    if ((l8 = l10 - l11) == 0L) { break L2; }
+    if ((l3 = (int) b[((int) (l9 = l9 + l11)) - 60720]) > -1) { continue L3; }
+    if (l3 + Integer.MIN_VALUE < 2147483616) { continue L3; }
+    l5 = l3 & 255;
+    l6 = (b[((int) l9) - 60719] & 0xff) & 63;
+    l7 = (b[((int) l9) - 60718] & 0xff) & 63;
+    L7: {
+     L8: {
+      if (l3 + Integer.MIN_VALUE > 2147483631) { break L8; }
+      l5 = ((l6 << 6) | ((l5 << 12) & 61440)) | l7;
+      l11 = 3L;
+      break L7;
+     }
+     l5 = ((l7 << 6) | ((l6 << 12) | ((l5 << 18) & 1835008))) | ((b[((int) l9) - 60717] & 0xff) & 63);
+     l11 = 4L;
+    }
+    if (l4 != 20998) { continue L3; }
+    if (l5 != 20043) { continue L3; }
+    break L3;
+   }
+   L9: {
+    L10: {
+     if ((l10 = l2 - l10) == 0L) { break L10; }
+     if ((l8 = l8 - l11) == 0L) { break L10; }
+     l11 = l9 + l11;
+     l9 = 1L;
+     break L9;
+    }
+    l11 = 0L;
+    l8 = 0L;
+    l1 = 0L;
+    l10 = 0L;
+    l9 = 0L;
+   }
+   Words.put64(b, ((int) l0) - 60720, l9);
+   Words.put64(b, ((int) (l0 + 32L)) - 60720, l8);
+   Words.put64(b, ((int) (l0 + 24L)) - 60720, l11);
+   Words.put64(b, ((int) (l0 + 16L)) - 60720, l10);
+   Words.put64(b, ((int) (l0 + 8L)) - 60720, l1);
+   return;
+  }
+  Words.put64(b, ((int) l0) - 60688, 0L);
+  Words.put64(b, ((int) l0) - 60696, 0L);
+  Words.put64(b, ((int) l0) - 60704, 0L);
+  Words.put64(b, ((int) l0) - 60712, 0L);
+  Words.put64(b, ((int) l0) - 60720, 0L);
+  return;
+ }
+ throw State.trap();
+}
+
+static void f173(State m, long l0, int l1, long l2, long l3) {
+ final byte[] b = m.bytes;
+ long l4 = 0;
+ long l5 = 0;
+ long l6 = 0;
+ long l7 = 0;
+ long l8 = 0;
+ long l9 = 0;
+ long l10 = 0;
+ int l11 = 0;
+ int l12 = 0;
+ int l13 = 0;
+ int l14 = 0;
+ int l15 = 0;
+ int l16 = 0;
+ m.g0 = l4 = m.g0 - 336L;
+ L1: {
+  L2: {
+   L3: {
+    if ((l4 = l4) < 16L) { break L3; }
+    Words.put64(b, ((int) l4) - 60584, 0L);
+    Words.put64(b, ((int) l4) - 60592, 0L);
+    Words.put64(b, ((int) l4) - 60600, 0L);
+    Words.put64(b, ((int) l4) - 60608, 0L);
+    Words.put64(b, ((int) l4) - 60616, 0L);
+    L4: {
+     if ((l11 = (l3 == 0L) ? 1 : 0) != 0) { break L4; }
+     l13 = (l12 = (int) b[((int) l2) - 60720]) & 255;
+     L5: {
+      if (l12 > -1) { break L5; }
+      l14 = (b[((int) l2) - 60719] & 0xff) & 63;
+      L6: {
+       if (l12 + Integer.MIN_VALUE > 2147483615) { break L6; }
+       l13 = ((l13 << 6) & 1984) | l14;
+       break L5;
+      }
+      l15 = (b[((int) l2) - 60718] & 0xff) & 63;
+      L7: {
+       if (l12 + Integer.MIN_VALUE > 2147483631) { break L7; }
+       l13 = ((l14 << 6) | ((l13 << 12) & 61440)) | l15;
+       break L5;
+      }
+      l13 = ((l15 << 6) | ((l14 << 12) | ((l13 << 18) & 1835008))) | ((b[((int) l2) - 60717] & 0xff) & 63);
+     }
+     l16 = 1;
+     if ((l13 + -48) + Integer.MIN_VALUE < -2147483638) { break L1; }
+     if ((l13 + -65296) + Integer.MIN_VALUE < -2147483638) { break L1; }
+    }
+    l5 = l2;
+    l6 = l3;
+    L8: {
+     L9: {
+      L10: {
+       L11: while (true) {
+        if (l6 == 0L) { break L10; }
+        l13 = (l12 = (int) b[((int) l5) - 60720]) & 255;
+        l7 = 1L;
+        L12: {
+         if (l12 > -1) { break L12; }
+         l14 = (b[((int) l5) - 60719] & 0xff) & 63;
+         L13: {
+          if (l12 + Integer.MIN_VALUE > 2147483615) { break L13; }
+          l13 = ((l13 << 6) & 1984) | l14;
+          l7 = 2L;
+          break L12;
+         }
+         l15 = (b[((int) l5) - 60718] & 0xff) & 63;
+         L14: {
+          if (l12 + Integer.MIN_VALUE > 2147483631) { break L14; }
+          l13 = ((l14 << 6) | ((l13 << 12) & 61440)) | l15;
+          l7 = 3L;
+          break L12;
+         }
+         l13 = ((l15 << 6) | ((l14 << 12) | ((l13 << 18) & 1835008))) | ((b[((int) l5) - 60717] & 0xff) & 63);
+         l7 = 4L;
+        }
+        Core2.f50(m, l4 + 96L, l13);
+        L15: {
+         if ((l13 + -58) + Integer.MIN_VALUE > 2147483637) { break L15; }
+         l6 = l6 - l7;
+         l5 = l5 + l7;
+         if (((b[((int) l4) - 60624] & 0xff) & 255) == 1) { continue L11; }
+        }
+        break L11;
+       }
+       f174(m, l4 + 104L, l2, l3);
+       if ((b[((int) l4) - 60616] & 0xff) != 1) { break L8; }
+       l7 = Words.get64(b, ((int) l4) - 60584);
+       l2 = Words.get64(b, ((int) l4) - 60592);
+       l5 = Words.get64(b, ((int) l4) - 60600);
+       l6 = Words.get64(b, ((int) l4) - 60608);
+       Words.put64(b, ((int) l4) - 60408, 0L);
+       Words.put64(b, ((int) l4) - 60416, 0L);
+       Words.put64(b, ((int) l4) - 60424, 0L);
+       Words.put64(b, ((int) l4) - 60432, 0L);
+       Words.put64(b, ((int) l4) - 60440, 0L);
+       Words.put64(b, ((int) l4) - 60448, 0L);
+       Words.put64(b, ((int) l4) - 60456, 0L);
+       Words.put64(b, ((int) l4) - 60464, 0L);
+       Core2.f62(m, l4 + 256L, l6, l5, l1);
+       Words.put64(b, ((int) l4) - 60576, Words.get64(b, ((int) l4) - 60448));
+       Words.put64(b, ((int) l4) - 60568, Words.get64(b, ((int) l4) - 60440));
+       Words.put64(b, ((int) l4) - 60560, Words.get64(b, ((int) l4) - 60432));
+       Words.put64(b, ((int) l4) - 60552, Words.get64(b, ((int) l4) - 60424));
+       Words.put64(b, ((int) l4) - 60544, Words.get64(b, ((int) l4) - 60416));
+       Words.put64(b, ((int) l4) - 60536, Words.get64(b, ((int) l4) - 60408));
+       if ((b[((int) l4) - 60464] & 0xff) == 0) { break L9; }
+       l16 = 0;
+       break L1;
+      }
+      l16 = 1;
+      if (l11 != 0) { break L1; }
+      L16: while (true) {
+       l13 = (l12 = (int) b[((int) l2) - 60720]) & 255;
+       l5 = 1L;
+       L17: {
+        if (l12 > -1) { break L17; }
+        l14 = (b[((int) l2) - 60719] & 0xff) & 63;
+        L18: {
+         if (l12 + Integer.MIN_VALUE > 2147483615) { break L18; }
+         l13 = ((l13 << 6) & 1984) | l14;
+         l5 = 2L;
+         break L17;
+        }
+        l15 = (b[((int) l2) - 60718] & 0xff) & 63;
+        L19: {
+         if (l12 + Integer.MIN_VALUE > 2147483631) { break L19; }
+         l13 = ((l14 << 6) | ((l13 << 12) & 61440)) | l15;
+         l5 = 3L;
+         break L17;
+        }
+        l13 = ((l15 << 6) | ((l14 << 12) | ((l13 << 18) & 1835008))) | ((b[((int) l2) - 60717] & 0xff) & 63);
+        l5 = 4L;
+       }
+       Core2.f50(m, l4 + 8L, l13);
+       l2 = l2 + l5;
+       if (!((l3 = l3 - l5) == 0L)) { continue L16; }
+       break L1;
+      }
+     }
+     m.fill((int) (l4 + 256L), 0, (int) 80L);
+     Core2.f38(m, l4 + 24L, l4 + 256L, l4 + 144L);
+     l16 = 1;
+     if (l7 == 0L) { break L1; }
+     L20: while (true) {
+      l13 = (l12 = (int) b[((int) l2) - 60720]) & 255;
+      l5 = 1L;
+      L21: {
+       if (l12 > -1) { break L21; }
+       l14 = (b[((int) l2) - 60719] & 0xff) & 63;
+       L22: {
+        if (l12 + Integer.MIN_VALUE > 2147483615) { break L22; }
+        l13 = ((l13 << 6) & 1984) | l14;
+        l5 = 2L;
+        break L21;
+       }
+       l15 = (b[((int) l2) - 60718] & 0xff) & 63;
+       L23: {
+        if (l12 + Integer.MIN_VALUE > 2147483631) { break L23; }
+        l13 = ((l14 << 6) | ((l13 << 12) & 61440)) | l15;
+        l5 = 3L;
+        break L21;
+       }
+       l13 = ((l15 << 6) | ((l14 << 12) | ((l13 << 18) & 1835008))) | ((b[((int) l2) - 60717] & 0xff) & 63);
+       l5 = 4L;
+      }
+      Core2.f50(m, l4 + 16L, l13);
+      l2 = l2 + l5;
+      if (!((l7 = l7 - l5) == 0L)) { continue L20; }
+      break L1;
+     }
+    }
+    L24: {
+     if (f175(m, l2, l3) == 0) { break L24; }
+     l16 = 1;
+     if (l11 != 0) { break L1; }
+     l8 = l4 + 272L;
+     l9 = l2;
+     l10 = l3;
+     L25: while (true) {
+      l13 = (l12 = (int) b[((int) l9) - 60720]) & 255;
+      l5 = 1L;
+      L26: {
+       if (l12 > -1) { break L26; }
+       l14 = (b[((int) l9) - 60719] & 0xff) & 63;
+       L27: {
+        if (l12 + Integer.MIN_VALUE > 2147483615) { break L27; }
+        l13 = ((l13 << 6) & 1984) | l14;
+        l5 = 2L;
+        break L26;
+       }
+       l15 = (b[((int) l9) - 60718] & 0xff) & 63;
+       L28: {
+        if (l12 + Integer.MIN_VALUE > 2147483631) { break L28; }
+        l13 = ((l14 << 6) | ((l13 << 12) & 61440)) | l15;
+        l5 = 3L;
+        break L26;
+       }
+       l13 = ((l15 << 6) | ((l14 << 12) | ((l13 << 18) & 1835008))) | ((b[((int) l9) - 60717] & 0xff) & 63);
+       l5 = 4L;
+      }
+      L29: {
+       if (f176(m, l13, l9 = l9 + l5, l10 = l10 - l5) == 0) { break L29; }
+       L30: {
+        L31: {
+         if (!((l7 = l3 - l10) == 0L)) { break L31; }
+         l6 = 0L;
+         break L30;
+        }
+        L32: while (true) {
+         l13 = (l12 = (int) b[((int) l2) - 60720]) & 255;
+         l5 = 1L;
+         L33: {
+          if (l12 > -1) { break L33; }
+          l14 = (b[((int) l2) - 60719] & 0xff) & 63;
+          L34: {
+           if (l12 + Integer.MIN_VALUE > 2147483615) { break L34; }
+           l13 = ((l13 << 6) & 1984) | l14;
+           l5 = 2L;
+           break L33;
+          }
+          l15 = (b[((int) l2) - 60718] & 0xff) & 63;
+          L35: {
+           if (l12 + Integer.MIN_VALUE > 2147483631) { break L35; }
+           l13 = ((l14 << 6) | ((l13 << 12) & 61440)) | l15;
+           l5 = 3L;
+           break L33;
+          }
+          l13 = ((l15 << 6) | ((l14 << 12) | ((l13 << 18) & 1835008))) | ((b[((int) l2) - 60717] & 0xff) & 63);
+          l5 = 4L;
+         }
+         L36: {
+          if (l13 == 38646) { break L36; }
+          if (l13 == 12295) { break L36; }
+          l6 = l7;
+          break L30;
+         }
+         l2 = l2 + l5;
+         l6 = 0L;
+         if ((l7 = l7 - l5) != 0L) { continue L32; }
+         break L32;
+        }
+       }
+       Words.put64(b, ((int) l4) - 60488, 0L);
+       Words.put64(b, ((int) l4) - 60496, 0L);
+       Words.put64(b, ((int) l4) - 60504, 0L);
+       Words.put64(b, ((int) l4) - 60512, 0L);
+       f177(m, l4 + 208L, l2, l6);
+       l2 = Words.get64(b, ((int) l4) - 60504);
+       l5 = Words.get64(b, ((int) l4) - 60512);
+       Words.put64(b, ((int) l4) - 60408, 0L);
+       Words.put64(b, ((int) l4) - 60416, 0L);
+       Words.put64(b, ((int) l4) - 60424, 0L);
+       Words.put64(b, ((int) l4) - 60432, 0L);
+       Words.put64(b, ((int) l4) - 60440, 0L);
+       Words.put64(b, ((int) l4) - 60448, 0L);
+       Words.put64(b, ((int) l4) - 60456, 0L);
+       Words.put64(b, ((int) l4) - 60464, 0L);
+       Core2.f62(m, l4 + 256L, l5, l2, l1);
+       Words.put64(b, ((int) l4) - 60576, Words.get64(b, ((int) l8) - 60720));
+       Words.put64(b, ((int) l4) - 60568, Words.get64(b, ((int) l8) - 60712));
+       Words.put64(b, ((int) l4) - 60560, Words.get64(b, ((int) l8) - 60704));
+       Words.put64(b, ((int) l4) - 60552, Words.get64(b, ((int) l8) - 60696));
+       Words.put64(b, ((int) l4) - 60544, Words.get64(b, ((int) l8) - 60688));
+       Words.put64(b, ((int) l4) - 60536, Words.get64(b, ((int) l8) - 60680));
+       if ((b[((int) l4) - 60464] & 0xff) != 0) { break L2; }
+       m.fill((int) (l4 + 256L), 0, (int) 80L);
+       Core2.f38(m, l4 + 40L, l4 + 256L, l4 + 144L);
+       l3 = l10;
+       l2 = l9;
+      }
+      if (!(l10 == 0L)) { continue L25; }
+      break L1;
+     }
+    }
+    Words.put64(b, ((int) l4) - 60520, 0L);
+    Words.put64(b, ((int) l4) - 60528, 0L);
+    Words.put64(b, ((int) l4) - 60536, 0L);
+    Words.put64(b, ((int) l4) - 60544, 0L);
+    Words.put64(b, ((int) l4) - 60552, 0L);
+    Words.put64(b, ((int) l4) - 60560, 0L);
+    Words.put64(b, ((int) l4) - 60568, 0L);
+    Words.put64(b, ((int) l4) - 60576, 0L);
+    f178(m, l4 + 144L, l2, l3);
+    L37: {
+     L38: {
+      L39: {
+       if ((b[((int) l4) - 60576] & 0xff) != 1) { break L39; }
+       l13 = Words.get32(b, ((int) l4) - 60552);
+       l2 = Words.get64(b, ((int) l4) - 60560);
+       l5 = Words.get64(b, ((int) l4) - 60568);
+       Words.put64(b, ((int) l4) - 60408, 0L);
+       Words.put64(b, ((int) l4) - 60416, 0L);
+       Words.put64(b, ((int) l4) - 60424, 0L);
+       Words.put64(b, ((int) l4) - 60432, 0L);
+       Words.put64(b, ((int) l4) - 60440, 0L);
+       Words.put64(b, ((int) l4) - 60448, 0L);
+       Words.put64(b, ((int) l4) - 60456, 0L);
+       Words.put64(b, ((int) l4) - 60464, 0L);
+       Core2.f62(m, l4 + 256L, l5, l2, l1);
+       Words.put64(b, ((int) l4) - 60512, Words.get64(b, ((int) l4) - 60448));
+       Words.put64(b, ((int) l4) - 60504, Words.get64(b, ((int) l4) - 60440));
+       Words.put64(b, ((int) l4) - 60496, Words.get64(b, ((int) l4) - 60432));
+       Words.put64(b, ((int) l4) - 60488, Words.get64(b, ((int) l4) - 60424));
+       Words.put64(b, ((int) l4) - 60480, Words.get64(b, ((int) l4) - 60416));
+       Words.put64(b, ((int) l4) - 60472, Words.get64(b, ((int) l4) - 60408));
+       if ((b[((int) l4) - 60464] & 0xff) == 0) { break L38; }
+       l16 = 0;
+       break L1;
+      }
+      Words.put64(b, ((int) l4) - 60408, 0L);
+      Words.put64(b, ((int) l4) - 60416, 0L);
+      Words.put64(b, ((int) l4) - 60424, 0L);
+      Words.put64(b, ((int) l4) - 60432, 0L);
+      Words.put64(b, ((int) l4) - 60440, 0L);
+      Words.put64(b, ((int) l4) - 60448, 0L);
+      Words.put64(b, ((int) l4) - 60456, 0L);
+      Words.put64(b, ((int) l4) - 60464, 0L);
+      Core2.f62(m, l4 + 256L, l2, l3, l1);
+      Words.put64(b, ((int) l4) - 60512, Words.get64(b, ((int) l4) - 60448));
+      Words.put64(b, ((int) l4) - 60504, Words.get64(b, ((int) l4) - 60440));
+      Words.put64(b, ((int) l4) - 60496, Words.get64(b, ((int) l4) - 60432));
+      Words.put64(b, ((int) l4) - 60488, Words.get64(b, ((int) l4) - 60424));
+      Words.put64(b, ((int) l4) - 60480, Words.get64(b, ((int) l4) - 60416));
+      Words.put64(b, ((int) l4) - 60472, Words.get64(b, ((int) l4) - 60408));
+      l16 = 0;
+      if ((b[((int) l4) - 60464] & 0xff) != 0) { break L1; }
+      m.fill((int) (l4 + 256L), 0, (int) 80L);
+      Core2.f38(m, l4 + 80L, l4 + 256L, l4 + 208L);
+      break L37;
+     }
+     m.fill((int) (l4 + 256L), 0, (int) 80L);
+     Core2.f38(m, l4 + 64L, l4 + 256L, l4 + 208L);
+     Core2.f50(m, l4 + 56L, l13);
+    }
+    l16 = 1;
+    break L1;
+   }
+   throw State.trap();
+  }
+  l16 = 0;
+ }
+ b[((int) l0) - 60719] = (byte) l16;
+ b[((int) l0) - 60720] = (byte) 0;
+ m.g0 = l4 + 336L;
+}
+
+static void f174(State m, long l0, long l1, long l2) {
+ final byte[] b = m.bytes;
+ long l3 = 0;
+ long l4 = 0;
+ long l5 = 0;
+ long l6 = 0;
+ long l7 = 0;
+ long l8 = 0;
+ int l9 = 0;
+ int l10 = 0;
+ int l11 = 0;
+ int l12 = 0;
+ m.g0 = l3 = m.g0 - 16L;
+ L1: {
+  L2: {
+   L3: {
+    if ((l4 = l3) < 16L) { break L3; }
+    l5 = l1;
+    l6 = l2;
+    L4: while (true) {
+     l3 = l5;
+     if ((l7 = l6) == 0L) { break L2; }
+     l5 = 1L;
+     l11 = l10 = (l9 = (int) b[((int) l3) - 60720]) & 255;
+     L5: {
+      if (l9 > -1) { break L5; }
+      l11 = (b[((int) l3) - 60719] & 0xff) & 63;
+      L6: {
+       if (l9 + Integer.MIN_VALUE > 2147483615) { break L6; }
+       l11 = ((l10 << 6) & 1984) | l11;
+       l5 = 2L;
+       break L5;
+      }
+      l12 = (b[((int) l3) - 60718] & 0xff) & 63;
+      L7: {
+       if (l9 + Integer.MIN_VALUE > 2147483631) { break L7; }
+       l11 = ((l11 << 6) | ((l10 << 12) & 61440)) | l12;
+       l5 = 3L;
+       break L5;
+      }
+      l11 = ((l12 << 6) | ((l11 << 12) | ((l10 << 18) & 1835008))) | ((b[((int) l3) - 60717] & 0xff) & 63);
+      l5 = 4L;
+     }
+     L8: {
+      if (l11 == 40670) { break L8; }
+      l6 = l7 - l5;
+      l5 = l3 + l5;
+      if (l11 != 28857) { continue L4; }
+     }
+     break L4;
+    }
+    l5 = 1L;
+    L9: {
+     if (l9 > -1) { break L9; }
+     l11 = (b[((int) l3) - 60719] & 0xff) & 63;
+     L10: {
+      if (l9 + Integer.MIN_VALUE > 2147483615) { break L10; }
+      l10 = ((l10 << 6) & 1984) | l11;
+      l5 = 2L;
+      break L9;
+     }
+     l12 = (b[((int) l3) - 60718] & 0xff) & 63;
+     L11: {
+      if (l9 + Integer.MIN_VALUE > 2147483631) { break L11; }
+      l10 = ((l11 << 6) | ((l10 << 12) & 61440)) | l12;
+      l5 = 3L;
+      break L9;
+     }
+     l10 = ((l12 << 6) | ((l11 << 12) | ((l10 << 18) & 1835008))) | ((b[((int) l3) - 60717] & 0xff) & 63);
+     l5 = 4L;
+    }
+    L12: {
+     L13: {
+      L14: {
+       if (l10 == 28857) { break L14; }
+       if (l10 != 40670) { break L13; }
+      }
+      if (l2 == 0L) { break L13; }
+      L15: {
+       if ((l11 = (int) b[((int) ((l6 = l1 + l2) + -1L)) - 60720]) >= 0) { break L15; }
+       l8 = -2L;
+       L16: {
+        if ((b[((int) (l6 + -2L)) - 60720] & 0xff) + Integer.MIN_VALUE > -2147483457) { break L16; }
+        l8 = ((b[((int) (l6 + -3L)) - 60720] & 0xff) + Integer.MIN_VALUE > -2147483457) ? -3L : -4L;
+       }
+       l11 = (l9 = (int) b[((int) (l6 = (l1 + l8) + l2)) - 60720]) & 255;
+       if (l9 > -1) { break L15; }
+       l10 = (b[((int) l6) - 60719] & 0xff) & 63;
+       L17: {
+        if (l9 + Integer.MIN_VALUE > 2147483615) { break L17; }
+        l11 = ((l11 << 6) & 1984) | l10;
+        break L15;
+       }
+       l12 = (b[((int) l6) - 60718] & 0xff) & 63;
+       L18: {
+        if (l9 + Integer.MIN_VALUE > 2147483631) { break L18; }
+        l11 = ((l10 << 6) | ((l11 << 12) & 61440)) | l12;
+        break L15;
+       }
+       l11 = ((l12 << 6) | ((l10 << 12) | ((l11 << 18) & 1835008))) | ((b[((int) l6) - 60717] & 0xff) & 63);
+      }
+      Core2.f50(m, l4 + 8L, l11);
+      if ((b[((int) l4) - 60712] & 0xff) == 1) { break L12; }
+      Core2.f48(m, l4, l11);
+      if ((b[((int) l4) - 60720] & 0xff) != 1) { break L13; }
+      if (((b[((int) l4) - 60719] & 0xff) & 255) + Integer.MIN_VALUE > -2147483645) { break L12; }
+     }
+     Words.put64(b, ((int) l0) - 60688, 0L);
+     Words.put64(b, ((int) l0) - 60696, 0L);
+     Words.put64(b, ((int) l0) - 60704, 0L);
+     Words.put64(b, ((int) l0) - 60712, 0L);
+     Words.put64(b, ((int) l0) - 60720, 0L);
+     break L1;
+    }
+    Words.put64(b, ((int) l0) - 60720, 1L);
+    Words.put64(b, ((int) (l0 + 32L)) - 60720, l7 - l5);
+    Words.put64(b, ((int) (l0 + 24L)) - 60720, l3 + l5);
+    Words.put64(b, ((int) (l0 + 16L)) - 60720, l2 - l7);
+    Words.put64(b, ((int) (l0 + 8L)) - 60720, l1);
+    break L1;
+   }
+   throw State.trap();
+  }
+  Words.put64(b, ((int) l0) - 60688, 0L);
+  Words.put64(b, ((int) l0) - 60696, 0L);
+  Words.put64(b, ((int) l0) - 60704, 0L);
+  Words.put64(b, ((int) l0) - 60712, 0L);
+  Words.put64(b, ((int) l0) - 60720, 0L);
+ }
+ m.g0 = l4 + 16L;
+}
+
+static int f175(State m, long l0, long l1) {
+ final byte[] b = m.bytes;
+ long l2 = 0;
+ long l3 = 0;
+ long l4 = 0;
+ int l5 = 0;
+ int l6 = 0;
+ int l7 = 0;
+ int l8 = 0;
+ m.g0 = l2 = m.g0 - 16L;
+ L1: {
+  if ((l2 = l2) < 16L) { break L1; }
+  L2: {
+   L3: {
+    if (!(l1 == 0L)) { break L3; }
+    l5 = 0;
+    break L2;
+   }
+   L4: {
+    if ((l5 = (int) b[((int) ((l3 = l0 + l1) + -1L)) - 60720]) >= 0) { break L4; }
+    l4 = -2L;
+    L5: {
+     if ((b[((int) (l3 + -2L)) - 60720] & 0xff) + Integer.MIN_VALUE > -2147483457) { break L5; }
+     l4 = ((b[((int) (l3 + -3L)) - 60720] & 0xff) + Integer.MIN_VALUE > -2147483457) ? -3L : -4L;
+    }
+    l5 = (l6 = (int) b[((int) (l1 = (l0 + l4) + l1)) - 60720]) & 255;
+    if (l6 > -1) { break L4; }
+    l7 = (b[((int) l1) - 60719] & 0xff) & 63;
+    L6: {
+     if (l6 + Integer.MIN_VALUE > 2147483615) { break L6; }
+     l5 = ((l5 << 6) & 1984) | l7;
+     break L4;
+    }
+    l8 = (b[((int) l1) - 60718] & 0xff) & 63;
+    L7: {
+     if (l6 + Integer.MIN_VALUE > 2147483631) { break L7; }
+     l5 = ((l7 << 6) | ((l5 << 12) & 61440)) | l8;
+     break L4;
+    }
+    l5 = ((l8 << 6) | ((l7 << 12) | ((l5 << 18) & 1835008))) | ((b[((int) l1) - 60717] & 0xff) & 63);
+   }
+   Core2.f48(m, l2 + 8L, l5);
+   l5 = (((b[((int) l2) - 60712] & 0xff) == 1) & (((b[((int) l2) - 60711] & 0xff) & 255) + Integer.MIN_VALUE > -2147483645)) ? 1 : 0;
+  }
+  m.g0 = l2 + 16L;
+  final int t8 = l5;
+  return t8;
+ }
+ throw State.trap();
+}
+
+static int f176(State m, int l0, long l1, long l2) {
+ final byte[] b = m.bytes;
+ long l3 = 0;
+ long l4 = 0;
+ int l5 = 0;
+ int l6 = 0;
+ int l7 = 0;
+ int l8 = 0;
+ int l9 = 0;
+ m.g0 = l3 = m.g0 - 16L;
+ L1: {
+  if ((l3 = l3) < 16L) { break L1; }
+  Core2.f48(m, l3 + 8L, l0);
+  l5 = 0;
+  L2: {
+   if ((b[((int) l3) - 60712] & 0xff) != 1) { break L2; }
+   if (((l6 = b[((int) l3) - 60711] & 0xff) & 255) + Integer.MIN_VALUE < -2147483644) { break L2; }
+   L3: while (true) {
+    if ((l5 = (l2 == 0L) ? 1 : 0) != 0) { break L2; }
+    l0 = (l7 = (int) b[((int) l1) - 60720]) & 255;
+    l4 = 1L;
+    L4: {
+     if (l7 > -1) { break L4; }
+     l8 = (b[((int) l1) - 60719] & 0xff) & 63;
+     L5: {
+      if (l7 + Integer.MIN_VALUE > 2147483615) { break L5; }
+      l0 = ((l0 << 6) & 1984) | l8;
+      l4 = 2L;
+      break L4;
+     }
+     l9 = (b[((int) l1) - 60718] & 0xff) & 63;
+     L6: {
+      if (l7 + Integer.MIN_VALUE > 2147483631) { break L6; }
+      l0 = ((l8 << 6) | ((l0 << 12) & 61440)) | l9;
+      l4 = 3L;
+      break L4;
+     }
+     l0 = ((l9 << 6) | ((l8 << 12) | ((l0 << 18) & 1835008))) | ((b[((int) l1) - 60717] & 0xff) & 63);
+     l4 = 4L;
+    }
+    Core2.f48(m, l3, l0);
+    l2 = l2 - l4;
+    l1 = l1 + l4;
+    if ((b[((int) l3) - 60720] & 0xff) != 1) { continue L3; }
+    if (((b[((int) l3) - 60719] & 0xff) & 255) + Integer.MIN_VALUE < (l6 & 255) + Integer.MIN_VALUE) { continue L3; }
+    break L3;
+   }
+  }
+  m.g0 = l3 + 16L;
+  final int t7 = l5;
+  return t7;
+ }
+ throw State.trap();
+}
+
+static void f177(State m, long l0, long l1, long l2) {
+ final byte[] b = m.bytes;
+ long l3 = 0;
+ long l4 = 0;
+ long l5 = 0;
+ long l6 = 0;
+ long l7 = 0;
+ long l8 = 0;
+ long l9 = 0;
+ long l10 = 0;
+ long l11 = 0;
+ int l12 = 0;
+ int l13 = 0;
+ int l14 = 0;
+ int l15 = 0;
+ int l16 = 0;
+ int l17 = 0;
+ L1: {
+  if ((l3 = m.g0) < 16L) { break L1; }
+  L2: {
+   L3: {
+    L4: {
+     if (l2 == 0L) { break L4; }
+     l4 = l2;
+     l5 = l1;
+     L5: while (true) {
+      l6 = l4;
+      l13 = (l12 = (int) b[((int) (l7 = l5)) - 60720]) & 255;
+      L6: {
+       L7: {
+        if (l12 > -1) { break L7; }
+        l8 = 2L;
+        final long t8 = l6;
+        final long t9 = (l12 + Integer.MIN_VALUE < 2147483632) ? 3L : 4L;
+        final int t10 = l14 = (l12 + Integer.MIN_VALUE < 2147483616) ? 1 : 0;
+        l4 = t8 - (l9 = t10 != 0 ? 2L : t9);
+        l5 = l7 + l9;
+        l15 = (b[((int) l7) - 60719] & 0xff) & 63;
+        L11: {
+         if (l14 == 0) { break L11; }
+         l13 = ((l13 << 6) & 1984) | l15;
+         break L6;
+        }
+        l14 = (b[((int) l7) - 60718] & 0xff) & 63;
+        L12: {
+         if (l12 + Integer.MIN_VALUE > 2147483631) { break L12; }
+         l13 = ((l15 << 6) | ((l13 << 12) & 61440)) | l14;
+         l8 = 3L;
+         break L6;
+        }
+        l13 = ((l14 << 6) | ((l15 << 12) | ((l13 << 18) & 1835008))) | ((b[((int) l7) - 60717] & 0xff) & 63);
+        l8 = 4L;
+        break L6;
+       }
+       l4 = l6 + -1L;
+       l8 = 1L;
+       l5 = l7 + 1L;
+      }
+      l10 = l7 + l8;
+      L13: {
+       L14: {
+        if ((l16 = ((l11 = l6 - l8) == 0L) ? 1 : 0) != 0) { break L14; }
+        l8 = l10;
+        L15: while (true) {
+         l12 = (l14 = (int) b[((int) l8) - 60720]) & 255;
+         l9 = 1L;
+         L16: {
+          if (l14 > -1) { break L16; }
+          l15 = (b[((int) l8) - 60719] & 0xff) & 63;
+          L17: {
+           if (l14 + Integer.MIN_VALUE > 2147483615) { break L17; }
+           l12 = ((l12 << 6) & 1984) | l15;
+           l9 = 2L;
+           break L16;
+          }
+          l17 = (b[((int) l8) - 60718] & 0xff) & 63;
+          L18: {
+           if (l14 + Integer.MIN_VALUE > 2147483631) { break L18; }
+           l12 = ((l15 << 6) | ((l12 << 12) & 61440)) | l17;
+           l9 = 3L;
+           break L16;
+          }
+          l12 = ((l17 << 6) | ((l15 << 12) | ((l12 << 18) & 1835008))) | ((b[((int) l8) - 60717] & 0xff) & 63);
+          l9 = 4L;
+         }
+         L19: {
+          L20: {
+           if (l12 > 27806) { break L20; }
+           L21: {
+            if (l12 > 22418) { break L21; }
+            L22: {
+             if (l12 > 20739) { break L22; }
+             L23: {
+              switch (l12 + -20140) {
+              case 0: case 19: break L19;
+              case 1: case 2: case 3: case 4: case 5: case 6: case 7: case 8: case 9: case 10: case 11: case 12: case 13: case 14: case 15: case 16: case 17: case 18: break L13;
+              default: break L23;
+              }
+             }
+             if (l12 == 19975) { break L19; }
+             break L13;
+            }
+            if (l12 == 20740) { break L19; }
+            if (l12 == 20806) { break L19; }
+            break L13;
+           }
+           L24: {
+            if (l12 > 26996) { break L24; }
+            if (l12 == 22419) { break L19; }
+            if (l12 == 26497) { break L19; }
+            break L13;
+           }
+           if (l12 == 26997) { break L19; }
+           if (l12 == 27491) { break L19; }
+           break L13;
+          }
+          L25: {
+           if (l12 > 31212) { break L25; }
+           L26: {
+            if (l12 > 28316) { break L26; }
+            if (l12 == 27807) { break L19; }
+            if (l12 == 28071) { break L19; }
+            break L13;
+           }
+           if (l12 == 28317) { break L19; }
+           if (l12 == 28567) { break L19; }
+           break L13;
+          }
+          L27: {
+           if (l12 > 33835) { break L27; }
+           if (l12 == 31213) { break L19; }
+           if (l12 == 31344) { break L19; }
+           break L13;
+          }
+          if (l12 == 33836) { break L19; }
+          if (l12 == 36733) { break L19; }
+          if (l12 != 36617) { break L13; }
+         }
+         l8 = l8 + l9;
+         if ((l11 = l11 - l9) != 0L) { continue L15; }
+         break L15;
+        }
+       }
+       if (f176(m, l13, l1, l8 = l2 - l6) != 0) { break L3; }
+       L28: {
+        if (l13 == 20491) { break L28; }
+        if (l13 != 20010) { break L13; }
+       }
+       if (l16 != 0) { break L13; }
+       l12 = (l14 = (int) b[((int) l10) - 60720]) & 255;
+       L29: {
+        if (l14 > -1) { break L29; }
+        l15 = (b[((int) l10) - 60719] & 0xff) & 63;
+        L30: {
+         if (l14 + Integer.MIN_VALUE > 2147483615) { break L30; }
+         l12 = ((l12 << 6) & 1984) | l15;
+         break L29;
+        }
+        l17 = (b[((int) l10) - 60718] & 0xff) & 63;
+        L31: {
+         if (l14 + Integer.MIN_VALUE > 2147483631) { break L31; }
+         l12 = ((l15 << 6) | ((l12 << 12) & 61440)) | l17;
+         break L29;
+        }
+        l12 = ((l17 << 6) | ((l15 << 12) | ((l12 << 18) & 1835008))) | ((b[((int) l10) - 60717] & 0xff) & 63);
+       }
+       if (f176(m, l12, l1, l8) != 0) { break L3; }
+      }
+      if (!(l4 == 0L)) { continue L5; }
+      break L5;
+     }
+    }
+    Words.put64(b, ((int) l0) - 60696, 0L);
+    Words.put64(b, ((int) l0) - 60704, 79940L);
+    Words.put64(b, ((int) l0) - 60712, l2);
+    break L2;
+   }
+   Words.put64(b, ((int) l0) - 60696, l6);
+   Words.put64(b, ((int) l0) - 60704, l7);
+   Words.put64(b, ((int) l0) - 60712, l8);
+  }
+  Words.put64(b, ((int) l0) - 60720, l1);
+  m.g0 = l3;
+  return;
+ }
+ throw State.trap();
+}
+
+static void f178(State m, long l0, long l1, long l2) {
+ final byte[] b = m.bytes;
+ long l3 = 0;
+ long l4 = 0;
+ long l5 = 0;
+ long l6 = 0;
+ long l7 = 0;
+ long l8 = 0;
+ long l9 = 0;
+ long l10 = 0;
+ int l11 = 0;
+ int l12 = 0;
+ int l13 = 0;
+ int l14 = 0;
+ int l15 = 0;
+ int l16 = 0;
+ m.g0 = l3 = m.g0 - 32L;
+ L1: {
+  L2: {
+   L3: {
+    if ((l3 = l3) < 16L) { break L3; }
+    L4: {
+     L5: {
+      L6: {
+       if (l2 == 0L) { break L6; }
+       L7: {
+        if ((l11 = (int) b[((int) (l1 + (l4 = l2 + -1L))) - 60720]) >= 0) { break L7; }
+        l4 = -2L;
+        L8: {
+         if ((b[((int) ((l5 = l1 + l2) + -2L)) - 60720] & 0xff) + Integer.MIN_VALUE > -2147483457) { break L8; }
+         l4 = ((b[((int) (l5 + -3L)) - 60720] & 0xff) + Integer.MIN_VALUE > -2147483457) ? -3L : -4L;
+        }
+        l11 = (l12 = (int) b[((int) (l5 = l1 + (l4 = l4 + l2))) - 60720]) & 255;
+        if (l12 > -1) { break L7; }
+        l13 = (b[((int) l5) - 60719] & 0xff) & 63;
+        L9: {
+         if (l12 + Integer.MIN_VALUE > 2147483615) { break L9; }
+         l11 = ((l11 << 6) & 1984) | l13;
+         break L7;
+        }
+        l14 = (b[((int) l5) - 60718] & 0xff) & 63;
+        L10: {
+         if (l12 + Integer.MIN_VALUE > 2147483631) { break L10; }
+         l11 = ((l13 << 6) | ((l11 << 12) & 61440)) | l14;
+         break L7;
+        }
+        l11 = ((l14 << 6) | ((l13 << 12) | ((l11 << 18) & 1835008))) | ((b[((int) l5) - 60717] & 0xff) & 63);
+       }
+       if (l4 == 0L) { break L2; }
+       l6 = l1 + l4;
+       if ((l12 = (int) b[((int) (l1 + (l7 = l4 + -1L))) - 60720]) >= 0) { break L4; }
+       l5 = -2L;
+       L11: {
+        if ((b[((int) (l6 + -2L)) - 60720] & 0xff) + Integer.MIN_VALUE > -2147483457) { break L11; }
+        l5 = ((b[((int) (l6 + -3L)) - 60720] & 0xff) + Integer.MIN_VALUE > -2147483457) ? -3L : -4L;
+       }
+       l12 = (l13 = (int) b[((int) (l5 = l1 + (l7 = l5 + l4))) - 60720]) & 255;
+       if (l13 > -1) { break L4; }
+       l14 = (b[((int) l5) - 60719] & 0xff) & 63;
+       L12: {
+        if (l13 + Integer.MIN_VALUE > 2147483615) { break L12; }
+        l12 = ((l12 << 6) & 1984) | l14;
+        break L4;
+       }
+       l15 = (b[((int) l5) - 60718] & 0xff) & 63;
+       if (l13 + Integer.MIN_VALUE > 2147483631) { break L5; }
+       l12 = ((l14 << 6) | ((l12 << 12) & 61440)) | l15;
+       break L4;
+      }
+      Words.put64(b, ((int) l0) - 60664, 0L);
+      Words.put64(b, ((int) l0) - 60672, 0L);
+      Words.put64(b, ((int) l0) - 60680, 0L);
+      Words.put64(b, ((int) l0) - 60688, 0L);
+      Words.put64(b, ((int) l0) - 60696, 0L);
+      Words.put64(b, ((int) l0) - 60704, 0L);
+      Words.put64(b, ((int) l0) - 60712, 0L);
+      Words.put64(b, ((int) l0) - 60720, 0L);
+      break L1;
+     }
+     l12 = ((l15 << 6) | ((l14 << 12) | ((l12 << 18) & 1835008))) | ((b[((int) l5) - 60717] & 0xff) & 63);
+    }
+    Core2.f50(m, l3 + 24L, l11);
+    L13: {
+     L14: {
+      if ((b[((int) l3) - 60696] & 0xff) != 1) { break L14; }
+      if (((b[((int) l3) - 60695] & 0xff) & 255) == 0) { break L14; }
+      Core2.f48(m, l3 + 16L, l12);
+      if ((b[((int) l3) - 60704] & 0xff) != 1) { break L14; }
+      if (((l15 = b[((int) l3) - 60703] & 0xff) & 255) + Integer.MIN_VALUE < -2147483643) { break L14; }
+      l8 = l2 - l4;
+      l9 = l4 - l7;
+      l10 = l1 + l7;
+      l2 = l1;
+      l5 = l7;
+      L15: {
+       L16: while (true) {
+        if (l5 == 0L) { break L15; }
+        l12 = (l13 = (int) b[((int) l2) - 60720]) & 255;
+        l4 = 1L;
+        L17: {
+         if (l13 > -1) { break L17; }
+         l14 = (b[((int) l2) - 60719] & 0xff) & 63;
+         L18: {
+          if (l13 + Integer.MIN_VALUE > 2147483615) { break L18; }
+          l12 = ((l12 << 6) & 1984) | l14;
+          l4 = 2L;
+          break L17;
+         }
+         l16 = (b[((int) l2) - 60718] & 0xff) & 63;
+         L19: {
+          if (l13 + Integer.MIN_VALUE > 2147483631) { break L19; }
+          l12 = ((l14 << 6) | ((l12 << 12) & 61440)) | l16;
+          l4 = 3L;
+          break L17;
+         }
+         l12 = ((l16 << 6) | ((l14 << 12) | ((l12 << 18) & 1835008))) | ((b[((int) l2) - 60717] & 0xff) & 63);
+         l4 = 4L;
+        }
+        Core2.f48(m, l3 + 8L, l12);
+        l5 = l5 - l4;
+        l2 = l2 + l4;
+        if ((b[((int) l3) - 60712] & 0xff) != 1) { continue L16; }
+        if (((b[((int) l3) - 60711] & 0xff) & 255) + Integer.MIN_VALUE < (l15 & 255) + Integer.MIN_VALUE) { continue L16; }
+        break L14;
+       }
+      }
+      if (l7 == 0L) { break L13; }
+      L20: {
+       if ((l12 = (int) b[((int) (l10 + -1L)) - 60720]) >= 0) { break L20; }
+       l2 = -2L;
+       L21: {
+        if ((b[((int) (l10 + -2L)) - 60720] & 0xff) + Integer.MIN_VALUE > -2147483457) { break L21; }
+        l2 = ((b[((int) (l10 + -3L)) - 60720] & 0xff) + Integer.MIN_VALUE > -2147483457) ? -3L : -4L;
+       }
+       l12 = (l13 = (int) b[((int) (l2 = (l1 + l2) + l7)) - 60720]) & 255;
+       if (l13 > -1) { break L20; }
+       l14 = (b[((int) l2) - 60719] & 0xff) & 63;
+       L22: {
+        if (l13 + Integer.MIN_VALUE > 2147483615) { break L22; }
+        l12 = ((l12 << 6) & 1984) | l14;
+        break L20;
+       }
+       l15 = (b[((int) l2) - 60718] & 0xff) & 63;
+       L23: {
+        if (l13 + Integer.MIN_VALUE > 2147483631) { break L23; }
+        l12 = ((l14 << 6) | ((l12 << 12) & 61440)) | l15;
+        break L20;
+       }
+       l12 = ((l15 << 6) | ((l14 << 12) | ((l12 << 18) & 1835008))) | ((b[((int) l2) - 60717] & 0xff) & 63);
+      }
+      Core2.f48(m, l3, l12);
+      L24: {
+       if ((b[((int) l3) - 60720] & 0xff) != 1) { break L24; }
+       if (((b[((int) l3) - 60719] & 0xff) & 255) + Integer.MIN_VALUE > -2147483645) { break L14; }
+      }
+      if (l12 == 20010) { break L14; }
+      if (l12 != 20491) { break L13; }
+     }
+     Words.put64(b, ((int) l0) - 60664, 0L);
+     Words.put64(b, ((int) l0) - 60672, 0L);
+     Words.put64(b, ((int) l0) - 60680, 0L);
+     Words.put64(b, ((int) l0) - 60688, 0L);
+     Words.put64(b, ((int) l0) - 60696, 0L);
+     Words.put64(b, ((int) l0) - 60704, 0L);
+     Words.put64(b, ((int) l0) - 60712, 0L);
+     Words.put64(b, ((int) l0) - 60720, 0L);
+     break L1;
+    }
+    Words.put64(b, ((int) l0) - 60720, 1L);
+    Words.put64(b, ((int) (l0 + 56L)) - 60720, l9);
+    Words.put64(b, ((int) (l0 + 48L)) - 60720, l10);
+    Words.put64(b, ((int) (l0 + 40L)) - 60720, l8);
+    Words.put64(b, ((int) (l0 + 32L)) - 60720, l6);
+    Words.put32(b, ((int) (l0 + 28L)) - 60720, 0);
+    Words.put32(b, ((int) (l0 + 24L)) - 60720, l11);
+    Words.put64(b, ((int) (l0 + 16L)) - 60720, l7);
+    Words.put64(b, ((int) (l0 + 8L)) - 60720, l1);
+    break L1;
+   }
+   throw State.trap();
+  }
+  Words.put64(b, ((int) l0) - 60664, 0L);
+  Words.put64(b, ((int) l0) - 60672, 0L);
+  Words.put64(b, ((int) l0) - 60680, 0L);
+  Words.put64(b, ((int) l0) - 60688, 0L);
+  Words.put64(b, ((int) l0) - 60696, 0L);
+  Words.put64(b, ((int) l0) - 60704, 0L);
+  Words.put64(b, ((int) l0) - 60712, 0L);
+  Words.put64(b, ((int) l0) - 60720, 0L);
+ }
+ m.g0 = l3 + 32L;
+}
+
+static void f179(State m, long l0, long l1, int l2, long l3, long l4) {
+ final byte[] b = m.bytes;
+ long l5 = 0;
+ long l6 = 0;
+ long l7 = 0;
+ long l8 = 0;
+ long l9 = 0;
+ long l10 = 0;
+ long l11 = 0;
+ long l12 = 0;
+ int l13 = 0;
+ int l14 = 0;
+ int l15 = 0;
+ int l16 = 0;
+ int l17 = 0;
+ int l18 = 0;
+ m.g0 = l5 = m.g0 - 240L;
+ L1: {
+  L2: {
+   L3: {
+    L4: {
+     L5: {
+      L6: {
+       if ((l5 = l5) < 16L) { break L6; }
+       Words.put64(b, ((int) l5) - 60616, 0L);
+       Words.put64(b, ((int) l5) - 60624, 0L);
+       Words.put64(b, ((int) l5) - 60632, 0L);
+       Words.put64(b, ((int) l5) - 60640, 0L);
+       Words.put64(b, ((int) l5) - 60648, 0L);
+       f172(m, l5 + 72L, l3, l4);
+       if ((b[((int) l5) - 60648] & 0xff) != 1) { break L2; }
+       l6 = Words.get64(b, ((int) l5) - 60616);
+       l7 = Words.get64(b, ((int) l5) - 60624);
+       l8 = Words.get64(b, ((int) l5) - 60632);
+       l9 = Words.get64(b, ((int) l5) - 60640);
+       Words.put64(b, ((int) l5) - 60552, 0L);
+       Words.put64(b, ((int) l5) - 60560, 0L);
+       Words.put64(b, ((int) l5) - 60568, 0L);
+       Words.put64(b, ((int) l5) - 60576, 0L);
+       Words.put64(b, ((int) l5) - 60584, 0L);
+       Words.put64(b, ((int) l5) - 60592, 0L);
+       Words.put64(b, ((int) l5) - 60600, 0L);
+       Words.put64(b, ((int) l5) - 60608, 0L);
+       Core2.f62(m, l5 + 112L, l3, l4, l2);
+       l13 = 0;
+       if ((b[((int) l5) - 60608] & 0xff) != 0) { break L1; }
+       l10 = Words.get64(b, ((int) l5) - 60584);
+       l11 = Words.get64(b, ((int) l5) - 60592);
+       l14 = b[((int) l5) - 60560] & 0xff;
+       l4 = l7;
+       l12 = l6;
+       L7: {
+        L8: while (true) {
+         if (l12 == 0L) { break L7; }
+         l16 = (l15 = (int) b[((int) l4) - 60720]) & 255;
+         l3 = 1L;
+         L9: {
+          if (l15 > -1) { break L9; }
+          l17 = (b[((int) l4) - 60719] & 0xff) & 63;
+          L10: {
+           if (l15 + Integer.MIN_VALUE > 2147483615) { break L10; }
+           l16 = ((l16 << 6) & 1984) | l17;
+           l3 = 2L;
+           break L9;
+          }
+          l18 = (b[((int) l4) - 60718] & 0xff) & 63;
+          L11: {
+           if (l15 + Integer.MIN_VALUE > 2147483631) { break L11; }
+           l16 = ((l17 << 6) | ((l16 << 12) & 61440)) | l18;
+           l3 = 3L;
+           break L9;
+          }
+          l16 = ((l18 << 6) | ((l17 << 12) | ((l16 << 18) & 1835008))) | ((b[((int) l4) - 60717] & 0xff) & 63);
+          l3 = 4L;
+         }
+         Core2.f48(m, l5 + 48L, l16);
+         L12: {
+          if ((b[((int) l5) - 60672] & 0xff) != 1) { break L12; }
+          l12 = l12 - l3;
+          l4 = l4 + l3;
+          if (((b[((int) l5) - 60671] & 0xff) & 255) + Integer.MIN_VALUE > -2147483647) { continue L8; }
+         }
+         break L8;
+        }
+        if (l6 == 0L) { break L5; }
+        l16 = (l15 = (int) b[((int) l7) - 60720]) & 255;
+        l4 = 1L;
+        L13: {
+         if (l15 > -1) { break L13; }
+         l17 = (b[((int) l7) - 60719] & 0xff) & 63;
+         L14: {
+          if (l15 + Integer.MIN_VALUE > 2147483615) { break L14; }
+          l16 = ((l16 << 6) & 1984) | l17;
+          l4 = 2L;
+          break L13;
+         }
+         l18 = (b[((int) l7) - 60718] & 0xff) & 63;
+         L15: {
+          if (l15 + Integer.MIN_VALUE > 2147483631) { break L15; }
+          l16 = ((l17 << 6) | ((l16 << 12) & 61440)) | l18;
+          l4 = 3L;
+          break L13;
+         }
+         l16 = ((l18 << 6) | ((l17 << 12) | ((l16 << 18) & 1835008))) | ((b[((int) l7) - 60717] & 0xff) & 63);
+         l4 = 4L;
+        }
+        L16: {
+         L17: {
+          if (l16 > 35999) { break L17; }
+          if (l16 == 45) { break L16; }
+          if (l16 == 8722) { break L16; }
+          break L5;
+         }
+         if (l16 == 36000) { break L16; }
+         if (l16 == 65293) { break L16; }
+         if (l16 != 36127) { break L5; }
+        }
+        Core2.f39(m, l1, 73819L, 1L);
+        f180(m, l5 + 40L, l1, l2, l7 + l4, l6 - l4);
+        l16 = b[((int) l5) - 60679] & 0xff;
+        break L4;
+       }
+       Words.put64(b, ((int) l5) - 60504, 0L);
+       Words.put64(b, ((int) l5) - 60512, 1L);
+       Words.put64(b, ((int) l5) - 60528, l11);
+       Words.put64(b, ((int) l5) - 60496, 0L);
+       Words.put64(b, ((int) l5) - 60488, 0L);
+       Words.put64(b, ((int) l5) - 60520, l10);
+       m.fill((int) (l5 + 112L), 0, (int) 80L);
+       Core2.f38(m, l5 + 16L, l5 + 112L, l5 + 192L);
+       Core2.f39(m, l1, Words.get64(b, ((int) l5) - 60704), Words.get64(b, ((int) l5) - 60696));
+       break L3;
+      }
+      throw State.trap();
+     }
+     f180(m, l5 + 32L, l1, l2, l7, l6);
+     l16 = b[((int) l5) - 60687] & 0xff;
+    }
+    if ((l16 & 1) == 0) { break L1; }
+   }
+   L18: {
+    if ((l14 & 255) != 2) { break L18; }
+    Core2.f39(m, l1, 73821L, 1L);
+    l13 = 1;
+    break L1;
+   }
+   Words.put64(b, ((int) l5) - 60552, 0L);
+   Words.put64(b, ((int) l5) - 60560, 0L);
+   Words.put64(b, ((int) l5) - 60568, 0L);
+   Words.put64(b, ((int) l5) - 60576, 0L);
+   Words.put64(b, ((int) l5) - 60584, 0L);
+   Words.put64(b, ((int) l5) - 60592, 0L);
+   Words.put64(b, ((int) l5) - 60600, 0L);
+   Words.put64(b, ((int) l5) - 60608, 0L);
+   Core2.f62(m, l5 + 112L, l9, l8, l2);
+   if ((b[((int) l5) - 60608] & 0xff) != 0) { break L1; }
+   final int t19 = (Words.get64(b, ((int) l5) - 60592) + Long.MIN_VALUE > -9223372036854774809L) ? 1 : 0;
+   final int t20 = ((l4 = Words.get64(b, ((int) l5) - 60584)) > 0L) ? 1 : 0;
+   final int t21 = (l4 == 0L) ? 1 : 0;
+   if ((t21 != 0 ? t19 : t20) != 0) { break L1; }
+   Core2.f39(m, l1, 73820L, 1L);
+   f180(m, l5 + 8L, l1, l2, l9, l8);
+   l13 = b[((int) l5) - 60711] & 0xff;
+   break L1;
+  }
+  L22: {
+   if (!(l4 == 0L)) { break L22; }
+   l13 = 0;
+   break L1;
+  }
+  L23: {
+   if ((l16 = (int) b[((int) (l3 + (l12 = l4 + -1L))) - 60720]) >= 0) { break L23; }
+   l12 = -2L;
+   L24: {
+    if ((b[((int) ((l7 = l3 + l4) + -2L)) - 60720] & 0xff) + Integer.MIN_VALUE > -2147483457) { break L24; }
+    l12 = ((b[((int) (l7 + -3L)) - 60720] & 0xff) + Integer.MIN_VALUE > -2147483457) ? -3L : -4L;
+   }
+   l16 = (l15 = (int) b[((int) (l7 = l3 + (l12 = l12 + l4))) - 60720]) & 255;
+   if (l15 > -1) { break L23; }
+   l13 = (b[((int) l7) - 60719] & 0xff) & 63;
+   L25: {
+    if (l15 + Integer.MIN_VALUE > 2147483615) { break L25; }
+    l16 = ((l16 << 6) & 1984) | l13;
+    break L23;
+   }
+   l17 = (b[((int) l7) - 60718] & 0xff) & 63;
+   L26: {
+    if (l15 + Integer.MIN_VALUE > 2147483631) { break L26; }
+    l16 = ((l13 << 6) | ((l16 << 12) & 61440)) | l17;
+    break L23;
+   }
+   l16 = ((l17 << 6) | ((l13 << 12) | ((l16 << 18) & 1835008))) | ((b[((int) l7) - 60717] & 0xff) & 63);
+  }
+  L27: {
+   L28: {
+    if (l16 == 37) { break L28; }
+    if (l16 == 65285) { break L28; }
+    if (l16 != 8240) { break L27; }
+   }
+   f180(m, l5 + 64L, l1, l2, l3, l12);
+   l13 = 1;
+   L29: {
+    if (((b[((int) l5) - 60655] & 0xff) & 1) != 0) { break L29; }
+    l13 = 0;
+    break L1;
+   }
+   Core2.f39(m, l1, l3 + l12, l4 - l12);
+   break L1;
+  }
+  f180(m, l5 + 56L, l1, l2, l3, l4);
+  l13 = b[((int) l5) - 60663] & 0xff;
+ }
+ b[((int) l0) - 60719] = (byte) l13;
+ b[((int) l0) - 60720] = (byte) 0;
+ m.g0 = l5 + 240L;
+}
+
+static void f180(State m, long l0, long l1, int l2, long l3, long l4) {
+ final byte[] b = m.bytes;
+ long l5 = 0;
+ long l6 = 0;
+ long l7 = 0;
+ long l8 = 0;
+ long l9 = 0;
+ long l10 = 0;
+ long l11 = 0;
+ long l12 = 0;
+ int l13 = 0;
+ int l14 = 0;
+ int l15 = 0;
+ int l16 = 0;
+ int l17 = 0;
+ int l18 = 0;
+ m.g0 = l5 = m.g0 - 320L;
+ L1: {
+  L2: {
+   L3: {
+    L4: {
+     L5: {
+      if ((l5 = l5) < 16L) { break L5; }
+      Words.put64(b, ((int) l5) - 60600, 0L);
+      Words.put64(b, ((int) l5) - 60608, 0L);
+      Words.put64(b, ((int) l5) - 60616, 0L);
+      Words.put64(b, ((int) l5) - 60624, 0L);
+      Words.put64(b, ((int) l5) - 60632, 0L);
+      l6 = l3;
+      l7 = l4;
+      L6: {
+       if ((l13 = (l4 == 0L) ? 1 : 0) != 0) { break L6; }
+       l15 = (l14 = (int) b[((int) l3) - 60720]) & 255;
+       L7: {
+        if (l14 > -1) { break L7; }
+        l16 = (b[((int) l3) - 60719] & 0xff) & 63;
+        L8: {
+         if (l14 + Integer.MIN_VALUE > 2147483615) { break L8; }
+         l15 = ((l15 << 6) & 1984) | l16;
+         break L7;
+        }
+        l17 = (b[((int) l3) - 60718] & 0xff) & 63;
+        L9: {
+         if (l14 + Integer.MIN_VALUE > 2147483631) { break L9; }
+         l15 = ((l16 << 6) | ((l15 << 12) & 61440)) | l17;
+         break L7;
+        }
+        l15 = ((l17 << 6) | ((l16 << 12) | ((l15 << 18) & 1835008))) | ((b[((int) l3) - 60717] & 0xff) & 63);
+       }
+       L10: {
+        if ((l15 + -48) + Integer.MIN_VALUE < -2147483638) { break L10; }
+        l6 = l3;
+        l7 = l4;
+        if ((l15 + -65296) + Integer.MIN_VALUE >= -2147483638) { break L6; }
+       }
+       Core2.f39(m, l1, l3, l4);
+       break L2;
+      }
+      L11: while (true) {
+       if (l7 == 0L) { break L4; }
+       l15 = (l14 = (int) b[((int) l6) - 60720]) & 255;
+       l8 = 1L;
+       L12: {
+        if (l14 > -1) { break L12; }
+        l16 = (b[((int) l6) - 60719] & 0xff) & 63;
+        L13: {
+         if (l14 + Integer.MIN_VALUE > 2147483615) { break L13; }
+         l15 = ((l15 << 6) & 1984) | l16;
+         l8 = 2L;
+         break L12;
+        }
+        l17 = (b[((int) l6) - 60718] & 0xff) & 63;
+        L14: {
+         if (l14 + Integer.MIN_VALUE > 2147483631) { break L14; }
+         l15 = ((l16 << 6) | ((l15 << 12) & 61440)) | l17;
+         l8 = 3L;
+         break L12;
+        }
+        l15 = ((l17 << 6) | ((l16 << 12) | ((l15 << 18) & 1835008))) | ((b[((int) l6) - 60717] & 0xff) & 63);
+        l8 = 4L;
+       }
+       Core2.f50(m, l5 + 80L, l15);
+       L15: {
+        if ((l15 + -58) + Integer.MIN_VALUE > 2147483637) { break L15; }
+        l7 = l7 - l8;
+        l6 = l6 + l8;
+        if (((b[((int) l5) - 60640] & 0xff) & 255) == 1) { continue L11; }
+       }
+       break L11;
+      }
+      f174(m, l5 + 88L, l3, l4);
+      L16: {
+       if ((b[((int) l5) - 60632] & 0xff) != 1) { break L16; }
+       l7 = Words.get64(b, ((int) l5) - 60600);
+       l9 = Words.get64(b, ((int) l5) - 60608);
+       l6 = Words.get64(b, ((int) l5) - 60616);
+       l8 = Words.get64(b, ((int) l5) - 60624);
+       Words.put64(b, ((int) l5) - 60424, 0L);
+       Words.put64(b, ((int) l5) - 60432, 0L);
+       Words.put64(b, ((int) l5) - 60440, 0L);
+       Words.put64(b, ((int) l5) - 60448, 0L);
+       Words.put64(b, ((int) l5) - 60456, 0L);
+       Words.put64(b, ((int) l5) - 60464, 0L);
+       Words.put64(b, ((int) l5) - 60472, 0L);
+       Words.put64(b, ((int) l5) - 60480, 0L);
+       Core2.f62(m, l5 + 240L, l8, l6, l2);
+       Words.put64(b, ((int) l5) - 60592, Words.get64(b, ((int) l5) - 60464));
+       Words.put64(b, ((int) l5) - 60584, Words.get64(b, ((int) l5) - 60456));
+       Words.put64(b, ((int) l5) - 60576, Words.get64(b, ((int) l5) - 60448));
+       Words.put64(b, ((int) l5) - 60568, Words.get64(b, ((int) l5) - 60440));
+       Words.put64(b, ((int) l5) - 60560, Words.get64(b, ((int) l5) - 60432));
+       Words.put64(b, ((int) l5) - 60552, Words.get64(b, ((int) l5) - 60424));
+       L17: {
+        if ((b[((int) l5) - 60480] & 0xff) == 0) { break L17; }
+        l18 = 0;
+        break L1;
+       }
+       m.fill((int) (l5 + 240L), 0, (int) 80L);
+       Core2.f38(m, l5 + 8L, l5 + 240L, l5 + 128L);
+       Core2.f39(m, l1, Words.get64(b, ((int) l5) - 60712), Words.get64(b, ((int) l5) - 60704));
+       Core2.f39(m, l1, 85370L, 1L);
+       f181(m, l1, l9, l7);
+       break L2;
+      }
+      L18: {
+       if (f175(m, l3, l4) == 0) { break L18; }
+       l18 = 1;
+       if (l13 != 0) { break L1; }
+       l10 = l5 + 256L;
+       l11 = l3;
+       l12 = l4;
+       L19: while (true) {
+        l15 = (l14 = (int) b[((int) l11) - 60720]) & 255;
+        l6 = 1L;
+        L20: {
+         if (l14 > -1) { break L20; }
+         l16 = (b[((int) l11) - 60719] & 0xff) & 63;
+         L21: {
+          if (l14 + Integer.MIN_VALUE > 2147483615) { break L21; }
+          l15 = ((l15 << 6) & 1984) | l16;
+          l6 = 2L;
+          break L20;
+         }
+         l17 = (b[((int) l11) - 60718] & 0xff) & 63;
+         L22: {
+          if (l14 + Integer.MIN_VALUE > 2147483631) { break L22; }
+          l15 = ((l16 << 6) | ((l15 << 12) & 61440)) | l17;
+          l6 = 3L;
+          break L20;
+         }
+         l15 = ((l17 << 6) | ((l16 << 12) | ((l15 << 18) & 1835008))) | ((b[((int) l11) - 60717] & 0xff) & 63);
+         l6 = 4L;
+        }
+        L23: {
+         if (f176(m, l15, l11 = l11 + l6, l12 = l12 - l6) == 0) { break L23; }
+         l6 = l3;
+         l9 = 0L;
+         L24: {
+          if ((l4 = l4 - l12) == 0L) { break L24; }
+          l7 = l4;
+          l6 = l3;
+          L25: while (true) {
+           l15 = (l14 = (int) b[((int) l6) - 60720]) & 255;
+           l8 = 1L;
+           L26: {
+            if (l14 > -1) { break L26; }
+            l16 = (b[((int) l6) - 60719] & 0xff) & 63;
+            L27: {
+             if (l14 + Integer.MIN_VALUE > 2147483615) { break L27; }
+             l15 = ((l15 << 6) & 1984) | l16;
+             l8 = 2L;
+             break L26;
+            }
+            l17 = (b[((int) l6) - 60718] & 0xff) & 63;
+            L28: {
+             if (l14 + Integer.MIN_VALUE > 2147483631) { break L28; }
+             l15 = ((l16 << 6) | ((l15 << 12) & 61440)) | l17;
+             l8 = 3L;
+             break L26;
+            }
+            l15 = ((l17 << 6) | ((l16 << 12) | ((l15 << 18) & 1835008))) | ((b[((int) l6) - 60717] & 0xff) & 63);
+            l8 = 4L;
+           }
+           L29: {
+            if (l15 == 38646) { break L29; }
+            if (l15 == 12295) { break L29; }
+            l9 = l7;
+            break L24;
+           }
+           l6 = l6 + l8;
+           l9 = 0L;
+           if ((l7 = l7 - l8) != 0L) { continue L25; }
+           break L25;
+          }
+         }
+         Core2.f39(m, l1, l3, l4 - l9);
+         Words.put64(b, ((int) l5) - 60504, 0L);
+         Words.put64(b, ((int) l5) - 60512, 0L);
+         Words.put64(b, ((int) l5) - 60520, 0L);
+         Words.put64(b, ((int) l5) - 60528, 0L);
+         f177(m, l5 + 192L, l6, l9);
+         l7 = Words.get64(b, ((int) l5) - 60504);
+         l9 = Words.get64(b, ((int) l5) - 60512);
+         l6 = Words.get64(b, ((int) l5) - 60520);
+         l8 = Words.get64(b, ((int) l5) - 60528);
+         Words.put64(b, ((int) l5) - 60424, 0L);
+         Words.put64(b, ((int) l5) - 60432, 0L);
+         Words.put64(b, ((int) l5) - 60440, 0L);
+         Words.put64(b, ((int) l5) - 60448, 0L);
+         Words.put64(b, ((int) l5) - 60456, 0L);
+         Words.put64(b, ((int) l5) - 60464, 0L);
+         Words.put64(b, ((int) l5) - 60472, 0L);
+         Words.put64(b, ((int) l5) - 60480, 0L);
+         Core2.f62(m, l5 + 240L, l8, l6, l2);
+         Words.put64(b, ((int) l5) - 60592, Words.get64(b, ((int) l10) - 60720));
+         Words.put64(b, ((int) l5) - 60584, Words.get64(b, ((int) l10) - 60712));
+         Words.put64(b, ((int) l5) - 60576, Words.get64(b, ((int) l10) - 60704));
+         Words.put64(b, ((int) l5) - 60568, Words.get64(b, ((int) l10) - 60696));
+         Words.put64(b, ((int) l5) - 60560, Words.get64(b, ((int) l10) - 60688));
+         Words.put64(b, ((int) l5) - 60552, Words.get64(b, ((int) l10) - 60680));
+         if ((b[((int) l5) - 60480] & 0xff) != 0) { break L3; }
+         m.fill((int) (l5 + 240L), 0, (int) 80L);
+         Core2.f38(m, l5 + 24L, l5 + 240L, l5 + 128L);
+         Core2.f39(m, l1, Words.get64(b, ((int) l5) - 60696), Words.get64(b, ((int) l5) - 60688));
+         Core2.f39(m, l1, l9, l7);
+         l4 = l12;
+         l3 = l11;
+        }
+        if (!(l12 == 0L)) { continue L19; }
+        break L1;
+       }
+      }
+      Words.put64(b, ((int) l5) - 60536, 0L);
+      Words.put64(b, ((int) l5) - 60544, 0L);
+      Words.put64(b, ((int) l5) - 60552, 0L);
+      Words.put64(b, ((int) l5) - 60560, 0L);
+      Words.put64(b, ((int) l5) - 60568, 0L);
+      Words.put64(b, ((int) l5) - 60576, 0L);
+      Words.put64(b, ((int) l5) - 60584, 0L);
+      Words.put64(b, ((int) l5) - 60592, 0L);
+      f178(m, l5 + 128L, l3, l4);
+      L30: {
+       L31: {
+        if ((b[((int) l5) - 60592] & 0xff) != 1) { break L31; }
+        l7 = Words.get64(b, ((int) l5) - 60536);
+        l9 = Words.get64(b, ((int) l5) - 60544);
+        l3 = Words.get64(b, ((int) l5) - 60552);
+        l4 = Words.get64(b, ((int) l5) - 60560);
+        l15 = Words.get32(b, ((int) l5) - 60568);
+        l6 = Words.get64(b, ((int) l5) - 60576);
+        l8 = Words.get64(b, ((int) l5) - 60584);
+        Words.put64(b, ((int) l5) - 60424, 0L);
+        Words.put64(b, ((int) l5) - 60432, 0L);
+        Words.put64(b, ((int) l5) - 60440, 0L);
+        Words.put64(b, ((int) l5) - 60448, 0L);
+        Words.put64(b, ((int) l5) - 60456, 0L);
+        Words.put64(b, ((int) l5) - 60464, 0L);
+        Words.put64(b, ((int) l5) - 60472, 0L);
+        Words.put64(b, ((int) l5) - 60480, 0L);
+        Core2.f62(m, l5 + 240L, l8, l6, l2);
+        Words.put64(b, ((int) l5) - 60528, Words.get64(b, ((int) l5) - 60464));
+        Words.put64(b, ((int) l5) - 60520, Words.get64(b, ((int) l5) - 60456));
+        Words.put64(b, ((int) l5) - 60512, Words.get64(b, ((int) l5) - 60448));
+        Words.put64(b, ((int) l5) - 60504, Words.get64(b, ((int) l5) - 60440));
+        Words.put64(b, ((int) l5) - 60496, Words.get64(b, ((int) l5) - 60432));
+        Words.put64(b, ((int) l5) - 60488, Words.get64(b, ((int) l5) - 60424));
+        if ((b[((int) l5) - 60480] & 0xff) == 0) { break L30; }
+        l18 = 0;
+        break L1;
+       }
+       Words.put64(b, ((int) l5) - 60424, 0L);
+       Words.put64(b, ((int) l5) - 60432, 0L);
+       Words.put64(b, ((int) l5) - 60440, 0L);
+       Words.put64(b, ((int) l5) - 60448, 0L);
+       Words.put64(b, ((int) l5) - 60456, 0L);
+       Words.put64(b, ((int) l5) - 60464, 0L);
+       Words.put64(b, ((int) l5) - 60472, 0L);
+       Words.put64(b, ((int) l5) - 60480, 0L);
+       Core2.f62(m, l5 + 240L, l3, l4, l2);
+       Words.put64(b, ((int) l5) - 60528, Words.get64(b, ((int) l5) - 60464));
+       Words.put64(b, ((int) l5) - 60520, Words.get64(b, ((int) l5) - 60456));
+       Words.put64(b, ((int) l5) - 60512, Words.get64(b, ((int) l5) - 60448));
+       Words.put64(b, ((int) l5) - 60504, Words.get64(b, ((int) l5) - 60440));
+       Words.put64(b, ((int) l5) - 60496, Words.get64(b, ((int) l5) - 60432));
+       Words.put64(b, ((int) l5) - 60488, Words.get64(b, ((int) l5) - 60424));
+       l18 = 0;
+       if ((b[((int) l5) - 60480] & 0xff) != 0) { break L1; }
+       m.fill((int) (l5 + 240L), 0, (int) 80L);
+       Core2.f38(m, l5 + 64L, l5 + 240L, l5 + 192L);
+       Core2.f39(m, l1, Words.get64(b, ((int) l5) - 60656), Words.get64(b, ((int) l5) - 60648));
+       break L2;
+      }
+      m.fill((int) (l5 + 240L), 0, (int) 80L);
+      Core2.f38(m, l5 + 48L, l5 + 240L, l5 + 192L);
+      Core2.f39(m, l1, Words.get64(b, ((int) l5) - 60672), Words.get64(b, ((int) l5) - 60664));
+      Core2.f39(m, l1, 85370L, 1L);
+      Core2.f50(m, l5 + 40L, l15);
+      L32: {
+       L33: {
+        if ((b[((int) l5) - 60680] & 0xff) != 1) { break L33; }
+        Core2.f39(m, l1, Words.get64(b, State.far((int) ((((b[((int) l5) - 60679] & 0xff) & 0xffffffffL) & 255L) << 3L), 88000)), 1L);
+        break L32;
+       }
+       Core2.f39(m, l1, l4, l3);
+      }
+      Core2.f39(m, l1, l9, l7);
+      break L2;
+     }
+     throw State.trap();
+    }
+    f181(m, l1, l3, l4);
+    break L2;
+   }
+   l18 = 0;
+   break L1;
+  }
+  l18 = 1;
+ }
+ b[((int) l0) - 60719] = (byte) l18;
+ b[((int) l0) - 60720] = (byte) 0;
+ m.g0 = l5 + 320L;
+}
+
+static void f181(State m, long l0, long l1, long l2) {
+ final byte[] b = m.bytes;
+ long l3 = 0;
+ long l4 = 0;
+ int l5 = 0;
+ int l6 = 0;
+ int l7 = 0;
+ int l8 = 0;
+ m.g0 = l3 = m.g0 - 16L;
+ L1: {
+  if ((l4 = l3) < 16L) { break L1; }
+  L2: {
+   if (l2 == 0L) { break L2; }
+   L3: while (true) {
+    l6 = (l5 = (int) b[((int) l1) - 60720]) & 255;
+    l3 = 1L;
+    L4: {
+     if (l5 > -1) { break L4; }
+     l7 = (b[((int) l1) - 60719] & 0xff) & 63;
+     L5: {
+      if (l5 + Integer.MIN_VALUE > 2147483615) { break L5; }
+      l6 = ((l6 << 6) & 1984) | l7;
+      l3 = 2L;
+      break L4;
+     }
+     l8 = (b[((int) l1) - 60718] & 0xff) & 63;
+     L6: {
+      if (l5 + Integer.MIN_VALUE > 2147483631) { break L6; }
+      l6 = ((l7 << 6) | ((l6 << 12) & 61440)) | l8;
+      l3 = 3L;
+      break L4;
+     }
+     l6 = ((l8 << 6) | ((l7 << 12) | ((l6 << 18) & 1835008))) | ((b[((int) l1) - 60717] & 0xff) & 63);
+     l3 = 4L;
+    }
+    Core2.f50(m, l4 + 8L, l6);
+    l2 = l2 - l3;
+    L7: {
+     L8: {
+      if ((b[((int) l4) - 60712] & 0xff) != 1) { break L8; }
+      Core2.f39(m, l0, Words.get64(b, State.far((int) ((((b[((int) l4) - 60711] & 0xff) & 0xffffffffL) & 255L) << 3L), 88000)), 1L);
+      break L7;
+     }
+     Core2.f39(m, l0, l1, l3);
+    }
+    l1 = l1 + l3;
+    if (l2 != 0L) { continue L3; }
+    break L3;
+   }
+  }
+  m.g0 = l4 + 16L;
+  return;
+ }
+ throw State.trap();
+}
+}
