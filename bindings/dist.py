@@ -2,11 +2,14 @@
 """Makes `dist/`, from which the library is installed without its toolchain, and compares it with its
 sources.
 
-Usage: dist.py make | check | again ARCHIVE
+Usage: dist.py make | copies | check | again ARCHIVE
 
 make builds cn_c for WebAssembly, and C source from that, and writes `dist/` and the copies of its
 files where the tools of other languages look. It needs the toolchain, a C compiler, wasm-opt of
 binaryen, and wasm2c of wabt 1.0.32.
+
+copies makes again what is made of the files in `dist/`: the copies, JavaScript and Java. It needs
+only Python, as check does.
 
 check verifies that `dist/` was made from the sources that are here, that its files have the checksums
 in its PROVENANCE.json, and that each copy equals its original. It needs only Python 3.8 or later.
@@ -25,6 +28,8 @@ import sys
 import tempfile
 from pathlib import Path
 
+sys.path.append(str(Path(__file__).resolve().parent / "java"))
+import core
 from provenance import first_line, logic_of, sum_of, verdict
 from sources import TOP, read, sum_of_sources
 
@@ -47,7 +52,7 @@ COPIES = {
     "dist/LICENSE-wabt": "bindings/source/LICENSE-wabt",
     "dist/chinese_number.h": "bindings/c/chinese_number.h",
     "dist/chinese_number.hpp": "bindings/c/chinese_number.hpp",
-    **{f"bindings/{it}/LICENSE": "LICENSE" for it in ("go", "python", "rust", "web")},
+    **{f"bindings/{it}/LICENSE": "LICENSE" for it in ("go", "java", "python", "rust", "web")},
     **{f"bindings/go/{name}": original for name, original in C_SOURCE.items()},
     **{f"bindings/python/source/{name}": original for name, original in C_SOURCE.items()},
     **{f"bindings/rust/source/{name}": original for name, original in C_SOURCE.items()},
@@ -122,12 +127,19 @@ def of_javascript(module):
     }
 
 
+def of_java(module):
+    """The classes that contain the module, by path."""
+    folder = "bindings/java/src/main/java/chinesenumber"
+    return {f"{folder}/{name}.java": text.encode() for name, text in core.classes(module).items()}
+
+
 def files_of(made):
     """All files except PROVENANCE.json, by path, made from the files that are built, by name."""
     files = {f"dist/{name}": made[name] for name in MADE}
     for path, original in COPIES.items():
         files[path] = files[original] if original in files else read(TOP / original)
-    return {**files, **of_javascript(made["chinese-number.32.wasm"])}
+    module = made["chinese-number.32.wasm"]
+    return {**files, **of_javascript(module), **of_java(module)}
 
 
 def sums_of(files):
@@ -167,6 +179,10 @@ def make():
     with tempfile.TemporaryDirectory() as scratch:
         said("bash", HERE / "archive.sh", scratch)
         files = built(Path(scratch) / ARCHIVE, by)
+    write(files)
+
+
+def write(files):
     for path, data in files.items():
         (TOP / path).parent.mkdir(parents=True, exist_ok=True)
         (TOP / path).write_bytes(data)
@@ -178,10 +194,15 @@ def found(path):
     return (TOP / path).read_bytes() if (TOP / path).is_file() else b""
 
 
+def files_here():
+    """All files except PROVENANCE.json, by path, made from those of dist/."""
+    return files_of({name: found(f"dist/{name}") for name in MADE})
+
+
 def faults(told):
     if told.get("sources") != sum_of_sources():
         yield "the sources are not those that dist/ was made of"
-    files = files_of({name: found(f"dist/{name}") for name in MADE})
+    files = files_here()
     named = told.get("sha256", {})
     for name, it in sums_of({path: found(path) for path in files}).items():
         if it != named.get(name):
@@ -239,6 +260,8 @@ def main():
     words = sys.argv[1:]
     if words == ["make"]:
         make()
+    elif words == ["copies"]:
+        write(files_here())
     elif words == ["check"]:
         check()
     elif len(words) == 2 and words[0] == "again":

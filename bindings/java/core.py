@@ -28,7 +28,7 @@ package chinesenumber;
 """
 # About how many bytes of Java's code a method may have, and a block that becomes a part; how many bytes
 # of the module go into a class.
-MOST_OF_METHOD, LEAST_OF_PART, MOST_OF_CLASS = 5600, 300, 56000
+MOST_OF_METHOD, LEAST_OF_PART, MOST_OF_CLASS = 5000, 300, 56000
 # About how many bytes of Java's code an instruction becomes, where that is not 3.
 COSTS = {
     "local.get": 2, "local.set": 2, "local.tee": 4, "i32.wrap_i64": 1, "block": 0, "loop": 0, "br_if": 5,

@@ -4,7 +4,6 @@ import chinesenumber.*;
 import java.io.BufferedReader;
 import java.io.InputStreamReader;
 import java.io.PrintStream;
-import java.math.BigDecimal;
 import java.math.BigInteger;
 import java.nio.charset.StandardCharsets;
 import java.time.Duration;
@@ -60,13 +59,13 @@ public final class Answers {
 
     private static void addCapitals() {
         CALLS.put("read_amount", w -> chineseToAmount(w[1]));
-        CALLS.put("print_amount", w -> yuanToChinese(yuan(w[2]), form(w[1], "plain")));
-        CALLS.put("print_amount_as", w -> yuanToChinese(yuan(w[3]), form(w[1], w[2])));
+        CALLS.put("print_amount", w -> amountToChinese(fen(w[2]), form(w[1], "plain")));
+        CALLS.put("print_amount_as", w -> amountToChinese(fen(w[3]), form(w[1], w[2])));
         CALLS.put("read_typed_amount", w -> chineseToAmountAsTyped(w[1]));
         CALLS.put("read_signed_amount", w -> chineseToSignedAmount(w[1]));
         CALLS.put("read_typed_signed_amount", w -> chineseToSignedAmountAsTyped(w[1]));
-        CALLS.put("print_signed_amount", w -> signedYuanToChinese(yuan(w[2]), form(w[1], "plain")));
-        CALLS.put("print_signed_amount_as", w -> signedYuanToChinese(yuan(w[3]), form(w[1], w[2])));
+        CALLS.put("print_signed_amount", w -> signedAmountToChinese(fen(w[2]), form(w[1], "plain")));
+        CALLS.put("print_signed_amount_as", w -> signedAmountToChinese(fen(w[3]), form(w[1], w[2])));
         CALLS.put("yuan_to_fen", w -> yuanToFen(w[1]));
         CALLS.put("read_date", w -> chineseToDate(w[1]));
         CALLS.put("print_date", w -> dateToChinese(LocalDate.parse(w[2]), script(w[1])));
@@ -136,8 +135,10 @@ public final class Answers {
         return Locale.forLanguageTag(tag);
     }
 
-    private static BigDecimal yuan(String fen) {
-        return new BigDecimal(fen).movePointLeft(2);
+    /** The fen of a word. More than a long holds is as much too large as the greatest one. */
+    private static long fen(String word) {
+        BigInteger most = BigInteger.valueOf(Long.MAX_VALUE);
+        return new BigInteger(word).min(most).max(most.not()).longValueExact();
     }
 
     private static Quantity quantity(String words) {

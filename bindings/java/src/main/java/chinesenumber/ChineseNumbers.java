@@ -221,7 +221,7 @@ public final class ChineseNumbers {
         requireNonNull(form, "form");
         if (fen < 0) {
             throw new ChineseNumberException(Status.TOO_SMALL,
-                Codes.TOO_SMALL_TEXT + ": signedAmountToChinese writes amounts below zero");
+                Codes.TOO_SMALL_TEXT + ": the calls for signed amounts write those below zero");
         }
         Machine it = Machine.take();
         int status = Core.chinese_amount_print(it, fen, form.script.ordinal(), form.flags, TEXT,

@@ -12,7 +12,7 @@ import java.util.Optional;
  */
 public final class Quantity {
     static final QuantityForm[] FORMS = QuantityForm.values();
-    private static final int MOST_BITS = 128;
+    private static final int MOST_DIGITS = 39;
     private static final BigInteger HUNDRED = BigInteger.valueOf(100);
 
     private final BigInteger numerator;
@@ -59,7 +59,7 @@ public final class Quantity {
 
     private static Quantity of(BigDecimal number, int places, QuantityForm form) {
         long digits = Math.max((long) number.precision() - Math.min(number.scale(), 0), number.scale());
-        if (digits > MOST_BITS) {
+        if (digits > MOST_DIGITS) {
             throw ChineseNumbers.notHeld(Kind.I128);
         }
         BigDecimal exact = number.scale() < 0 ? number.setScale(0) : number;
@@ -84,7 +84,7 @@ public final class Quantity {
     }
 
     /**
-     * The value as it is: 35000.0 for 3.5万 and 0.125 for 12.5%.
+     * The value: 35000 for 3.5万, 0.125 for 12.5%.
      *
      * @throws ArithmeticException if it has no end, as 1/3
      */

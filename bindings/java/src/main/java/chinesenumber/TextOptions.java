@@ -19,7 +19,7 @@ public final class TextOptions {
 
     private TextOptions(Wanted wanted, Way method, int flags) {
         this.wanted = requireNonNull(wanted, "wanted");
-        this.method = ChineseNumbers.method(requireNonNull(method, "method"));
+        this.method = ChineseNumbers.method(method);
         this.flags = flags;
     }
 
