@@ -52,8 +52,11 @@ REPEATED = {
     ("version", r'^version = "(.*)"'): "bindings/rust/Cargo.toml",
     ("version", r"^export const VERSION = '(.*)'"): "bindings/web/chinese-number.mjs",
     ("version", r'^  "version": "(.*)"'): "bindings/web/package.json",
+    ("version", r"^  <version>(.*)</version>"): "bindings/java/pom.xml",
+    ("version", r' VERSION = "(.*)"'): "bindings/java/src/main/java/chinesenumber/ChineseNumbers.java",
     ("version", r"chinese.number[a-z-_]*-(\d[\d.]*\d)\b"): (
-        "bindings/README.md bindings/web/README.md bindings/web/README.zh.md"
+        "bindings/README.md bindings/web/README.md bindings/web/README.zh.md "
+        "bindings/java/README.md bindings/java/README.zh.md"
     ),
     ("longest text", r"\b(4,\d{3},\d{3},\d{3})\b"): (
         "docs/DIFFERENCES.md bindings/codes.txt bindings/source/README.md bindings/go/README.md "
