@@ -168,6 +168,13 @@ def test_go(follow, way):
     follow(f"go mod init user\n{OF_MODULES[way]}go run .\n", NUMBER, **OF_GO)
 
 
+def test_java(follow):
+    needs("javac 11", "java")
+    page = page_of("java")
+    write(follow.folder / "Example.java", page.example)
+    follow(by_page(page) + by_page(page, 1), page.answer)
+
+
 # As a subproject it builds as the user's project does, and installs nothing itself.
 AS_PART = """\
 cmake -S . -B build -DDIST="$CLONE/dist" -DSOURCE="$CLONE/bindings/c/example.c" > log

@@ -1,9 +1,10 @@
 #!/usr/bin/env python3
-"""Makes the jars of this folder, without a network: of the classes, the sources and the documentation.
+"""Makes the jar of this folder, without a network, and with --all those of the sources and the
+documentation, and the file for Maven.
 
-Usage: build.py OUT
+Usage: build.py [--all] OUT
 
-It needs a JDK from 9 on, which compiles for Java 8; the class of the module is for Java 9. The jars are the
+It needs a JDK from 9 on, which compiles for Java 8; two classes are for Java from 9 on. The jars are the
 same, byte for byte, where the JDK is the same. A method of more than 8,000 bytes is refused, since the
 virtual machine would leave it to its interpreter.
 """
@@ -16,7 +17,7 @@ import zipfile
 from pathlib import Path
 
 HERE = Path(__file__).resolve().parent
-SOURCES = HERE / "src/main/java"
+SOURCES, NEWER = HERE / "src/main/java", HERE / "src/main/java9"
 NAME, MODULE = "chinese-number-proved", "chinesenumber"
 MOST_OF_METHOD = 8000
 # The compiler runs for a few seconds, in which compiling itself well does not pay off.
@@ -25,6 +26,7 @@ DOCUMENTED = ("-quiet", "-notimestamp", "-Xdoclint:all,-missing", "-Xwerror", "-
 DATE = (1980, 1, 1, 0, 0, 0)
 MANIFEST = """\
 Manifest-Version: 1.0
+Multi-Release: true
 Implementation-Title: {name}
 Implementation-Version: {version}
 
@@ -49,9 +51,9 @@ def run(*words):
         stop(f"{words[0]} has ended with status {error.returncode}")
 
 
-def javac(release, out, *files):
-    words = ("javac", *BRIEF, "--release", release, "-encoding", "UTF-8", "-g:source,lines")
-    run(*words, "-Xlint:all,-options,-cast", "-Werror", "-d", out, *files)
+def javac(release, out, *words):
+    own = ("javac", *BRIEF, "--release", release, "-encoding", "UTF-8", "-g:source,lines")
+    run(*own, "-Xlint:all,-options,-cast", "-Werror", "-d", out, *words)
 
 
 # The parts of a class file that have other sizes than three bytes, by their first byte.
@@ -111,14 +113,15 @@ def refuse_large(folder):
 
 
 def compiled(folder):
-    """Compiles the classes into a folder."""
-    javac("8", folder, *sorted((SOURCES / MODULE).glob("*.java")))
+    """Compiles the classes into a folder, as they are in the jar."""
+    javac("8", folder, *sorted(SOURCES.rglob("*.java")))
     refuse_large(folder)
-    javac("9", folder, SOURCES / "module-info.java")
+    around = ("--patch-module", f"{MODULE}={folder}")
+    javac("9", folder / "META-INF/versions/9", *around, *sorted(NEWER.rglob("*.java")))
 
 
 def documented(folder):
-    public = [it for it in sorted((SOURCES / MODULE).glob("*.java")) if not it.stem.startswith("Core")]
+    public = [it for it in sorted(SOURCES.rglob("*.java")) if not it.stem.startswith("Core")]
     words = ("-d", folder, "-sourcepath", SOURCES, "-windowtitle", NAME, "-doctitle", NAME)
     run("javadoc", *BRIEF, *DOCUMENTED, *words, *public)
 
@@ -141,26 +144,36 @@ def pack(path, files):
             jar.writestr(entry, data, zipfile.ZIP_DEFLATED, 9)
 
 
-def build(out, about):
-    """Makes the jars; `about` has further files for each of them, by name."""
-    top = f"{NAME}-{version()}"
-    own = {f"META-INF/{name}": data for name, data in about.items()}
+def make_jar(top, about):
+    """Makes the jar whose path begins like this; `about` has further files for it, by name."""
     with tempfile.TemporaryDirectory() as scratch:
-        classes, documents = Path(scratch) / "classes", Path(scratch) / "documents"
-        compiled(classes)
-        documented(documents)
-        pack(out / f"{top}.jar", {**files_below(classes), **own})
-        pack(out / f"{top}-sources.jar", {**files_below(SOURCES), **own})
-        pack(out / f"{top}-javadoc.jar", {**files_below(documents), **own})
-    (out / f"{top}.pom").write_bytes((HERE / "pom.xml").read_bytes())
+        compiled(Path(scratch))
+        pack(Path(f"{top}.jar"), {**files_below(Path(scratch)), **about})
+
+
+def make_others(top, about):
+    sources = {f"META-INF/versions/9/{name}": data for name, data in files_below(NEWER).items()}
+    pack(Path(f"{top}-sources.jar"), {**files_below(SOURCES), **sources, **about})
+    with tempfile.TemporaryDirectory() as scratch:
+        documented(Path(scratch))
+        pack(Path(f"{top}-javadoc.jar"), {**files_below(Path(scratch)), **about})
+    Path(f"{top}.pom").write_bytes((HERE / "pom.xml").read_bytes())
+
+
+def make(out, about, is_all):
+    out.mkdir(parents=True, exist_ok=True)
+    top, own = out / f"{NAME}-{version()}", {f"META-INF/{name}": it for name, it in about.items()}
+    make_jar(top, own)
+    if is_all:
+        make_others(top, own)
 
 
 def main():
-    if len(sys.argv) != 2 or sys.argv[1].startswith("-"):
+    words = sys.argv[1:]
+    is_all = "--all" in words[:1]
+    if len(words) != 1 + is_all or words[-1].startswith("-"):
         sys.exit(__doc__)
-    out = Path(sys.argv[1])
-    out.mkdir(parents=True, exist_ok=True)
-    build(out, {"LICENSE": (HERE / "LICENSE").read_bytes()})
+    make(Path(words[-1]), {"LICENSE": (HERE / "LICENSE").read_bytes()}, is_all)
 
 
 if __name__ == "__main__":
