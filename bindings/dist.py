@@ -9,7 +9,7 @@ files where the tools of other languages look. It needs the toolchain, a C compi
 binaryen, and wasm2c of wabt 1.0.32.
 
 copies makes again what is made of the files in `dist/`: the copies, JavaScript and Java. It needs
-only Python, as check does.
+only Python.
 
 check verifies that `dist/` was made from the sources that are here, that its files have the checksums
 in its PROVENANCE.json, and that each copy equals its original. It needs only Python 3.8 or later.
@@ -68,13 +68,17 @@ const bytes = Uint8Array.from(atob(base64), (it) => it.charCodeAt(0));
 export const compiled = new WebAssembly.Module(bytes);
 """
 IMPORT = "import { compiled } from './compiled.mjs';\n"
+# The classes of Java that contain the module are made of it by the translator.
+JAVA, MODULE = "bindings/java/src/main/java/chinesenumber", "dist/chinese-number.32.wasm"
+TRANSLATOR = [f"bindings/java/{it}" for it in ("core.py", "wasm.py", "State.java.in")]
 COUNT = "1000"
 WHAT = (
     "The library cn_c as modules for WebAssembly and as C source. `verdict` is the toolchain's own "
     "line over the module with a 64-bit memory, built of proved code: of the sources whose sum "
     "bindings/sources.py prints. The other files are made of that module. `answers` is what "
     f"`same {COUNT}` of bindings/source/same.c shows over the C source, and over an archive of the "
-    "same sources. bindings/dist.py makes and compares all this. This file is not signed."
+    "same sources. `java` is one checksum of the classes of Java with the module, and of what makes "
+    "them. bindings/dist.py makes and compares all this. This file is not signed."
 )
 
 
@@ -129,17 +133,29 @@ def of_javascript(module):
 
 def of_java(module):
     """The classes that contain the module, by path."""
-    folder = "bindings/java/src/main/java/chinesenumber"
-    return {f"{folder}/{name}.java": text.encode() for name, text in core.classes(module).items()}
+    return {f"{JAVA}/{name}.java": it.encode() for name, it in core.classes(module).items()}
 
 
 def files_of(made):
-    """All files except PROVENANCE.json, by path, made from the files that are built, by name."""
+    """The files except PROVENANCE.json and those of Java, by path, made from the files that are built,
+    by name."""
     files = {f"dist/{name}": made[name] for name in MADE}
     for path, original in COPIES.items():
         files[path] = files[original] if original in files else read(TOP / original)
-    module = made["chinese-number.32.wasm"]
-    return {**files, **of_javascript(module), **of_java(module)}
+    return {**files, **of_javascript(made["chinese-number.32.wasm"])}
+
+
+def all_files_of(made):
+    return {**files_of(made), **of_java(made["chinese-number.32.wasm"])}
+
+
+def sum_of_java(files):
+    """One checksum of the classes among the files, and of what makes them."""
+    made = {path: data for path, data in files.items() if path.startswith(JAVA)}
+    of = {path: read(TOP / path) for path in TRANSLATOR}
+    of[MODULE] = files.get(MODULE) or found(MODULE)
+    lines = [f"{sum_of(data)}  {path}" for path, data in sorted({**of, **made}.items())]
+    return sum_of("\n".join(lines).encode())
 
 
 def sums_of(files):
@@ -155,7 +171,7 @@ def built(archive, by):
         folder = Path(scratch)
         log = said("bash", HERE / "web/build.sh", folder)
         said(sys.executable, HERE / "source/source.py", folder / "chinese-number.32.wasm", folder)
-        files = files_of({name: (folder / name).read_bytes() for name in MADE})
+        files = all_files_of({name: (folder / name).read_bytes() for name in MADE})
         shown, of_archive = answers(folder / "chinese_number.c"), answers(archive)
     if shown != of_archive:
         stop(f"the C source shows {shown}, and the archive {of_archive}")
@@ -167,8 +183,13 @@ def built(archive, by):
         "answers": shown,
         "sha256": sums_of(files),
     }
-    text = json.dumps(told, ensure_ascii=False, indent=2)
-    return {**files, PROVENANCE: f"{text}\n".encode()}
+    return {**files, PROVENANCE: provenance_of(told, files)}
+
+
+def provenance_of(told, files):
+    """The bytes of PROVENANCE.json."""
+    told = {**told, "what": WHAT, "java": sum_of_java(files)}
+    return f"{json.dumps(told, ensure_ascii=False, indent=2)}\n".encode()
 
 
 def make():
@@ -194,15 +215,29 @@ def found(path):
     return (TOP / path).read_bytes() if (TOP / path).is_file() else b""
 
 
-def files_here():
-    """All files except PROVENANCE.json, by path, made from those of dist/."""
-    return files_of({name: found(f"dist/{name}") for name in MADE})
+def made_here():
+    """The files of dist/ that are built, by name."""
+    return {name: found(f"dist/{name}") for name in MADE}
+
+
+def classes_here():
+    """The classes of Java that contain the module, by path."""
+    paths = [*sorted((TOP / JAVA).glob("Core*.java")), TOP / JAVA / "State.java"]
+    return {path.relative_to(TOP).as_posix(): found(path) for path in paths}
+
+
+def copies():
+    files = all_files_of(made_here())
+    for path in classes_here().keys() - files:
+        (TOP / path).unlink()
+    told = json.loads(found(PROVENANCE))
+    write({**files, PROVENANCE: provenance_of(told, files)})
 
 
 def faults(told):
     if told.get("sources") != sum_of_sources():
         yield "the sources are not those that dist/ was made of"
-    files = files_here()
+    files = files_of(made_here())
     named = told.get("sha256", {})
     for name, it in sums_of({path: found(path) for path in files}).items():
         if it != named.get(name):
@@ -210,6 +245,8 @@ def faults(told):
     for path, data in files.items():
         if found(path) != data:
             yield f"{path} is not as made of {COPIES.get(path, 'its originals')}"
+    if told.get("java") != sum_of_java(classes_here()):
+        yield f"{JAVA} has other classes than dist.py made by core.py: run `dist.py copies`"
 
 
 def check():
@@ -261,7 +298,7 @@ def main():
     if words == ["make"]:
         make()
     elif words == ["copies"]:
-        write(files_here())
+        copies()
     elif words == ["check"]:
         check()
     elif len(words) == 2 and words[0] == "again":

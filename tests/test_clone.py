@@ -81,7 +81,7 @@ def test_there_is_no_network(begin):
 
 def test_attributes(first):
     """git keeps the bytes of each file that dist.py makes, and marks it as generated."""
-    paths = [*dist.files_here(), dist.PROVENANCE]
+    paths = [*dist.files_of(dist.made_here()), *dist.classes_here(), dist.PROVENANCE]
     said = run("git", "check-attr", "text", "linguist-generated", "--", *paths, cwd=first)
     others = [
         it for it in said.splitlines() if not it.endswith((": text: unset", "-generated: set"))

@@ -4,6 +4,7 @@ import os
 import re
 import subprocess
 import sys
+from pathlib import Path
 
 import pytest
 
@@ -40,7 +41,7 @@ def classes(tmp_path_factory):
 
 
 def java(classes, name, *words, mode=BRIEF, stdin="", **more):
-    return run("java", *mode, "-cp", classes, name, *words, cwd=classes, stdin=stdin, **more)
+    return run("java", *mode, "-cp", classes, name, *words, cwd=OWN, stdin=stdin, **more)
 
 
 def test_answers(classes):
@@ -51,6 +52,35 @@ def test_answers(classes):
 def test_limits(classes, mode):
     rounds = "1" if mode == "no compiler" else "20"
     java(classes, "Limits", rounds, mode=("-Xmx300m", *MODES[mode]), wanted="")
+
+
+# An example in a comment, and its value.
+EXAMPLE = re.compile(r"\{@code ([^}]*)\} is ([^\s,;]+?)[.,]?(?: |$)", re.M)
+EXAMPLES = """\
+import static chinesenumber.ChineseNumbers.*;
+import chinesenumber.*;
+import java.math.*;
+import java.time.*;
+import java.util.*;
+class Examples {{
+    public static void main(String[] words) {{
+{}
+    }}
+}}
+"""
+
+
+def test_examples(classes, tmp_path):
+    """Each call has an example in its comment, with its value."""
+    text = (JAVA / "src/main/java/chinesenumber/ChineseNumbers.java").read_text(encoding="utf-8")
+    comments = re.findall(r"/\*\*((?:(?!\*/).)*)\*/\s+public static (?!final)", text, re.S)
+    found = [EXAMPLE.search(re.sub(r"\s+\*? *", " ", it)) for it in comments]
+    assert None not in found and len(found) > 50
+    calls = "".join(f"        System.out.println({it[1]});\n" for it in found)
+    write(tmp_path / "Examples.java", EXAMPLES.format(calls))
+    words = ("javac", *build.BRIEF, "-encoding", "UTF-8", "-cp", classes, "-d", tmp_path)
+    run(*words, "Examples.java", cwd=tmp_path)
+    assert java(f"{classes}:{tmp_path}", "Examples") == "".join(f"{it[2]}\n" for it in found)
 
 
 # The parameters of the calls, and how many of what a pointer leads to there are.
@@ -158,43 +188,80 @@ def test_large_method_refused(tmp_path):
 ALL = "public class All {{ public static void main(String[] words) throws Exception {{ {} }} }}"
 
 
-def answers_of_java(folder, binaries, translate):
-    """What the functions of modules answer in Java."""
+def answers_of_java(folder, jobs):
+    """What the functions of modules answer in Java, given the classes of each module."""
     calls = []
-    for number, binary in enumerate(binaries):
-        own = folder / f"m{number}"
-        texts = translate(binary)
+    for number, texts in enumerate(jobs):
+        package, own = f"package m{number};", folder / f"m{number}"
         texts["Words"] = (JAVA / "src/main/java/chinesenumber/Words.java").read_text("utf-8")
+        texts["Driver"] = (OWN / "Driver.java.in").read_text("utf-8")
         for name, text in texts.items():
-            write(own / f"{name}.java", text.replace("package chinesenumber;", f"package m{number};"))
-        driver = (OWN / "Driver.java.in").read_text("utf-8").replace("@PACKAGE@", f"m{number}")
-        write(own / "Driver.java", driver)
+            text = text.replace("package chinesenumber;", package)
+            write(own / f"{name}.java", text.replace("package @PACKAGE@;", package))
         calls.append(f"m{number}.Driver.print({number}, System.out);")
     write(folder / "All.java", ALL.format(" ".join(calls)))
     run("javac", *build.BRIEF, "-d", "classes", "All.java", *folder.glob("m*/*.java"), cwd=folder)
     return java(folder / "classes", "All")
 
 
-def compared(folder, seeds, translate=core.classes):
-    """The answers of random modules in Java and in node."""
-    paths, binaries = [], []
-    for seed in seeds:
-        binaries.append(module_of(folder, modules.module(seed)))
-        paths.append(folder / f"{seed}.wasm")
-        paths[-1].write_bytes(binaries[-1])
-    in_node = run("node", OWN / "driver.mjs", *paths, cwd=folder)
-    return answers_of_java(folder, binaries, translate), in_node
+def answers_of_node(folder, binaries):
+    paths = [folder / f"{number}.wasm" for number, _ in enumerate(binaries)]
+    for path, binary in zip(paths, binaries):
+        path.write_bytes(binary)
+    return run("node", OWN / "driver.mjs", *paths, cwd=folder)
 
 
-@pytest.fixture
-def small_parts(monkeypatch):
-    """Functions of random modules are parted, and are in several classes."""
-    monkeypatch.setattr(core, "MOST_OF_METHOD", 400)
-    monkeypatch.setattr(core, "LEAST_OF_PART", 40)
-    monkeypatch.setattr(core, "MOST_OF_CLASS", 2000)
-
-
-def test_random_modules(small_parts, tmp_path):
+def binaries_of(folder, count):
     needs("javac 9", "java", "wat2wasm", "node 20")
-    in_java, in_node = compared(tmp_path, range(8))
-    assert in_java == in_node and in_node.count("\n") == 8 * 6 * modules.FUNCTIONS
+    return [module_of(folder, modules.module(seed)) for seed in range(count)]
+
+
+# For random modules, so that their functions have parts and are in several classes.
+SMALL = {"MOST_OF_METHOD": 400, "LEAST_OF_PART": 40, "MOST_OF_CLASS": 2000}
+
+
+def translator(old="", new=""):
+    """The translator with small parts, and a fault."""
+    text = Path(core.__file__).read_text(encoding="utf-8")
+    assert text.count(old) == 1 or not old, old
+    names = {"__name__": "core", "__file__": core.__file__}
+    exec(compile(text.replace(old, new) if old else text, core.__file__, "exec"), names)
+    names.update(SMALL)
+    return names["classes"]
+
+
+def test_random_modules(tmp_path):
+    binaries, translate = binaries_of(tmp_path, 8), translator()
+    in_java = answers_of_java(tmp_path, map(translate, binaries))
+    assert in_java == answers_of_node(tmp_path, binaries)
+    assert in_java.count("\n") == 8 * 6 * modules.FUNCTIONS
+
+
+FAULTS = {
+    '"shr_u": ">>>"': '"shr_u": ">>"',
+    "half = 1 << BITS[value.kind] - 1": "half = 0",
+    "if not all(map(is_same, self.stack[-2:])):": "if False:",
+    'def statement(self, *texts):\n        self.keep()': "def statement(self, *texts):",
+    '8: " & 0xff",': '8: " & 0x7f",',
+    "for at, index in enumerate(writes))\n        body": "for at, index in enumerate(writes[1:]))\n        body",
+    "for at, label in enumerate(part.exits, 1):": "for at, label in enumerate(part.exits[::-1], 1):",
+    "count, other, to = self.pop(), self.pop(), self.pop()": "other, count, to = self.pop(), self.pop(), self.pop()",
+    "Integer.rotateLeft(": "Integer.rotateRight(",
+    '"(int) (byte) {}"': '"(int) (short) {}"',
+    '"{} & 0xffffffffL", "long"': '"(long) {}", "long"',
+    "Value(f\"{self} ? 1 : 0\", \"int\")": "Value(f\"{self} ? 2 : 0\", \"int\")",
+}  # fmt: skip
+
+
+@pytest.mark.by_hand
+def test_faults(tmp_path):
+    """Each fault in the translator changes an answer of a few random modules."""
+    binaries, jobs = binaries_of(tmp_path, 4), []
+    for fault in FAULTS.items():
+        jobs += map(translator(*fault), binaries)
+    wanted = answers_of_node(tmp_path, binaries * len(FAULTS)).splitlines()
+    found = answers_of_java(tmp_path, jobs).splitlines()
+    each = len(wanted) // len(FAULTS)
+    for at, fault in enumerate(FAULTS):
+        own = slice(at * each, (at + 1) * each)
+        assert found[own] != wanted[own], f"not found: {fault}"

@@ -23,7 +23,8 @@ class Example {
 
         System.out.println(toQuantity("3.5万").toFigures()); // 35000
         System.out.println(textToFigures("一月五日下午三点半，市值三点五亿元")); // 1月5日下午3点半，市值3.5亿元
-        findPhrases("二零二六年一月五日下午三点半").forEach(it -> System.out.println(it + " " + it.value().get()));
+        findPhrases("二零二六年一月五日下午三点半")
+            .forEach(it -> System.out.println(it + " " + it.value().get()));
         // 二零二六年一月五日 2026-01-05
         // 下午三点半 15:30
     }

@@ -66,19 +66,19 @@ public final class ChineseNumbers {
         return number;
     }
 
-    /** Reads a numeral of up to 128 bits: {@code toBigInteger("一澗")} is 10^36. */
+    /** Reads a numeral of up to 128 bits: {@code toBigInteger("一京")} is 10000000000000000. */
     public static BigInteger toBigInteger(CharSequence text) {
         return toBigInteger(text, Way.ANY);
     }
 
-    /** Reads a numeral by a way: {@code toBigInteger("一兆", Way.MIDDLE)} is 10^16. */
+    /** Reads a numeral by a way: {@code toBigInteger("一兆", Way.MIDDLE)} is 10000000000000000. */
     public static BigInteger toBigInteger(CharSequence text, Way way) {
         return toBigInteger(text, way, Kind.I128);
     }
 
     /**
-     * Reads a numeral whose number fits an integer type: {@code toBigInteger("一百二", Way.ANY, Kind.U8)} is
-     * 120.
+     * Reads a numeral whose number fits an integer type:
+     * {@code toBigInteger("一百二", Way.ANY, Kind.U8)} is 120.
      *
      * @throws ChineseNumberException if the text is no numeral, or its number does not fit
      */
@@ -110,8 +110,8 @@ public final class ChineseNumbers {
     }
 
     /**
-     * Writes a number in a style: {@code toChinese(105000, Style.DEFAULT.withScript(Script.TRADITIONAL))} is
-     * 十萬五千.
+     * Writes a number in a style:
+     * {@code toChinese(105000, Style.DEFAULT.withScript(Script.TRADITIONAL))} is 十萬五千.
      *
      * @throws ChineseNumberException if {@link Way#LOW} cannot write the number
      */
@@ -124,13 +124,17 @@ public final class ChineseNumbers {
         return toChinese(number, Style.DEFAULT);
     }
 
-    /** Writes a number of up to 128 bits in a style. */
+    /**
+     * Writes a number of up to 128 bits in a style:
+     * {@code toChinese(BigInteger.TEN.pow(12), Style.DEFAULT.withScript(Script.TRADITIONAL))} is 一兆.
+     */
     public static String toChinese(BigInteger number, Style style) {
         return toChinese(number, style, Kind.I128);
     }
 
     /**
-     * Writes a number that an integer type holds.
+     * Writes a number that an integer type holds:
+     * {@code toChinese(BigInteger.valueOf(120), Style.DEFAULT, Kind.U8)} is 一百二十.
      *
      * @throws ChineseNumberException if the type does not hold the number, or {@link Way#LOW} cannot write it
      */
@@ -179,8 +183,8 @@ public final class ChineseNumbers {
     // Amounts of money.
 
     /**
-     * Writes an amount of money in capitals, as on a cheque: {@code yuanToChinese(new
-     * BigDecimal("1409.50"))} is 壹仟肆佰零玖元伍角整. Nothing is rounded.
+     * Writes an amount of money in capitals, as on a cheque:
+     * {@code yuanToChinese(new BigDecimal("1409.50"))} is 壹仟肆佰零玖元伍角整. Nothing is rounded.
      *
      * @throws ChineseNumberException as {@link #yuanToFen(BigDecimal)} and {@link #amountToChinese(long)} do
      */
@@ -188,20 +192,27 @@ public final class ChineseNumbers {
         return amountToChinese(yuanToFen(yuan));
     }
 
-    /** Writes an amount of money in a form, as {@link #yuanToChinese(BigDecimal)} does. */
+    /**
+     * Writes an amount of money in a form:
+     * {@code yuanToChinese(new BigDecimal("15"), AmountForm.DEFAULT.withCurrency())} is 人民币壹拾伍元整.
+     */
     public static String yuanToChinese(BigDecimal yuan, AmountForm form) {
         return amountToChinese(yuanToFen(yuan), form);
     }
 
     /**
-     * Writes an amount that may be negative, as on a red invoice: {@code signedYuanToChinese(new
-     * BigDecimal("-15"))} is 负壹拾伍元整.
+     * Writes an amount that may be negative, as on a red invoice:
+     * {@code signedYuanToChinese(new BigDecimal("-15"))} is 负壹拾伍元整.
      */
     public static String signedYuanToChinese(BigDecimal yuan) {
         return signedAmountToChinese(yuanToFen(yuan));
     }
 
-    /** Writes an amount that may be negative in a form. */
+    /**
+     * Writes an amount that may be negative in a form:
+     * {@code signedYuanToChinese(new BigDecimal("-15"), AmountForm.DEFAULT.withBracketedSign())} is
+     * （负数）壹拾伍元整.
+     */
     public static String signedYuanToChinese(BigDecimal yuan, AmountForm form) {
         return signedAmountToChinese(yuanToFen(yuan), form);
     }
@@ -212,8 +223,8 @@ public final class ChineseNumbers {
     }
 
     /**
-     * Writes an amount of fen in a form: with {@code AmountForm.DEFAULT.withCurrency()} 1500 is
-     * 人民币壹拾伍元整.
+     * Writes an amount of fen in a form:
+     * {@code amountToChinese(1500, AmountForm.DEFAULT.withUprightClosing())} is 壹拾伍元正.
      *
      * @throws ChineseNumberException if the amount is below zero, or 10^18 fen or more
      */
@@ -235,7 +246,9 @@ public final class ChineseNumbers {
     }
 
     /**
-     * Writes an amount of fen that may be negative in a form.
+     * Writes an amount of fen that may be negative in a form:
+     * {@code signedAmountToChinese(-1500, AmountForm.DEFAULT.withScript(Script.TRADITIONAL))} is
+     * 負壹拾伍元整.
      *
      * @throws ChineseNumberException if the amount is 10^18 fen or more, or -10^18 or less
      */
@@ -248,8 +261,8 @@ public final class ChineseNumbers {
     }
 
     /**
-     * Reads an amount of money in capitals, in fen: {@code chineseToAmount("壹拾伍元整")} is 1500, of which
-     * {@link #fenToYuan} makes 15.00.
+     * Reads an amount of money in capitals, in fen: {@code chineseToAmount("壹拾伍元整")} is 1500. {@link #fenToYuan}
+     * makes 15.00 of it.
      *
      * @throws ChineseNumberException if the text is no amount; white space is refused like any other
      *     character
@@ -327,15 +340,16 @@ public final class ChineseNumbers {
     // Dates.
 
     /**
-     * Writes a date in capitals, as on a cheque: {@code dateToChinese(LocalDate.of(2026, 1, 15))} is
-     * 贰零贰陆年零壹月壹拾伍日.
+     * Writes a date in capitals, as on a cheque:
+     * {@code dateToChinese(LocalDate.of(2026, 1, 15))} is 贰零贰陆年零壹月壹拾伍日.
      */
     public static String dateToChinese(LocalDate date) {
         return dateToChinese(date, Script.SIMPLIFIED);
     }
 
     /**
-     * Writes a date in a script.
+     * Writes a date in a script:
+     * {@code dateToChinese(LocalDate.of(2036, 2, 3), Script.TRADITIONAL)} is 貳零參陸年零貳月零參日.
      *
      * @throws ChineseNumberException if the year is not from 1 to 9999
      */
@@ -367,8 +381,8 @@ public final class ChineseNumbers {
     // Quantities.
 
     /**
-     * Reads an exact quantity: {@code toQuantity("3.5万")} is 350000/10, 12.5% is 125/1000, 三分之一 is 1/3. It
-     * is the call for text that people type.
+     * Reads an exact quantity: {@code toQuantity("三分之一")} is 1/3. It is the call for text that people
+     * type.
      *
      * @throws ChineseNumberException if the text is no quantity, or its numbers are too large
      */
@@ -376,7 +390,10 @@ public final class ChineseNumbers {
         return toQuantity(text, Way.ANY);
     }
 
-    /** Reads an exact quantity by a method, which is not {@link Way#DIGITS}. */
+    /**
+     * Reads an exact quantity by a method, which is not {@link Way#DIGITS}:
+     * {@code toQuantity("一兆", Way.MIDDLE)} is 10000000000000000.
+     */
     public static Quantity toQuantity(CharSequence text, Way method) {
         int code = method(method).ordinal();
         Machine it = Machine.of(text);
@@ -400,41 +417,51 @@ public final class ChineseNumbers {
     // What is found in a text.
 
     /**
-     * Finds the numbers of a text: in 第二十三回, 二十三 from 1 to 4. Sentences are not understood: 一起 contains
-     * a 1, and 3.5万 is two numbers. The call itself searches the whole text.
+     * Finds the numbers of a text:
+     * {@code findNumbers("第二十三回").map(FoundNumber::number).findFirst().get()} is 23. Sentences are not
+     * understood: 一起 contains a 1, and 3.5万 is two numbers. The call itself searches the whole text.
      */
     public static Stream<FoundNumber> findNumbers(CharSequence text) {
         return findNumbers(text, Wanted.DEFAULT);
     }
 
-    /** Finds the numbers of a text that have the wanted characters. */
+    /**
+     * Finds the numbers of a text that have the wanted characters:
+     * {@code findNumbers("壹佰", Wanted.DEFAULT.withUpper()).count()} is 1.
+     */
     public static Stream<FoundNumber> findNumbers(CharSequence text, Wanted wanted) {
         return Search.NUMBERS.in(text, wanted).stream();
     }
 
     /**
      * Finds the expressions of a text, numbers with their sign, figures, point and units, percentages and
-     * fractions: in 占12.5%，共3.5万, 12.5% and 3.5万.
+     * fractions: {@code findQuantities("占12.5%，共3.5万").count()} is 2.
      */
     public static Stream<FoundQuantity> findQuantities(CharSequence text) {
         return findQuantities(text, Wanted.DEFAULT);
     }
 
-    /** Finds the expressions of a text that have the wanted characters. */
+    /**
+     * Finds the expressions of a text that have the wanted characters:
+     * {@code findQuantities("一京", Wanted.DEFAULT.withGreatest(Unit.JING)).count()} is 1.
+     */
     public static Stream<FoundQuantity> findQuantities(CharSequence text, Wanted wanted) {
         return Search.QUANTITIES.in(text, wanted).stream();
     }
 
     /**
      * Finds the phrases of a text, each a {@link Phrase}, and its expressions that are in none, each a
-     * {@link FoundQuantity}: in 一月五日下午三点半，二十人 the date 一月五日, the time 下午三点半 and 二十.
-     * {@code findPhrases(text).map(it -> it.value(LocalTime.class))} has the time 15:30.
+     * {@link FoundQuantity}: {@code findPhrases("一月五日下午三点半，二十人").count()} is 3. Of the second of
+     * these {@code value(LocalTime.class)} has the time 15:30.
      */
     public static Stream<Found> findPhrases(CharSequence text) {
         return findPhrases(text, Wanted.DEFAULT);
     }
 
-    /** Finds the phrases of a text that have the wanted characters, and its other expressions. */
+    /**
+     * Finds the phrases of a text that have the wanted characters, and its other expressions:
+     * {@code findPhrases("三到五万元", Wanted.DEFAULT).count()} is 1.
+     */
     public static Stream<Found> findPhrases(CharSequence text, Wanted wanted) {
         return Search.PHRASES.in(text, wanted).stream();
     }
@@ -452,30 +479,32 @@ public final class ChineseNumbers {
 
     /**
      * Rewrites a text in figures, as an editor does, with its dates, times, ranges and other phrases:
-     * 二零二六年一月五日下午三点半，三到五万元 becomes 2026年1月5日下午3点半，3万到5万元.
+     * {@code textToFigures("一月五日下午三点半，三到五万元")} is 1月5日下午3点半，3万到5万元.
      */
     public static String textToFigures(CharSequence text) {
         return textToFigures(text, TextOptions.DEFAULT);
     }
 
     /**
-     * Rewrites a text in figures with options: {@code TextOptions.DEFAULT.withCompact()} writes 2026-01-05
-     * 15:30. Phrases without a value stay, and doubtful ones without that option.
+     * Rewrites a text in figures with options:
+     * {@code textToFigures("下午三点半", TextOptions.DEFAULT.withCompact())} is 15:30. Phrases without a value
+     * stay, and doubtful ones without that option.
      */
     public static String textToFigures(CharSequence text, TextOptions options) {
         return Figures.written(Core::chinese_text_to_figures, text, requireNonNull(options, "options"));
     }
 
     /**
-     * Rewrites the numerals of a text in figures, but no dates and times: 市值三点五亿元，占百分之十二点五 becomes
-     * 市值3.5亿元，占12.5%.
+     * Rewrites the numerals of a text in figures, but no dates and times:
+     * {@code quantitiesToFigures("市值三点五亿元，占百分之十二点五")} is 市值3.5亿元，占12.5%.
      */
     public static String quantitiesToFigures(CharSequence text) {
         return quantitiesToFigures(text, TextOptions.DEFAULT);
     }
 
     /**
-     * Rewrites the numerals of a text in figures with options.
+     * Rewrites the numerals of a text in figures with options:
+     * {@code quantitiesToFigures("三千五百亿", TextOptions.DEFAULT.withExpanded())} is 350000000000.
      *
      * @throws IllegalArgumentException for the option {@link TextOptions#withCompact}
      */
@@ -485,16 +514,17 @@ public final class ChineseNumbers {
     }
 
     /**
-     * Replaces the expressions of a text by texts of a function: with {@code found ->
-     * found.quantity().toChinese()} 占12.5% becomes 占百分之十二点五.
+     * Replaces the expressions of a text by texts of a function:
+     * {@code replaceQuantities("占12.5%", it -> it.quantity().toChinese())} is 占百分之十二点五.
      */
     public static String replaceQuantities(CharSequence text, Function<? super FoundQuantity, String> replacement) {
         return replaceQuantities(text, replacement, TextOptions.DEFAULT);
     }
 
     /**
-     * Replaces the expressions of a text that the options include and the method reads. To keep one the
-     * function returns its {@link Found#text}.
+     * Replaces the expressions of a text that the options include and the method reads:
+     * {@code replaceQuantities("三百多", it -> "300", TextOptions.DEFAULT.withAbout())} is 300多. To keep one
+     * the function returns its {@link Found#text}.
      *
      * @throws IllegalArgumentException for the options of texts in figures
      */
@@ -519,7 +549,7 @@ public final class ChineseNumbers {
 
     /**
      * Says what may come next in a text, for example to offer keys:
-     * {@code inputExpected("壹佰", Input.AMOUNT).characters()} has 元, 零 and so on.
+     * {@code inputExpected("壹佰", Input.AMOUNT).characters().contains("元")} is true.
      */
     public static Expected inputExpected(CharSequence text, Input input) {
         int code = requireNonNull(input, "input").ordinal();
@@ -532,7 +562,7 @@ public final class ChineseNumbers {
 
     /**
      * Finds one change of a text after which it goes on past its wrong character:
-     * {@code inputRepair("壹佰贰元整", Input.AMOUNT)} inserts 零 at 2. Nothing if the text is right, or if no
+     * {@code inputRepair("壹佰贰元整", Input.AMOUNT).get().character()} is 零. Nothing if the text is right, or if no
      * change is found. Only a person can say that the change is what was meant.
      */
     public static Optional<Repair> inputRepair(CharSequence text, Input input) {
@@ -545,12 +575,18 @@ public final class ChineseNumbers {
         return repair;
     }
 
-    /** Says why {@link #toBigInteger(CharSequence)} refuses a text: {@link Fault#UNITS} for 一百十. */
+    /**
+     * Says why {@link #toBigInteger(CharSequence)} refuses a text: {@code explainNumber("一百十").get()} is
+     * UNITS.
+     */
     public static Optional<Fault> explainNumber(CharSequence text) {
         return explainNumber(text, Way.ANY, Kind.I128);
     }
 
-    /** Says why a text is no numeral by a way whose number fits a type; nothing if it is. */
+    /**
+     * Says why a text is no numeral by a way whose number fits a type; nothing if it is:
+     * {@code explainNumber("三百", Way.ANY, Kind.U8).get()} is TOO_LARGE.
+     */
     public static Optional<Fault> explainNumber(CharSequence text, Way way, Kind kind) {
         int codeOfWay = requireNonNull(way, "way").ordinal();
         int codeOfKind = requireNonNull(kind, "kind").ordinal();
@@ -559,12 +595,18 @@ public final class ChineseNumbers {
         return fault(it);
     }
 
-    /** Says why {@link #toQuantity(CharSequence)} refuses a text: {@link Fault#DENOMINATOR} for 零分之一. */
+    /**
+     * Says why {@link #toQuantity(CharSequence)} refuses a text: {@code explainQuantity("零分之一").get()} is
+     * DENOMINATOR.
+     */
     public static Optional<Fault> explainQuantity(CharSequence text) {
         return explainQuantity(text, Way.ANY);
     }
 
-    /** Says why a text is no quantity by a method; nothing if it is. */
+    /**
+     * Says why a text is no quantity by a method; nothing if it is:
+     * {@code explainQuantity("一百五万", Way.TEN_THOUSAND).get()} is TWO_READINGS.
+     */
     public static Optional<Fault> explainQuantity(CharSequence text, Way method) {
         int code = method(method).ordinal();
         Machine it = Machine.of(text);
@@ -594,12 +636,18 @@ public final class ChineseNumbers {
         return it.printed(room);
     }
 
-    /** The message for a text that {@link #toBigInteger(CharSequence)} refuses, likewise. */
+    /**
+     * The message for a text that {@link #toBigInteger(CharSequence)} refuses, likewise:
+     * {@code numberMessage("", Locale.CHINA)} is 缺少数字。
+     */
     public static String numberMessage(CharSequence text, Locale locale) {
         return numberMessage(text, locale, Way.ANY, Kind.I128);
     }
 
-    /** The message for a text that {@link #toBigInteger(CharSequence, Way, Kind)} refuses, likewise. */
+    /**
+     * The message for a text that {@link #toBigInteger(CharSequence, Way, Kind)} refuses, likewise:
+     * {@code numberMessage("二百五十六", Locale.CHINA, Way.ANY, Kind.U8)} is 数值太大。
+     */
     public static String numberMessage(CharSequence text, Locale locale, Way way, Kind kind) {
         int codeOfWay = requireNonNull(way, "way").ordinal();
         int codeOfKind = requireNonNull(kind, "kind").ordinal();
@@ -611,12 +659,18 @@ public final class ChineseNumbers {
         return it.printed(room);
     }
 
-    /** The message for a text that {@link #toQuantity(CharSequence)} refuses, likewise. */
+    /**
+     * The message for a text that {@link #toQuantity(CharSequence)} refuses, likewise:
+     * {@code quantityMessage("", Locale.CHINA)} is 缺少数字。
+     */
     public static String quantityMessage(CharSequence text, Locale locale) {
         return quantityMessage(text, locale, Way.ANY);
     }
 
-    /** The message for a text that {@link #toQuantity(CharSequence, Way)} refuses, likewise. */
+    /**
+     * The message for a text that {@link #toQuantity(CharSequence, Way)} refuses, likewise:
+     * {@code quantityMessage("", Locale.TAIWAN, Way.MIDDLE)} is 缺少數字。
+     */
     public static String quantityMessage(CharSequence text, Locale locale, Way method) {
         int code = method(method).ordinal();
         int language = language(locale);
@@ -626,7 +680,10 @@ public final class ChineseNumbers {
         return it.printed(room);
     }
 
-    /** What a status means, for a person whose number is too large to be written, for example. */
+    /**
+     * What a status means, for a person whose number is too large to be written, for example:
+     * {@code statusMessage(Status.TOO_LARGE, Locale.CHINA)} is 数值太大。
+     */
     public static String statusMessage(Status status, Locale locale) {
         int code = requireNonNull(status, "status").ordinal();
         int language = language(locale);

@@ -5351,1567 +5351,1436 @@ static int f26_1(State m, long l9, long l10, long l11, long l12, long l13, long 
  final byte[] b = m.bytes;
  int exit = 0;
  PART: {
-  L14: {
-   L15: {
-    L16: {
-     L17: {
-      L18: {
-       L19: {
-        L20: {
-         L21: {
-          L22: {
-           L23: {
-            L24: {
-             L25: {
-              L26: {
-               L27: {
-                L28: {
-                 L29: {
-                  L30: {
-                   L31: {
-                    L32: {
-                     L33: {
-                      L34: {
-                       L35: {
-                        L36: {
-                         L37: {
-                          L38: {
-                           L39: {
-                            L40: {
-                             L41: {
-                              L42: {
-                               L43: {
-                                L44: {
-                                 L45: {
-                                  L46: {
-                                   L47: {
-                                    L48: {
-                                     L49: {
-                                      L50: {
-                                       L51: {
-                                        L52: {
-                                         L53: {
-                                          L54: {
-                                           L55: {
-                                            switch (l16) {
-                                            case 1: break L54;
-                                            case 2: break L39;
-                                            default: break L55;
-                                            }
-                                           }
-                                           if (Words.get32(b, State.far((int) (l14 = (((l17 * 3227) >>> 7) & 0xffffffffL) & 504L), 65536)) != l17) { exit = 1; break PART; }
-                                           if (((b[((int) (l14 + 65540L)) - 60720] & 0xff) & 255) != 1) { exit = 1; break PART; }
-                                           l15 = b[((int) (l14 + 65542L)) - 60720] & 0xffL;
-                                           l21 = b[((int) (l14 + 65541L)) - 60720] & 0xff;
-                                           L56: {
-                                            L57: {
-                                             L58: {
-                                              L59: {
-                                               L60: {
-                                                L61: {
-                                                 L62: {
-                                                  L63: {
-                                                   L64: {
-                                                    L65: {
-                                                     L66: {
-                                                      L67: {
-                                                       L68: {
-                                                        L69: {
-                                                         L70: {
-                                                          L71: {
-                                                           L72: {
-                                                            L73: {
-                                                             L74: {
-                                                              L75: {
-                                                               L76: {
-                                                                L77: {
-                                                                 L78: {
-                                                                  L79: {
-                                                                   L80: {
-                                                                    L81: {
-                                                                     L82: {
-                                                                      L83: {
-                                                                       switch (l20) {
-                                                                       case 1: break L72;
-                                                                       case 2: break L71;
-                                                                       case 3: break L70;
-                                                                       case 4: break L69;
-                                                                       case 5: break L83;
-                                                                       case 6: break L82;
-                                                                       case 7: break L81;
-                                                                       case 8: break L80;
-                                                                       case 9: break L79;
-                                                                       case 10: break L78;
-                                                                       case 11: break L77;
-                                                                       case 12: break L76;
-                                                                       case 13: break L68;
-                                                                       case 14: break L66;
-                                                                       case 15: break L64;
-                                                                       case 16: break L58;
-                                                                       case 17: break L67;
-                                                                       case 18: break L56;
-                                                                       case 19: exit = 1; break PART;
-                                                                       default: break L73;
-                                                                       }
-                                                                      }
-                                                                      L84: {
-                                                                       if (((1 << l21) & 261375) != 0) { break L84; }
-                                                                       if (l21 == 8) { break L57; }
-                                                                       break L31;
-                                                                      }
-                                                                      L85: {
-                                                                       if ((l21 + -5) + Integer.MIN_VALUE < -2147483635) { break L85; }
-                                                                       l22 = 0;
-                                                                       switch (l21) {
-                                                                       case 2: break L62;
-                                                                       case 3: break L60;
-                                                                       case 4: break L28;
-                                                                       default: break L85;
-                                                                       }
-                                                                      }
-                                                                      l22 = 0;
-                                                                      l20 = 6;
-                                                                      switch (l21) {
-                                                                      case 5: break L17;
-                                                                      case 6: break L75;
-                                                                      case 7: break L21;
-                                                                      default: exit = 1; break PART;
-                                                                      }
-                                                                     }
-                                                                     L86: {
-                                                                      if ((l21 + -6) + Integer.MIN_VALUE < -2147483636) { break L86; }
-                                                                      l23 = 3;
-                                                                      l24 = 10;
-                                                                      l25 = l21;
-                                                                      switch (l21) {
-                                                                      case 1: break L65;
-                                                                      case 2: case 3: case 4: break L86;
-                                                                      case 5: exit = 1; break PART;
-                                                                      default: break L37;
-                                                                      }
-                                                                     }
-                                                                     l22 = 1;
-                                                                     if (((1 << l21) & 261948) != 0) { exit = 1; break PART; }
-                                                                     if (l21 != 6) { break L21; }
-                                                                     break L75;
-                                                                    }
-                                                                    L87: {
-                                                                     if ((l21 + -6) + Integer.MIN_VALUE < -2147483636) { break L87; }
-                                                                     l23 = 3;
-                                                                     l25 = 4;
-                                                                     l24 = 10;
-                                                                     L88: {
-                                                                      switch (l21) {
-                                                                      case 1: break L65;
-                                                                      case 2: case 3: case 4: break L87;
-                                                                      case 5: exit = 1; break PART;
-                                                                      default: break L88;
-                                                                      }
-                                                                     }
-                                                                     l18 = 3;
-                                                                     l22 = (l19 & 1) ^ 3;
-                                                                     break L36;
-                                                                    }
-                                                                    l22 = 1;
-                                                                    l20 = 8;
-                                                                    if (((1 << l21) & 261980) != 0) { exit = 1; break PART; }
-                                                                    if (l21 != 5) { break L21; }
-                                                                    break L17;
-                                                                   }
-                                                                   l22 = 1;
-                                                                   l23 = 3;
-                                                                   l25 = 5;
-                                                                   l24 = 10;
-                                                                   L89: {
-                                                                    switch (l21) {
-                                                                    case 1: break L65;
-                                                                    case 2: case 3: case 4: case 5: case 6: case 8: case 9: case 10: case 11: case 12: case 13: case 14: case 15: case 16: case 17: exit = 1; break PART;
-                                                                    case 7: break L21;
-                                                                    default: break L89;
-                                                                    }
-                                                                   }
-                                                                   l18 = (l19 & 1) | 2;
-                                                                   l22 = 5;
-                                                                   break L36;
-                                                                  }
-                                                                  if (l21 != 1) { exit = 1; break PART; }
-                                                                  l24 = 11;
-                                                                  l25 = l19;
-                                                                  l23 = l18;
-                                                                  break L65;
-                                                                 }
-                                                                 L90: {
-                                                                  switch (l18) {
-                                                                  case 1: break L63;
-                                                                  case 2: break L61;
-                                                                  case 3: break L38;
-                                                                  default: break L90;
-                                                                  }
-                                                                 }
-                                                                 L91: {
-                                                                  L92: {
-                                                                   L93: {
-                                                                    L94: {
-                                                                     L95: {
-                                                                      switch (l19) {
-                                                                      case 1: break L92;
-                                                                      case 2: case 3: break L94;
-                                                                      case 4: break L93;
-                                                                      case 5: break L91;
-                                                                      default: break L95;
-                                                                      }
-                                                                     }
-                                                                     l22 = 0;
-                                                                     l20 = 6;
-                                                                     switch (l21) {
-                                                                     case 5: break L17;
-                                                                     case 6: break L75;
-                                                                     case 7: break L21;
-                                                                     default: exit = 1; break PART;
-                                                                     }
-                                                                    }
-                                                                    l22 = 0;
-                                                                    l20 = 8;
-                                                                    if (((1 << l21) & 261983) != 0) { exit = 1; break PART; }
-                                                                    if (l21 != 5) { break L21; }
-                                                                    break L17;
-                                                                   }
-                                                                   if (l21 != 5) { exit = 1; break PART; }
-                                                                   break L18;
-                                                                  }
-                                                                  l22 = 0;
-                                                                  if (((1 << l21) & 261951) != 0) { exit = 1; break PART; }
-                                                                  if (l21 != 6) { break L21; }
-                                                                  break L75;
-                                                                 }
-                                                                 if (l21 != 7) { exit = 1; break PART; }
-                                                                 l22 = 0;
-                                                                 break L21;
-                                                                }
-                                                                L96: {
-                                                                 L97: {
-                                                                  L98: {
-                                                                   L99: {
-                                                                    switch (l18) {
-                                                                    case 1: break L97;
-                                                                    case 2: break L98;
-                                                                    case 3: break L99;
-                                                                    default: break L96;
-                                                                    }
-                                                                   }
-                                                                   L100: {
-                                                                    if ((l21 + -5) + Integer.MIN_VALUE < -2147483635) { break L100; }
-                                                                    l22 = l19;
-                                                                    switch (l21) {
-                                                                    case 2: break L62;
-                                                                    case 3: break L60;
-                                                                    case 4: break L59;
-                                                                    default: break L100;
-                                                                    }
-                                                                   }
-                                                                   L101: {
-                                                                    L102: {
-                                                                     L103: {
-                                                                      L104: {
-                                                                       L105: {
-                                                                        switch (l19) {
-                                                                        case 1: break L102;
-                                                                        case 2: case 3: break L104;
-                                                                        case 4: break L103;
-                                                                        case 5: break L101;
-                                                                        default: break L105;
-                                                                        }
-                                                                       }
-                                                                       l22 = 0;
-                                                                       l20 = 6;
-                                                                       switch (l21) {
-                                                                       case 5: break L17;
-                                                                       case 6: break L75;
-                                                                       case 7: break L21;
-                                                                       default: exit = 1; break PART;
-                                                                       }
-                                                                      }
-                                                                      l22 = 0;
-                                                                      l20 = 8;
-                                                                      if (((1 << l21) & 261983) != 0) { exit = 1; break PART; }
-                                                                      if (l21 != 5) { break L21; }
-                                                                      break L17;
-                                                                     }
-                                                                     if (l21 == 5) { break L18; }
-                                                                     exit = 1; break PART;
-                                                                    }
-                                                                    l22 = 0;
-                                                                    if (((1 << l21) & 261951) != 0) { exit = 1; break PART; }
-                                                                    if (l21 != 6) { break L21; }
-                                                                    break L75;
-                                                                   }
-                                                                   if (l21 != 7) { exit = 1; break PART; }
-                                                                   l22 = 0;
-                                                                   break L21;
-                                                                  }
-                                                                  L106: {
-                                                                   if ((l21 + -4) + Integer.MIN_VALUE < -2147483634) { break L106; }
-                                                                   l22 = l19;
-                                                                   switch (l21) {
-                                                                   case 2: break L62;
-                                                                   case 3: break L60;
-                                                                   default: break L106;
-                                                                   }
-                                                                  }
-                                                                  L107: {
-                                                                   L108: {
-                                                                    L109: {
-                                                                     L110: {
-                                                                      L111: {
-                                                                       switch (l19) {
-                                                                       case 1: break L108;
-                                                                       case 2: case 3: break L110;
-                                                                       case 4: break L109;
-                                                                       case 5: break L107;
-                                                                       default: break L111;
-                                                                       }
-                                                                      }
-                                                                      l22 = 0;
-                                                                      l20 = 6;
-                                                                      switch (l21) {
-                                                                      case 5: break L17;
-                                                                      case 6: break L75;
-                                                                      case 7: break L21;
-                                                                      default: exit = 1; break PART;
-                                                                      }
-                                                                     }
-                                                                     l22 = 0;
-                                                                     l20 = 8;
-                                                                     if (((1 << l21) & 261983) != 0) { exit = 1; break PART; }
-                                                                     if (l21 != 5) { break L21; }
-                                                                     break L17;
-                                                                    }
-                                                                    if (l21 == 5) { break L18; }
-                                                                    exit = 1; break PART;
-                                                                   }
-                                                                   l22 = 0;
-                                                                   if (((1 << l21) & 261951) != 0) { exit = 1; break PART; }
-                                                                   if (l21 != 6) { break L21; }
-                                                                   break L75;
-                                                                  }
-                                                                  if (l21 != 7) { exit = 1; break PART; }
-                                                                  l22 = 0;
-                                                                  break L21;
-                                                                 }
-                                                                 L112: {
-                                                                  if ((l21 + -5) + Integer.MIN_VALUE < -2147483635) { break L112; }
-                                                                  l22 = l19;
-                                                                  switch (l21) {
-                                                                  case 2: break L62;
-                                                                  case 3: case 4: exit = 1; break PART;
-                                                                  default: break L112;
-                                                                  }
-                                                                 }
-                                                                 L113: {
-                                                                  L114: {
-                                                                   L115: {
-                                                                    L116: {
-                                                                     L117: {
-                                                                      switch (l19) {
-                                                                      case 1: break L114;
-                                                                      case 2: case 3: break L116;
-                                                                      case 4: break L115;
-                                                                      case 5: break L113;
-                                                                      default: break L117;
-                                                                      }
-                                                                     }
-                                                                     l22 = 0;
-                                                                     l20 = 6;
-                                                                     switch (l21) {
-                                                                     case 5: break L17;
-                                                                     case 6: break L75;
-                                                                     case 7: break L21;
-                                                                     default: exit = 1; break PART;
-                                                                     }
-                                                                    }
-                                                                    l22 = 0;
-                                                                    l20 = 8;
-                                                                    if (((1 << l21) & 261983) != 0) { exit = 1; break PART; }
-                                                                    if (l21 != 5) { break L21; }
-                                                                    break L17;
-                                                                   }
-                                                                   if (l21 == 5) { break L18; }
-                                                                   exit = 1; break PART;
-                                                                  }
-                                                                  l22 = 0;
-                                                                  if (((1 << l21) & 261951) != 0) { exit = 1; break PART; }
-                                                                  if (l21 != 6) { break L21; }
-                                                                  break L75;
-                                                                 }
-                                                                 if (l21 != 7) { exit = 1; break PART; }
-                                                                 l22 = 0;
-                                                                 break L21;
-                                                                }
-                                                                L118: {
-                                                                 L119: {
-                                                                  L120: {
-                                                                   L121: {
-                                                                    L122: {
-                                                                     switch (l19) {
-                                                                     case 1: break L119;
-                                                                     case 2: case 3: break L121;
-                                                                     case 4: break L120;
-                                                                     case 5: break L118;
-                                                                     default: break L122;
-                                                                     }
-                                                                    }
-                                                                    l22 = 0;
-                                                                    l20 = 6;
-                                                                    switch (l21) {
-                                                                    case 5: break L17;
-                                                                    case 6: break L75;
-                                                                    case 7: break L21;
-                                                                    default: exit = 1; break PART;
-                                                                    }
-                                                                   }
-                                                                   l22 = 0;
-                                                                   l20 = 8;
-                                                                   if (((1 << l21) & 261983) != 0) { exit = 1; break PART; }
-                                                                   if (l21 != 5) { break L21; }
-                                                                   break L17;
-                                                                  }
-                                                                  if (l21 == 5) { break L18; }
-                                                                  exit = 1; break PART;
-                                                                 }
-                                                                 l22 = 0;
-                                                                 if (((1 << l21) & 261951) != 0) { exit = 1; break PART; }
-                                                                 if (l21 != 6) { break L21; }
-                                                                 break L75;
-                                                                }
-                                                                if (l21 != 7) { exit = 1; break PART; }
-                                                                l22 = 0;
-                                                                break L21;
-                                                               }
-                                                               L123: {
-                                                                L124: {
-                                                                 L125: {
-                                                                  L126: {
-                                                                   switch (l18) {
-                                                                   case 1: break L124;
-                                                                   case 2: break L125;
-                                                                   case 3: break L126;
-                                                                   default: break L123;
-                                                                   }
-                                                                  }
-                                                                  L127: {
-                                                                   if ((l21 + -2) + Integer.MIN_VALUE < -2147483632) { break L127; }
-                                                                   l18 = 1;
-                                                                   l20 = 9;
-                                                                   l23 = 2;
-                                                                   l24 = 10;
-                                                                   l25 = l19;
-                                                                   l22 = l19;
-                                                                   switch (l21) {
-                                                                   case 1: break L65;
-                                                                   default: break L14;
-                                                                   }
-                                                                  }
-                                                                  L128: {
-                                                                   L129: {
-                                                                    L130: {
-                                                                     L131: {
-                                                                      L132: {
-                                                                       switch (l19) {
-                                                                       case 1: break L129;
-                                                                       case 2: case 3: break L131;
-                                                                       case 4: break L130;
-                                                                       case 5: break L128;
-                                                                       default: break L132;
-                                                                       }
-                                                                      }
-                                                                      l22 = 1;
-                                                                      l20 = 6;
-                                                                      switch (l21 + -2) {
-                                                                      case 3: break L17;
-                                                                      case 4: break L75;
-                                                                      case 5: break L21;
-                                                                      default: exit = 1; break PART;
-                                                                      }
-                                                                     }
-                                                                     l22 = 1;
-                                                                     l20 = 8;
-                                                                     if (((1 << l21) & 261980) != 0) { exit = 1; break PART; }
-                                                                     if (l21 != 5) { break L21; }
-                                                                     break L17;
-                                                                    }
-                                                                    if (l21 != 5) { exit = 1; break PART; }
-                                                                    break L19;
-                                                                   }
-                                                                   l22 = 1;
-                                                                   if (((1 << l21) & 261948) != 0) { exit = 1; break PART; }
-                                                                   if (l21 != 6) { break L21; }
-                                                                   break L75;
-                                                                  }
-                                                                  if (l21 != 7) { exit = 1; break PART; }
-                                                                  l22 = 1;
-                                                                  break L21;
-                                                                 }
-                                                                 L133: {
-                                                                  if ((l21 + -2) + Integer.MIN_VALUE < -2147483632) { break L133; }
-                                                                  l20 = 9;
-                                                                  l24 = 10;
-                                                                  l25 = l19;
-                                                                  l23 = l21;
-                                                                  l22 = l19;
-                                                                  l18 = l21;
-                                                                  switch (l21) {
-                                                                  case 1: break L65;
-                                                                  default: break L14;
-                                                                  }
-                                                                 }
-                                                                 L134: {
-                                                                  L135: {
-                                                                   L136: {
-                                                                    L137: {
-                                                                     L138: {
-                                                                      switch (l19) {
-                                                                      case 1: break L135;
-                                                                      case 2: case 3: break L137;
-                                                                      case 4: break L136;
-                                                                      case 5: break L134;
-                                                                      default: break L138;
-                                                                      }
-                                                                     }
-                                                                     l22 = 1;
-                                                                     l20 = 6;
-                                                                     switch (l21 + -2) {
-                                                                     case 3: break L17;
-                                                                     case 4: break L75;
-                                                                     case 5: break L21;
-                                                                     default: exit = 1; break PART;
-                                                                     }
-                                                                    }
-                                                                    l22 = 1;
-                                                                    l20 = 8;
-                                                                    if (((1 << l21) & 261980) != 0) { exit = 1; break PART; }
-                                                                    if (l21 != 5) { break L21; }
-                                                                    break L17;
-                                                                   }
-                                                                   if (l21 == 5) { break L19; }
-                                                                   exit = 1; break PART;
-                                                                  }
-                                                                  l22 = 1;
-                                                                  if (((1 << l21) & 261948) != 0) { exit = 1; break PART; }
-                                                                  if (l21 != 6) { break L21; }
-                                                                  break L75;
-                                                                 }
-                                                                 if (l21 != 7) { exit = 1; break PART; }
-                                                                 l22 = 1;
-                                                                 break L21;
-                                                                }
-                                                                L139: {
-                                                                 if ((l21 + -2) + Integer.MIN_VALUE < -2147483632) { break L139; }
-                                                                 l23 = 0;
-                                                                 l24 = 10;
-                                                                 l25 = l19;
-                                                                 switch (l21) {
-                                                                 case 1: break L65;
-                                                                 default: exit = 1; break PART;
-                                                                 }
-                                                                }
-                                                                L140: {
-                                                                 L141: {
-                                                                  L142: {
-                                                                   L143: {
-                                                                    L144: {
-                                                                     switch (l19) {
-                                                                     case 1: break L141;
-                                                                     case 2: case 3: break L143;
-                                                                     case 4: break L142;
-                                                                     case 5: break L140;
-                                                                     default: break L144;
-                                                                     }
-                                                                    }
-                                                                    l22 = 1;
-                                                                    l20 = 6;
-                                                                    switch (l21 + -2) {
-                                                                    case 3: break L17;
-                                                                    case 4: break L75;
-                                                                    case 5: break L21;
-                                                                    default: exit = 1; break PART;
-                                                                    }
-                                                                   }
-                                                                   l22 = 1;
-                                                                   l20 = 8;
-                                                                   if (((1 << l21) & 261980) != 0) { exit = 1; break PART; }
-                                                                   if (l21 != 5) { break L21; }
-                                                                   break L17;
-                                                                  }
-                                                                  if (l21 == 5) { break L19; }
-                                                                  exit = 1; break PART;
-                                                                 }
-                                                                 l22 = 1;
-                                                                 if (((1 << l21) & 261948) != 0) { exit = 1; break PART; }
-                                                                 if (l21 == 6) { break L75; }
-                                                                 break L21;
-                                                                }
-                                                                if (l21 != 7) { exit = 1; break PART; }
-                                                                l22 = 1;
-                                                                break L21;
-                                                               }
-                                                               L145: {
-                                                                L146: {
-                                                                 L147: {
-                                                                  L148: {
-                                                                   switch (l19) {
-                                                                   case 1: break L145;
-                                                                   case 2: case 3: break L147;
-                                                                   case 4: break L146;
-                                                                   case 5: break L74;
-                                                                   default: break L148;
-                                                                   }
-                                                                  }
-                                                                  l22 = 1;
-                                                                  l20 = 6;
-                                                                  switch (l21) {
-                                                                  case 5: break L17;
-                                                                  case 6: break L75;
-                                                                  case 7: break L21;
-                                                                  default: exit = 1; break PART;
-                                                                  }
-                                                                 }
-                                                                 l22 = 1;
-                                                                 l20 = 8;
-                                                                 if (((1 << l21) & 261983) != 0) { exit = 1; break PART; }
-                                                                 if (l21 != 5) { break L21; }
-                                                                 break L17;
-                                                                }
-                                                                if (l21 == 5) { break L19; }
-                                                                exit = 1; break PART;
-                                                               }
-                                                               l22 = 1;
-                                                               if (((1 << l21) & 261951) != 0) { exit = 1; break PART; }
-                                                               if (l21 != 6) { break L21; }
-                                                              }
-                                                              l13 = ((l11 + l13) + l12) * 100000000L;
-                                                              break L22;
-                                                             }
-                                                             if (l21 != 7) { exit = 1; break PART; }
-                                                             l22 = 1;
-                                                             break L21;
-                                                            }
-                                                            l24 = 5;
-                                                            l25 = 0;
-                                                            l20 = 1;
-                                                            l23 = 0;
-                                                            l22 = 0;
-                                                            l18 = 0;
-                                                            switch (l21) {
-                                                            case 1: break L65;
-                                                            case 2: case 3: case 4: case 5: case 6: case 7: case 8: case 9: case 10: case 12: case 13: case 14: case 15: case 16: case 17: exit = 1; break PART;
-                                                            case 11: break L14;
-                                                            default: break L49;
-                                                            }
-                                                           }
-                                                           if (l21 != 12) { exit = 1; break PART; }
-                                                           break L23;
-                                                          }
-                                                          if (l21 != 13) { exit = 1; break PART; }
-                                                          break L24;
-                                                         }
-                                                         if ((l21 + -2) + Integer.MIN_VALUE < -2147483632) { exit = 1; break PART; }
-                                                         l25 = 0;
-                                                         l24 = 5;
-                                                         l23 = 0;
-                                                         switch (l21) {
-                                                         case 1: break L65;
-                                                         default: break L49;
-                                                         }
-                                                        }
-                                                        if (l21 != 7) { exit = 1; break PART; }
-                                                        l22 = 1;
-                                                        break L21;
-                                                       }
-                                                       l24 = 16;
-                                                       l25 = 0;
-                                                       l20 = 19;
-                                                       l23 = 0;
-                                                       l22 = 0;
-                                                       l18 = 0;
-                                                       L149: {
-                                                        switch (l21) {
-                                                        case 1: break L65;
-                                                        case 2: case 3: case 4: case 5: case 6: case 7: case 8: case 9: case 11: case 12: case 13: case 14: case 15: case 16: case 17: exit = 1; break PART;
-                                                        case 10: break L14;
-                                                        default: break L149;
-                                                        }
-                                                       }
-                                                       l22 = l19 & 1;
-                                                       break L25;
-                                                      }
-                                                      l24 = 18;
-                                                      l25 = 0;
-                                                      l20 = 19;
-                                                      if (((1 << l21) & 261117) != 0) { exit = 1; break PART; }
-                                                      l23 = 0;
-                                                      if (l21 == 1) { break L65; }
-                                                      break L53;
-                                                     }
-                                                     if (l21 != 1) { exit = 1; break PART; }
-                                                     l25 = l19 & 1;
-                                                     l23 = 0;
-                                                     l24 = 15;
-                                                    }
-                                                    l11 = l15;
-                                                    l20 = l24;
-                                                    l22 = l25;
-                                                    l18 = l23;
-                                                    break L14;
-                                                   }
-                                                   if ((l19 & 1) == 0) { break L56; }
-                                                   if (((1 << l21) & 261375) != 0) { exit = 1; break PART; }
-                                                   if (l21 == 8) { break L57; }
-                                                   break L31;
-                                                  }
-                                                  l22 = l19;
-                                                  if (l21 != 2) { exit = 1; break PART; }
-                                                 }
-                                                 l12 = (l11 * 10L) + l12;
-                                                 break L27;
-                                                }
-                                                l22 = l19;
-                                                if (l21 != 3) { exit = 1; break PART; }
-                                               }
-                                               l12 = (l11 * 100L) + l12;
-                                               l18 = 2;
-                                               break L26;
-                                              }
-                                              l22 = (l19 == 3) ? 5 : l19;
-                                              break L28;
+  L40: {
+   L41: {
+    L42: {
+     L43: {
+      L44: {
+       L45: {
+        L46: {
+         L47: {
+          L48: {
+           L49: {
+            L50: {
+             L51: {
+              L52: {
+               L53: {
+                L54: {
+                 L55: {
+                  switch (l16) {
+                  case 1: break L54;
+                  case 2: exit = 1; break PART;
+                  default: break L55;
+                  }
+                 }
+                 if (Words.get32(b, State.far((int) (l14 = (((l17 * 3227) >>> 7) & 0xffffffffL) & 504L), 65536)) != l17) { exit = 2; break PART; }
+                 if (((b[((int) (l14 + 65540L)) - 60720] & 0xff) & 255) != 1) { exit = 2; break PART; }
+                 l15 = b[((int) (l14 + 65542L)) - 60720] & 0xffL;
+                 l21 = b[((int) (l14 + 65541L)) - 60720] & 0xff;
+                 L56: {
+                  L57: {
+                   L58: {
+                    L59: {
+                     L60: {
+                      L61: {
+                       L62: {
+                        L63: {
+                         L64: {
+                          L65: {
+                           L66: {
+                            L67: {
+                             L68: {
+                              L69: {
+                               L70: {
+                                L71: {
+                                 L72: {
+                                  L73: {
+                                   L74: {
+                                    L75: {
+                                     L76: {
+                                      L77: {
+                                       L78: {
+                                        L79: {
+                                         L80: {
+                                          L81: {
+                                           L82: {
+                                            L83: {
+                                             switch (l20) {
+                                             case 1: break L72;
+                                             case 2: break L71;
+                                             case 3: break L70;
+                                             case 4: break L69;
+                                             case 5: break L83;
+                                             case 6: break L82;
+                                             case 7: break L81;
+                                             case 8: break L80;
+                                             case 9: break L79;
+                                             case 10: break L78;
+                                             case 11: break L77;
+                                             case 12: break L76;
+                                             case 13: break L68;
+                                             case 14: break L66;
+                                             case 15: break L64;
+                                             case 16: break L58;
+                                             case 17: break L67;
+                                             case 18: break L56;
+                                             case 19: exit = 2; break PART;
+                                             default: break L73;
                                              }
-                                             if (l21 != 8) { exit = 1; break PART; }
                                             }
-                                            l13 = (l11 * 10L) + l13;
-                                            break L30;
-                                           }
-                                           if (l21 != 9) { exit = 1; break PART; }
-                                           break L31;
-                                          }
-                                          if (l9 == 0L) { exit = 1; break PART; }
-                                          L150: {
-                                           L151: {
-                                            if ((l22 = (int) b[((int) l10) - 60720]) <= -1) { break L151; }
-                                            l15 = 1L;
-                                            break L150;
-                                           }
-                                           L152: {
-                                            if (l22 + Integer.MIN_VALUE >= 2147483616) { break L152; }
-                                            l15 = 2L;
-                                            break L150;
-                                           }
-                                           l15 = (l22 + Integer.MIN_VALUE < 2147483632) ? 3L : 4L;
-                                          }
-                                          if (Words.get32(b, State.far((int) (l14 = (((l17 * 3227) >>> 7) & 0xffffffffL) & 504L), 65536)) != l17) { exit = 1; break PART; }
-                                          if (((b[((int) (l14 + 65540L)) - 60720] & 0xff) & 255) != 1) { exit = 1; break PART; }
-                                          l9 = l9 - l15;
-                                          l10 = l10 + l15;
-                                          l15 = b[((int) (l14 + 65542L)) - 60720] & 0xffL;
-                                          l21 = b[((int) (l14 + 65541L)) - 60720] & 0xff;
-                                          L153: {
-                                           L154: {
-                                            L155: {
-                                             L156: {
-                                              L157: {
-                                               L158: {
-                                                L159: {
-                                                 L160: {
-                                                  L161: {
-                                                   L162: {
-                                                    L163: {
-                                                     L164: {
-                                                      L165: {
-                                                       L166: {
-                                                        L167: {
-                                                         L168: {
-                                                          L169: {
-                                                           switch (l20) {
-                                                           case 1: break L158;
-                                                           case 2: break L157;
-                                                           case 3: break L156;
-                                                           case 4: break L155;
-                                                           case 5: break L169;
-                                                           case 6: break L168;
-                                                           case 7: break L167;
-                                                           case 8: break L166;
-                                                           case 9: break L165;
-                                                           case 10: break L164;
-                                                           case 11: break L163;
-                                                           case 12: break L162;
-                                                           case 13: break L154;
-                                                           case 14: break L52;
-                                                           case 15: break L50;
-                                                           case 16: break L42;
-                                                           case 17: break L153;
-                                                           case 18: break L40;
-                                                           case 19: exit = 1; break PART;
-                                                           default: break L159;
-                                                           }
-                                                          }
-                                                          L170: {
-                                                           if (((1 << l21) & 261375) != 0) { break L170; }
-                                                           if (l21 != 8) { break L31; }
-                                                           break L41;
-                                                          }
-                                                          L171: {
-                                                           if ((l21 + -5) + Integer.MIN_VALUE < -2147483635) { break L171; }
-                                                           l22 = 0;
-                                                           switch (l21) {
-                                                           case 2: break L47;
-                                                           case 3: break L45;
-                                                           case 4: break L43;
-                                                           default: break L171;
-                                                           }
-                                                          }
-                                                          l20 = 6;
-                                                          l22 = 0;
-                                                          switch (l21) {
-                                                          case 5: break L32;
-                                                          case 6: break L161;
-                                                          case 7: break L35;
-                                                          default: exit = 1; break PART;
-                                                          }
-                                                         }
-                                                         L172: {
-                                                          if ((l21 + -6) + Integer.MIN_VALUE < -2147483636) { break L172; }
-                                                          l24 = 10;
-                                                          l25 = 3;
-                                                          l23 = l21;
-                                                          L173: {
-                                                           switch (l21) {
-                                                           case 1: break L51;
-                                                           case 2: case 3: case 4: break L172;
-                                                           case 5: exit = 1; break PART;
-                                                           default: break L173;
-                                                           }
-                                                          }
-                                                          l22 = 1;
-                                                          l18 = (l19 & 1) | 2;
-                                                          break L36;
-                                                         }
-                                                         l22 = 1;
-                                                         if (((1 << l21) & 261948) != 0) { exit = 1; break PART; }
-                                                         if (l21 != 6) { break L35; }
-                                                         break L161;
-                                                        }
-                                                        L174: {
-                                                         if ((l21 + -6) + Integer.MIN_VALUE < -2147483636) { break L174; }
-                                                         l24 = 10;
-                                                         l23 = 4;
-                                                         l25 = 3;
-                                                         L175: {
-                                                          switch (l21) {
-                                                          case 1: break L51;
-                                                          case 2: case 3: case 4: break L174;
-                                                          case 5: exit = 1; break PART;
-                                                          default: break L175;
-                                                          }
-                                                         }
-                                                         l18 = 3;
-                                                         l22 = (l19 & 1) ^ 3;
-                                                         break L36;
-                                                        }
-                                                        l20 = 8;
-                                                        l22 = 1;
-                                                        if (((1 << l21) & 261980) != 0) { exit = 1; break PART; }
-                                                        if (l21 != 5) { break L35; }
-                                                        break L32;
-                                                       }
-                                                       l22 = 1;
-                                                       l24 = 10;
-                                                       l23 = 5;
-                                                       l25 = 3;
-                                                       L176: {
-                                                        switch (l21) {
-                                                        case 1: break L51;
-                                                        case 2: case 3: case 4: case 5: case 6: case 8: case 9: case 10: case 11: case 12: case 13: case 14: case 15: case 16: case 17: exit = 1; break PART;
-                                                        case 7: break L35;
-                                                        default: break L176;
-                                                        }
-                                                       }
-                                                       l18 = (l19 & 1) | 2;
-                                                       l22 = 5;
-                                                       break L36;
-                                                      }
-                                                      if (l21 != 1) { exit = 1; break PART; }
-                                                      l24 = 11;
-                                                      l25 = l18;
-                                                      l23 = l19;
-                                                      break L51;
-                                                     }
-                                                     L177: {
-                                                      switch (l18) {
-                                                      case 1: break L48;
-                                                      case 2: break L46;
-                                                      case 3: break L44;
-                                                      default: break L177;
-                                                      }
-                                                     }
-                                                     L178: {
-                                                      L179: {
-                                                       L180: {
-                                                        L181: {
-                                                         L182: {
-                                                          switch (l19) {
-                                                          case 1: break L179;
-                                                          case 2: case 3: break L181;
-                                                          case 4: break L180;
-                                                          case 5: break L178;
-                                                          default: break L182;
-                                                          }
-                                                         }
-                                                         l20 = 6;
-                                                         l22 = 0;
-                                                         switch (l21) {
-                                                         case 5: break L32;
-                                                         case 6: break L161;
-                                                         case 7: break L35;
-                                                         default: exit = 1; break PART;
-                                                         }
-                                                        }
-                                                        l20 = 8;
-                                                        l22 = 0;
-                                                        if (((1 << l21) & 261983) != 0) { exit = 1; break PART; }
-                                                        if (l21 != 5) { break L35; }
-                                                        break L32;
-                                                       }
-                                                       if (l21 != 5) { exit = 1; break PART; }
-                                                       break L33;
-                                                      }
-                                                      l22 = 0;
-                                                      if (((1 << l21) & 261951) != 0) { exit = 1; break PART; }
-                                                      if (l21 != 6) { break L35; }
-                                                      break L161;
-                                                     }
-                                                     if (l21 != 7) { exit = 1; break PART; }
-                                                     l22 = 0;
-                                                     break L35;
-                                                    }
-                                                    L183: {
-                                                     L184: {
-                                                      L185: {
-                                                       L186: {
-                                                        switch (l18) {
-                                                        case 1: break L184;
-                                                        case 2: break L185;
-                                                        case 3: break L186;
-                                                        default: break L183;
-                                                        }
-                                                       }
-                                                       L187: {
-                                                        if ((l21 + -5) + Integer.MIN_VALUE < -2147483635) { break L187; }
-                                                        l22 = l19;
-                                                        L188: {
-                                                         switch (l21) {
-                                                         case 2: break L47;
-                                                         case 3: break L45;
-                                                         case 4: break L188;
-                                                         default: break L187;
-                                                         }
-                                                        }
-                                                        l22 = (l19 == 3) ? 5 : l19;
-                                                        break L43;
-                                                       }
-                                                       L189: {
-                                                        L190: {
-                                                         L191: {
-                                                          L192: {
-                                                           L193: {
-                                                            switch (l19) {
-                                                            case 1: break L190;
-                                                            case 2: case 3: break L192;
-                                                            case 4: break L191;
-                                                            case 5: break L189;
-                                                            default: break L193;
-                                                            }
-                                                           }
-                                                           l20 = 6;
-                                                           l22 = 0;
-                                                           switch (l21) {
-                                                           case 5: break L32;
-                                                           case 6: break L161;
-                                                           case 7: break L35;
-                                                           default: exit = 1; break PART;
-                                                           }
-                                                          }
-                                                          l20 = 8;
-                                                          l22 = 0;
-                                                          if (((1 << l21) & 261983) != 0) { exit = 1; break PART; }
-                                                          if (l21 != 5) { break L35; }
-                                                          break L32;
-                                                         }
-                                                         if (l21 == 5) { break L33; }
-                                                         exit = 1; break PART;
-                                                        }
-                                                        l22 = 0;
-                                                        if (((1 << l21) & 261951) != 0) { exit = 1; break PART; }
-                                                        if (l21 != 6) { break L35; }
-                                                        break L161;
-                                                       }
-                                                       if (l21 != 7) { exit = 1; break PART; }
-                                                       l22 = 0;
-                                                       break L35;
-                                                      }
-                                                      L194: {
-                                                       if ((l21 + -4) + Integer.MIN_VALUE < -2147483634) { break L194; }
-                                                       l22 = l19;
-                                                       switch (l21) {
-                                                       case 2: break L47;
-                                                       case 3: break L45;
-                                                       default: break L194;
-                                                       }
-                                                      }
-                                                      L195: {
-                                                       L196: {
-                                                        L197: {
-                                                         L198: {
-                                                          L199: {
-                                                           switch (l19) {
-                                                           case 1: break L196;
-                                                           case 2: case 3: break L198;
-                                                           case 4: break L197;
-                                                           case 5: break L195;
-                                                           default: break L199;
-                                                           }
-                                                          }
-                                                          l20 = 6;
-                                                          l22 = 0;
-                                                          switch (l21) {
-                                                          case 5: break L32;
-                                                          case 6: break L161;
-                                                          case 7: break L35;
-                                                          default: exit = 1; break PART;
-                                                          }
-                                                         }
-                                                         l20 = 8;
-                                                         l22 = 0;
-                                                         if (((1 << l21) & 261983) != 0) { exit = 1; break PART; }
-                                                         if (l21 != 5) { break L35; }
-                                                         break L32;
-                                                        }
-                                                        if (l21 == 5) { break L33; }
-                                                        exit = 1; break PART;
-                                                       }
-                                                       l22 = 0;
-                                                       if (((1 << l21) & 261951) != 0) { exit = 1; break PART; }
-                                                       if (l21 != 6) { break L35; }
-                                                       break L161;
-                                                      }
-                                                      if (l21 != 7) { exit = 1; break PART; }
-                                                      l22 = 0;
-                                                      break L35;
-                                                     }
-                                                     L200: {
-                                                      if ((l21 + -5) + Integer.MIN_VALUE < -2147483635) { break L200; }
-                                                      l22 = l19;
-                                                      switch (l21) {
-                                                      case 2: break L47;
-                                                      case 3: case 4: exit = 1; break PART;
-                                                      default: break L200;
-                                                      }
-                                                     }
-                                                     L201: {
-                                                      L202: {
-                                                       L203: {
-                                                        L204: {
-                                                         L205: {
-                                                          switch (l19) {
-                                                          case 1: break L202;
-                                                          case 2: case 3: break L204;
-                                                          case 4: break L203;
-                                                          case 5: break L201;
-                                                          default: break L205;
-                                                          }
-                                                         }
-                                                         l20 = 6;
-                                                         l22 = 0;
-                                                         switch (l21) {
-                                                         case 5: break L32;
-                                                         case 6: break L161;
-                                                         case 7: break L35;
-                                                         default: exit = 1; break PART;
-                                                         }
-                                                        }
-                                                        l20 = 8;
-                                                        l22 = 0;
-                                                        if (((1 << l21) & 261983) != 0) { exit = 1; break PART; }
-                                                        if (l21 != 5) { break L35; }
-                                                        break L32;
-                                                       }
-                                                       if (l21 == 5) { break L33; }
-                                                       exit = 1; break PART;
-                                                      }
-                                                      l22 = 0;
-                                                      if (((1 << l21) & 261951) != 0) { exit = 1; break PART; }
-                                                      if (l21 != 6) { break L35; }
-                                                      break L161;
-                                                     }
-                                                     if (l21 != 7) { exit = 1; break PART; }
-                                                     l22 = 0;
-                                                     break L35;
-                                                    }
-                                                    L206: {
-                                                     L207: {
-                                                      L208: {
-                                                       L209: {
-                                                        L210: {
-                                                         switch (l19) {
-                                                         case 1: break L207;
-                                                         case 2: case 3: break L209;
-                                                         case 4: break L208;
-                                                         case 5: break L206;
-                                                         default: break L210;
-                                                         }
-                                                        }
-                                                        l20 = 6;
-                                                        l22 = 0;
-                                                        switch (l21) {
-                                                        case 5: break L32;
-                                                        case 6: break L161;
-                                                        case 7: break L35;
-                                                        default: exit = 1; break PART;
-                                                        }
-                                                       }
-                                                       l20 = 8;
-                                                       l22 = 0;
-                                                       if (((1 << l21) & 261983) != 0) { exit = 1; break PART; }
-                                                       if (l21 != 5) { break L35; }
-                                                       break L32;
-                                                      }
-                                                      if (l21 == 5) { break L33; }
-                                                      exit = 1; break PART;
-                                                     }
-                                                     l22 = 0;
-                                                     if (((1 << l21) & 261951) != 0) { exit = 1; break PART; }
-                                                     if (l21 != 6) { break L35; }
-                                                     break L161;
-                                                    }
-                                                    if (l21 != 7) { exit = 1; break PART; }
-                                                    l22 = 0;
-                                                    break L35;
-                                                   }
-                                                   L211: {
-                                                    L212: {
-                                                     L213: {
-                                                      L214: {
-                                                       switch (l18) {
-                                                       case 1: break L212;
-                                                       case 2: break L213;
-                                                       case 3: break L214;
-                                                       default: break L211;
-                                                       }
-                                                      }
-                                                      L215: {
-                                                       if ((l21 + -2) + Integer.MIN_VALUE < -2147483632) { break L215; }
-                                                       l18 = 1;
-                                                       l20 = 9;
-                                                       l24 = 10;
-                                                       l25 = 2;
-                                                       l23 = l19;
-                                                       l22 = l19;
-                                                       switch (l21) {
-                                                       case 1: break L51;
-                                                       default: break L14;
-                                                       }
-                                                      }
-                                                      L216: {
-                                                       L217: {
-                                                        L218: {
-                                                         L219: {
-                                                          L220: {
-                                                           switch (l19) {
-                                                           case 1: break L217;
-                                                           case 2: case 3: break L219;
-                                                           case 4: break L218;
-                                                           case 5: break L216;
-                                                           default: break L220;
-                                                           }
-                                                          }
-                                                          l20 = 6;
-                                                          l22 = 1;
-                                                          switch (l21 + -2) {
-                                                          case 3: break L32;
-                                                          case 4: break L161;
-                                                          case 5: break L35;
-                                                          default: exit = 1; break PART;
-                                                          }
-                                                         }
-                                                         l20 = 8;
-                                                         l22 = 1;
-                                                         if (((1 << l21) & 261980) != 0) { exit = 1; break PART; }
-                                                         if (l21 != 5) { break L35; }
-                                                         break L32;
-                                                        }
-                                                        if (l21 != 5) { exit = 1; break PART; }
-                                                        break L34;
-                                                       }
-                                                       l22 = 1;
-                                                       if (((1 << l21) & 261948) != 0) { exit = 1; break PART; }
-                                                       if (l21 != 6) { break L35; }
-                                                       break L161;
-                                                      }
-                                                      if (l21 != 7) { exit = 1; break PART; }
-                                                      l22 = 1;
-                                                      break L35;
-                                                     }
-                                                     L221: {
-                                                      if ((l21 + -2) + Integer.MIN_VALUE < -2147483632) { break L221; }
-                                                      l20 = 9;
-                                                      l24 = 10;
-                                                      l25 = l21;
-                                                      l23 = l19;
-                                                      l22 = l19;
-                                                      l18 = l21;
-                                                      switch (l21) {
-                                                      case 1: break L51;
-                                                      default: break L14;
-                                                      }
-                                                     }
-                                                     L222: {
-                                                      L223: {
-                                                       L224: {
-                                                        L225: {
-                                                         L226: {
-                                                          switch (l19) {
-                                                          case 1: break L223;
-                                                          case 2: case 3: break L225;
-                                                          case 4: break L224;
-                                                          case 5: break L222;
-                                                          default: break L226;
-                                                          }
-                                                         }
-                                                         l20 = 6;
-                                                         l22 = 1;
-                                                         switch (l21 + -2) {
-                                                         case 3: break L32;
-                                                         case 4: break L161;
-                                                         case 5: break L35;
-                                                         default: exit = 1; break PART;
-                                                         }
-                                                        }
-                                                        l20 = 8;
-                                                        l22 = 1;
-                                                        if (((1 << l21) & 261980) != 0) { exit = 1; break PART; }
-                                                        if (l21 != 5) { break L35; }
-                                                        break L32;
-                                                       }
-                                                       if (l21 == 5) { break L34; }
-                                                       exit = 1; break PART;
-                                                      }
-                                                      l22 = 1;
-                                                      if (((1 << l21) & 261948) != 0) { exit = 1; break PART; }
-                                                      if (l21 != 6) { break L35; }
-                                                      break L161;
-                                                     }
-                                                     if (l21 != 7) { exit = 1; break PART; }
-                                                     l22 = 1;
-                                                     break L35;
-                                                    }
-                                                    L227: {
-                                                     if ((l21 + -2) + Integer.MIN_VALUE < -2147483632) { break L227; }
-                                                     l24 = 10;
-                                                     l25 = 0;
-                                                     l23 = l19;
-                                                     switch (l21) {
-                                                     case 1: break L51;
-                                                     default: exit = 1; break PART;
-                                                     }
-                                                    }
-                                                    L228: {
-                                                     L229: {
-                                                      L230: {
-                                                       L231: {
-                                                        L232: {
-                                                         switch (l19) {
-                                                         case 1: break L229;
-                                                         case 2: case 3: break L231;
-                                                         case 4: break L230;
-                                                         case 5: break L228;
-                                                         default: break L232;
-                                                         }
-                                                        }
-                                                        l20 = 6;
-                                                        l22 = 1;
-                                                        switch (l21 + -2) {
-                                                        case 3: break L32;
-                                                        case 4: break L161;
-                                                        case 5: break L35;
-                                                        default: exit = 1; break PART;
-                                                        }
-                                                       }
-                                                       l20 = 8;
-                                                       l22 = 1;
-                                                       if (((1 << l21) & 261980) != 0) { exit = 1; break PART; }
-                                                       if (l21 != 5) { break L35; }
-                                                       break L32;
-                                                      }
-                                                      if (l21 == 5) { break L34; }
-                                                      exit = 1; break PART;
-                                                     }
-                                                     l22 = 1;
-                                                     if (((1 << l21) & 261948) != 0) { exit = 1; break PART; }
-                                                     if (l21 == 6) { break L161; }
-                                                     break L35;
-                                                    }
-                                                    if (l21 != 7) { exit = 1; break PART; }
-                                                    l22 = 1;
-                                                    break L35;
-                                                   }
-                                                   L233: {
-                                                    L234: {
-                                                     L235: {
-                                                      L236: {
-                                                       switch (l19) {
-                                                       case 1: break L233;
-                                                       case 2: case 3: break L235;
-                                                       case 4: break L234;
-                                                       case 5: break L160;
-                                                       default: break L236;
-                                                       }
-                                                      }
-                                                      l20 = 6;
-                                                      l22 = 1;
-                                                      switch (l21) {
-                                                      case 5: break L32;
-                                                      case 6: break L161;
-                                                      case 7: break L35;
-                                                      default: exit = 1; break PART;
-                                                      }
-                                                     }
-                                                     l20 = 8;
-                                                     l22 = 1;
-                                                     if (((1 << l21) & 261983) != 0) { exit = 1; break PART; }
-                                                     if (l21 != 5) { break L35; }
-                                                     break L32;
-                                                    }
-                                                    if (l21 == 5) { break L34; }
-                                                    exit = 1; break PART;
-                                                   }
-                                                   l22 = 1;
-                                                   if (((1 << l21) & 261951) != 0) { exit = 1; break PART; }
-                                                   if (l21 != 6) { break L35; }
-                                                  }
-                                                  l13 = ((l11 + l13) + l12) * 100000000L;
-                                                  break L22;
-                                                 }
-                                                 if (l21 != 7) { exit = 1; break PART; }
-                                                 l22 = 1;
-                                                 break L35;
-                                                }
-                                                l24 = 5;
-                                                l25 = 0;
-                                                l20 = 1;
-                                                l23 = 0;
-                                                l22 = 0;
-                                                l18 = 0;
-                                                switch (l21) {
-                                                case 1: break L51;
-                                                case 2: case 3: case 4: case 5: case 6: case 7: case 8: case 9: case 10: case 12: case 13: case 14: case 15: case 16: case 17: exit = 1; break PART;
-                                                case 11: break L14;
-                                                default: break L49;
-                                                }
-                                               }
-                                               if (l21 == 12) { break L23; }
-                                               exit = 1; break PART;
-                                              }
-                                              if (l21 == 13) { break L24; }
-                                              exit = 1; break PART;
-                                             }
-                                             if ((l21 + -2) + Integer.MIN_VALUE < -2147483632) { exit = 1; break PART; }
-                                             l24 = 5;
-                                             l25 = 0;
-                                             l23 = 0;
+                                            L84: {
+                                             if (((1 << l21) & 261375) != 0) { break L84; }
+                                             if (l21 == 8) { break L57; }
+                                             exit = 3; break PART;
+                                            }
+                                            L85: {
+                                             if ((l21 + -5) + Integer.MIN_VALUE < -2147483635) { break L85; }
+                                             l22 = 0;
                                              switch (l21) {
-                                             case 1: break L51;
-                                             default: break L49;
+                                             case 2: break L62;
+                                             case 3: break L60;
+                                             case 4: exit = 4; break PART;
+                                             default: break L85;
                                              }
                                             }
-                                            if (l21 != 7) { exit = 1; break PART; }
-                                            l22 = 1;
-                                            break L35;
-                                           }
-                                           l24 = 16;
-                                           l25 = 0;
-                                           l20 = 19;
-                                           l23 = 0;
-                                           l22 = 0;
-                                           l18 = 0;
-                                           L237: {
+                                            l22 = 0;
+                                            l20 = 6;
                                             switch (l21) {
-                                            case 1: break L51;
-                                            case 2: case 3: case 4: case 5: case 6: case 7: case 8: case 9: case 11: case 12: case 13: case 14: case 15: case 16: case 17: exit = 1; break PART;
-                                            case 10: break L14;
-                                            default: break L237;
+                                            case 5: exit = 5; break PART;
+                                            case 6: break L75;
+                                            case 7: exit = 6; break PART;
+                                            default: exit = 2; break PART;
                                             }
                                            }
-                                           l22 = l19 & 1;
-                                           break L25;
+                                           L86: {
+                                            if ((l21 + -6) + Integer.MIN_VALUE < -2147483636) { break L86; }
+                                            l23 = 3;
+                                            l24 = 10;
+                                            l25 = l21;
+                                            switch (l21) {
+                                            case 1: break L65;
+                                            case 2: case 3: case 4: break L86;
+                                            case 5: exit = 2; break PART;
+                                            default: exit = 7; break PART;
+                                            }
+                                           }
+                                           l22 = 1;
+                                           if (((1 << l21) & 261948) != 0) { exit = 2; break PART; }
+                                           if (l21 != 6) { exit = 6; break PART; }
+                                           break L75;
                                           }
-                                          l24 = 18;
-                                          l25 = 0;
-                                          l20 = 19;
-                                          if (((1 << l21) & 261117) != 0) { exit = 1; break PART; }
-                                          l23 = 0;
-                                          if (l21 == 1) { break L51; }
+                                          L87: {
+                                           if ((l21 + -6) + Integer.MIN_VALUE < -2147483636) { break L87; }
+                                           l23 = 3;
+                                           l25 = 4;
+                                           l24 = 10;
+                                           L88: {
+                                            switch (l21) {
+                                            case 1: break L65;
+                                            case 2: case 3: case 4: break L87;
+                                            case 5: exit = 2; break PART;
+                                            default: break L88;
+                                            }
+                                           }
+                                           l18 = 3;
+                                           l22 = (l19 & 1) ^ 3;
+                                           exit = 8; break PART;
+                                          }
+                                          l22 = 1;
+                                          l20 = 8;
+                                          if (((1 << l21) & 261980) != 0) { exit = 2; break PART; }
+                                          if (l21 != 5) { exit = 6; break PART; }
+                                          exit = 5; break PART;
+                                         }
+                                         l22 = 1;
+                                         l23 = 3;
+                                         l25 = 5;
+                                         l24 = 10;
+                                         L89: {
+                                          switch (l21) {
+                                          case 1: break L65;
+                                          case 2: case 3: case 4: case 5: case 6: case 8: case 9: case 10: case 11: case 12: case 13: case 14: case 15: case 16: case 17: exit = 2; break PART;
+                                          case 7: exit = 6; break PART;
+                                          default: break L89;
+                                          }
+                                         }
+                                         l18 = (l19 & 1) | 2;
+                                         l22 = 5;
+                                         exit = 8; break PART;
+                                        }
+                                        if (l21 != 1) { exit = 2; break PART; }
+                                        l24 = 11;
+                                        l25 = l19;
+                                        l23 = l18;
+                                        break L65;
+                                       }
+                                       L90: {
+                                        switch (l18) {
+                                        case 1: break L63;
+                                        case 2: break L61;
+                                        case 3: exit = 9; break PART;
+                                        default: break L90;
+                                        }
+                                       }
+                                       L91: {
+                                        L92: {
+                                         L93: {
+                                          L94: {
+                                           L95: {
+                                            switch (l19) {
+                                            case 1: break L92;
+                                            case 2: case 3: break L94;
+                                            case 4: break L93;
+                                            case 5: break L91;
+                                            default: break L95;
+                                            }
+                                           }
+                                           l22 = 0;
+                                           l20 = 6;
+                                           switch (l21) {
+                                           case 5: exit = 5; break PART;
+                                           case 6: break L75;
+                                           case 7: exit = 6; break PART;
+                                           default: exit = 2; break PART;
+                                           }
+                                          }
+                                          l22 = 0;
+                                          l20 = 8;
+                                          if (((1 << l21) & 261983) != 0) { exit = 2; break PART; }
+                                          if (l21 != 5) { exit = 6; break PART; }
+                                          exit = 5; break PART;
+                                         }
+                                         if (l21 != 5) { exit = 2; break PART; }
+                                         exit = 10; break PART;
+                                        }
+                                        l22 = 0;
+                                        if (((1 << l21) & 261951) != 0) { exit = 2; break PART; }
+                                        if (l21 != 6) { exit = 6; break PART; }
+                                        break L75;
+                                       }
+                                       if (l21 != 7) { exit = 2; break PART; }
+                                       l22 = 0;
+                                       exit = 6; break PART;
+                                      }
+                                      L96: {
+                                       L97: {
+                                        L98: {
+                                         L99: {
+                                          switch (l18) {
+                                          case 1: break L97;
+                                          case 2: break L98;
+                                          case 3: break L99;
+                                          default: break L96;
+                                          }
+                                         }
+                                         L100: {
+                                          if ((l21 + -5) + Integer.MIN_VALUE < -2147483635) { break L100; }
+                                          l22 = l19;
+                                          switch (l21) {
+                                          case 2: break L62;
+                                          case 3: break L60;
+                                          case 4: break L59;
+                                          default: break L100;
+                                          }
+                                         }
+                                         L101: {
+                                          L102: {
+                                           L103: {
+                                            L104: {
+                                             L105: {
+                                              switch (l19) {
+                                              case 1: break L102;
+                                              case 2: case 3: break L104;
+                                              case 4: break L103;
+                                              case 5: break L101;
+                                              default: break L105;
+                                              }
+                                             }
+                                             l22 = 0;
+                                             l20 = 6;
+                                             switch (l21) {
+                                             case 5: exit = 5; break PART;
+                                             case 6: break L75;
+                                             case 7: exit = 6; break PART;
+                                             default: exit = 2; break PART;
+                                             }
+                                            }
+                                            l22 = 0;
+                                            l20 = 8;
+                                            if (((1 << l21) & 261983) != 0) { exit = 2; break PART; }
+                                            if (l21 != 5) { exit = 6; break PART; }
+                                            exit = 5; break PART;
+                                           }
+                                           if (l21 == 5) { exit = 10; break PART; }
+                                           exit = 2; break PART;
+                                          }
+                                          l22 = 0;
+                                          if (((1 << l21) & 261951) != 0) { exit = 2; break PART; }
+                                          if (l21 != 6) { exit = 6; break PART; }
+                                          break L75;
+                                         }
+                                         if (l21 != 7) { exit = 2; break PART; }
+                                         l22 = 0;
+                                         exit = 6; break PART;
+                                        }
+                                        L106: {
+                                         if ((l21 + -4) + Integer.MIN_VALUE < -2147483634) { break L106; }
+                                         l22 = l19;
+                                         switch (l21) {
+                                         case 2: break L62;
+                                         case 3: break L60;
+                                         default: break L106;
+                                         }
+                                        }
+                                        L107: {
+                                         L108: {
+                                          L109: {
+                                           L110: {
+                                            L111: {
+                                             switch (l19) {
+                                             case 1: break L108;
+                                             case 2: case 3: break L110;
+                                             case 4: break L109;
+                                             case 5: break L107;
+                                             default: break L111;
+                                             }
+                                            }
+                                            l22 = 0;
+                                            l20 = 6;
+                                            switch (l21) {
+                                            case 5: exit = 5; break PART;
+                                            case 6: break L75;
+                                            case 7: exit = 6; break PART;
+                                            default: exit = 2; break PART;
+                                            }
+                                           }
+                                           l22 = 0;
+                                           l20 = 8;
+                                           if (((1 << l21) & 261983) != 0) { exit = 2; break PART; }
+                                           if (l21 != 5) { exit = 6; break PART; }
+                                           exit = 5; break PART;
+                                          }
+                                          if (l21 == 5) { exit = 10; break PART; }
+                                          exit = 2; break PART;
                                          }
                                          l22 = 0;
-                                         l18 = 0;
-                                         break L14;
+                                         if (((1 << l21) & 261951) != 0) { exit = 2; break PART; }
+                                         if (l21 != 6) { exit = 6; break PART; }
+                                         break L75;
                                         }
-                                        if (l21 != 1) { exit = 1; break PART; }
-                                        l23 = l19 & 1;
-                                        l24 = 15;
-                                        l25 = 0;
+                                        if (l21 != 7) { exit = 2; break PART; }
+                                        l22 = 0;
+                                        exit = 6; break PART;
                                        }
-                                       l11 = l15;
-                                       l20 = l24;
-                                       l22 = l23;
-                                       l18 = l25;
-                                       break L14;
+                                       L112: {
+                                        if ((l21 + -5) + Integer.MIN_VALUE < -2147483635) { break L112; }
+                                        l22 = l19;
+                                        switch (l21) {
+                                        case 2: break L62;
+                                        case 3: case 4: exit = 2; break PART;
+                                        default: break L112;
+                                        }
+                                       }
+                                       L113: {
+                                        L114: {
+                                         L115: {
+                                          L116: {
+                                           L117: {
+                                            switch (l19) {
+                                            case 1: break L114;
+                                            case 2: case 3: break L116;
+                                            case 4: break L115;
+                                            case 5: break L113;
+                                            default: break L117;
+                                            }
+                                           }
+                                           l22 = 0;
+                                           l20 = 6;
+                                           switch (l21) {
+                                           case 5: exit = 5; break PART;
+                                           case 6: break L75;
+                                           case 7: exit = 6; break PART;
+                                           default: exit = 2; break PART;
+                                           }
+                                          }
+                                          l22 = 0;
+                                          l20 = 8;
+                                          if (((1 << l21) & 261983) != 0) { exit = 2; break PART; }
+                                          if (l21 != 5) { exit = 6; break PART; }
+                                          exit = 5; break PART;
+                                         }
+                                         if (l21 == 5) { exit = 10; break PART; }
+                                         exit = 2; break PART;
+                                        }
+                                        l22 = 0;
+                                        if (((1 << l21) & 261951) != 0) { exit = 2; break PART; }
+                                        if (l21 != 6) { exit = 6; break PART; }
+                                        break L75;
+                                       }
+                                       if (l21 != 7) { exit = 2; break PART; }
+                                       l22 = 0;
+                                       exit = 6; break PART;
                                       }
-                                      if ((l19 & 1) == 0) { break L40; }
-                                      if (((1 << l21) & 261375) != 0) { exit = 1; break PART; }
-                                      if (l21 != 8) { break L31; }
-                                      break L41;
+                                      L118: {
+                                       L119: {
+                                        L120: {
+                                         L121: {
+                                          L122: {
+                                           switch (l19) {
+                                           case 1: break L119;
+                                           case 2: case 3: break L121;
+                                           case 4: break L120;
+                                           case 5: break L118;
+                                           default: break L122;
+                                           }
+                                          }
+                                          l22 = 0;
+                                          l20 = 6;
+                                          switch (l21) {
+                                          case 5: exit = 5; break PART;
+                                          case 6: break L75;
+                                          case 7: exit = 6; break PART;
+                                          default: exit = 2; break PART;
+                                          }
+                                         }
+                                         l22 = 0;
+                                         l20 = 8;
+                                         if (((1 << l21) & 261983) != 0) { exit = 2; break PART; }
+                                         if (l21 != 5) { exit = 6; break PART; }
+                                         exit = 5; break PART;
+                                        }
+                                        if (l21 == 5) { exit = 10; break PART; }
+                                        exit = 2; break PART;
+                                       }
+                                       l22 = 0;
+                                       if (((1 << l21) & 261951) != 0) { exit = 2; break PART; }
+                                       if (l21 != 6) { exit = 6; break PART; }
+                                       break L75;
+                                      }
+                                      if (l21 != 7) { exit = 2; break PART; }
+                                      l22 = 0;
+                                      exit = 6; break PART;
                                      }
-                                     l22 = 0;
-                                     l20 = 4;
-                                     l18 = 0;
-                                     break L14;
+                                     L123: {
+                                      L124: {
+                                       L125: {
+                                        L126: {
+                                         switch (l18) {
+                                         case 1: break L124;
+                                         case 2: break L125;
+                                         case 3: break L126;
+                                         default: break L123;
+                                         }
+                                        }
+                                        L127: {
+                                         if ((l21 + -2) + Integer.MIN_VALUE < -2147483632) { break L127; }
+                                         l18 = 1;
+                                         l20 = 9;
+                                         l23 = 2;
+                                         l24 = 10;
+                                         l25 = l19;
+                                         l22 = l19;
+                                         switch (l21) {
+                                         case 1: break L65;
+                                         default: exit = 11; break PART;
+                                         }
+                                        }
+                                        L128: {
+                                         L129: {
+                                          L130: {
+                                           L131: {
+                                            L132: {
+                                             switch (l19) {
+                                             case 1: break L129;
+                                             case 2: case 3: break L131;
+                                             case 4: break L130;
+                                             case 5: break L128;
+                                             default: break L132;
+                                             }
+                                            }
+                                            l22 = 1;
+                                            l20 = 6;
+                                            switch (l21 + -2) {
+                                            case 3: exit = 5; break PART;
+                                            case 4: break L75;
+                                            case 5: exit = 6; break PART;
+                                            default: exit = 2; break PART;
+                                            }
+                                           }
+                                           l22 = 1;
+                                           l20 = 8;
+                                           if (((1 << l21) & 261980) != 0) { exit = 2; break PART; }
+                                           if (l21 != 5) { exit = 6; break PART; }
+                                           exit = 5; break PART;
+                                          }
+                                          if (l21 != 5) { exit = 2; break PART; }
+                                          exit = 12; break PART;
+                                         }
+                                         l22 = 1;
+                                         if (((1 << l21) & 261948) != 0) { exit = 2; break PART; }
+                                         if (l21 != 6) { exit = 6; break PART; }
+                                         break L75;
+                                        }
+                                        if (l21 != 7) { exit = 2; break PART; }
+                                        l22 = 1;
+                                        exit = 6; break PART;
+                                       }
+                                       L133: {
+                                        if ((l21 + -2) + Integer.MIN_VALUE < -2147483632) { break L133; }
+                                        l20 = 9;
+                                        l24 = 10;
+                                        l25 = l19;
+                                        l23 = l21;
+                                        l22 = l19;
+                                        l18 = l21;
+                                        switch (l21) {
+                                        case 1: break L65;
+                                        default: exit = 11; break PART;
+                                        }
+                                       }
+                                       L134: {
+                                        L135: {
+                                         L136: {
+                                          L137: {
+                                           L138: {
+                                            switch (l19) {
+                                            case 1: break L135;
+                                            case 2: case 3: break L137;
+                                            case 4: break L136;
+                                            case 5: break L134;
+                                            default: break L138;
+                                            }
+                                           }
+                                           l22 = 1;
+                                           l20 = 6;
+                                           switch (l21 + -2) {
+                                           case 3: exit = 5; break PART;
+                                           case 4: break L75;
+                                           case 5: exit = 6; break PART;
+                                           default: exit = 2; break PART;
+                                           }
+                                          }
+                                          l22 = 1;
+                                          l20 = 8;
+                                          if (((1 << l21) & 261980) != 0) { exit = 2; break PART; }
+                                          if (l21 != 5) { exit = 6; break PART; }
+                                          exit = 5; break PART;
+                                         }
+                                         if (l21 == 5) { exit = 12; break PART; }
+                                         exit = 2; break PART;
+                                        }
+                                        l22 = 1;
+                                        if (((1 << l21) & 261948) != 0) { exit = 2; break PART; }
+                                        if (l21 != 6) { exit = 6; break PART; }
+                                        break L75;
+                                       }
+                                       if (l21 != 7) { exit = 2; break PART; }
+                                       l22 = 1;
+                                       exit = 6; break PART;
+                                      }
+                                      L139: {
+                                       if ((l21 + -2) + Integer.MIN_VALUE < -2147483632) { break L139; }
+                                       l23 = 0;
+                                       l24 = 10;
+                                       l25 = l19;
+                                       switch (l21) {
+                                       case 1: break L65;
+                                       default: exit = 2; break PART;
+                                       }
+                                      }
+                                      L140: {
+                                       L141: {
+                                        L142: {
+                                         L143: {
+                                          L144: {
+                                           switch (l19) {
+                                           case 1: break L141;
+                                           case 2: case 3: break L143;
+                                           case 4: break L142;
+                                           case 5: break L140;
+                                           default: break L144;
+                                           }
+                                          }
+                                          l22 = 1;
+                                          l20 = 6;
+                                          switch (l21 + -2) {
+                                          case 3: exit = 5; break PART;
+                                          case 4: break L75;
+                                          case 5: exit = 6; break PART;
+                                          default: exit = 2; break PART;
+                                          }
+                                         }
+                                         l22 = 1;
+                                         l20 = 8;
+                                         if (((1 << l21) & 261980) != 0) { exit = 2; break PART; }
+                                         if (l21 != 5) { exit = 6; break PART; }
+                                         exit = 5; break PART;
+                                        }
+                                        if (l21 == 5) { exit = 12; break PART; }
+                                        exit = 2; break PART;
+                                       }
+                                       l22 = 1;
+                                       if (((1 << l21) & 261948) != 0) { exit = 2; break PART; }
+                                       if (l21 == 6) { break L75; }
+                                       exit = 6; break PART;
+                                      }
+                                      if (l21 != 7) { exit = 2; break PART; }
+                                      l22 = 1;
+                                      exit = 6; break PART;
+                                     }
+                                     L145: {
+                                      L146: {
+                                       L147: {
+                                        L148: {
+                                         switch (l19) {
+                                         case 1: break L145;
+                                         case 2: case 3: break L147;
+                                         case 4: break L146;
+                                         case 5: break L74;
+                                         default: break L148;
+                                         }
+                                        }
+                                        l22 = 1;
+                                        l20 = 6;
+                                        switch (l21) {
+                                        case 5: exit = 5; break PART;
+                                        case 6: break L75;
+                                        case 7: exit = 6; break PART;
+                                        default: exit = 2; break PART;
+                                        }
+                                       }
+                                       l22 = 1;
+                                       l20 = 8;
+                                       if (((1 << l21) & 261983) != 0) { exit = 2; break PART; }
+                                       if (l21 != 5) { exit = 6; break PART; }
+                                       exit = 5; break PART;
+                                      }
+                                      if (l21 == 5) { exit = 12; break PART; }
+                                      exit = 2; break PART;
+                                     }
+                                     l22 = 1;
+                                     if (((1 << l21) & 261951) != 0) { exit = 2; break PART; }
+                                     if (l21 != 6) { exit = 6; break PART; }
                                     }
-                                    l22 = l19;
-                                    if (l21 != 2) { exit = 1; break PART; }
+                                    l13 = ((l11 + l13) + l12) * 100000000L;
+                                    exit = 13; break PART;
                                    }
-                                   l12 = (l11 * 10L) + l12;
-                                   break L27;
+                                   if (l21 != 7) { exit = 2; break PART; }
+                                   l22 = 1;
+                                   exit = 6; break PART;
                                   }
-                                  l22 = l19;
-                                  if (l21 != 3) { exit = 1; break PART; }
+                                  l24 = 5;
+                                  l25 = 0;
+                                  l20 = 1;
+                                  l23 = 0;
+                                  l22 = 0;
+                                  l18 = 0;
+                                  switch (l21) {
+                                  case 1: break L65;
+                                  case 2: case 3: case 4: case 5: case 6: case 7: case 8: case 9: case 10: case 12: case 13: case 14: case 15: case 16: case 17: exit = 2; break PART;
+                                  case 11: exit = 11; break PART;
+                                  default: break L49;
+                                  }
                                  }
-                                 l12 = (l11 * 100L) + l12;
-                                 l18 = 2;
-                                 break L26;
+                                 if (l21 != 12) { exit = 2; break PART; }
+                                 exit = 14; break PART;
                                 }
-                                l22 = l19;
-                                if (l21 != 4) { exit = 1; break PART; }
+                                if (l21 != 13) { exit = 2; break PART; }
+                                exit = 15; break PART;
                                }
-                               l12 = (l11 * 1000L) + l12;
-                               l18 = 3;
-                               break L26;
+                               if ((l21 + -2) + Integer.MIN_VALUE < -2147483632) { exit = 2; break PART; }
+                               l25 = 0;
+                               l24 = 5;
+                               l23 = 0;
+                               switch (l21) {
+                               case 1: break L65;
+                               default: break L49;
+                               }
                               }
-                              if (l21 != 8) { exit = 1; break PART; }
+                              if (l21 != 7) { exit = 2; break PART; }
+                              l22 = 1;
+                              exit = 6; break PART;
                              }
-                             l13 = (l11 * 10L) + l13;
-                             break L30;
+                             l24 = 16;
+                             l25 = 0;
+                             l20 = 19;
+                             l23 = 0;
+                             l22 = 0;
+                             l18 = 0;
+                             L149: {
+                              switch (l21) {
+                              case 1: break L65;
+                              case 2: case 3: case 4: case 5: case 6: case 7: case 8: case 9: case 11: case 12: case 13: case 14: case 15: case 16: case 17: exit = 2; break PART;
+                              case 10: exit = 11; break PART;
+                              default: break L149;
+                              }
+                             }
+                             l22 = l19 & 1;
+                             exit = 16; break PART;
                             }
-                            if (l21 == 9) { break L31; }
-                            exit = 1; break PART;
+                            l24 = 18;
+                            l25 = 0;
+                            l20 = 19;
+                            if (((1 << l21) & 261117) != 0) { exit = 2; break PART; }
+                            l23 = 0;
+                            if (l21 == 1) { break L65; }
+                            break L53;
                            }
-                           if (l9 == 0L) { exit = 1; break PART; }
-                           L238: {
-                            L239: {
-                             if ((l22 = (int) b[((int) l10) - 60720]) <= -1) { break L239; }
-                             l14 = 1L;
-                             break L238;
-                            }
-                            L240: {
-                             if (l22 + Integer.MIN_VALUE >= 2147483616) { break L240; }
-                             l14 = 2L;
-                             break L238;
-                            }
-                            l14 = (l22 + Integer.MIN_VALUE < 2147483632) ? 3L : 4L;
-                           }
-                           l9 = l9 - l14;
-                           l10 = l10 + l14;
-                           l22 = l19;
-                           break L14;
+                           if (l21 != 1) { exit = 2; break PART; }
+                           l25 = l19 & 1;
+                           l23 = 0;
+                           l24 = 15;
                           }
-                          l22 = l19;
-                          if (l21 == 4) { break L28; }
-                          exit = 1; break PART;
+                          l11 = l15;
+                          l20 = l24;
+                          l22 = l25;
+                          l18 = l23;
+                          exit = 11; break PART;
+                         }
+                         if ((l19 & 1) == 0) { break L56; }
+                         if (((1 << l21) & 261375) != 0) { exit = 2; break PART; }
+                         if (l21 == 8) { break L57; }
+                         exit = 3; break PART;
+                        }
+                        l22 = l19;
+                        if (l21 != 2) { exit = 2; break PART; }
+                       }
+                       l12 = (l11 * 10L) + l12;
+                       exit = 17; break PART;
+                      }
+                      l22 = l19;
+                      if (l21 != 3) { exit = 2; break PART; }
+                     }
+                     l12 = (l11 * 100L) + l12;
+                     l18 = 2;
+                     exit = 18; break PART;
+                    }
+                    l22 = (l19 == 3) ? 5 : l19;
+                    exit = 4; break PART;
+                   }
+                   if (l21 != 8) { exit = 2; break PART; }
+                  }
+                  l13 = (l11 * 10L) + l13;
+                  exit = 19; break PART;
+                 }
+                 if (l21 != 9) { exit = 2; break PART; }
+                 exit = 3; break PART;
+                }
+                if (l9 == 0L) { exit = 2; break PART; }
+                L150: {
+                 L151: {
+                  if ((l22 = (int) b[((int) l10) - 60720]) <= -1) { break L151; }
+                  l15 = 1L;
+                  break L150;
+                 }
+                 L152: {
+                  if (l22 + Integer.MIN_VALUE >= 2147483616) { break L152; }
+                  l15 = 2L;
+                  break L150;
+                 }
+                 l15 = (l22 + Integer.MIN_VALUE < 2147483632) ? 3L : 4L;
+                }
+                if (Words.get32(b, State.far((int) (l14 = (((l17 * 3227) >>> 7) & 0xffffffffL) & 504L), 65536)) != l17) { exit = 2; break PART; }
+                if (((b[((int) (l14 + 65540L)) - 60720] & 0xff) & 255) != 1) { exit = 2; break PART; }
+                l9 = l9 - l15;
+                l10 = l10 + l15;
+                l15 = b[((int) (l14 + 65542L)) - 60720] & 0xffL;
+                l21 = b[((int) (l14 + 65541L)) - 60720] & 0xff;
+                L153: {
+                 L154: {
+                  L155: {
+                   L156: {
+                    L157: {
+                     L158: {
+                      L159: {
+                       L160: {
+                        L161: {
+                         L162: {
+                          L163: {
+                           L164: {
+                            L165: {
+                             L166: {
+                              L167: {
+                               L168: {
+                                L169: {
+                                 switch (l20) {
+                                 case 1: break L158;
+                                 case 2: break L157;
+                                 case 3: break L156;
+                                 case 4: break L155;
+                                 case 5: break L169;
+                                 case 6: break L168;
+                                 case 7: break L167;
+                                 case 8: break L166;
+                                 case 9: break L165;
+                                 case 10: break L164;
+                                 case 11: break L163;
+                                 case 12: break L162;
+                                 case 13: break L154;
+                                 case 14: break L52;
+                                 case 15: break L50;
+                                 case 16: break L42;
+                                 case 17: break L153;
+                                 case 18: break L40;
+                                 case 19: exit = 2; break PART;
+                                 default: break L159;
+                                 }
+                                }
+                                L170: {
+                                 if (((1 << l21) & 261375) != 0) { break L170; }
+                                 if (l21 != 8) { exit = 3; break PART; }
+                                 break L41;
+                                }
+                                L171: {
+                                 if ((l21 + -5) + Integer.MIN_VALUE < -2147483635) { break L171; }
+                                 l22 = 0;
+                                 switch (l21) {
+                                 case 2: break L47;
+                                 case 3: break L45;
+                                 case 4: break L43;
+                                 default: break L171;
+                                 }
+                                }
+                                l20 = 6;
+                                l22 = 0;
+                                switch (l21) {
+                                case 5: exit = 20; break PART;
+                                case 6: break L161;
+                                case 7: exit = 21; break PART;
+                                default: exit = 2; break PART;
+                                }
+                               }
+                               L172: {
+                                if ((l21 + -6) + Integer.MIN_VALUE < -2147483636) { break L172; }
+                                l24 = 10;
+                                l25 = 3;
+                                l23 = l21;
+                                L173: {
+                                 switch (l21) {
+                                 case 1: break L51;
+                                 case 2: case 3: case 4: break L172;
+                                 case 5: exit = 2; break PART;
+                                 default: break L173;
+                                 }
+                                }
+                                l22 = 1;
+                                l18 = (l19 & 1) | 2;
+                                exit = 8; break PART;
+                               }
+                               l22 = 1;
+                               if (((1 << l21) & 261948) != 0) { exit = 2; break PART; }
+                               if (l21 != 6) { exit = 21; break PART; }
+                               break L161;
+                              }
+                              L174: {
+                               if ((l21 + -6) + Integer.MIN_VALUE < -2147483636) { break L174; }
+                               l24 = 10;
+                               l23 = 4;
+                               l25 = 3;
+                               L175: {
+                                switch (l21) {
+                                case 1: break L51;
+                                case 2: case 3: case 4: break L174;
+                                case 5: exit = 2; break PART;
+                                default: break L175;
+                                }
+                               }
+                               l18 = 3;
+                               l22 = (l19 & 1) ^ 3;
+                               exit = 8; break PART;
+                              }
+                              l20 = 8;
+                              l22 = 1;
+                              if (((1 << l21) & 261980) != 0) { exit = 2; break PART; }
+                              if (l21 != 5) { exit = 21; break PART; }
+                              exit = 20; break PART;
+                             }
+                             l22 = 1;
+                             l24 = 10;
+                             l23 = 5;
+                             l25 = 3;
+                             L176: {
+                              switch (l21) {
+                              case 1: break L51;
+                              case 2: case 3: case 4: case 5: case 6: case 8: case 9: case 10: case 11: case 12: case 13: case 14: case 15: case 16: case 17: exit = 2; break PART;
+                              case 7: exit = 21; break PART;
+                              default: break L176;
+                              }
+                             }
+                             l18 = (l19 & 1) | 2;
+                             l22 = 5;
+                             exit = 8; break PART;
+                            }
+                            if (l21 != 1) { exit = 2; break PART; }
+                            l24 = 11;
+                            l25 = l18;
+                            l23 = l19;
+                            break L51;
+                           }
+                           L177: {
+                            switch (l18) {
+                            case 1: break L48;
+                            case 2: break L46;
+                            case 3: break L44;
+                            default: break L177;
+                            }
+                           }
+                           L178: {
+                            L179: {
+                             L180: {
+                              L181: {
+                               L182: {
+                                switch (l19) {
+                                case 1: break L179;
+                                case 2: case 3: break L181;
+                                case 4: break L180;
+                                case 5: break L178;
+                                default: break L182;
+                                }
+                               }
+                               l20 = 6;
+                               l22 = 0;
+                               switch (l21) {
+                               case 5: exit = 20; break PART;
+                               case 6: break L161;
+                               case 7: exit = 21; break PART;
+                               default: exit = 2; break PART;
+                               }
+                              }
+                              l20 = 8;
+                              l22 = 0;
+                              if (((1 << l21) & 261983) != 0) { exit = 2; break PART; }
+                              if (l21 != 5) { exit = 21; break PART; }
+                              exit = 20; break PART;
+                             }
+                             if (l21 != 5) { exit = 2; break PART; }
+                             exit = 22; break PART;
+                            }
+                            l22 = 0;
+                            if (((1 << l21) & 261951) != 0) { exit = 2; break PART; }
+                            if (l21 != 6) { exit = 21; break PART; }
+                            break L161;
+                           }
+                           if (l21 != 7) { exit = 2; break PART; }
+                           l22 = 0;
+                           exit = 21; break PART;
+                          }
+                          L183: {
+                           L184: {
+                            L185: {
+                             L186: {
+                              switch (l18) {
+                              case 1: break L184;
+                              case 2: break L185;
+                              case 3: break L186;
+                              default: break L183;
+                              }
+                             }
+                             L187: {
+                              if ((l21 + -5) + Integer.MIN_VALUE < -2147483635) { break L187; }
+                              l22 = l19;
+                              L188: {
+                               switch (l21) {
+                               case 2: break L47;
+                               case 3: break L45;
+                               case 4: break L188;
+                               default: break L187;
+                               }
+                              }
+                              l22 = (l19 == 3) ? 5 : l19;
+                              break L43;
+                             }
+                             L189: {
+                              L190: {
+                               L191: {
+                                L192: {
+                                 L193: {
+                                  switch (l19) {
+                                  case 1: break L190;
+                                  case 2: case 3: break L192;
+                                  case 4: break L191;
+                                  case 5: break L189;
+                                  default: break L193;
+                                  }
+                                 }
+                                 l20 = 6;
+                                 l22 = 0;
+                                 switch (l21) {
+                                 case 5: exit = 20; break PART;
+                                 case 6: break L161;
+                                 case 7: exit = 21; break PART;
+                                 default: exit = 2; break PART;
+                                 }
+                                }
+                                l20 = 8;
+                                l22 = 0;
+                                if (((1 << l21) & 261983) != 0) { exit = 2; break PART; }
+                                if (l21 != 5) { exit = 21; break PART; }
+                                exit = 20; break PART;
+                               }
+                               if (l21 == 5) { exit = 22; break PART; }
+                               exit = 2; break PART;
+                              }
+                              l22 = 0;
+                              if (((1 << l21) & 261951) != 0) { exit = 2; break PART; }
+                              if (l21 != 6) { exit = 21; break PART; }
+                              break L161;
+                             }
+                             if (l21 != 7) { exit = 2; break PART; }
+                             l22 = 0;
+                             exit = 21; break PART;
+                            }
+                            L194: {
+                             if ((l21 + -4) + Integer.MIN_VALUE < -2147483634) { break L194; }
+                             l22 = l19;
+                             switch (l21) {
+                             case 2: break L47;
+                             case 3: break L45;
+                             default: break L194;
+                             }
+                            }
+                            L195: {
+                             L196: {
+                              L197: {
+                               L198: {
+                                L199: {
+                                 switch (l19) {
+                                 case 1: break L196;
+                                 case 2: case 3: break L198;
+                                 case 4: break L197;
+                                 case 5: break L195;
+                                 default: break L199;
+                                 }
+                                }
+                                l20 = 6;
+                                l22 = 0;
+                                switch (l21) {
+                                case 5: exit = 20; break PART;
+                                case 6: break L161;
+                                case 7: exit = 21; break PART;
+                                default: exit = 2; break PART;
+                                }
+                               }
+                               l20 = 8;
+                               l22 = 0;
+                               if (((1 << l21) & 261983) != 0) { exit = 2; break PART; }
+                               if (l21 != 5) { exit = 21; break PART; }
+                               exit = 20; break PART;
+                              }
+                              if (l21 == 5) { exit = 22; break PART; }
+                              exit = 2; break PART;
+                             }
+                             l22 = 0;
+                             if (((1 << l21) & 261951) != 0) { exit = 2; break PART; }
+                             if (l21 != 6) { exit = 21; break PART; }
+                             break L161;
+                            }
+                            if (l21 != 7) { exit = 2; break PART; }
+                            l22 = 0;
+                            exit = 21; break PART;
+                           }
+                           L200: {
+                            if ((l21 + -5) + Integer.MIN_VALUE < -2147483635) { break L200; }
+                            l22 = l19;
+                            switch (l21) {
+                            case 2: break L47;
+                            case 3: case 4: exit = 2; break PART;
+                            default: break L200;
+                            }
+                           }
+                           L201: {
+                            L202: {
+                             L203: {
+                              L204: {
+                               L205: {
+                                switch (l19) {
+                                case 1: break L202;
+                                case 2: case 3: break L204;
+                                case 4: break L203;
+                                case 5: break L201;
+                                default: break L205;
+                                }
+                               }
+                               l20 = 6;
+                               l22 = 0;
+                               switch (l21) {
+                               case 5: exit = 20; break PART;
+                               case 6: break L161;
+                               case 7: exit = 21; break PART;
+                               default: exit = 2; break PART;
+                               }
+                              }
+                              l20 = 8;
+                              l22 = 0;
+                              if (((1 << l21) & 261983) != 0) { exit = 2; break PART; }
+                              if (l21 != 5) { exit = 21; break PART; }
+                              exit = 20; break PART;
+                             }
+                             if (l21 == 5) { exit = 22; break PART; }
+                             exit = 2; break PART;
+                            }
+                            l22 = 0;
+                            if (((1 << l21) & 261951) != 0) { exit = 2; break PART; }
+                            if (l21 != 6) { exit = 21; break PART; }
+                            break L161;
+                           }
+                           if (l21 != 7) { exit = 2; break PART; }
+                           l22 = 0;
+                           exit = 21; break PART;
+                          }
+                          L206: {
+                           L207: {
+                            L208: {
+                             L209: {
+                              L210: {
+                               switch (l19) {
+                               case 1: break L207;
+                               case 2: case 3: break L209;
+                               case 4: break L208;
+                               case 5: break L206;
+                               default: break L210;
+                               }
+                              }
+                              l20 = 6;
+                              l22 = 0;
+                              switch (l21) {
+                              case 5: exit = 20; break PART;
+                              case 6: break L161;
+                              case 7: exit = 21; break PART;
+                              default: exit = 2; break PART;
+                              }
+                             }
+                             l20 = 8;
+                             l22 = 0;
+                             if (((1 << l21) & 261983) != 0) { exit = 2; break PART; }
+                             if (l21 != 5) { exit = 21; break PART; }
+                             exit = 20; break PART;
+                            }
+                            if (l21 == 5) { exit = 22; break PART; }
+                            exit = 2; break PART;
+                           }
+                           l22 = 0;
+                           if (((1 << l21) & 261951) != 0) { exit = 2; break PART; }
+                           if (l21 != 6) { exit = 21; break PART; }
+                           break L161;
+                          }
+                          if (l21 != 7) { exit = 2; break PART; }
+                          l22 = 0;
+                          exit = 21; break PART;
+                         }
+                         L211: {
+                          L212: {
+                           L213: {
+                            L214: {
+                             switch (l18) {
+                             case 1: break L212;
+                             case 2: break L213;
+                             case 3: break L214;
+                             default: break L211;
+                             }
+                            }
+                            L215: {
+                             if ((l21 + -2) + Integer.MIN_VALUE < -2147483632) { break L215; }
+                             l18 = 1;
+                             l20 = 9;
+                             l24 = 10;
+                             l25 = 2;
+                             l23 = l19;
+                             l22 = l19;
+                             switch (l21) {
+                             case 1: break L51;
+                             default: exit = 11; break PART;
+                             }
+                            }
+                            L216: {
+                             L217: {
+                              L218: {
+                               L219: {
+                                L220: {
+                                 switch (l19) {
+                                 case 1: break L217;
+                                 case 2: case 3: break L219;
+                                 case 4: break L218;
+                                 case 5: break L216;
+                                 default: break L220;
+                                 }
+                                }
+                                l20 = 6;
+                                l22 = 1;
+                                switch (l21 + -2) {
+                                case 3: exit = 20; break PART;
+                                case 4: break L161;
+                                case 5: exit = 21; break PART;
+                                default: exit = 2; break PART;
+                                }
+                               }
+                               l20 = 8;
+                               l22 = 1;
+                               if (((1 << l21) & 261980) != 0) { exit = 2; break PART; }
+                               if (l21 != 5) { exit = 21; break PART; }
+                               exit = 20; break PART;
+                              }
+                              if (l21 != 5) { exit = 2; break PART; }
+                              exit = 23; break PART;
+                             }
+                             l22 = 1;
+                             if (((1 << l21) & 261948) != 0) { exit = 2; break PART; }
+                             if (l21 != 6) { exit = 21; break PART; }
+                             break L161;
+                            }
+                            if (l21 != 7) { exit = 2; break PART; }
+                            l22 = 1;
+                            exit = 21; break PART;
+                           }
+                           L221: {
+                            if ((l21 + -2) + Integer.MIN_VALUE < -2147483632) { break L221; }
+                            l20 = 9;
+                            l24 = 10;
+                            l25 = l21;
+                            l23 = l19;
+                            l22 = l19;
+                            l18 = l21;
+                            switch (l21) {
+                            case 1: break L51;
+                            default: exit = 11; break PART;
+                            }
+                           }
+                           L222: {
+                            L223: {
+                             L224: {
+                              L225: {
+                               L226: {
+                                switch (l19) {
+                                case 1: break L223;
+                                case 2: case 3: break L225;
+                                case 4: break L224;
+                                case 5: break L222;
+                                default: break L226;
+                                }
+                               }
+                               l20 = 6;
+                               l22 = 1;
+                               switch (l21 + -2) {
+                               case 3: exit = 20; break PART;
+                               case 4: break L161;
+                               case 5: exit = 21; break PART;
+                               default: exit = 2; break PART;
+                               }
+                              }
+                              l20 = 8;
+                              l22 = 1;
+                              if (((1 << l21) & 261980) != 0) { exit = 2; break PART; }
+                              if (l21 != 5) { exit = 21; break PART; }
+                              exit = 20; break PART;
+                             }
+                             if (l21 == 5) { exit = 23; break PART; }
+                             exit = 2; break PART;
+                            }
+                            l22 = 1;
+                            if (((1 << l21) & 261948) != 0) { exit = 2; break PART; }
+                            if (l21 != 6) { exit = 21; break PART; }
+                            break L161;
+                           }
+                           if (l21 != 7) { exit = 2; break PART; }
+                           l22 = 1;
+                           exit = 21; break PART;
+                          }
+                          L227: {
+                           if ((l21 + -2) + Integer.MIN_VALUE < -2147483632) { break L227; }
+                           l24 = 10;
+                           l25 = 0;
+                           l23 = l19;
+                           switch (l21) {
+                           case 1: break L51;
+                           default: exit = 2; break PART;
+                           }
+                          }
+                          L228: {
+                           L229: {
+                            L230: {
+                             L231: {
+                              L232: {
+                               switch (l19) {
+                               case 1: break L229;
+                               case 2: case 3: break L231;
+                               case 4: break L230;
+                               case 5: break L228;
+                               default: break L232;
+                               }
+                              }
+                              l20 = 6;
+                              l22 = 1;
+                              switch (l21 + -2) {
+                              case 3: exit = 20; break PART;
+                              case 4: break L161;
+                              case 5: exit = 21; break PART;
+                              default: exit = 2; break PART;
+                              }
+                             }
+                             l20 = 8;
+                             l22 = 1;
+                             if (((1 << l21) & 261980) != 0) { exit = 2; break PART; }
+                             if (l21 != 5) { exit = 21; break PART; }
+                             exit = 20; break PART;
+                            }
+                            if (l21 == 5) { exit = 23; break PART; }
+                            exit = 2; break PART;
+                           }
+                           l22 = 1;
+                           if (((1 << l21) & 261948) != 0) { exit = 2; break PART; }
+                           if (l21 == 6) { break L161; }
+                           exit = 21; break PART;
+                          }
+                          if (l21 != 7) { exit = 2; break PART; }
+                          l22 = 1;
+                          exit = 21; break PART;
+                         }
+                         L233: {
+                          L234: {
+                           L235: {
+                            L236: {
+                             switch (l19) {
+                             case 1: break L233;
+                             case 2: case 3: break L235;
+                             case 4: break L234;
+                             case 5: break L160;
+                             default: break L236;
+                             }
+                            }
+                            l20 = 6;
+                            l22 = 1;
+                            switch (l21) {
+                            case 5: exit = 20; break PART;
+                            case 6: break L161;
+                            case 7: exit = 21; break PART;
+                            default: exit = 2; break PART;
+                            }
+                           }
+                           l20 = 8;
+                           l22 = 1;
+                           if (((1 << l21) & 261983) != 0) { exit = 2; break PART; }
+                           if (l21 != 5) { exit = 21; break PART; }
+                           exit = 20; break PART;
+                          }
+                          if (l21 == 5) { exit = 23; break PART; }
+                          exit = 2; break PART;
                          }
                          l22 = 1;
-                         l18 = (l19 & 1) | 2;
+                         if (((1 << l21) & 261951) != 0) { exit = 2; break PART; }
+                         if (l21 != 6) { exit = 21; break PART; }
                         }
-                        l20 = 9;
-                        break L14;
+                        l13 = ((l11 + l13) + l12) * 100000000L;
+                        exit = 13; break PART;
                        }
-                       l13 = ((l11 + l13) + l12) * 100L;
-                       break L20;
+                       if (l21 != 7) { exit = 2; break PART; }
+                       l22 = 1;
+                       exit = 21; break PART;
                       }
-                      l20 = 8;
-                      l22 = 1;
-                      break L32;
+                      l24 = 5;
+                      l25 = 0;
+                      l20 = 1;
+                      l23 = 0;
+                      l22 = 0;
+                      l18 = 0;
+                      switch (l21) {
+                      case 1: break L51;
+                      case 2: case 3: case 4: case 5: case 6: case 7: case 8: case 9: case 10: case 12: case 13: case 14: case 15: case 16: case 17: exit = 2; break PART;
+                      case 11: exit = 11; break PART;
+                      default: break L49;
+                      }
                      }
-                     l20 = 8;
-                     l22 = 0;
+                     if (l21 == 12) { exit = 14; break PART; }
+                     exit = 2; break PART;
                     }
-                    l13 = ((l11 + l12) * 10000L) + l13;
-                    break L16;
+                    if (l21 == 13) { exit = 15; break PART; }
+                    exit = 2; break PART;
                    }
-                   l13 = l11 + l13;
-                   l22 = 0;
-                   l20 = 19;
-                   break L29;
+                   if ((l21 + -2) + Integer.MIN_VALUE < -2147483632) { exit = 2; break PART; }
+                   l24 = 5;
+                   l25 = 0;
+                   l23 = 0;
+                   switch (l21) {
+                   case 1: break L51;
+                   default: break L49;
+                   }
                   }
-                  l22 = 0;
-                  l20 = 17;
+                  if (l21 != 7) { exit = 2; break PART; }
+                  l22 = 1;
+                  exit = 21; break PART;
                  }
-                 l11 = 0L;
+                 l24 = 16;
+                 l25 = 0;
+                 l20 = 19;
+                 l23 = 0;
+                 l22 = 0;
                  l18 = 0;
-                 break L14;
+                 L237: {
+                  switch (l21) {
+                  case 1: break L51;
+                  case 2: case 3: case 4: case 5: case 6: case 7: case 8: case 9: case 11: case 12: case 13: case 14: case 15: case 16: case 17: exit = 2; break PART;
+                  case 10: exit = 11; break PART;
+                  default: break L237;
+                  }
+                 }
+                 l22 = l19 & 1;
+                 exit = 16; break PART;
                 }
-                l12 = (l11 * 1000L) + l12;
-                l18 = 3;
-                break L26;
+                l24 = 18;
+                l25 = 0;
+                l20 = 19;
+                if (((1 << l21) & 261117) != 0) { exit = 2; break PART; }
+                l23 = 0;
+                if (l21 == 1) { break L51; }
                }
-               l18 = 1;
+               l22 = 0;
+               l18 = 0;
+               exit = 11; break PART;
               }
-              l20 = 12;
-              l11 = 0L;
-              break L14;
+              if (l21 != 1) { exit = 2; break PART; }
+              l23 = l19 & 1;
+              l24 = 15;
+              l25 = 0;
              }
-             l20 = 14;
-             l18 = 0;
-             break L14;
+             l11 = l15;
+             l20 = l24;
+             l22 = l23;
+             l18 = l25;
+             exit = 11; break PART;
             }
-            l22 = 0;
-            l20 = 3;
-            l18 = 0;
-            break L14;
+            if ((l19 & 1) == 0) { break L40; }
+            if (((1 << l21) & 261375) != 0) { exit = 2; break PART; }
+            if (l21 != 8) { exit = 3; break PART; }
+            break L41;
            }
            l22 = 0;
-           l20 = 2;
+           l20 = 4;
            l18 = 0;
-           break L14;
+           exit = 11; break PART;
           }
-          l18 = 0;
-          l20 = 7;
-          break L15;
+          l22 = l19;
+          if (l21 != 2) { exit = 2; break PART; }
          }
-         l13 = ((l11 + l13) + l12) * 100L;
+         l12 = (l11 * 10L) + l12;
+         exit = 17; break PART;
         }
-        l18 = 0;
-        l20 = 13;
-        break L15;
+        l22 = l19;
+        if (l21 != 3) { exit = 2; break PART; }
        }
-       l22 = 1;
-       l20 = 8;
-       break L17;
+       l12 = (l11 * 100L) + l12;
+       l18 = 2;
+       exit = 18; break PART;
       }
-      l22 = 0;
-      l20 = 8;
+      l22 = l19;
+      if (l21 != 4) { exit = 2; break PART; }
      }
-     l13 = ((l11 + l12) * 10000L) + l13;
+     l12 = (l11 * 1000L) + l12;
+     l18 = 3;
+     exit = 18; break PART;
     }
-    l18 = 0;
+    if (l21 != 8) { exit = 2; break PART; }
    }
-   l12 = 0L;
-   l11 = 0L;
+   l13 = (l11 * 10L) + l13;
+   exit = 19; break PART;
   }
  }
  m.kept[0] = l9;
@@ -8106,23 +7975,176 @@ static void f26(State m, long l0, int l1, long l2, long l3) {
            l18 = b[((int) l4) - 60414] & 0xff;
            l19 = b[((int) l4) - 60415] & 0xff;
            l20 = b[((int) l4) - 60416] & 0xff;
-           final int x241 = f26_1(m, l9, l10, l11, l12, l13, l14, l15, l16, l17, l18, l19, l20, l21, l22, l23, l24, l25);
-           l9 = m.kept[0];
-           l10 = m.kept[1];
-           l11 = m.kept[2];
-           l12 = m.kept[3];
-           l13 = m.kept[4];
-           l14 = m.kept[5];
-           l15 = m.kept[6];
-           l18 = (int) m.kept[7];
-           l20 = (int) m.kept[8];
-           l21 = (int) m.kept[9];
-           l22 = (int) m.kept[10];
-           l23 = (int) m.kept[11];
-           l24 = (int) m.kept[12];
-           l25 = (int) m.kept[13];
-           switch (x241) {
-           case 1: break L13;
+           L14: {
+            L15: {
+             L16: {
+              L17: {
+               L18: {
+                L19: {
+                 L20: {
+                  L21: {
+                   L22: {
+                    L23: {
+                     L24: {
+                      L25: {
+                       L26: {
+                        L27: {
+                         L28: {
+                          L29: {
+                           L30: {
+                            L31: {
+                             L32: {
+                              L33: {
+                               L34: {
+                                L35: {
+                                 L36: {
+                                  L37: {
+                                   L38: {
+                                    L39: {
+                                     final int x238 = f26_1(m, l9, l10, l11, l12, l13, l14, l15, l16, l17, l18, l19, l20, l21, l22, l23, l24, l25);
+                                     l9 = m.kept[0];
+                                     l10 = m.kept[1];
+                                     l11 = m.kept[2];
+                                     l12 = m.kept[3];
+                                     l13 = m.kept[4];
+                                     l14 = m.kept[5];
+                                     l15 = m.kept[6];
+                                     l18 = (int) m.kept[7];
+                                     l20 = (int) m.kept[8];
+                                     l21 = (int) m.kept[9];
+                                     l22 = (int) m.kept[10];
+                                     l23 = (int) m.kept[11];
+                                     l24 = (int) m.kept[12];
+                                     l25 = (int) m.kept[13];
+                                     switch (x238) {
+                                     case 1: break L39;
+                                     case 2: break L13;
+                                     case 3: break L31;
+                                     case 4: break L28;
+                                     case 5: break L17;
+                                     case 6: break L21;
+                                     case 7: break L37;
+                                     case 8: break L36;
+                                     case 9: break L38;
+                                     case 10: break L18;
+                                     case 11: break L14;
+                                     case 12: break L19;
+                                     case 13: break L22;
+                                     case 14: break L23;
+                                     case 15: break L24;
+                                     case 16: break L25;
+                                     case 17: break L27;
+                                     case 18: break L26;
+                                     case 19: break L30;
+                                     case 20: break L32;
+                                     case 21: break L35;
+                                     case 22: break L33;
+                                     case 23: break L34;
+                                     }
+                                     if (l21 == 9) { break L31; }
+                                     break L13;
+                                    }
+                                    if (l9 == 0L) { break L13; }
+                                    L239: {
+                                     L240: {
+                                      if ((l22 = (int) b[((int) l10) - 60720]) <= -1) { break L240; }
+                                      l14 = 1L;
+                                      break L239;
+                                     }
+                                     L241: {
+                                      if (l22 + Integer.MIN_VALUE >= 2147483616) { break L241; }
+                                      l14 = 2L;
+                                      break L239;
+                                     }
+                                     l14 = (l22 + Integer.MIN_VALUE < 2147483632) ? 3L : 4L;
+                                    }
+                                    l9 = l9 - l14;
+                                    l10 = l10 + l14;
+                                    l22 = l19;
+                                    break L14;
+                                   }
+                                   l22 = l19;
+                                   if (l21 == 4) { break L28; }
+                                   break L13;
+                                  }
+                                  l22 = 1;
+                                  l18 = (l19 & 1) | 2;
+                                 }
+                                 l20 = 9;
+                                 break L14;
+                                }
+                                l13 = ((l11 + l13) + l12) * 100L;
+                                break L20;
+                               }
+                               l20 = 8;
+                               l22 = 1;
+                               break L32;
+                              }
+                              l20 = 8;
+                              l22 = 0;
+                             }
+                             l13 = ((l11 + l12) * 10000L) + l13;
+                             break L16;
+                            }
+                            l13 = l11 + l13;
+                            l22 = 0;
+                            l20 = 19;
+                            break L29;
+                           }
+                           l22 = 0;
+                           l20 = 17;
+                          }
+                          l11 = 0L;
+                          l18 = 0;
+                          break L14;
+                         }
+                         l12 = (l11 * 1000L) + l12;
+                         l18 = 3;
+                         break L26;
+                        }
+                        l18 = 1;
+                       }
+                       l20 = 12;
+                       l11 = 0L;
+                       break L14;
+                      }
+                      l20 = 14;
+                      l18 = 0;
+                      break L14;
+                     }
+                     l22 = 0;
+                     l20 = 3;
+                     l18 = 0;
+                     break L14;
+                    }
+                    l22 = 0;
+                    l20 = 2;
+                    l18 = 0;
+                    break L14;
+                   }
+                   l18 = 0;
+                   l20 = 7;
+                   break L15;
+                  }
+                  l13 = ((l11 + l13) + l12) * 100L;
+                 }
+                 l18 = 0;
+                 l20 = 13;
+                 break L15;
+                }
+                l22 = 1;
+                l20 = 8;
+                break L17;
+               }
+               l22 = 0;
+               l20 = 8;
+              }
+              l13 = ((l11 + l12) * 10000L) + l13;
+             }
+             l18 = 0;
+            }
+            l12 = 0L;
+            l11 = 0L;
            }
            Words.put64(b, ((int) l4) - 60328, l11);
            Words.put64(b, ((int) l4) - 60336, l12);

@@ -2,485 +2,416 @@
 package chinesenumber;
 
 final class Core2 {
-static int f38_1(State m, long l1, long l2, long l3, long l4, long l5, long l6, long l7, long l8, long l9, long l10, long l11, long l12, long l13, long l14, long l15, long l16, long l17, long l18, long l19, long l20, long l21, long l22, long l23, long l24, int l29, int l30, int l31) {
+static int f38_1(State m, long l2, long l3, long l4, long l5, long l6, long l7, long l8, long l9, long l10, long l11, long l12, long l13, long l14, long l15, long l16, long l17, long l18, long l19, long l20, long l21, long l22, long l23, long l24, int l29, int l30, int l31) {
  final byte[] b = m.bytes;
  int exit = 0;
  PART: {
-  L6: {
-   L7: {
-    L8: {
-     L9: {
-      L10: {
-       L11: {
-        L12: {
-         L13: {
-          L14: {
-           L15: {
-            L16: {
-             L17: {
-              L18: {
-               L19: {
-                L20: {
-                 L21: {
-                  L22: {
-                   L23: {
-                    switch (l29 = b[((int) l2) - 60688] & 0xff) {
-                    case 1: break L18;
-                    case 2: break L22;
-                    case 3: break L23;
-                    default: break L21;
-                    }
-                   }
-                   final long t24 = 0L - l7;
-                   final long t25 = l7;
-                   final int t26 = l30 = (l6 < 0L) ? 1 : 0;
-                   l8 = t26 != 0 ? t24 : t25;
-                   final long t27 = 0L - (l6 + ((l7 != 0L) ? 1L : 0L));
-                   final long t28 = l6;
-                   final int t29 = l30;
-                   l7 = t29 != 0 ? t27 : t28;
-                   break L20;
-                  }
-                  l9 = 100L;
-                  L30: {
-                   if (((l5 ^ 100L) | l4) == 0L) { break L30; }
-                   l2 = 0L;
-                   l10 = 1L;
-                   L31: while (true) {
-                    L32: {
-                     if (l10 != 37L) { break L32; }
-                     final long t33 = 0L - l7;
-                     final long t34 = l7;
-                     final int t35 = l30 = (l6 < 0L) ? 1 : 0;
-                     l8 = t35 != 0 ? t33 : t34;
-                     final long t36 = 0L - (l6 + ((l7 != 0L) ? 1L : 0L));
-                     final long t37 = l6;
-                     final int t38 = l30;
-                     l7 = t38 != 0 ? t36 : t37;
-                     l2 = l5;
-                     l9 = l4;
-                     break L10;
-                    }
-                    Core1.f3(m, l3 + 800L, l9, 0L, 10L, 0L);
-                    Core1.f3(m, l3 + 784L, l2, 0L, 0L, 10L);
-                    if ((((l9 = (l2 = Words.get64(b, ((int) l3) - 59920)) & -2L) ^ l5) | ((l2 = (Words.get64(b, ((int) l3) - 59912) + Words.get64(b, ((int) l3) - 59928)) + (((l2 + Words.get64(b, ((int) l3) - 59936)) + Long.MIN_VALUE < l2 + Long.MIN_VALUE) ? 1L : 0L)) ^ l4)) == 0L) { break L17; }
-                    Core1.f3(m, l3 + 768L, l9, 0L, 10L, 0L);
-                    Core1.f3(m, l3 + 752L, l2, 0L, 0L, 10L);
-                    l10 = l10 + 2L;
-                    if (!((((l9 = (l2 = Words.get64(b, ((int) l3) - 59952)) & -4L) ^ l5) | ((l2 = (Words.get64(b, ((int) l3) - 59944) + Words.get64(b, ((int) l3) - 59960)) + (((l2 + Words.get64(b, ((int) l3) - 59968)) + Long.MIN_VALUE < l2 + Long.MIN_VALUE) ? 1L : 0L)) ^ l4)) == 0L)) { continue L31; }
-                    break L31;
-                   }
-                   l10 = l10 + -1L;
-                   break L17;
-                  }
-                  final long t39 = 0L - l7;
-                  final long t40 = l7;
-                  final int t41 = l30 = (l6 < 0L) ? 1 : 0;
-                  l8 = t41 != 0 ? t39 : t40;
-                  final long t42 = 0L - (l6 + ((l7 != 0L) ? 1L : 0L));
-                  final long t43 = l6;
-                  final int t44 = l30;
-                  l7 = t44 != 0 ? t42 : t43;
-                  exit = 1; break PART;
-                 }
-                 l11 = 0L;
-                 final long t45 = 0L - l7;
-                 final long t46 = l7;
-                 final int t47 = l30 = (l6 < 0L) ? 1 : 0;
-                 l8 = t47 != 0 ? t45 : t46;
-                 final long t48 = 0L - (l6 + ((l7 != 0L) ? 1L : 0L));
-                 final long t49 = l6;
-                 final int t50 = l30;
-                 l7 = t50 != 0 ? t48 : t49;
-                 l12 = 1L;
-                 if (((l5 ^ 1L) | l4) == 0L) { break L19; }
-                }
-                l2 = l5;
-                l9 = l4;
-                break L8;
-               }
-               l13 = 80L;
-               exit = 2; break PART;
-              }
-              l14 = 10L;
-              l10 = 1L;
-              if (((l5 ^ 10L) | l4) == 0L) { break L17; }
-              l9 = 0L;
-              l2 = 0L;
-              L51: {
-               L52: while (true) {
-                Core1.f3(m, l3 + 736L, l14, 0L, 10L, 0L);
-                Core1.f3(m, l3 + 720L, l9, 0L, 0L, 10L);
-                if ((((l14 = (l9 = Words.get64(b, ((int) l3) - 59984)) & -2L) ^ l5) | ((l9 = (Words.get64(b, ((int) l3) - 59976) + Words.get64(b, ((int) l3) - 59992)) + (((l9 + Words.get64(b, ((int) l3) - 60000)) + Long.MIN_VALUE < l9 + Long.MIN_VALUE) ? 1L : 0L)) ^ l4)) == 0L) { break L51; }
-                if (l2 == 36L) { break L16; }
-                Core1.f3(m, l3 + 704L, l14, 0L, 10L, 0L);
-                Core1.f3(m, l3 + 688L, l9, 0L, 0L, 10L);
-                l2 = l2 + 2L;
-                if (!((((l14 = (l9 = Words.get64(b, ((int) l3) - 60016)) & -4L) ^ l5) | ((l9 = (Words.get64(b, ((int) l3) - 60008) + Words.get64(b, ((int) l3) - 60024)) + (((l9 + Words.get64(b, ((int) l3) - 60032)) + Long.MIN_VALUE < l9 + Long.MIN_VALUE) ? 1L : 0L)) ^ l4)) == 0L)) { continue L52; }
-                break L52;
-               }
-               l2 = l2 + -1L;
-              }
-              l10 = l2 + 2L;
-             }
-             final long t53 = 0L - l7;
-             final long t54 = l7;
-             final int t55 = l30 = (l6 < 0L) ? 1 : 0;
-             l15 = t55 != 0 ? t53 : t54;
-             final long t56 = 0L - (l6 + ((l7 != 0L) ? 1L : 0L));
-             final long t57 = l6;
-             final int t58 = l30;
-             l16 = t58 != 0 ? t56 : t57;
-             l13 = 0L;
-             L59: {
-              L60: while (true) {
-               final long t61 = l16;
-               final int t62 = ((l15 | l16) == 0L) ? 1 : 0;
-               final long t63 = (long) Long.numberOfLeadingZeros(l16);
-               final long t64 = ((long) Long.numberOfLeadingZeros(l15)) + 64L;
-               final int t65 = (l16 != 0L) ? 1 : 0;
-               final int t66 = ((l17 = 124L - (l2 = t65 != 0 ? t63 : t64)) + Long.MIN_VALUE > -9223372036854775681L) ? 1 : 0;
-               final int t67 = ((l18 = 0L - ((l2 + Long.MIN_VALUE > -9223372036854775684L) ? 1L : 0L)) != 0L) ? 1 : 0;
-               final int t68 = (l18 == 0L) ? 1 : 0;
-               l9 = ((l30 = t62 | (t68 != 0 ? t66 : t67)) != 0) ? 0L : t61;
-               l2 = l30 != 0 ? 0L : l15;
-               L69: {
-                if (l30 != 0) { break L69; }
-                if (((l17 ^ 127L) | l18) == 0L) { break L69; }
-                Core1.f4(m, l3 + 672L, l15, l16, 127 - ((int) l17));
-                l14 = Words.get64(b, ((int) l3) - 60040);
-                l2 = Words.get64(b, ((int) l3) - 60048);
-                L70: {
-                 L71: {
-                  if (((l9 = l17 + 1L) | (l19 = l18 + ((l9 == 0L) ? 1L : 0L))) == 0L) { break L71; }
-                  Core1.f5(m, l3 + 656L, l15, l16, (int) l9);
-                  l12 = 10L + -1L;
-                  l20 = 0L - ((10L == 0L) ? 1L : 0L);
-                  l17 = Words.get64(b, ((int) l3) - 60056);
-                  l18 = Words.get64(b, ((int) l3) - 60064);
-                  l21 = 0L;
-                  L72: while (true) {
-                   l22 = l21;
-                   l21 = (l18 = ((l20 - (l23 = (l17 << 1L) | (l18 >>> 63L))) - ((l12 + Long.MIN_VALUE < (l17 = (l18 << 1L) | (l14 >>> 63L)) + Long.MIN_VALUE) ? 1L : 0L)) >> 63L) & 1L;
-                   l18 = l17 - (l11 = l18 & 10L);
-                   l17 = l23 - ((l17 + Long.MIN_VALUE < l11 + Long.MIN_VALUE) ? 1L : 0L);
-                   l14 = 0L | ((l14 << 1L) | (l2 >>> 63L));
-                   l30 = (l9 == 0L) ? 1 : 0;
-                   l2 = l22 | (l2 << 1L);
-                   l9 = l22 = l9 + -1L;
-                   if (!((l22 | (l19 = l19 - (l30 & 0xffffffffL))) == 0L)) { continue L72; }
-                   break L70;
+  L8: {
+   L9: {
+    L10: {
+     L11: {
+      L12: {
+       L13: {
+        L14: {
+         L15: {
+          L16: {
+           L17: {
+            L18: {
+             L19: {
+              L20: {
+               L21: {
+                L22: {
+                 L23: {
+                  switch (l29 = b[((int) l2) - 60688] & 0xff) {
+                  case 1: break L18;
+                  case 2: break L22;
+                  case 3: break L23;
+                  default: break L21;
                   }
                  }
-                 l21 = 0L;
+                 final long t24 = 0L - l7;
+                 final long t25 = l7;
+                 final int t26 = l30 = (l6 < 0L) ? 1 : 0;
+                 l8 = t26 != 0 ? t24 : t25;
+                 final long t27 = 0L - (l6 + ((l7 != 0L) ? 1L : 0L));
+                 final long t28 = l6;
+                 final int t29 = l30;
+                 l7 = t29 != 0 ? t27 : t28;
+                 break L20;
                 }
-                l9 = (l14 << 1L) | (l2 >>> 63L);
-                l2 = l21 | (l2 << 1L);
+                l9 = 100L;
+                L30: {
+                 if (((l5 ^ 100L) | l4) == 0L) { break L30; }
+                 l2 = 0L;
+                 l10 = 1L;
+                 L31: while (true) {
+                  L32: {
+                   if (l10 != 37L) { break L32; }
+                   final long t33 = 0L - l7;
+                   final long t34 = l7;
+                   final int t35 = l30 = (l6 < 0L) ? 1 : 0;
+                   l8 = t35 != 0 ? t33 : t34;
+                   final long t36 = 0L - (l6 + ((l7 != 0L) ? 1L : 0L));
+                   final long t37 = l6;
+                   final int t38 = l30;
+                   l7 = t38 != 0 ? t36 : t37;
+                   l2 = l5;
+                   l9 = l4;
+                   break L10;
+                  }
+                  Core1.f3(m, l3 + 800L, l9, 0L, 10L, 0L);
+                  Core1.f3(m, l3 + 784L, l2, 0L, 0L, 10L);
+                  if ((((l9 = (l2 = Words.get64(b, ((int) l3) - 59920)) & -2L) ^ l5) | ((l2 = (Words.get64(b, ((int) l3) - 59912) + Words.get64(b, ((int) l3) - 59928)) + (((l2 + Words.get64(b, ((int) l3) - 59936)) + Long.MIN_VALUE < l2 + Long.MIN_VALUE) ? 1L : 0L)) ^ l4)) == 0L) { break L17; }
+                  Core1.f3(m, l3 + 768L, l9, 0L, 10L, 0L);
+                  Core1.f3(m, l3 + 752L, l2, 0L, 0L, 10L);
+                  l10 = l10 + 2L;
+                  if (!((((l9 = (l2 = Words.get64(b, ((int) l3) - 59952)) & -4L) ^ l5) | ((l2 = (Words.get64(b, ((int) l3) - 59944) + Words.get64(b, ((int) l3) - 59960)) + (((l2 + Words.get64(b, ((int) l3) - 59968)) + Long.MIN_VALUE < l2 + Long.MIN_VALUE) ? 1L : 0L)) ^ l4)) == 0L)) { continue L31; }
+                  break L31;
+                 }
+                 l10 = l10 + -1L;
+                 break L17;
+                }
+                final long t39 = 0L - l7;
+                final long t40 = l7;
+                final int t41 = l30 = (l6 < 0L) ? 1 : 0;
+                l8 = t41 != 0 ? t39 : t40;
+                final long t42 = 0L - (l6 + ((l7 != 0L) ? 1L : 0L));
+                final long t43 = l6;
+                final int t44 = l30;
+                l7 = t44 != 0 ? t42 : t43;
+                exit = 1; break PART;
                }
-               l18 = 0L;
-               Core1.f3(m, l3 + 640L, l2, l9, 10L, 0L);
-               if (((l15 - (l14 = Words.get64(b, ((int) l3) - 60080))) | ((l16 - Words.get64(b, ((int) l3) - 60072)) - ((l15 + Long.MIN_VALUE < l14 + Long.MIN_VALUE) ? 1L : 0L))) != 0L) { break L59; }
-               l15 = l2;
-               l16 = l9;
-               if ((l13 = l13 + 1L) != l10) { continue L60; }
-               break L60;
+               l11 = 0L;
+               final long t45 = 0L - l7;
+               final long t46 = l7;
+               final int t47 = l30 = (l6 < 0L) ? 1 : 0;
+               l8 = t47 != 0 ? t45 : t46;
+               final long t48 = 0L - (l6 + ((l7 != 0L) ? 1L : 0L));
+               final long t49 = l6;
+               final int t50 = l30;
+               l7 = t50 != 0 ? t48 : t49;
+               l12 = 1L;
+               if (((l5 ^ 1L) | l4) == 0L) { break L19; }
               }
-              l13 = l10;
+              l2 = l5;
+              l9 = l4;
+              break L8;
              }
-             l12 = 1L;
-             L73: {
-              L74: {
-               L75: {
-                switch ((int) (l13 & 4294967295L)) {
-                case 0: break L73;
-                case 1: break L74;
-                default: break L75;
+             l13 = 80L;
+             exit = 2; break PART;
+            }
+            l14 = 10L;
+            l10 = 1L;
+            if (((l5 ^ 10L) | l4) == 0L) { break L17; }
+            l9 = 0L;
+            l2 = 0L;
+            L51: {
+             L52: while (true) {
+              Core1.f3(m, l3 + 736L, l14, 0L, 10L, 0L);
+              Core1.f3(m, l3 + 720L, l9, 0L, 0L, 10L);
+              if ((((l14 = (l9 = Words.get64(b, ((int) l3) - 59984)) & -2L) ^ l5) | ((l9 = (Words.get64(b, ((int) l3) - 59976) + Words.get64(b, ((int) l3) - 59992)) + (((l9 + Words.get64(b, ((int) l3) - 60000)) + Long.MIN_VALUE < l9 + Long.MIN_VALUE) ? 1L : 0L)) ^ l4)) == 0L) { break L51; }
+              if (l2 == 36L) { break L16; }
+              Core1.f3(m, l3 + 704L, l14, 0L, 10L, 0L);
+              Core1.f3(m, l3 + 688L, l9, 0L, 0L, 10L);
+              l2 = l2 + 2L;
+              if (!((((l14 = (l9 = Words.get64(b, ((int) l3) - 60016)) & -4L) ^ l5) | ((l9 = (Words.get64(b, ((int) l3) - 60008) + Words.get64(b, ((int) l3) - 60024)) + (((l9 + Words.get64(b, ((int) l3) - 60032)) + Long.MIN_VALUE < l9 + Long.MIN_VALUE) ? 1L : 0L)) ^ l4)) == 0L)) { continue L52; }
+              break L52;
+             }
+             l2 = l2 + -1L;
+            }
+            l10 = l2 + 2L;
+           }
+           final long t53 = 0L - l7;
+           final long t54 = l7;
+           final int t55 = l30 = (l6 < 0L) ? 1 : 0;
+           l15 = t55 != 0 ? t53 : t54;
+           final long t56 = 0L - (l6 + ((l7 != 0L) ? 1L : 0L));
+           final long t57 = l6;
+           final int t58 = l30;
+           l16 = t58 != 0 ? t56 : t57;
+           l13 = 0L;
+           L59: {
+            L60: while (true) {
+             final long t61 = l16;
+             final int t62 = ((l15 | l16) == 0L) ? 1 : 0;
+             final long t63 = (long) Long.numberOfLeadingZeros(l16);
+             final long t64 = ((long) Long.numberOfLeadingZeros(l15)) + 64L;
+             final int t65 = (l16 != 0L) ? 1 : 0;
+             final int t66 = ((l17 = 124L - (l2 = t65 != 0 ? t63 : t64)) + Long.MIN_VALUE > -9223372036854775681L) ? 1 : 0;
+             final int t67 = ((l18 = 0L - ((l2 + Long.MIN_VALUE > -9223372036854775684L) ? 1L : 0L)) != 0L) ? 1 : 0;
+             final int t68 = (l18 == 0L) ? 1 : 0;
+             l9 = ((l30 = t62 | (t68 != 0 ? t66 : t67)) != 0) ? 0L : t61;
+             l2 = l30 != 0 ? 0L : l15;
+             L69: {
+              if (l30 != 0) { break L69; }
+              if (((l17 ^ 127L) | l18) == 0L) { break L69; }
+              Core1.f4(m, l3 + 672L, l15, l16, 127 - ((int) l17));
+              l14 = Words.get64(b, ((int) l3) - 60040);
+              l2 = Words.get64(b, ((int) l3) - 60048);
+              L70: {
+               L71: {
+                if (((l9 = l17 + 1L) | (l19 = l18 + ((l9 == 0L) ? 1L : 0L))) == 0L) { break L71; }
+                Core1.f5(m, l3 + 656L, l15, l16, (int) l9);
+                l12 = 10L + -1L;
+                l20 = 0L - ((10L == 0L) ? 1L : 0L);
+                l17 = Words.get64(b, ((int) l3) - 60056);
+                l18 = Words.get64(b, ((int) l3) - 60064);
+                l21 = 0L;
+                L72: while (true) {
+                 l22 = l21;
+                 l21 = (l18 = ((l20 - (l23 = (l17 << 1L) | (l18 >>> 63L))) - ((l12 + Long.MIN_VALUE < (l17 = (l18 << 1L) | (l14 >>> 63L)) + Long.MIN_VALUE) ? 1L : 0L)) >> 63L) & 1L;
+                 l18 = l17 - (l11 = l18 & 10L);
+                 l17 = l23 - ((l17 + Long.MIN_VALUE < l11 + Long.MIN_VALUE) ? 1L : 0L);
+                 l14 = 0L | ((l14 << 1L) | (l2 >>> 63L));
+                 l30 = (l9 == 0L) ? 1 : 0;
+                 l2 = l22 | (l2 << 1L);
+                 l9 = l22 = l9 + -1L;
+                 if (!((l22 | (l19 = l19 - (l30 & 0xffffffffL))) == 0L)) { continue L72; }
+                 break L70;
                 }
                }
-               l30 = (int) l13;
-               l2 = 10L;
-               l14 = 1L;
-               l18 = 0L;
-               l9 = 0L;
-               L76: while (true) {
-                Core1.f3(m, l3 + 608L, ((l31 = l30 & 1) != 0) ? l2 : 1L, l31 != 0 ? l9 : 0L, l14, l18);
-                Core1.f3(m, l3 + 624L, l2, l9, l2, l9);
-                l31 = (l30 + Integer.MIN_VALUE > -2147483645) ? 1 : 0;
-                l9 = Words.get64(b, ((int) l3) - 60088);
-                l2 = Words.get64(b, ((int) l3) - 60096);
-                l18 = Words.get64(b, ((int) l3) - 60104);
-                l14 = Words.get64(b, ((int) l3) - 60112);
-                l30 = l30 >>> 1;
-                if (l31 != 0) { continue L76; }
-                break L76;
-               }
-               Core1.f3(m, l3 + 592L, l14, l18, l2, l9);
-               if (((l12 = Words.get64(b, ((int) l3) - 60128)) | (l18 = Words.get64(b, ((int) l3) - 60120))) != 0L) { break L73; }
-               exit = 3; break PART;
+               l21 = 0L;
               }
-              l12 = 10L;
+              l9 = (l14 << 1L) | (l2 >>> 63L);
+              l2 = l21 | (l2 << 1L);
              }
-             final long t77 = 0L - (l6 + ((l7 != 0L) ? 1L : 0L));
-             final long t78 = l6;
-             final int t79 = l30 = (l6 < 0L) ? 1 : 0;
-             final long t80 = l17 = t79 != 0 ? t77 : t78;
-             final long t81 = 0L - l12;
-             final long t82 = l12;
-             final int t83 = l31 = (l18 < 0L) ? 1 : 0;
-             final long t84 = l15 = t83 != 0 ? t81 : t82;
-             final long t85 = 0L - (l18 + ((l12 != 0L) ? 1L : 0L));
-             final long t86 = l18;
-             final int t87 = l31;
-             final int t88 = ((t84 | (l20 = t87 != 0 ? t85 : t86)) == 0L) ? 1 : 0;
-             final long t89 = l17;
-             final long t90 = 0L - l7;
-             final long t91 = l7;
-             final int t92 = l30;
-             final int t93 = t88 | (((t89 | (l21 = t92 != 0 ? t90 : t91)) == 0L) ? 1 : 0);
-             final long t94 = (long) Long.numberOfLeadingZeros(l20);
-             final long t95 = ((long) Long.numberOfLeadingZeros(l15)) + 64L;
-             final int t96 = (l20 != 0L) ? 1 : 0;
-             final long t97 = l2 = t96 != 0 ? t94 : t95;
-             final long t98 = (long) Long.numberOfLeadingZeros(l17);
-             final long t99 = ((long) Long.numberOfLeadingZeros(l21)) + 64L;
-             final int t100 = (l17 != 0L) ? 1 : 0;
-             final int t101 = ((l9 = t97 - (l14 = t100 != 0 ? t98 : t99)) + Long.MIN_VALUE > -9223372036854775681L) ? 1 : 0;
-             final int t102 = ((l19 = 0L - ((l2 + Long.MIN_VALUE < l14 + Long.MIN_VALUE) ? 1L : 0L)) != 0L) ? 1 : 0;
-             final int t103 = (l19 == 0L) ? 1 : 0;
-             l14 = ((l30 = t93 | (t103 != 0 ? t101 : t102)) != 0) ? 0L : t80;
-             l22 = l30 != 0 ? 0L : l21;
-             l7 = (l18 ^ l6) >> 63L;
-             if (l30 != 0) { break L14; }
-             if (((l9 ^ 127L) | l19) == 0L) { break L14; }
-             Core1.f4(m, l3 + 576L, l21, l17, 127 - ((int) l9));
-             l14 = Words.get64(b, ((int) l3) - 60136);
-             l2 = Words.get64(b, ((int) l3) - 60144);
-             L104: {
-              if (((l9 = l9 + 1L) | (l19 = l19 + ((l9 == 0L) ? 1L : 0L))) == 0L) { break L104; }
-              Core1.f5(m, l3 + 560L, l21, l17, (int) l9);
-              l16 = l15 + -1L;
-              l8 = l20 - ((l15 == 0L) ? 1L : 0L);
-              l22 = Words.get64(b, ((int) l3) - 60152);
-              l17 = Words.get64(b, ((int) l3) - 60160);
-              l21 = 0L;
-              L105: while (true) {
-               l23 = l21;
-               l22 = ((l21 = (l22 << 1L) | (l17 >>> 63L)) - ((l21 = ((l8 - l21) - ((l16 + Long.MIN_VALUE < (l17 = (l17 << 1L) | (l14 >>> 63L)) + Long.MIN_VALUE) ? 1L : 0L)) >> 63L) & l20)) - ((l17 + Long.MIN_VALUE < (l11 = l21 & l15) + Long.MIN_VALUE) ? 1L : 0L);
-               l21 = l21 & 1L;
-               l17 = l17 - l11;
-               l14 = 0L | ((l14 << 1L) | (l2 >>> 63L));
-               l30 = (l9 == 0L) ? 1 : 0;
-               l2 = l23 | (l2 << 1L);
-               l9 = l23 = l9 + -1L;
-               if (!((l23 | (l19 = l19 - (l30 & 0xffffffffL))) == 0L)) { continue L105; }
-               break L15;
+             l18 = 0L;
+             Core1.f3(m, l3 + 640L, l2, l9, 10L, 0L);
+             if (((l15 - (l14 = Words.get64(b, ((int) l3) - 60080))) | ((l16 - Words.get64(b, ((int) l3) - 60072)) - ((l15 + Long.MIN_VALUE < l14 + Long.MIN_VALUE) ? 1L : 0L))) != 0L) { break L59; }
+             l15 = l2;
+             l16 = l9;
+             if ((l13 = l13 + 1L) != l10) { continue L60; }
+             break L60;
+            }
+            l13 = l10;
+           }
+           l12 = 1L;
+           L73: {
+            L74: {
+             L75: {
+              switch ((int) (l13 & 4294967295L)) {
+              case 0: break L73;
+              case 1: break L74;
+              default: break L75;
               }
              }
-             l21 = 0L;
+             l30 = (int) l13;
+             l2 = 10L;
+             l14 = 1L;
+             l18 = 0L;
+             l9 = 0L;
+             L76: while (true) {
+              Core1.f3(m, l3 + 608L, ((l31 = l30 & 1) != 0) ? l2 : 1L, l31 != 0 ? l9 : 0L, l14, l18);
+              Core1.f3(m, l3 + 624L, l2, l9, l2, l9);
+              l31 = (l30 + Integer.MIN_VALUE > -2147483645) ? 1 : 0;
+              l9 = Words.get64(b, ((int) l3) - 60088);
+              l2 = Words.get64(b, ((int) l3) - 60096);
+              l18 = Words.get64(b, ((int) l3) - 60104);
+              l14 = Words.get64(b, ((int) l3) - 60112);
+              l30 = l30 >>> 1;
+              if (l31 != 0) { continue L76; }
+              break L76;
+             }
+             Core1.f3(m, l3 + 592L, l14, l18, l2, l9);
+             if (((l12 = Words.get64(b, ((int) l3) - 60128)) | (l18 = Words.get64(b, ((int) l3) - 60120))) != 0L) { break L73; }
+             exit = 3; break PART;
+            }
+            l12 = 10L;
+           }
+           final long t77 = 0L - (l6 + ((l7 != 0L) ? 1L : 0L));
+           final long t78 = l6;
+           final int t79 = l30 = (l6 < 0L) ? 1 : 0;
+           final long t80 = l17 = t79 != 0 ? t77 : t78;
+           final long t81 = 0L - l12;
+           final long t82 = l12;
+           final int t83 = l31 = (l18 < 0L) ? 1 : 0;
+           final long t84 = l15 = t83 != 0 ? t81 : t82;
+           final long t85 = 0L - (l18 + ((l12 != 0L) ? 1L : 0L));
+           final long t86 = l18;
+           final int t87 = l31;
+           final int t88 = ((t84 | (l20 = t87 != 0 ? t85 : t86)) == 0L) ? 1 : 0;
+           final long t89 = l17;
+           final long t90 = 0L - l7;
+           final long t91 = l7;
+           final int t92 = l30;
+           final int t93 = t88 | (((t89 | (l21 = t92 != 0 ? t90 : t91)) == 0L) ? 1 : 0);
+           final long t94 = (long) Long.numberOfLeadingZeros(l20);
+           final long t95 = ((long) Long.numberOfLeadingZeros(l15)) + 64L;
+           final int t96 = (l20 != 0L) ? 1 : 0;
+           final long t97 = l2 = t96 != 0 ? t94 : t95;
+           final long t98 = (long) Long.numberOfLeadingZeros(l17);
+           final long t99 = ((long) Long.numberOfLeadingZeros(l21)) + 64L;
+           final int t100 = (l17 != 0L) ? 1 : 0;
+           final int t101 = ((l9 = t97 - (l14 = t100 != 0 ? t98 : t99)) + Long.MIN_VALUE > -9223372036854775681L) ? 1 : 0;
+           final int t102 = ((l19 = 0L - ((l2 + Long.MIN_VALUE < l14 + Long.MIN_VALUE) ? 1L : 0L)) != 0L) ? 1 : 0;
+           final int t103 = (l19 == 0L) ? 1 : 0;
+           l14 = ((l30 = t93 | (t103 != 0 ? t101 : t102)) != 0) ? 0L : t80;
+           l22 = l30 != 0 ? 0L : l21;
+           l7 = (l18 ^ l6) >> 63L;
+           if (l30 != 0) { break L14; }
+           if (((l9 ^ 127L) | l19) == 0L) { break L14; }
+           Core1.f4(m, l3 + 576L, l21, l17, 127 - ((int) l9));
+           l14 = Words.get64(b, ((int) l3) - 60136);
+           l2 = Words.get64(b, ((int) l3) - 60144);
+           L104: {
+            if (((l9 = l9 + 1L) | (l19 = l19 + ((l9 == 0L) ? 1L : 0L))) == 0L) { break L104; }
+            Core1.f5(m, l3 + 560L, l21, l17, (int) l9);
+            l16 = l15 + -1L;
+            l8 = l20 - ((l15 == 0L) ? 1L : 0L);
+            l22 = Words.get64(b, ((int) l3) - 60152);
+            l17 = Words.get64(b, ((int) l3) - 60160);
+            l21 = 0L;
+            L105: while (true) {
+             l23 = l21;
+             l22 = ((l21 = (l22 << 1L) | (l17 >>> 63L)) - ((l21 = ((l8 - l21) - ((l16 + Long.MIN_VALUE < (l17 = (l17 << 1L) | (l14 >>> 63L)) + Long.MIN_VALUE) ? 1L : 0L)) >> 63L) & l20)) - ((l17 + Long.MIN_VALUE < (l11 = l21 & l15) + Long.MIN_VALUE) ? 1L : 0L);
+             l21 = l21 & 1L;
+             l17 = l17 - l11;
+             l14 = 0L | ((l14 << 1L) | (l2 >>> 63L));
+             l30 = (l9 == 0L) ? 1 : 0;
+             l2 = l23 | (l2 << 1L);
+             l9 = l23 = l9 + -1L;
+             if (!((l23 | (l19 = l19 - (l30 & 0xffffffffL))) == 0L)) { continue L105; }
              break L15;
             }
-            final long t106 = 0L - l7;
-            final long t107 = l7;
-            final int t108 = l30 = (l6 < 0L) ? 1 : 0;
-            l8 = t108 != 0 ? t106 : t107;
-            final long t109 = 0L - (l6 + ((l7 != 0L) ? 1L : 0L));
-            final long t110 = l6;
-            final int t111 = l30;
-            l7 = t111 != 0 ? t109 : t110;
-            l2 = l5;
-            l9 = l4;
-            break L13;
            }
-           l14 = (l14 << 1L) | (l2 >>> 63L);
-           l22 = l21 | (l2 << 1L);
+           l21 = 0L;
+           break L15;
           }
-          final long t112 = l4;
-          final int t113 = (((l12 | l18) == 0L) | ((l5 | l4) == 0L)) ? 1 : 0;
-          final long t114 = (long) Long.numberOfLeadingZeros(l18);
-          final long t115 = ((long) Long.numberOfLeadingZeros(l12)) + 64L;
-          final int t116 = (l18 != 0L) ? 1 : 0;
-          final long t117 = l2 = t116 != 0 ? t114 : t115;
-          final long t118 = (long) Long.numberOfLeadingZeros(l4);
-          final long t119 = ((long) Long.numberOfLeadingZeros(l5)) + 64L;
-          final int t120 = (l4 != 0L) ? 1 : 0;
-          final int t121 = ((l21 = t117 - (l9 = t120 != 0 ? t118 : t119)) + Long.MIN_VALUE > -9223372036854775681L) ? 1 : 0;
-          final int t122 = ((l17 = 0L - ((l2 + Long.MIN_VALUE < l9 + Long.MIN_VALUE) ? 1L : 0L)) != 0L) ? 1 : 0;
-          final int t123 = (l17 == 0L) ? 1 : 0;
-          l9 = ((l30 = t113 | (t123 != 0 ? t121 : t122)) != 0) ? 0L : t112;
-          l2 = l30 != 0 ? 0L : l5;
-          l6 = ((l14 ^ l7) - l7) - (((l14 = l22 ^ l7) + Long.MIN_VALUE < l7 + Long.MIN_VALUE) ? 1L : 0L);
-          l16 = l14 - l7;
-          L124: {
-           if (l30 != 0) { break L124; }
-           if (((l21 ^ 127L) | l17) == 0L) { break L124; }
-           Core1.f4(m, l3 + 544L, l5, l4, 127 - ((int) l21));
-           l14 = Words.get64(b, ((int) l3) - 60168);
-           l2 = Words.get64(b, ((int) l3) - 60176);
-           L125: {
-            L126: {
-             if (((l9 = l21 + 1L) | (l19 = l17 + ((l9 == 0L) ? 1L : 0L))) == 0L) { break L126; }
-             Core1.f5(m, l3 + 528L, l5, l4, (int) l9);
-             l20 = l12 + -1L;
-             l15 = l18 - ((l12 == 0L) ? 1L : 0L);
-             l22 = Words.get64(b, ((int) l3) - 60184);
-             l17 = Words.get64(b, ((int) l3) - 60192);
-             l21 = 0L;
-             L127: while (true) {
-              l23 = l21;
-              l22 = ((l21 = (l22 << 1L) | (l17 >>> 63L)) - ((l21 = ((l15 - l21) - ((l20 + Long.MIN_VALUE < (l17 = (l17 << 1L) | (l14 >>> 63L)) + Long.MIN_VALUE) ? 1L : 0L)) >> 63L) & l18)) - ((l17 + Long.MIN_VALUE < (l11 = l21 & l12) + Long.MIN_VALUE) ? 1L : 0L);
-              l21 = l21 & 1L;
-              l17 = l17 - l11;
-              l14 = 0L | ((l14 << 1L) | (l2 >>> 63L));
-              l30 = (l9 == 0L) ? 1 : 0;
-              l2 = l23 | (l2 << 1L);
-              l9 = l23 = l9 + -1L;
-              if (!((l23 | (l19 = l19 - (l30 & 0xffffffffL))) == 0L)) { continue L127; }
-              break L125;
-             }
-            }
-            l21 = 0L;
+          final long t106 = 0L - l7;
+          final long t107 = l7;
+          final int t108 = l30 = (l6 < 0L) ? 1 : 0;
+          l8 = t108 != 0 ? t106 : t107;
+          final long t109 = 0L - (l6 + ((l7 != 0L) ? 1L : 0L));
+          final long t110 = l6;
+          final int t111 = l30;
+          l7 = t111 != 0 ? t109 : t110;
+          l2 = l5;
+          l9 = l4;
+          break L13;
+         }
+         l14 = (l14 << 1L) | (l2 >>> 63L);
+         l22 = l21 | (l2 << 1L);
+        }
+        final long t112 = l4;
+        final int t113 = (((l12 | l18) == 0L) | ((l5 | l4) == 0L)) ? 1 : 0;
+        final long t114 = (long) Long.numberOfLeadingZeros(l18);
+        final long t115 = ((long) Long.numberOfLeadingZeros(l12)) + 64L;
+        final int t116 = (l18 != 0L) ? 1 : 0;
+        final long t117 = l2 = t116 != 0 ? t114 : t115;
+        final long t118 = (long) Long.numberOfLeadingZeros(l4);
+        final long t119 = ((long) Long.numberOfLeadingZeros(l5)) + 64L;
+        final int t120 = (l4 != 0L) ? 1 : 0;
+        final int t121 = ((l21 = t117 - (l9 = t120 != 0 ? t118 : t119)) + Long.MIN_VALUE > -9223372036854775681L) ? 1 : 0;
+        final int t122 = ((l17 = 0L - ((l2 + Long.MIN_VALUE < l9 + Long.MIN_VALUE) ? 1L : 0L)) != 0L) ? 1 : 0;
+        final int t123 = (l17 == 0L) ? 1 : 0;
+        l9 = ((l30 = t113 | (t123 != 0 ? t121 : t122)) != 0) ? 0L : t112;
+        l2 = l30 != 0 ? 0L : l5;
+        l6 = ((l14 ^ l7) - l7) - (((l14 = l22 ^ l7) + Long.MIN_VALUE < l7 + Long.MIN_VALUE) ? 1L : 0L);
+        l16 = l14 - l7;
+        L124: {
+         if (l30 != 0) { break L124; }
+         if (((l21 ^ 127L) | l17) == 0L) { break L124; }
+         Core1.f4(m, l3 + 544L, l5, l4, 127 - ((int) l21));
+         l14 = Words.get64(b, ((int) l3) - 60168);
+         l2 = Words.get64(b, ((int) l3) - 60176);
+         L125: {
+          L126: {
+           if (((l9 = l21 + 1L) | (l19 = l17 + ((l9 == 0L) ? 1L : 0L))) == 0L) { break L126; }
+           Core1.f5(m, l3 + 528L, l5, l4, (int) l9);
+           l20 = l12 + -1L;
+           l15 = l18 - ((l12 == 0L) ? 1L : 0L);
+           l22 = Words.get64(b, ((int) l3) - 60184);
+           l17 = Words.get64(b, ((int) l3) - 60192);
+           l21 = 0L;
+           L127: while (true) {
+            l23 = l21;
+            l22 = ((l21 = (l22 << 1L) | (l17 >>> 63L)) - ((l21 = ((l15 - l21) - ((l20 + Long.MIN_VALUE < (l17 = (l17 << 1L) | (l14 >>> 63L)) + Long.MIN_VALUE) ? 1L : 0L)) >> 63L) & l18)) - ((l17 + Long.MIN_VALUE < (l11 = l21 & l12) + Long.MIN_VALUE) ? 1L : 0L);
+            l21 = l21 & 1L;
+            l17 = l17 - l11;
+            l14 = 0L | ((l14 << 1L) | (l2 >>> 63L));
+            l30 = (l9 == 0L) ? 1 : 0;
+            l2 = l23 | (l2 << 1L);
+            l9 = l23 = l9 + -1L;
+            if (!((l23 | (l19 = l19 - (l30 & 0xffffffffL))) == 0L)) { continue L127; }
+            break L125;
            }
-           l9 = (l14 << 1L) | (l2 >>> 63L);
-           l2 = l21 | (l2 << 1L);
           }
-          l11 = 0L;
-          final long t128 = 0L - l16;
-          final long t129 = l16;
-          final int t130 = l30 = (l6 < 0L) ? 1 : 0;
-          l8 = t130 != 0 ? t128 : t129;
-          final long t131 = 0L - (l6 + ((l16 != 0L) ? 1L : 0L));
-          final long t132 = l6;
-          final int t133 = l30;
-          l7 = t133 != 0 ? t131 : t132;
-          final int t134 = l29;
-          final int t135 = (l10 != l13) ? 1 : 0;
-          final int t136 = ((l29 & 254) == 2) ? 1 : 0;
-          switch (t136 != 0 ? t134 : t135) {
-          case 1: break L13;
-          case 2: break L10;
-          case 3: break L8;
-          default: break L12;
-          }
+          l21 = 0L;
          }
-         l17 = 10L;
-         if (!(((l2 ^ 10L) | l9) == 0L)) { break L11; }
-         l24 = 1L;
-         l10 = 80L;
-         break L6;
+         l9 = (l14 << 1L) | (l2 >>> 63L);
+         l2 = l21 | (l2 << 1L);
         }
-        l12 = 1L;
-        if (!(((l2 ^ 1L) | l9) == 0L)) { break L8; }
-        l13 = 80L;
-        exit = 2; break PART;
-       }
-       l18 = 0L;
-       l14 = 0L;
-       L137: {
-        L138: while (true) {
-         Core1.f3(m, l3 + 448L, l17, 0L, 10L, 0L);
-         Core1.f3(m, l3 + 432L, l18, 0L, 0L, 10L);
-         if ((((l17 = (l18 = Words.get64(b, ((int) l3) - 60272)) & -2L) ^ l2) | ((l18 = (Words.get64(b, ((int) l3) - 60264) + Words.get64(b, ((int) l3) - 60280)) + (((l18 + Words.get64(b, ((int) l3) - 60288)) + Long.MIN_VALUE < l18 + Long.MIN_VALUE) ? 1L : 0L)) ^ l9)) == 0L) { break L137; }
-         if (l14 == 36L) { break L8; }
-         Core1.f3(m, l3 + 416L, l17, 0L, 10L, 0L);
-         Core1.f3(m, l3 + 400L, l18, 0L, 0L, 10L);
-         l14 = l14 + 2L;
-         if (!((((l17 = (l18 = Words.get64(b, ((int) l3) - 60304)) & -4L) ^ l2) | ((l18 = (Words.get64(b, ((int) l3) - 60296) + Words.get64(b, ((int) l3) - 60312)) + (((l18 + Words.get64(b, ((int) l3) - 60320)) + Long.MIN_VALUE < l18 + Long.MIN_VALUE) ? 1L : 0L)) ^ l9)) == 0L)) { continue L138; }
-         break L138;
+        l11 = 0L;
+        final long t128 = 0L - l16;
+        final long t129 = l16;
+        final int t130 = l30 = (l6 < 0L) ? 1 : 0;
+        l8 = t130 != 0 ? t128 : t129;
+        final long t131 = 0L - (l6 + ((l16 != 0L) ? 1L : 0L));
+        final long t132 = l6;
+        final int t133 = l30;
+        l7 = t133 != 0 ? t131 : t132;
+        final int t134 = l29;
+        final int t135 = (l10 != l13) ? 1 : 0;
+        final int t136 = ((l29 & 254) == 2) ? 1 : 0;
+        switch (t136 != 0 ? t134 : t135) {
+        case 1: break L13;
+        case 2: break L10;
+        case 3: break L8;
+        default: break L12;
         }
-        l14 = l14 + -1L;
        }
-       l24 = l14 + 2L;
-       l30 = 0;
-       break L9;
+       l17 = 10L;
+       if (!(((l2 ^ 10L) | l9) == 0L)) { break L11; }
+       l24 = 1L;
+       l10 = 80L;
+       exit = 4; break PART;
       }
-      l18 = 100L;
-      if (((l2 ^ 100L) | l9) == 0L) { exit = 1; break PART; }
-      l14 = 0L;
-      l24 = 1L;
-      L139: while (true) {
-       if (l24 == 37L) { break L8; }
-       Core1.f3(m, l3 + 512L, l18, 0L, 10L, 0L);
-       Core1.f3(m, l3 + 496L, l14, 0L, 0L, 10L);
-       l30 = 1;
-       if ((((l18 = (l14 = Words.get64(b, ((int) l3) - 60208)) & -2L) ^ l2) | ((l14 = (Words.get64(b, ((int) l3) - 60200) + Words.get64(b, ((int) l3) - 60216)) + (((l14 + Words.get64(b, ((int) l3) - 60224)) + Long.MIN_VALUE < l14 + Long.MIN_VALUE) ? 1L : 0L)) ^ l9)) == 0L) { break L9; }
-       Core1.f3(m, l3 + 480L, l18, 0L, 10L, 0L);
-       Core1.f3(m, l3 + 464L, l14, 0L, 0L, 10L);
-       l24 = l24 + 2L;
-       if (!((((l18 = (l14 = Words.get64(b, ((int) l3) - 60240)) & -4L) ^ l2) | ((l14 = (Words.get64(b, ((int) l3) - 60232) + Words.get64(b, ((int) l3) - 60248)) + (((l14 + Words.get64(b, ((int) l3) - 60256)) + Long.MIN_VALUE < l14 + Long.MIN_VALUE) ? 1L : 0L)) ^ l9)) == 0L)) { continue L139; }
-       break L139;
-      }
-      l24 = l24 + -1L;
+      l12 = 1L;
+      if (!(((l2 ^ 1L) | l9) == 0L)) { break L8; }
+      l13 = 80L;
+      exit = 2; break PART;
      }
-     if (l30 != 0) { break L7; }
-     l10 = 80L;
-     break L6;
-    }
-    L140: {
-     final int t141 = (l2 + Long.MIN_VALUE < -9223372036854775798L) ? 1 : 0;
-     final int t142 = (l9 == 0L) ? 1 : 0;
-     if ((t142 != 0 ? t141 : 0) != 0) { break L140; }
-     l13 = 80L;
-     L143: while (true) {
-      final long t144 = l15 = l9;
-      final int t145 = ((l15 | (l16 = l2)) == 0L) ? 1 : 0;
-      final long t146 = (long) Long.numberOfLeadingZeros(l15);
-      final long t147 = ((long) Long.numberOfLeadingZeros(l16)) + 64L;
-      final int t148 = l31 = (l15 != 0L) ? 1 : 0;
-      final int t149 = ((l17 = 124L - (l2 = t148 != 0 ? t146 : t147)) + Long.MIN_VALUE > -9223372036854775681L) ? 1 : 0;
-      final int t150 = ((l18 = 0L - ((l2 + Long.MIN_VALUE > -9223372036854775684L) ? 1L : 0L)) != 0L) ? 1 : 0;
-      final int t151 = (l18 == 0L) ? 1 : 0;
-      l9 = ((l30 = t145 | (t151 != 0 ? t149 : t150)) != 0) ? 0L : t144;
-      l2 = l30 != 0 ? 0L : l16;
-      L152: {
-       if (l30 != 0) { break L152; }
-       if (((l17 ^ 127L) | l18) == 0L) { break L152; }
-       Core1.f4(m, l3 + 160L, l16, l15, 127 - ((int) l17));
-       l14 = Words.get64(b, ((int) l3) - 60552);
-       l2 = Words.get64(b, ((int) l3) - 60560);
-       L153: {
-        L154: {
-         if (((l9 = l17 + 1L) | (l19 = l18 + ((l9 == 0L) ? 1L : 0L))) == 0L) { break L154; }
-         Core1.f5(m, l3 + 144L, l16, l15, (int) l9);
-         l12 = 10L + -1L;
-         l20 = 0L - ((10L == 0L) ? 1L : 0L);
-         l17 = Words.get64(b, ((int) l3) - 60568);
-         l18 = Words.get64(b, ((int) l3) - 60576);
-         l21 = 0L;
-         L155: while (true) {
-          l22 = l21;
-          l21 = (l18 = ((l20 - (l23 = (l17 << 1L) | (l18 >>> 63L))) - ((l12 + Long.MIN_VALUE < (l17 = (l18 << 1L) | (l14 >>> 63L)) + Long.MIN_VALUE) ? 1L : 0L)) >> 63L) & 1L;
-          l18 = l17 - (l11 = l18 & 10L);
-          l17 = l23 - ((l17 + Long.MIN_VALUE < l11 + Long.MIN_VALUE) ? 1L : 0L);
-          l14 = 0L | ((l14 << 1L) | (l2 >>> 63L));
-          l30 = (l9 == 0L) ? 1 : 0;
-          l2 = l22 | (l2 << 1L);
-          l9 = l22 = l9 + -1L;
-          if (!((l22 | (l19 = l19 - (l30 & 0xffffffffL))) == 0L)) { continue L155; }
-          break L153;
-         }
-        }
-        l21 = 0L;
-       }
-       l9 = (l14 << 1L) | (l2 >>> 63L);
-       l2 = l21 | (l2 << 1L);
+     l18 = 0L;
+     l14 = 0L;
+     L137: {
+      L138: while (true) {
+       Core1.f3(m, l3 + 448L, l17, 0L, 10L, 0L);
+       Core1.f3(m, l3 + 432L, l18, 0L, 0L, 10L);
+       if ((((l17 = (l18 = Words.get64(b, ((int) l3) - 60272)) & -2L) ^ l2) | ((l18 = (Words.get64(b, ((int) l3) - 60264) + Words.get64(b, ((int) l3) - 60280)) + (((l18 + Words.get64(b, ((int) l3) - 60288)) + Long.MIN_VALUE < l18 + Long.MIN_VALUE) ? 1L : 0L)) ^ l9)) == 0L) { break L137; }
+       if (l14 == 36L) { break L8; }
+       Core1.f3(m, l3 + 416L, l17, 0L, 10L, 0L);
+       Core1.f3(m, l3 + 400L, l18, 0L, 0L, 10L);
+       l14 = l14 + 2L;
+       if (!((((l17 = (l18 = Words.get64(b, ((int) l3) - 60304)) & -4L) ^ l2) | ((l18 = (Words.get64(b, ((int) l3) - 60296) + Words.get64(b, ((int) l3) - 60312)) + (((l18 + Words.get64(b, ((int) l3) - 60320)) + Long.MIN_VALUE < l18 + Long.MIN_VALUE) ? 1L : 0L)) ^ l9)) == 0L)) { continue L138; }
+       break L138;
       }
-      Core1.f3(m, l3 + 128L, l2, l3, 10L, 0L);
-      b[((int) (l1 + (l13 = l13 + -1L))) - 60720] = (byte) (((int) (l16 - Words.get64(b, ((int) l3) - 60592))) | 48);
-      final int t156 = (l16 + Long.MIN_VALUE > -9223372036854775709L) ? 1 : 0;
-      final int t157 = l31;
-      final int t158 = (l15 == 0L) ? 1 : 0;
-      if ((t158 != 0 ? t156 : t157) != 0) { continue L143; }
-      break L143;
+      l14 = l14 + -1L;
      }
-     l30 = (int) l2;
-     exit = 4; break PART;
+     l24 = l14 + 2L;
+     l30 = 0;
+     break L9;
     }
-    l30 = (int) l2;
-    l13 = 80L;
-    exit = 4; break PART;
+    l18 = 100L;
+    if (((l2 ^ 100L) | l9) == 0L) { exit = 1; break PART; }
+    l14 = 0L;
+    l24 = 1L;
+    L139: while (true) {
+     if (l24 == 37L) { break L8; }
+     Core1.f3(m, l3 + 512L, l18, 0L, 10L, 0L);
+     Core1.f3(m, l3 + 496L, l14, 0L, 0L, 10L);
+     l30 = 1;
+     if ((((l18 = (l14 = Words.get64(b, ((int) l3) - 60208)) & -2L) ^ l2) | ((l14 = (Words.get64(b, ((int) l3) - 60200) + Words.get64(b, ((int) l3) - 60216)) + (((l14 + Words.get64(b, ((int) l3) - 60224)) + Long.MIN_VALUE < l14 + Long.MIN_VALUE) ? 1L : 0L)) ^ l9)) == 0L) { break L9; }
+     Core1.f3(m, l3 + 480L, l18, 0L, 10L, 0L);
+     Core1.f3(m, l3 + 464L, l14, 0L, 0L, 10L);
+     l24 = l24 + 2L;
+     if (!((((l18 = (l14 = Words.get64(b, ((int) l3) - 60240)) & -4L) ^ l2) | ((l14 = (Words.get64(b, ((int) l3) - 60232) + Words.get64(b, ((int) l3) - 60248)) + (((l14 + Words.get64(b, ((int) l3) - 60256)) + Long.MIN_VALUE < l14 + Long.MIN_VALUE) ? 1L : 0L)) ^ l9)) == 0L)) { continue L139; }
+     break L139;
+    }
+    l24 = l24 + -1L;
    }
-   l10 = 79L;
-   b[((int) (l1 + 79L)) - 60720] = (byte) 37;
+   if (l30 != 0) { exit = 5; break PART; }
+   l10 = 80L;
+   exit = 4; break PART;
   }
  }
  m.kept[0] = l2;
@@ -506,6 +437,233 @@ static int f38_1(State m, long l1, long l2, long l3, long l4, long l5, long l6, 
  m.kept[20] = l29;
  m.kept[21] = l30;
  m.kept[22] = l31;
+ return exit;
+}
+
+static int f38_2(State m, long l1, long l2, long l3, long l4, long l5, long l7, long l8, long l9, long l10, long l11, long l12, long l13, long l14, long l15, long l16, long l17, long l18, long l19, long l20, long l21, long l22, long l23, long l24, long l25, long l26, long l27, long l28, int l30, int l31) {
+ final byte[] b = m.bytes;
+ int exit = 0;
+ PART: {
+  L160: {
+   L161: {
+    L162: {
+     if (l24 != 1L) { break L162; }
+     l2 = l8;
+     l14 = l7;
+     break L161;
+    }
+    l25 = l24 & 1L;
+    l26 = l24 & -2L;
+    l2 = l8;
+    l14 = l7;
+    l4 = 0L;
+    L163: while (true) {
+     final long t164 = l15 = l14;
+     final int t165 = l31 = ((l15 | (l13 = l2)) == 0L) ? 1 : 0;
+     final long t166 = l5 = (long) Long.numberOfLeadingZeros(l15);
+     final long t167 = (l27 = (long) Long.numberOfLeadingZeros(l13)) + 64L;
+     final int t168 = (l15 != 0L) ? 1 : 0;
+     final int t169 = ((l9 = 124L - (l2 = t168 != 0 ? t166 : t167)) + Long.MIN_VALUE > -9223372036854775681L) ? 1 : 0;
+     final int t170 = ((l17 = 0L - ((l2 + Long.MIN_VALUE > -9223372036854775684L) ? 1L : 0L)) != 0L) ? 1 : 0;
+     final int t171 = (l17 == 0L) ? 1 : 0;
+     l18 = ((l30 = t165 | (t171 != 0 ? t169 : t170)) != 0) ? 0L : t164;
+     l16 = l30 != 0 ? 0L : l13;
+     L172: {
+      if (l30 != 0) { break L172; }
+      if (((l9 ^ 127L) | l17) == 0L) { break L172; }
+      Core1.f4(m, l3 + 384L, l13, l15, 127 - ((int) l9));
+      l14 = Words.get64(b, ((int) l3) - 60328);
+      l2 = Words.get64(b, ((int) l3) - 60336);
+      L173: {
+       L174: {
+        if (((l9 = l9 + 1L) | (l19 = l17 + ((l9 == 0L) ? 1L : 0L))) == 0L) { break L174; }
+        Core1.f5(m, l3 + 368L, l13, l15, (int) l9);
+        l12 = 10L + -1L;
+        l20 = 0L - ((10L == 0L) ? 1L : 0L);
+        l17 = Words.get64(b, ((int) l3) - 60344);
+        l18 = Words.get64(b, ((int) l3) - 60352);
+        l21 = 0L;
+        L175: while (true) {
+         l22 = l21;
+         l21 = (l18 = ((l20 - (l23 = (l17 << 1L) | (l18 >>> 63L))) - ((l12 + Long.MIN_VALUE < (l17 = (l18 << 1L) | (l14 >>> 63L)) + Long.MIN_VALUE) ? 1L : 0L)) >> 63L) & 1L;
+         l18 = l17 - (l11 = l18 & 10L);
+         l17 = l23 - ((l17 + Long.MIN_VALUE < l11 + Long.MIN_VALUE) ? 1L : 0L);
+         l14 = 0L | ((l14 << 1L) | (l2 >>> 63L));
+         l30 = (l9 == 0L) ? 1 : 0;
+         l2 = l22 | (l2 << 1L);
+         l9 = l22 = l9 + -1L;
+         if (!((l22 | (l19 = l19 - (l30 & 0xffffffffL))) == 0L)) { continue L175; }
+         break L173;
+        }
+       }
+       l21 = 0L;
+      }
+      l18 = (l14 << 1L) | (l2 >>> 63L);
+      l16 = l21 | (l2 << 1L);
+     }
+     Core1.f3(m, l3 + 352L, l16, l18, 10L, 0L);
+     b[((int) (l1 + (l28 = l10 + -1L))) - 60720] = (byte) (((int) (l13 - Words.get64(b, ((int) l3) - 60368))) | 48);
+     final long t176 = l16;
+     final int t177 = ((l16 | l18) == 0L) ? 1 : 0;
+     final long t178 = (long) Long.numberOfLeadingZeros(l18);
+     final long t179 = ((long) Long.numberOfLeadingZeros(l16)) + 64L;
+     final int t180 = (l18 != 0L) ? 1 : 0;
+     final int t181 = ((l2 = 124L - (l9 = t180 != 0 ? t178 : t179)) + Long.MIN_VALUE > -9223372036854775681L) ? 1 : 0;
+     final int t182 = ((l14 = 0L - ((l9 + Long.MIN_VALUE > -9223372036854775684L) ? 1L : 0L)) != 0L) ? 1 : 0;
+     final int t183 = (l14 == 0L) ? 1 : 0;
+     l9 = ((l30 = t177 | (t183 != 0 ? t181 : t182)) != 0) ? 0L : t176;
+     L184: {
+      if (l30 != 0) { break L184; }
+      if (((l2 ^ 127L) | l14) == 0L) { break L184; }
+      Core1.f4(m, l3 + 336L, l16, l18, 127 - ((int) l2));
+      l9 = Words.get64(b, ((int) l3) - 60384);
+      L185: {
+       L186: {
+        if (((l2 = l2 + 1L) | (l19 = l14 + ((l2 == 0L) ? 1L : 0L))) == 0L) { break L186; }
+        l14 = Words.get64(b, ((int) l3) - 60376);
+        Core1.f5(m, l3 + 320L, l16, l18, (int) l2);
+        l12 = 10L + -1L;
+        l20 = 0L - ((10L == 0L) ? 1L : 0L);
+        l17 = Words.get64(b, ((int) l3) - 60392);
+        l18 = Words.get64(b, ((int) l3) - 60400);
+        l21 = 0L;
+        L187: while (true) {
+         l22 = l21;
+         l21 = (l18 = ((l20 - (l23 = (l17 << 1L) | (l18 >>> 63L))) - ((l12 + Long.MIN_VALUE < (l17 = (l18 << 1L) | (l14 >>> 63L)) + Long.MIN_VALUE) ? 1L : 0L)) >> 63L) & 1L;
+         l18 = l17 - (l11 = l18 & 10L);
+         l17 = l23 - ((l17 + Long.MIN_VALUE < l11 + Long.MIN_VALUE) ? 1L : 0L);
+         l14 = 0L | ((l14 << 1L) | (l9 >>> 63L));
+         l30 = (l2 == 0L) ? 1 : 0;
+         l9 = l22 | (l9 << 1L);
+         l2 = l22 = l2 + -1L;
+         if (!((l22 | (l19 = l19 - (l30 & 0xffffffffL))) == 0L)) { continue L187; }
+         break L185;
+        }
+       }
+       l21 = 0L;
+      }
+      l9 = l21 | (l9 << 1L);
+     }
+     Core1.f3(m, l3 + 304L, 10L, 0L, l9, l3);
+     b[((int) (l1 + (l10 = l10 + -2L))) - 60720] = (byte) (((int) (l16 - Words.get64(b, ((int) l3) - 60416))) | 48);
+     final long t188 = l15;
+     final int t189 = l31;
+     final long t190 = l5;
+     final long t191 = l27 + 64L;
+     final int t192 = (l15 != 0L) ? 1 : 0;
+     final int t193 = ((l9 = 121L - (l2 = t192 != 0 ? t190 : t191)) + Long.MIN_VALUE > -9223372036854775681L) ? 1 : 0;
+     final int t194 = ((l18 = 0L - ((l2 + Long.MIN_VALUE > -9223372036854775687L) ? 1L : 0L)) != 0L) ? 1 : 0;
+     final int t195 = (l18 == 0L) ? 1 : 0;
+     l14 = ((l30 = t189 | (t195 != 0 ? t193 : t194)) != 0) ? 0L : t188;
+     l2 = l30 != 0 ? 0L : l13;
+     L196: {
+      if (l30 != 0) { break L196; }
+      if (((l9 ^ 127L) | l18) == 0L) { break L196; }
+      Core1.f4(m, l3 + 288L, l13, l15, 127 - ((int) l9));
+      l14 = Words.get64(b, ((int) l3) - 60424);
+      l2 = Words.get64(b, ((int) l3) - 60432);
+      L197: {
+       L198: {
+        if (((l9 = l9 + 1L) | (l19 = l18 + ((l9 == 0L) ? 1L : 0L))) == 0L) { break L198; }
+        Core1.f5(m, l3 + 272L, l13, l15, (int) l9);
+        l12 = 100L + -1L;
+        l20 = 0L - ((100L == 0L) ? 1L : 0L);
+        l17 = Words.get64(b, ((int) l3) - 60440);
+        l18 = Words.get64(b, ((int) l3) - 60448);
+        l21 = 0L;
+        L199: while (true) {
+         l22 = l21;
+         l21 = (l18 = ((l20 - (l23 = (l17 << 1L) | (l18 >>> 63L))) - ((l12 + Long.MIN_VALUE < (l17 = (l18 << 1L) | (l14 >>> 63L)) + Long.MIN_VALUE) ? 1L : 0L)) >> 63L) & 1L;
+         l18 = l17 - (l11 = l18 & 100L);
+         l17 = l23 - ((l17 + Long.MIN_VALUE < l11 + Long.MIN_VALUE) ? 1L : 0L);
+         l14 = 0L | ((l14 << 1L) | (l2 >>> 63L));
+         l30 = (l9 == 0L) ? 1 : 0;
+         l2 = l22 | (l2 << 1L);
+         l9 = l22 = l9 + -1L;
+         if (!((l22 | (l19 = l19 - (l30 & 0xffffffffL))) == 0L)) { continue L199; }
+         break L197;
+        }
+       }
+       l21 = 0L;
+      }
+      l14 = (l14 << 1L) | (l2 >>> 63L);
+      l2 = l21 | (l2 << 1L);
+     }
+     if ((l4 = l4 + 2L) != l26) { continue L163; }
+     break L163;
+    }
+    if (l25 == 0L) { break L160; }
+   }
+   final long t200 = l2;
+   final int t201 = ((l2 | l14) == 0L) ? 1 : 0;
+   final long t202 = (long) Long.numberOfLeadingZeros(l14);
+   final long t203 = ((long) Long.numberOfLeadingZeros(l2)) + 64L;
+   final int t204 = (l14 != 0L) ? 1 : 0;
+   final int t205 = ((l9 = 124L - (l18 = t204 != 0 ? t202 : t203)) + Long.MIN_VALUE > -9223372036854775681L) ? 1 : 0;
+   final int t206 = ((l17 = 0L - ((l18 + Long.MIN_VALUE > -9223372036854775684L) ? 1L : 0L)) != 0L) ? 1 : 0;
+   final int t207 = (l17 == 0L) ? 1 : 0;
+   l18 = ((l30 = t201 | (t207 != 0 ? t205 : t206)) != 0) ? 0L : t200;
+   L208: {
+    if (l30 != 0) { break L208; }
+    if (((l9 ^ 127L) | l17) == 0L) { break L208; }
+    Core1.f4(m, l3 + 256L, l2, l14, 127 - ((int) l9));
+    l18 = Words.get64(b, ((int) l3) - 60464);
+    L209: {
+     L210: {
+      if (((l9 = l9 + 1L) | (l22 = l17 + ((l9 == 0L) ? 1L : 0L))) == 0L) { break L210; }
+      l17 = Words.get64(b, ((int) l3) - 60456);
+      Core1.f5(m, l3 + 240L, l2, l14, (int) l9);
+      l20 = 10L + -1L;
+      l15 = 0L - ((10L == 0L) ? 1L : 0L);
+      l21 = Words.get64(b, ((int) l3) - 60472);
+      l14 = Words.get64(b, ((int) l3) - 60480);
+      l19 = 0L;
+      L211: while (true) {
+       l23 = l19;
+       l19 = (l14 = ((l15 - (l11 = (l21 << 1L) | (l14 >>> 63L))) - ((l20 + Long.MIN_VALUE < (l21 = (l14 << 1L) | (l17 >>> 63L)) + Long.MIN_VALUE) ? 1L : 0L)) >> 63L) & 1L;
+       l14 = l21 - (l12 = l14 & 10L);
+       l21 = l11 - ((l21 + Long.MIN_VALUE < l12 + Long.MIN_VALUE) ? 1L : 0L);
+       l17 = 0L | ((l17 << 1L) | (l18 >>> 63L));
+       l30 = (l9 == 0L) ? 1 : 0;
+       l18 = l23 | (l18 << 1L);
+       l9 = l23 = l9 + -1L;
+       if (!((l23 | (l22 = l22 - (l30 & 0xffffffffL))) == 0L)) { continue L211; }
+       break L209;
+      }
+     }
+     l19 = 0L;
+    }
+    l18 = l19 | (l18 << 1L);
+   }
+   Core1.f3(m, l3 + 224L, 10L, 0L, l18, l3);
+   b[((int) ((l1 + l10) + -1L)) - 60720] = (byte) (((int) (l2 - Words.get64(b, ((int) l3) - 60496))) | 48);
+   l28 = l10;
+  }
+ }
+ m.kept[0] = l2;
+ m.kept[1] = l4;
+ m.kept[2] = l5;
+ m.kept[3] = l9;
+ m.kept[4] = l10;
+ m.kept[5] = l11;
+ m.kept[6] = l12;
+ m.kept[7] = l13;
+ m.kept[8] = l14;
+ m.kept[9] = l15;
+ m.kept[10] = l16;
+ m.kept[11] = l17;
+ m.kept[12] = l18;
+ m.kept[13] = l19;
+ m.kept[14] = l20;
+ m.kept[15] = l21;
+ m.kept[16] = l22;
+ m.kept[17] = l23;
+ m.kept[18] = l25;
+ m.kept[19] = l26;
+ m.kept[20] = l27;
+ m.kept[21] = l28;
+ m.kept[22] = l30;
+ m.kept[23] = l31;
  return exit;
 }
 
@@ -551,231 +709,131 @@ static void f38(State m, long l0, long l1, long l2) {
     l7 = Words.get64(b, ((int) l2) - 60720);
     L4: {
      L5: {
-      final int x159 = f38_1(m, l1, l2, l3, l4, l5, l6, l7, l8, l9, l10, l11, l12, l13, l14, l15, l16, l17, l18, l19, l20, l21, l22, l23, l24, l29, l30, l31);
+      L6: {
+       L7: {
+        final int x140 = f38_1(m, l2, l3, l4, l5, l6, l7, l8, l9, l10, l11, l12, l13, l14, l15, l16, l17, l18, l19, l20, l21, l22, l23, l24, l29, l30, l31);
+        l2 = m.kept[0];
+        l6 = m.kept[1];
+        l7 = m.kept[2];
+        l8 = m.kept[3];
+        l9 = m.kept[4];
+        l10 = m.kept[5];
+        l11 = m.kept[6];
+        l12 = m.kept[7];
+        l13 = m.kept[8];
+        l14 = m.kept[9];
+        l15 = m.kept[10];
+        l16 = m.kept[11];
+        l17 = m.kept[12];
+        l18 = m.kept[13];
+        l19 = m.kept[14];
+        l20 = m.kept[15];
+        l21 = m.kept[16];
+        l22 = m.kept[17];
+        l23 = m.kept[18];
+        l24 = m.kept[19];
+        l29 = (int) m.kept[20];
+        l30 = (int) m.kept[21];
+        l31 = (int) m.kept[22];
+        switch (x140) {
+        case 1: break L5;
+        case 2: break L4;
+        case 3: break L3;
+        case 4: break L6;
+        case 5: break L7;
+        }
+        L141: {
+         final int t142 = (l2 + Long.MIN_VALUE < -9223372036854775798L) ? 1 : 0;
+         final int t143 = (l9 == 0L) ? 1 : 0;
+         if ((t143 != 0 ? t142 : 0) != 0) { break L141; }
+         l13 = 80L;
+         L144: while (true) {
+          final long t145 = l15 = l9;
+          final int t146 = ((l15 | (l16 = l2)) == 0L) ? 1 : 0;
+          final long t147 = (long) Long.numberOfLeadingZeros(l15);
+          final long t148 = ((long) Long.numberOfLeadingZeros(l16)) + 64L;
+          final int t149 = l31 = (l15 != 0L) ? 1 : 0;
+          final int t150 = ((l17 = 124L - (l2 = t149 != 0 ? t147 : t148)) + Long.MIN_VALUE > -9223372036854775681L) ? 1 : 0;
+          final int t151 = ((l18 = 0L - ((l2 + Long.MIN_VALUE > -9223372036854775684L) ? 1L : 0L)) != 0L) ? 1 : 0;
+          final int t152 = (l18 == 0L) ? 1 : 0;
+          l9 = ((l30 = t146 | (t152 != 0 ? t150 : t151)) != 0) ? 0L : t145;
+          l2 = l30 != 0 ? 0L : l16;
+          L153: {
+           if (l30 != 0) { break L153; }
+           if (((l17 ^ 127L) | l18) == 0L) { break L153; }
+           Core1.f4(m, l3 + 160L, l16, l15, 127 - ((int) l17));
+           l14 = Words.get64(b, ((int) l3) - 60552);
+           l2 = Words.get64(b, ((int) l3) - 60560);
+           L154: {
+            L155: {
+             if (((l9 = l17 + 1L) | (l19 = l18 + ((l9 == 0L) ? 1L : 0L))) == 0L) { break L155; }
+             Core1.f5(m, l3 + 144L, l16, l15, (int) l9);
+             l12 = 10L + -1L;
+             l20 = 0L - ((10L == 0L) ? 1L : 0L);
+             l17 = Words.get64(b, ((int) l3) - 60568);
+             l18 = Words.get64(b, ((int) l3) - 60576);
+             l21 = 0L;
+             L156: while (true) {
+              l22 = l21;
+              l21 = (l18 = ((l20 - (l23 = (l17 << 1L) | (l18 >>> 63L))) - ((l12 + Long.MIN_VALUE < (l17 = (l18 << 1L) | (l14 >>> 63L)) + Long.MIN_VALUE) ? 1L : 0L)) >> 63L) & 1L;
+              l18 = l17 - (l11 = l18 & 10L);
+              l17 = l23 - ((l17 + Long.MIN_VALUE < l11 + Long.MIN_VALUE) ? 1L : 0L);
+              l14 = 0L | ((l14 << 1L) | (l2 >>> 63L));
+              l30 = (l9 == 0L) ? 1 : 0;
+              l2 = l22 | (l2 << 1L);
+              l9 = l22 = l9 + -1L;
+              if (!((l22 | (l19 = l19 - (l30 & 0xffffffffL))) == 0L)) { continue L156; }
+              break L154;
+             }
+            }
+            l21 = 0L;
+           }
+           l9 = (l14 << 1L) | (l2 >>> 63L);
+           l2 = l21 | (l2 << 1L);
+          }
+          Core1.f3(m, l3 + 128L, l2, l3, 10L, 0L);
+          b[((int) (l1 + (l13 = l13 + -1L))) - 60720] = (byte) (((int) (l16 - Words.get64(b, ((int) l3) - 60592))) | 48);
+          final int t157 = (l16 + Long.MIN_VALUE > -9223372036854775709L) ? 1 : 0;
+          final int t158 = l31;
+          final int t159 = (l15 == 0L) ? 1 : 0;
+          if ((t159 != 0 ? t157 : t158) != 0) { continue L144; }
+          break L144;
+         }
+         l30 = (int) l2;
+         break L2;
+        }
+        l30 = (int) l2;
+        l13 = 80L;
+        break L2;
+       }
+       l10 = 79L;
+       b[((int) (l1 + 79L)) - 60720] = (byte) 37;
+      }
+      f38_2(m, l1, l2, l3, l4, l5, l7, l8, l9, l10, l11, l12, l13, l14, l15, l16, l17, l18, l19, l20, l21, l22, l23, l24, l25, l26, l27, l28, l30, l31);
       l2 = m.kept[0];
-      l6 = m.kept[1];
-      l7 = m.kept[2];
-      l8 = m.kept[3];
-      l9 = m.kept[4];
-      l10 = m.kept[5];
-      l11 = m.kept[6];
-      l12 = m.kept[7];
-      l13 = m.kept[8];
-      l14 = m.kept[9];
-      l15 = m.kept[10];
-      l16 = m.kept[11];
-      l17 = m.kept[12];
-      l18 = m.kept[13];
-      l19 = m.kept[14];
-      l20 = m.kept[15];
-      l21 = m.kept[16];
-      l22 = m.kept[17];
-      l23 = m.kept[18];
-      l24 = m.kept[19];
-      l29 = (int) m.kept[20];
-      l30 = (int) m.kept[21];
-      l31 = (int) m.kept[22];
-      switch (x159) {
-      case 1: break L5;
-      case 2: break L4;
-      case 3: break L3;
-      case 4: break L2;
-      }
-      L160: {
-       L161: {
-        L162: {
-         if (l24 != 1L) { break L162; }
-         l2 = l8;
-         l14 = l7;
-         break L161;
-        }
-        l25 = l24 & 1L;
-        l26 = l24 & -2L;
-        l2 = l8;
-        l14 = l7;
-        l4 = 0L;
-        L163: while (true) {
-         final long t164 = l15 = l14;
-         final int t165 = l31 = ((l15 | (l13 = l2)) == 0L) ? 1 : 0;
-         final long t166 = l5 = (long) Long.numberOfLeadingZeros(l15);
-         final long t167 = (l27 = (long) Long.numberOfLeadingZeros(l13)) + 64L;
-         final int t168 = (l15 != 0L) ? 1 : 0;
-         final int t169 = ((l9 = 124L - (l2 = t168 != 0 ? t166 : t167)) + Long.MIN_VALUE > -9223372036854775681L) ? 1 : 0;
-         final int t170 = ((l17 = 0L - ((l2 + Long.MIN_VALUE > -9223372036854775684L) ? 1L : 0L)) != 0L) ? 1 : 0;
-         final int t171 = (l17 == 0L) ? 1 : 0;
-         l18 = ((l30 = t165 | (t171 != 0 ? t169 : t170)) != 0) ? 0L : t164;
-         l16 = l30 != 0 ? 0L : l13;
-         L172: {
-          if (l30 != 0) { break L172; }
-          if (((l9 ^ 127L) | l17) == 0L) { break L172; }
-          Core1.f4(m, l3 + 384L, l13, l15, 127 - ((int) l9));
-          l14 = Words.get64(b, ((int) l3) - 60328);
-          l2 = Words.get64(b, ((int) l3) - 60336);
-          L173: {
-           L174: {
-            if (((l9 = l9 + 1L) | (l19 = l17 + ((l9 == 0L) ? 1L : 0L))) == 0L) { break L174; }
-            Core1.f5(m, l3 + 368L, l13, l15, (int) l9);
-            l12 = 10L + -1L;
-            l20 = 0L - ((10L == 0L) ? 1L : 0L);
-            l17 = Words.get64(b, ((int) l3) - 60344);
-            l18 = Words.get64(b, ((int) l3) - 60352);
-            l21 = 0L;
-            L175: while (true) {
-             l22 = l21;
-             l21 = (l18 = ((l20 - (l23 = (l17 << 1L) | (l18 >>> 63L))) - ((l12 + Long.MIN_VALUE < (l17 = (l18 << 1L) | (l14 >>> 63L)) + Long.MIN_VALUE) ? 1L : 0L)) >> 63L) & 1L;
-             l18 = l17 - (l11 = l18 & 10L);
-             l17 = l23 - ((l17 + Long.MIN_VALUE < l11 + Long.MIN_VALUE) ? 1L : 0L);
-             l14 = 0L | ((l14 << 1L) | (l2 >>> 63L));
-             l30 = (l9 == 0L) ? 1 : 0;
-             l2 = l22 | (l2 << 1L);
-             l9 = l22 = l9 + -1L;
-             if (!((l22 | (l19 = l19 - (l30 & 0xffffffffL))) == 0L)) { continue L175; }
-             break L173;
-            }
-           }
-           l21 = 0L;
-          }
-          l18 = (l14 << 1L) | (l2 >>> 63L);
-          l16 = l21 | (l2 << 1L);
-         }
-         Core1.f3(m, l3 + 352L, l16, l18, 10L, 0L);
-         b[((int) (l1 + (l28 = l10 + -1L))) - 60720] = (byte) (((int) (l13 - Words.get64(b, ((int) l3) - 60368))) | 48);
-         final long t176 = l16;
-         final int t177 = ((l16 | l18) == 0L) ? 1 : 0;
-         final long t178 = (long) Long.numberOfLeadingZeros(l18);
-         final long t179 = ((long) Long.numberOfLeadingZeros(l16)) + 64L;
-         final int t180 = (l18 != 0L) ? 1 : 0;
-         final int t181 = ((l2 = 124L - (l9 = t180 != 0 ? t178 : t179)) + Long.MIN_VALUE > -9223372036854775681L) ? 1 : 0;
-         final int t182 = ((l14 = 0L - ((l9 + Long.MIN_VALUE > -9223372036854775684L) ? 1L : 0L)) != 0L) ? 1 : 0;
-         final int t183 = (l14 == 0L) ? 1 : 0;
-         l9 = ((l30 = t177 | (t183 != 0 ? t181 : t182)) != 0) ? 0L : t176;
-         L184: {
-          if (l30 != 0) { break L184; }
-          if (((l2 ^ 127L) | l14) == 0L) { break L184; }
-          Core1.f4(m, l3 + 336L, l16, l18, 127 - ((int) l2));
-          l9 = Words.get64(b, ((int) l3) - 60384);
-          L185: {
-           L186: {
-            if (((l2 = l2 + 1L) | (l19 = l14 + ((l2 == 0L) ? 1L : 0L))) == 0L) { break L186; }
-            l14 = Words.get64(b, ((int) l3) - 60376);
-            Core1.f5(m, l3 + 320L, l16, l18, (int) l2);
-            l12 = 10L + -1L;
-            l20 = 0L - ((10L == 0L) ? 1L : 0L);
-            l17 = Words.get64(b, ((int) l3) - 60392);
-            l18 = Words.get64(b, ((int) l3) - 60400);
-            l21 = 0L;
-            L187: while (true) {
-             l22 = l21;
-             l21 = (l18 = ((l20 - (l23 = (l17 << 1L) | (l18 >>> 63L))) - ((l12 + Long.MIN_VALUE < (l17 = (l18 << 1L) | (l14 >>> 63L)) + Long.MIN_VALUE) ? 1L : 0L)) >> 63L) & 1L;
-             l18 = l17 - (l11 = l18 & 10L);
-             l17 = l23 - ((l17 + Long.MIN_VALUE < l11 + Long.MIN_VALUE) ? 1L : 0L);
-             l14 = 0L | ((l14 << 1L) | (l9 >>> 63L));
-             l30 = (l2 == 0L) ? 1 : 0;
-             l9 = l22 | (l9 << 1L);
-             l2 = l22 = l2 + -1L;
-             if (!((l22 | (l19 = l19 - (l30 & 0xffffffffL))) == 0L)) { continue L187; }
-             break L185;
-            }
-           }
-           l21 = 0L;
-          }
-          l9 = l21 | (l9 << 1L);
-         }
-         Core1.f3(m, l3 + 304L, 10L, 0L, l9, l3);
-         b[((int) (l1 + (l10 = l10 + -2L))) - 60720] = (byte) (((int) (l16 - Words.get64(b, ((int) l3) - 60416))) | 48);
-         final long t188 = l15;
-         final int t189 = l31;
-         final long t190 = l5;
-         final long t191 = l27 + 64L;
-         final int t192 = (l15 != 0L) ? 1 : 0;
-         final int t193 = ((l9 = 121L - (l2 = t192 != 0 ? t190 : t191)) + Long.MIN_VALUE > -9223372036854775681L) ? 1 : 0;
-         final int t194 = ((l18 = 0L - ((l2 + Long.MIN_VALUE > -9223372036854775687L) ? 1L : 0L)) != 0L) ? 1 : 0;
-         final int t195 = (l18 == 0L) ? 1 : 0;
-         l14 = ((l30 = t189 | (t195 != 0 ? t193 : t194)) != 0) ? 0L : t188;
-         l2 = l30 != 0 ? 0L : l13;
-         L196: {
-          if (l30 != 0) { break L196; }
-          if (((l9 ^ 127L) | l18) == 0L) { break L196; }
-          Core1.f4(m, l3 + 288L, l13, l15, 127 - ((int) l9));
-          l14 = Words.get64(b, ((int) l3) - 60424);
-          l2 = Words.get64(b, ((int) l3) - 60432);
-          L197: {
-           L198: {
-            if (((l9 = l9 + 1L) | (l19 = l18 + ((l9 == 0L) ? 1L : 0L))) == 0L) { break L198; }
-            Core1.f5(m, l3 + 272L, l13, l15, (int) l9);
-            l12 = 100L + -1L;
-            l20 = 0L - ((100L == 0L) ? 1L : 0L);
-            l17 = Words.get64(b, ((int) l3) - 60440);
-            l18 = Words.get64(b, ((int) l3) - 60448);
-            l21 = 0L;
-            L199: while (true) {
-             l22 = l21;
-             l21 = (l18 = ((l20 - (l23 = (l17 << 1L) | (l18 >>> 63L))) - ((l12 + Long.MIN_VALUE < (l17 = (l18 << 1L) | (l14 >>> 63L)) + Long.MIN_VALUE) ? 1L : 0L)) >> 63L) & 1L;
-             l18 = l17 - (l11 = l18 & 100L);
-             l17 = l23 - ((l17 + Long.MIN_VALUE < l11 + Long.MIN_VALUE) ? 1L : 0L);
-             l14 = 0L | ((l14 << 1L) | (l2 >>> 63L));
-             l30 = (l9 == 0L) ? 1 : 0;
-             l2 = l22 | (l2 << 1L);
-             l9 = l22 = l9 + -1L;
-             if (!((l22 | (l19 = l19 - (l30 & 0xffffffffL))) == 0L)) { continue L199; }
-             break L197;
-            }
-           }
-           l21 = 0L;
-          }
-          l14 = (l14 << 1L) | (l2 >>> 63L);
-          l2 = l21 | (l2 << 1L);
-         }
-         if ((l4 = l4 + 2L) != l26) { continue L163; }
-         break L163;
-        }
-        if (l25 == 0L) { break L160; }
-       }
-       final long t200 = l2;
-       final int t201 = ((l2 | l14) == 0L) ? 1 : 0;
-       final long t202 = (long) Long.numberOfLeadingZeros(l14);
-       final long t203 = ((long) Long.numberOfLeadingZeros(l2)) + 64L;
-       final int t204 = (l14 != 0L) ? 1 : 0;
-       final int t205 = ((l9 = 124L - (l18 = t204 != 0 ? t202 : t203)) + Long.MIN_VALUE > -9223372036854775681L) ? 1 : 0;
-       final int t206 = ((l17 = 0L - ((l18 + Long.MIN_VALUE > -9223372036854775684L) ? 1L : 0L)) != 0L) ? 1 : 0;
-       final int t207 = (l17 == 0L) ? 1 : 0;
-       l18 = ((l30 = t201 | (t207 != 0 ? t205 : t206)) != 0) ? 0L : t200;
-       L208: {
-        if (l30 != 0) { break L208; }
-        if (((l9 ^ 127L) | l17) == 0L) { break L208; }
-        Core1.f4(m, l3 + 256L, l2, l14, 127 - ((int) l9));
-        l18 = Words.get64(b, ((int) l3) - 60464);
-        L209: {
-         L210: {
-          if (((l9 = l9 + 1L) | (l22 = l17 + ((l9 == 0L) ? 1L : 0L))) == 0L) { break L210; }
-          l17 = Words.get64(b, ((int) l3) - 60456);
-          Core1.f5(m, l3 + 240L, l2, l14, (int) l9);
-          l20 = 10L + -1L;
-          l15 = 0L - ((10L == 0L) ? 1L : 0L);
-          l21 = Words.get64(b, ((int) l3) - 60472);
-          l14 = Words.get64(b, ((int) l3) - 60480);
-          l19 = 0L;
-          L211: while (true) {
-           l23 = l19;
-           l19 = (l14 = ((l15 - (l11 = (l21 << 1L) | (l14 >>> 63L))) - ((l20 + Long.MIN_VALUE < (l21 = (l14 << 1L) | (l17 >>> 63L)) + Long.MIN_VALUE) ? 1L : 0L)) >> 63L) & 1L;
-           l14 = l21 - (l12 = l14 & 10L);
-           l21 = l11 - ((l21 + Long.MIN_VALUE < l12 + Long.MIN_VALUE) ? 1L : 0L);
-           l17 = 0L | ((l17 << 1L) | (l18 >>> 63L));
-           l30 = (l9 == 0L) ? 1 : 0;
-           l18 = l23 | (l18 << 1L);
-           l9 = l23 = l9 + -1L;
-           if (!((l23 | (l22 = l22 - (l30 & 0xffffffffL))) == 0L)) { continue L211; }
-           break L209;
-          }
-         }
-         l19 = 0L;
-        }
-        l18 = l19 | (l18 << 1L);
-       }
-       Core1.f3(m, l3 + 224L, 10L, 0L, l18, l3);
-       b[((int) ((l1 + l10) + -1L)) - 60720] = (byte) (((int) (l2 - Words.get64(b, ((int) l3) - 60496))) | 48);
-       l28 = l10;
-      }
+      l4 = m.kept[1];
+      l5 = m.kept[2];
+      l9 = m.kept[3];
+      l10 = m.kept[4];
+      l11 = m.kept[5];
+      l12 = m.kept[6];
+      l13 = m.kept[7];
+      l14 = m.kept[8];
+      l15 = m.kept[9];
+      l16 = m.kept[10];
+      l17 = m.kept[11];
+      l18 = m.kept[12];
+      l19 = m.kept[13];
+      l20 = m.kept[14];
+      l21 = m.kept[15];
+      l22 = m.kept[16];
+      l23 = m.kept[17];
+      l25 = m.kept[18];
+      l26 = m.kept[19];
+      l27 = m.kept[20];
+      l28 = m.kept[21];
+      l30 = (int) m.kept[22];
+      l31 = (int) m.kept[23];
       b[((int) (l1 + (l13 = l28 + -2L))) - 60720] = (byte) 46;
       l11 = 0L;
       l12 = 1L;
@@ -4875,6 +4933,228 @@ static void f72(State m, long l0, long l1, long l2) {
  Words.put32(b, ((int) (l0 + 8L)) - 60720, l5);
 }
 
+static int f73_1(State m, int l1, long l5, long l6, long l7, long l8, long l9, long l10, long l11, long l12, long l13, long l14, long l15, long l16, long l17, long l18, long l19, long l20, long l21, long l22, long l23, int l24, int l25, int l26) {
+ final byte[] b = m.bytes;
+ int exit = 0;
+ PART: {
+  L24: {
+   if ((b[((int) l5) - 60256] & 0xff) != 1) { break L24; }
+   if (Words.get64(b, ((int) l5) - 60240) == 0L) { break L24; }
+   if (((b[((int) l5) - 60208] & 0xff) & 1) != 0) { break L24; }
+   l6 = Words.get64(b, ((int) l5) - 60216);
+   l8 = Words.get64(b, ((int) l5) - 60224);
+   f67(m, l5 + 624L, l7 = Words.get64(b, ((int) l5) - 60200), l9 = Words.get64(b, ((int) l5) - 60192));
+   if ((b[((int) l5) - 60096] & 0xff) != 1) { break L24; }
+   f78(m, l5 + 560L, l1, 0L, 0L, l8, l6, l7, l9);
+   if ((b[((int) l5) - 60160] & 0xff) != 1) { break L24; }
+   l10 = Words.get64(b, ((int) l5) - 60120);
+   l12 = Words.get64(b, ((int) l5) - 60128);
+   l7 = Words.get64(b, ((int) l5) - 60136);
+   l8 = Words.get64(b, ((int) l5) - 60144);
+   l25 = b[((int) l5) - 60112] & 0xff;
+   f67(m, l5 + 400L, l6 = Words.get64(b, ((int) l5) - 60184), l9 = Words.get64(b, ((int) l5) - 60176));
+   L25: {
+    if ((b[((int) l5) - 60320] & 0xff) != 1) { break L25; }
+    L26: while (true) {
+     Words.put64(b, ((int) l5) - 60232, 0L);
+     Words.put64(b, ((int) l5) - 60240, 0L);
+     Words.put64(b, ((int) l5) - 60248, 0L);
+     Words.put64(b, ((int) l5) - 60256, 0L);
+     f67(m, l5 + 464L, l6, l9);
+     L27: {
+      L28: {
+       if ((b[((int) l5) - 60256] & 0xff) == 1) { break L28; }
+       l24 = 0;
+       break L27;
+      }
+      L29: {
+       if ((l26 = Words.get32(b, ((int) l5) - 60248)) == 38646) { break L29; }
+       l24 = 0;
+       if (l26 != 12295) { break L27; }
+      }
+      l24 = 1;
+      l6 = Words.get64(b, ((int) l5) - 60240);
+      l9 = Words.get64(b, ((int) l5) - 60232);
+     }
+     m.fill((int) (l5 + 464L), 0, (int) 96L);
+     Words.put64(b, ((int) l5) - 60264, 0L);
+     Words.put64(b, ((int) l5) - 60272, 0L);
+     Words.put64(b, ((int) l5) - 60280, 0L);
+     Words.put64(b, ((int) l5) - 60288, 0L);
+     f77(m, l5 + 464L, l6, l9);
+     if ((b[((int) l5) - 60256] & 0xff) != 1) { break L24; }
+     if ((l13 = Words.get64(b, ((int) l5) - 60240)) == 0L) { break L24; }
+     l14 = Words.get64(b, ((int) l5) - 60216);
+     l11 = Words.get64(b, ((int) l5) - 60224);
+     l9 = Words.get64(b, ((int) l5) - 60176);
+     l6 = Words.get64(b, ((int) l5) - 60184);
+     l26 = b[((int) l5) - 60208] & 0xff;
+     f67(m, l5 + 432L, l15 = Words.get64(b, ((int) l5) - 60200), l16 = Words.get64(b, ((int) l5) - 60192));
+     L30: {
+      L31: {
+       if ((b[((int) l5) - 60288] & 0xff) != 1) { break L31; }
+       L32: {
+        final int t33 = l24;
+        final int t34 = (l12 + Long.MIN_VALUE < -9223372036754775808L) ? 1 : 0;
+        final int t35 = (l10 == 0L) ? 1 : 0;
+        if ((t33 | (t35 != 0 ? t34 : 0)) != 0) { break L32; }
+        Words.put64(b, ((int) l5) - 60136, 0L);
+        Words.put64(b, ((int) l5) - 60144, 0L);
+        Words.put64(b, ((int) l5) - 60152, 0L);
+        Words.put64(b, ((int) l5) - 60160, 0L);
+        f74(m, l5 + 560L, l1, 1L, 0L, l15, l16);
+        if ((b[((int) l5) - 60160] & 0xff) != 1) { break L32; }
+        final int t36 = (Words.get64(b, ((int) l5) - 60144) + Long.MIN_VALUE < -9223372036854765808L) ? 1 : 0;
+        final int t37 = (Words.get64(b, ((int) l5) - 60136) == 0L) ? 1 : 0;
+        if ((t37 != 0 ? t36 : 0) != 0) { break L24; }
+       }
+       Words.put64(b, ((int) l5) - 60104, 0L);
+       Words.put64(b, ((int) l5) - 60112, 0L);
+       Words.put64(b, ((int) l5) - 60120, 0L);
+       Words.put64(b, ((int) l5) - 60128, 0L);
+       Words.put64(b, ((int) l5) - 60136, 0L);
+       Words.put64(b, ((int) l5) - 60144, 0L);
+       Words.put64(b, ((int) l5) - 60152, 0L);
+       Words.put64(b, ((int) l5) - 60160, 0L);
+       if ((l26 & 1) != 0) { break L24; }
+       Words.put64(b, ((int) l5) - 60072, 0L);
+       Words.put64(b, ((int) l5) - 60080, 0L);
+       Words.put64(b, ((int) l5) - 60088, 0L);
+       Words.put64(b, ((int) l5) - 60096, 0L);
+       f74(m, l5 + 624L, l1, l11, l14, l15, l16);
+       if ((b[((int) l5) - 60096] & 0xff) != 1) { break L24; }
+       final int t38 = (Words.get64(b, ((int) l5) - 60080) + Long.MIN_VALUE >= l12 + Long.MIN_VALUE) ? 1 : 0;
+       final int t39 = ((l12 = Words.get64(b, ((int) l5) - 60072)) + Long.MIN_VALUE >= l10 + Long.MIN_VALUE) ? 1 : 0;
+       final int t40 = (l12 == l10) ? 1 : 0;
+       if ((t40 != 0 ? t38 : t39) != 0) { break L24; }
+       f78(m, l5 + 560L, l1, l8, l7, l11, l14, l15, l16);
+       if ((b[((int) l5) - 60160] & 0xff) != 1) { break L24; }
+       l10 = Words.get64(b, ((int) l5) - 60120);
+       l12 = Words.get64(b, ((int) l5) - 60128);
+       l7 = Words.get64(b, ((int) l5) - 60136);
+       l8 = Words.get64(b, ((int) l5) - 60144);
+       l25 = b[((int) l5) - 60112] & 0xff;
+       break L30;
+      }
+      L41: {
+       L42: {
+        if (l24 == 0) { break L42; }
+        if ((l26 & 1) != 0) { break L24; }
+        final int t43 = (l11 + Long.MIN_VALUE >= l12 + Long.MIN_VALUE) ? 1 : 0;
+        final int t44 = (l14 + Long.MIN_VALUE >= l10 + Long.MIN_VALUE) ? 1 : 0;
+        final int t45 = (l14 == l10) ? 1 : 0;
+        if ((t45 != 0 ? t43 : t44) != 0) { break L24; }
+        final int t46 = (l8 + Long.MIN_VALUE > (l11 ^ -1L) + Long.MIN_VALUE) ? 1 : 0;
+        final int t47 = (l7 + Long.MIN_VALUE > (l10 = l14 ^ -1L) + Long.MIN_VALUE) ? 1 : 0;
+        final int t48 = (l7 == l10) ? 1 : 0;
+        if ((t48 != 0 ? t46 : t47) != 0) { break L24; }
+        l7 = (l14 + l7) + (((l8 = l11 + l8) + Long.MIN_VALUE < l11 + Long.MIN_VALUE) ? 1L : 0L);
+        break L41;
+       }
+       if (l13 + Long.MIN_VALUE > -9223372036854775770L) { break L24; }
+       L49: {
+        if (((l12 ^ Words.get64(b, ((int) ((l15 = l13 << 4L) + 82096L)) - 60720)) | (l10 ^ Words.get64(b, ((int) (l15 + 82104L)) - 60720))) != 0L) { break L49; }
+        final int t50 = (l8 + Long.MIN_VALUE > (l11 ^ -1L) + Long.MIN_VALUE) ? 1 : 0;
+        final int t51 = (l7 + Long.MIN_VALUE > (l10 = l14 ^ -1L) + Long.MIN_VALUE) ? 1 : 0;
+        final int t52 = (l7 == l10) ? 1 : 0;
+        if ((t52 != 0 ? t50 : t51) != 0) { break L24; }
+        l7 = (l14 + l7) + (((l8 = l11 + l8) + Long.MIN_VALUE < l11 + Long.MIN_VALUE) ? 1L : 0L);
+        break L41;
+       }
+       if ((((l13 == 1L) ? 1 : 0) & l25) != 1) { break L24; }
+       if ((l26 & 1) != 0) { break L24; }
+       final long t53 = l10;
+       final int t54 = ((l12 | l10) == 0L) ? 1 : 0;
+       final long t55 = (long) Long.numberOfLeadingZeros(l10);
+       final long t56 = ((long) Long.numberOfLeadingZeros(l12)) + 64L;
+       final int t57 = (l10 != 0L) ? 1 : 0;
+       final int t58 = ((l17 = 124L - (l15 = t57 != 0 ? t55 : t56)) + Long.MIN_VALUE > -9223372036854775681L) ? 1 : 0;
+       final int t59 = ((l18 = 0L - ((l15 + Long.MIN_VALUE > -9223372036854775684L) ? 1L : 0L)) != 0L) ? 1 : 0;
+       final int t60 = (l18 == 0L) ? 1 : 0;
+       l16 = ((l24 = t54 | (t60 != 0 ? t58 : t59)) != 0) ? 0L : t53;
+       l15 = l24 != 0 ? 0L : l12;
+       L61: {
+        if (l24 != 0) { break L61; }
+        if (((l17 ^ 127L) | l18) == 0L) { break L61; }
+        Core1.f4(m, l5 + 96L, l12, l10, 127 - ((int) l17));
+        l13 = Words.get64(b, ((int) l5) - 60616);
+        l15 = Words.get64(b, ((int) l5) - 60624);
+        L62: {
+         L63: {
+          if (((l16 = l17 + 1L) | (l17 = l18 + ((l16 == 0L) ? 1L : 0L))) == 0L) { break L63; }
+          Core1.f5(m, l5 + 80L, l12, l10, (int) l16);
+          l19 = 10L + -1L;
+          l20 = 0L - ((10L == 0L) ? 1L : 0L);
+          l12 = Words.get64(b, ((int) l5) - 60632);
+          l10 = Words.get64(b, ((int) l5) - 60640);
+          l18 = 0L;
+          L64: while (true) {
+           l21 = l18;
+           l18 = (l10 = ((l20 - (l22 = (l12 << 1L) | (l10 >>> 63L))) - ((l19 + Long.MIN_VALUE < (l12 = (l10 << 1L) | (l13 >>> 63L)) + Long.MIN_VALUE) ? 1L : 0L)) >> 63L) & 1L;
+           l10 = l12 - (l23 = l10 & 10L);
+           l12 = l22 - ((l12 + Long.MIN_VALUE < l23 + Long.MIN_VALUE) ? 1L : 0L);
+           l13 = 0L | ((l13 << 1L) | (l15 >>> 63L));
+           l24 = (l16 == 0L) ? 1 : 0;
+           l15 = l21 | (l15 << 1L);
+           l16 = l21 = l16 + -1L;
+           if (!((l21 | (l17 = l17 - (l24 & 0xffffffffL))) == 0L)) { continue L64; }
+           break L62;
+          }
+         }
+         l18 = 0L;
+        }
+        l16 = (l13 << 1L) | (l15 >>> 63L);
+        l15 = l18 | (l15 << 1L);
+       }
+       Core1.f3(m, l5 + 32L, l11, 0L, l15, 0L);
+       Core1.f3(m, l5 + 64L, l11, 0L, l16, 0L);
+       Core1.f3(m, l5 + 16L, l14, 0L, l15, 0L);
+       Core1.f3(m, l5 + 48L, l14, 0L, l16, 0L);
+       if ((((Words.get64(b, ((int) l5) - 60696) + (((l11 = (l10 = (l14 = Words.get64(b, ((int) l5) - 60680)) + Words.get64(b, ((int) l5) - 60656)) + Words.get64(b, ((int) l5) - 60704)) + Long.MIN_VALUE < l10 + Long.MIN_VALUE) ? 1L : 0L)) | (l14 = (l10 = Words.get64(b, ((int) l5) - 60648) + ((l10 + Long.MIN_VALUE < l14 + Long.MIN_VALUE) ? 1L : 0L)) + Words.get64(b, ((int) l5) - 60672))) | (Words.get64(b, ((int) l5) - 60664) + ((l14 + Long.MIN_VALUE < l10 + Long.MIN_VALUE) ? 1L : 0L))) != 0L) { break L24; }
+       final int t65 = (l8 + Long.MIN_VALUE > ((l10 = Words.get64(b, ((int) l5) - 60688)) ^ -1L) + Long.MIN_VALUE) ? 1 : 0;
+       final int t66 = (l7 + Long.MIN_VALUE > (l14 = l11 ^ -1L) + Long.MIN_VALUE) ? 1 : 0;
+       final int t67 = (l7 == l14) ? 1 : 0;
+       if ((t67 != 0 ? t65 : t66) != 0) { break L24; }
+       l7 = (l11 + l7) + (((l8 = l10 + l8) + Long.MIN_VALUE < l10 + Long.MIN_VALUE) ? 1L : 0L);
+      }
+      l12 = 0L;
+      l25 = 0;
+      l10 = 0L;
+     }
+     f67(m, l5 + 400L, l6, l9);
+     if ((b[((int) l5) - 60320] & 0xff) == 1) { continue L26; }
+     break L26;
+    }
+   }
+   l24 = 0;
+   l6 = 0L;
+   exit = 1; break PART;
+  }
+ }
+ m.kept[0] = l6;
+ m.kept[1] = l7;
+ m.kept[2] = l8;
+ m.kept[3] = l9;
+ m.kept[4] = l10;
+ m.kept[5] = l11;
+ m.kept[6] = l12;
+ m.kept[7] = l13;
+ m.kept[8] = l14;
+ m.kept[9] = l15;
+ m.kept[10] = l16;
+ m.kept[11] = l17;
+ m.kept[12] = l18;
+ m.kept[13] = l19;
+ m.kept[14] = l20;
+ m.kept[15] = l21;
+ m.kept[16] = l22;
+ m.kept[17] = l23;
+ m.kept[18] = l24;
+ m.kept[19] = l25;
+ m.kept[20] = l26;
+ return exit;
+}
+
 static void f73(State m, long l0, int l1, long l2, long l3, long l4) {
  final byte[] b = m.bytes;
  long l5 = 0;
@@ -5117,212 +5397,44 @@ static void f73(State m, long l0, int l1, long l2, long l3, long l4) {
      Words.put64(b, ((int) l5) - 60112, 0L);
      Words.put64(b, ((int) l5) - 60104, 0L);
      f77(m, l5 + 464L, l3, l4);
-     L24: {
-      if ((b[((int) l5) - 60256] & 0xff) != 1) { break L24; }
-      if (Words.get64(b, ((int) l5) - 60240) == 0L) { break L24; }
-      if (((b[((int) l5) - 60208] & 0xff) & 1) != 0) { break L24; }
-      l6 = Words.get64(b, ((int) l5) - 60216);
-      l8 = Words.get64(b, ((int) l5) - 60224);
-      f67(m, l5 + 624L, l7 = Words.get64(b, ((int) l5) - 60200), l9 = Words.get64(b, ((int) l5) - 60192));
-      if ((b[((int) l5) - 60096] & 0xff) != 1) { break L24; }
-      f78(m, l5 + 560L, l1, 0L, 0L, l8, l6, l7, l9);
-      if ((b[((int) l5) - 60160] & 0xff) != 1) { break L24; }
-      l10 = Words.get64(b, ((int) l5) - 60120);
-      l12 = Words.get64(b, ((int) l5) - 60128);
-      l7 = Words.get64(b, ((int) l5) - 60136);
-      l8 = Words.get64(b, ((int) l5) - 60144);
-      l25 = b[((int) l5) - 60112] & 0xff;
-      f67(m, l5 + 400L, l6 = Words.get64(b, ((int) l5) - 60184), l9 = Words.get64(b, ((int) l5) - 60176));
-      L25: {
-       if ((b[((int) l5) - 60320] & 0xff) != 1) { break L25; }
-       L26: while (true) {
-        Words.put64(b, ((int) l5) - 60232, 0L);
-        Words.put64(b, ((int) l5) - 60240, 0L);
-        Words.put64(b, ((int) l5) - 60248, 0L);
-        Words.put64(b, ((int) l5) - 60256, 0L);
-        f67(m, l5 + 464L, l6, l9);
-        L27: {
-         L28: {
-          if ((b[((int) l5) - 60256] & 0xff) == 1) { break L28; }
-          l24 = 0;
-          break L27;
-         }
-         L29: {
-          if ((l26 = Words.get32(b, ((int) l5) - 60248)) == 38646) { break L29; }
-          l24 = 0;
-          if (l26 != 12295) { break L27; }
-         }
-         l24 = 1;
-         l6 = Words.get64(b, ((int) l5) - 60240);
-         l9 = Words.get64(b, ((int) l5) - 60232);
-        }
-        m.fill((int) (l5 + 464L), 0, (int) 96L);
-        Words.put64(b, ((int) l5) - 60264, 0L);
-        Words.put64(b, ((int) l5) - 60272, 0L);
-        Words.put64(b, ((int) l5) - 60280, 0L);
-        Words.put64(b, ((int) l5) - 60288, 0L);
-        f77(m, l5 + 464L, l6, l9);
-        if ((b[((int) l5) - 60256] & 0xff) != 1) { break L24; }
-        if ((l13 = Words.get64(b, ((int) l5) - 60240)) == 0L) { break L24; }
-        l14 = Words.get64(b, ((int) l5) - 60216);
-        l11 = Words.get64(b, ((int) l5) - 60224);
-        l9 = Words.get64(b, ((int) l5) - 60176);
-        l6 = Words.get64(b, ((int) l5) - 60184);
-        l26 = b[((int) l5) - 60208] & 0xff;
-        f67(m, l5 + 432L, l15 = Words.get64(b, ((int) l5) - 60200), l16 = Words.get64(b, ((int) l5) - 60192));
-        L30: {
-         L31: {
-          if ((b[((int) l5) - 60288] & 0xff) != 1) { break L31; }
-          L32: {
-           final int t33 = l24;
-           final int t34 = (l12 + Long.MIN_VALUE < -9223372036754775808L) ? 1 : 0;
-           final int t35 = (l10 == 0L) ? 1 : 0;
-           if ((t33 | (t35 != 0 ? t34 : 0)) != 0) { break L32; }
-           Words.put64(b, ((int) l5) - 60136, 0L);
-           Words.put64(b, ((int) l5) - 60144, 0L);
-           Words.put64(b, ((int) l5) - 60152, 0L);
-           Words.put64(b, ((int) l5) - 60160, 0L);
-           f74(m, l5 + 560L, l1, 1L, 0L, l15, l16);
-           if ((b[((int) l5) - 60160] & 0xff) != 1) { break L32; }
-           final int t36 = (Words.get64(b, ((int) l5) - 60144) + Long.MIN_VALUE < -9223372036854765808L) ? 1 : 0;
-           final int t37 = (Words.get64(b, ((int) l5) - 60136) == 0L) ? 1 : 0;
-           if ((t37 != 0 ? t36 : 0) != 0) { break L24; }
-          }
-          Words.put64(b, ((int) l5) - 60104, 0L);
-          Words.put64(b, ((int) l5) - 60112, 0L);
-          Words.put64(b, ((int) l5) - 60120, 0L);
-          Words.put64(b, ((int) l5) - 60128, 0L);
-          Words.put64(b, ((int) l5) - 60136, 0L);
-          Words.put64(b, ((int) l5) - 60144, 0L);
-          Words.put64(b, ((int) l5) - 60152, 0L);
-          Words.put64(b, ((int) l5) - 60160, 0L);
-          if ((l26 & 1) != 0) { break L24; }
-          Words.put64(b, ((int) l5) - 60072, 0L);
-          Words.put64(b, ((int) l5) - 60080, 0L);
-          Words.put64(b, ((int) l5) - 60088, 0L);
-          Words.put64(b, ((int) l5) - 60096, 0L);
-          f74(m, l5 + 624L, l1, l11, l14, l15, l16);
-          if ((b[((int) l5) - 60096] & 0xff) != 1) { break L24; }
-          final int t38 = (Words.get64(b, ((int) l5) - 60080) + Long.MIN_VALUE >= l12 + Long.MIN_VALUE) ? 1 : 0;
-          final int t39 = ((l12 = Words.get64(b, ((int) l5) - 60072)) + Long.MIN_VALUE >= l10 + Long.MIN_VALUE) ? 1 : 0;
-          final int t40 = (l12 == l10) ? 1 : 0;
-          if ((t40 != 0 ? t38 : t39) != 0) { break L24; }
-          f78(m, l5 + 560L, l1, l8, l7, l11, l14, l15, l16);
-          if ((b[((int) l5) - 60160] & 0xff) != 1) { break L24; }
-          l10 = Words.get64(b, ((int) l5) - 60120);
-          l12 = Words.get64(b, ((int) l5) - 60128);
-          l7 = Words.get64(b, ((int) l5) - 60136);
-          l8 = Words.get64(b, ((int) l5) - 60144);
-          l25 = b[((int) l5) - 60112] & 0xff;
-          break L30;
-         }
-         L41: {
-          L42: {
-           if (l24 == 0) { break L42; }
-           if ((l26 & 1) != 0) { break L24; }
-           final int t43 = (l11 + Long.MIN_VALUE >= l12 + Long.MIN_VALUE) ? 1 : 0;
-           final int t44 = (l14 + Long.MIN_VALUE >= l10 + Long.MIN_VALUE) ? 1 : 0;
-           final int t45 = (l14 == l10) ? 1 : 0;
-           if ((t45 != 0 ? t43 : t44) != 0) { break L24; }
-           final int t46 = (l8 + Long.MIN_VALUE > (l11 ^ -1L) + Long.MIN_VALUE) ? 1 : 0;
-           final int t47 = (l7 + Long.MIN_VALUE > (l10 = l14 ^ -1L) + Long.MIN_VALUE) ? 1 : 0;
-           final int t48 = (l7 == l10) ? 1 : 0;
-           if ((t48 != 0 ? t46 : t47) != 0) { break L24; }
-           l7 = (l14 + l7) + (((l8 = l11 + l8) + Long.MIN_VALUE < l11 + Long.MIN_VALUE) ? 1L : 0L);
-           break L41;
-          }
-          if (l13 + Long.MIN_VALUE > -9223372036854775770L) { break L24; }
-          L49: {
-           if (((l12 ^ Words.get64(b, ((int) ((l15 = l13 << 4L) + 82096L)) - 60720)) | (l10 ^ Words.get64(b, ((int) (l15 + 82104L)) - 60720))) != 0L) { break L49; }
-           final int t50 = (l8 + Long.MIN_VALUE > (l11 ^ -1L) + Long.MIN_VALUE) ? 1 : 0;
-           final int t51 = (l7 + Long.MIN_VALUE > (l10 = l14 ^ -1L) + Long.MIN_VALUE) ? 1 : 0;
-           final int t52 = (l7 == l10) ? 1 : 0;
-           if ((t52 != 0 ? t50 : t51) != 0) { break L24; }
-           l7 = (l14 + l7) + (((l8 = l11 + l8) + Long.MIN_VALUE < l11 + Long.MIN_VALUE) ? 1L : 0L);
-           break L41;
-          }
-          if ((((l13 == 1L) ? 1 : 0) & l25) != 1) { break L24; }
-          if ((l26 & 1) != 0) { break L24; }
-          final long t53 = l10;
-          final int t54 = ((l12 | l10) == 0L) ? 1 : 0;
-          final long t55 = (long) Long.numberOfLeadingZeros(l10);
-          final long t56 = ((long) Long.numberOfLeadingZeros(l12)) + 64L;
-          final int t57 = (l10 != 0L) ? 1 : 0;
-          final int t58 = ((l17 = 124L - (l15 = t57 != 0 ? t55 : t56)) + Long.MIN_VALUE > -9223372036854775681L) ? 1 : 0;
-          final int t59 = ((l18 = 0L - ((l15 + Long.MIN_VALUE > -9223372036854775684L) ? 1L : 0L)) != 0L) ? 1 : 0;
-          final int t60 = (l18 == 0L) ? 1 : 0;
-          l16 = ((l24 = t54 | (t60 != 0 ? t58 : t59)) != 0) ? 0L : t53;
-          l15 = l24 != 0 ? 0L : l12;
-          L61: {
-           if (l24 != 0) { break L61; }
-           if (((l17 ^ 127L) | l18) == 0L) { break L61; }
-           Core1.f4(m, l5 + 96L, l12, l10, 127 - ((int) l17));
-           l13 = Words.get64(b, ((int) l5) - 60616);
-           l15 = Words.get64(b, ((int) l5) - 60624);
-           L62: {
-            L63: {
-             if (((l16 = l17 + 1L) | (l17 = l18 + ((l16 == 0L) ? 1L : 0L))) == 0L) { break L63; }
-             Core1.f5(m, l5 + 80L, l12, l10, (int) l16);
-             l19 = 10L + -1L;
-             l20 = 0L - ((10L == 0L) ? 1L : 0L);
-             l12 = Words.get64(b, ((int) l5) - 60632);
-             l10 = Words.get64(b, ((int) l5) - 60640);
-             l18 = 0L;
-             L64: while (true) {
-              l21 = l18;
-              l18 = (l10 = ((l20 - (l22 = (l12 << 1L) | (l10 >>> 63L))) - ((l19 + Long.MIN_VALUE < (l12 = (l10 << 1L) | (l13 >>> 63L)) + Long.MIN_VALUE) ? 1L : 0L)) >> 63L) & 1L;
-              l10 = l12 - (l23 = l10 & 10L);
-              l12 = l22 - ((l12 + Long.MIN_VALUE < l23 + Long.MIN_VALUE) ? 1L : 0L);
-              l13 = 0L | ((l13 << 1L) | (l15 >>> 63L));
-              l24 = (l16 == 0L) ? 1 : 0;
-              l15 = l21 | (l15 << 1L);
-              l16 = l21 = l16 + -1L;
-              if (!((l21 | (l17 = l17 - (l24 & 0xffffffffL))) == 0L)) { continue L64; }
-              break L62;
-             }
-            }
-            l18 = 0L;
-           }
-           l16 = (l13 << 1L) | (l15 >>> 63L);
-           l15 = l18 | (l15 << 1L);
-          }
-          Core1.f3(m, l5 + 32L, l11, 0L, l15, 0L);
-          Core1.f3(m, l5 + 64L, l11, 0L, l16, 0L);
-          Core1.f3(m, l5 + 16L, l14, 0L, l15, 0L);
-          Core1.f3(m, l5 + 48L, l14, 0L, l16, 0L);
-          if ((((Words.get64(b, ((int) l5) - 60696) + (((l11 = (l10 = (l14 = Words.get64(b, ((int) l5) - 60680)) + Words.get64(b, ((int) l5) - 60656)) + Words.get64(b, ((int) l5) - 60704)) + Long.MIN_VALUE < l10 + Long.MIN_VALUE) ? 1L : 0L)) | (l14 = (l10 = Words.get64(b, ((int) l5) - 60648) + ((l10 + Long.MIN_VALUE < l14 + Long.MIN_VALUE) ? 1L : 0L)) + Words.get64(b, ((int) l5) - 60672))) | (Words.get64(b, ((int) l5) - 60664) + ((l14 + Long.MIN_VALUE < l10 + Long.MIN_VALUE) ? 1L : 0L))) != 0L) { break L24; }
-          final int t65 = (l8 + Long.MIN_VALUE > ((l10 = Words.get64(b, ((int) l5) - 60688)) ^ -1L) + Long.MIN_VALUE) ? 1 : 0;
-          final int t66 = (l7 + Long.MIN_VALUE > (l14 = l11 ^ -1L) + Long.MIN_VALUE) ? 1 : 0;
-          final int t67 = (l7 == l14) ? 1 : 0;
-          if ((t67 != 0 ? t65 : t66) != 0) { break L24; }
-          l7 = (l11 + l7) + (((l8 = l10 + l8) + Long.MIN_VALUE < l10 + Long.MIN_VALUE) ? 1L : 0L);
-         }
-         l12 = 0L;
-         l25 = 0;
-         l10 = 0L;
-        }
-        f67(m, l5 + 400L, l6, l9);
-        if ((b[((int) l5) - 60320] & 0xff) == 1) { continue L26; }
-        break L26;
-       }
-      }
-      l24 = 0;
-      l6 = 0L;
-      break L3;
+     final int x68 = f73_1(m, l1, l5, l6, l7, l8, l9, l10, l11, l12, l13, l14, l15, l16, l17, l18, l19, l20, l21, l22, l23, l24, l25, l26);
+     l6 = m.kept[0];
+     l7 = m.kept[1];
+     l8 = m.kept[2];
+     l9 = m.kept[3];
+     l10 = m.kept[4];
+     l11 = m.kept[5];
+     l12 = m.kept[6];
+     l13 = m.kept[7];
+     l14 = m.kept[8];
+     l15 = m.kept[9];
+     l16 = m.kept[10];
+     l17 = m.kept[11];
+     l18 = m.kept[12];
+     l19 = m.kept[13];
+     l20 = m.kept[14];
+     l21 = m.kept[15];
+     l22 = m.kept[16];
+     l23 = m.kept[17];
+     l24 = (int) m.kept[18];
+     l25 = (int) m.kept[19];
+     l26 = (int) m.kept[20];
+     switch (x68) {
+     case 1: break L3;
      }
      f79(m, l5 + 320L, l3, l4);
-     L68: {
-      if ((b[((int) l5) - 60400] & 0xff) != 1) { break L68; }
+     L69: {
+      if ((b[((int) l5) - 60400] & 0xff) != 1) { break L69; }
       l10 = Words.get64(b, ((int) l5) - 60360);
       l6 = Words.get64(b, ((int) l5) - 60368);
       l7 = Words.get64(b, ((int) l5) - 60376);
       f69(m, l5 + 288L, l1, l2, Words.get64(b, ((int) l5) - 60392), Words.get64(b, ((int) l5) - 60384));
       l8 = Words.get64(b, ((int) l5) - 60416);
-      L69: {
-       if ((b[((int) l5) - 60432] & 0xff) != 0) { break L69; }
+      L70: {
+       if ((b[((int) l5) - 60432] & 0xff) != 0) { break L70; }
        f76(m, l5 + 256L, l1, 1, l8, Words.get64(b, ((int) l5) - 60408), l7, l6);
-       L70: {
-        if ((b[((int) l5) - 60464] & 0xff) == 1) { break L70; }
+       L71: {
+        if ((b[((int) l5) - 60464] & 0xff) == 1) { break L71; }
         l8 = 0L;
         break L4;
        }
@@ -5347,28 +5459,28 @@ static void f73(State m, long l0, int l1, long l2, long l3, long l4) {
      Words.put64(b, ((int) l5) - 60144, 0L);
      Words.put64(b, ((int) l5) - 60136, 0L);
      f67(m, l5 + 464L, l3, l4);
-     L71: {
-      if ((b[((int) l5) - 60256] & 0xff) != 1) { break L71; }
+     L72: {
+      if ((b[((int) l5) - 60256] & 0xff) != 1) { break L72; }
       l7 = Words.get64(b, ((int) l5) - 60232);
       l9 = Words.get64(b, ((int) l5) - 60240);
-      L72: {
-       L73: {
-        if ((l24 = Words.get32(b, ((int) l5) - 60248)) != 24319) { break L73; }
+      L73: {
+       L74: {
+        if ((l24 = Words.get32(b, ((int) l5) - 60248)) != 24319) { break L74; }
         l8 = 20L;
-        break L72;
+        break L73;
        }
-       if (l24 != 21317) { break L71; }
+       if (l24 != 21317) { break L72; }
        l8 = 30L;
       }
       f67(m, l5 + 560L, l9, l7);
-      L74: {
-       if ((b[((int) l5) - 60160] & 0xff) != 1) { break L74; }
+      L75: {
+       if ((b[((int) l5) - 60160] & 0xff) != 1) { break L75; }
        l24 = Words.get32(b, ((int) l5) - 60152);
        f67(m, l5 + 464L, Words.get64(b, ((int) l5) - 60144), Words.get64(b, ((int) l5) - 60136));
-       if ((l24 + -48) + Integer.MIN_VALUE < -2147483638) { break L71; }
-       if (((b[((int) l5) - 60256] & 0xff) & 255) == 1) { break L71; }
+       if ((l24 + -48) + Integer.MIN_VALUE < -2147483638) { break L72; }
+       if (((b[((int) l5) - 60256] & 0xff) & 255) == 1) { break L72; }
        f50(m, l5 + 8L, l24);
-       if (((b[((int) l5) - 60712] & 0xff) & 1) == 0) { break L71; }
+       if (((b[((int) l5) - 60712] & 0xff) & 1) == 0) { break L72; }
        l8 = l8 + (((b[((int) l5) - 60711] & 0xff) & 0xffffffffL) & 255L);
       }
       l6 = 0L;
@@ -5378,8 +5490,8 @@ static void f73(State m, long l0, int l1, long l2, long l3, long l4) {
      }
      f69(m, l5 + 224L, l1, l2, l3, l4);
      l8 = Words.get64(b, ((int) l5) - 60480);
-     L75: {
-      if ((b[((int) l5) - 60496] & 0xff) != 0) { break L75; }
+     L76: {
+      if ((b[((int) l5) - 60496] & 0xff) != 0) { break L76; }
       l24 = 0;
       l7 = Words.get64(b, ((int) l5) - 60472);
       break L3;
@@ -6739,6 +6851,253 @@ static void f81(State m, long l0, int l1, long l2, long l3, long l4) {
  m.g0 = l5 + 176L;
 }
 
+static int f82_1(State m, long l0, int l1, long l2, long l4, long l6, long l8, long l9, long l12, long l13, long l14, long l16, long l17, int l18, int l19, int l20, int l21, int l22, int l23) {
+ final byte[] b = m.bytes;
+ int exit = 0;
+ PART: {
+  L48: {
+   L49: {
+    L50: {
+     L51: {
+      L52: {
+       L53: {
+        L54: {
+         L55: {
+          if (l8 == 0L) { break L55; }
+          l14 = l13 + l2;
+          l12 = l8;
+          l4 = l9;
+          L56: while (true) {
+           L57: {
+            L58: {
+             if ((l18 = b[((int) l4) - 60720] & 0xff) + Integer.MIN_VALUE > -2147483616) { break L58; }
+             if (((1L << (l18 & 0xffffffffL)) & 4294983168L) == 0L) { break L58; }
+             l13 = 1L;
+             break L57;
+            }
+            L59: {
+             L60: {
+              L61: {
+               if (l18 == 194) { break L61; }
+               if (l12 + Long.MIN_VALUE < -9223372036854775805L) { break L60; }
+               if (((l18 + 28) & 255) + Integer.MIN_VALUE < -2147483395) { break L60; }
+               l19 = b[((int) (l4 + 1L)) - 60720] & 0xff;
+               l21 = (int) (byte) (l20 = b[((int) (l4 + 2L)) - 60720] & 0xff);
+               if (l18 != 226) { break L59; }
+               if ((l19 & 255) != 128) { break L59; }
+               l13 = 3L;
+               if (l21 < -117) { break L57; }
+               if ((l20 + -168) + Integer.MIN_VALUE < -2147483646) { break L57; }
+               if (l20 != 175) { break L54; }
+               break L57;
+              }
+              l13 = 1L;
+              l18 = b[((int) l4) - 60719] & 0xff;
+              L62: {
+               if (l12 != 1L) { break L62; }
+               l21 = l18 & 63;
+               l18 = 194;
+               break L52;
+              }
+              l13 = 2L;
+              if (l18 == 133) { break L57; }
+              if (l18 == 160) { break L57; }
+             }
+             if (l12 + Long.MIN_VALUE >= -9223372036854775805L) { break L54; }
+             l19 = b[((int) l4) - 60720] & 0xff;
+             break L53;
+            }
+            L63: {
+             L64: {
+              L65: {
+               L66: {
+                switch (l18 + -225) {
+                case 1: break L65;
+                case 2: break L64;
+                default: break L66;
+                }
+               }
+               if ((l19 & 255) != 154) { break L54; }
+               if (l21 != -128) { break L54; }
+               break L63;
+              }
+              if ((l19 & 255) != 129) { break L54; }
+              if (l21 == -97) { break L63; }
+              break L54;
+             }
+             if ((l19 & 255) != 128) { break L54; }
+             if (l21 != -128) { break L54; }
+            }
+            l13 = 3L;
+           }
+           l14 = l14 + 1L;
+           l4 = l4 + l13;
+           if (!((l12 = l12 - l13) == 0L)) { continue L56; }
+           break L56;
+          }
+          l4 = 0L;
+         }
+         Words.put64(b, ((int) l6) - 60560, l4);
+         Words.put64(b, ((int) l6) - 60568, l4);
+         l18 = 0;
+         break L49;
+        }
+        if (((l19 = b[((int) l4) - 60720] & 0xff) & 240) != 224) { break L53; }
+        l18 = (((b[((int) l4) - 60718] & 0xff) + ((b[((int) l4) - 60719] & 0xff) << 6)) + (l19 << 12)) + -925824;
+        l13 = l12 + -3L;
+        l4 = l4 + 3L;
+        break L50;
+       }
+       l18 = l19 & 255;
+       l16 = 1L;
+       L67: {
+        if (((int) (byte) l19) > -1) { break L67; }
+        l21 = (b[((int) l4) - 60719] & 0xff) & 63;
+        L68: {
+         if ((l19 & 255) + Integer.MIN_VALUE > -2147483425) { break L68; }
+         l13 = l12;
+         break L52;
+        }
+        l20 = (b[((int) l4) - 60718] & 0xff) & 63;
+        L69: {
+         if ((l19 & 255) + Integer.MIN_VALUE > -2147483409) { break L69; }
+         l18 = ((l21 << 6) | ((l18 << 12) & 61440)) | l20;
+         l16 = 3L;
+         break L67;
+        }
+        l18 = ((l20 << 6) | ((l21 << 12) | ((l18 << 18) & 1835008))) | ((b[((int) l4) - 60717] & 0xff) & 63);
+        l16 = 4L;
+       }
+       l13 = l12;
+       break L51;
+      }
+      l18 = ((l18 << 6) & 1984) | l21;
+      l16 = 2L;
+     }
+     l13 = l13 - l16;
+     l4 = l4 + l16;
+    }
+    Words.put64(b, ((int) l6) - 60520, 0L);
+    Words.put64(b, ((int) l6) - 60528, 0L);
+    Words.put64(b, ((int) l6) - 60536, 0L);
+    Words.put64(b, ((int) l6) - 60544, 0L);
+    L70: {
+     L71: {
+      L72: {
+       L73: {
+        L74: {
+         L75: {
+          L76: {
+           L77: {
+            if (l13 + Long.MIN_VALUE < -9223372036854775804L) { break L77; }
+            if (Words.get32(b, ((int) ((l17 = ((((l19 = Words.get32(b, ((int) ((l4 + l13) + -4L)) - 60720) >>> 8) & 0xffffffffL) * 953497L) >>> 22L) & 1016L) + 80936L)) - 60720) != l19) { break L75; }
+            l12 = l13 + -3L;
+            l16 = l4;
+            break L76;
+           }
+           if (l13 != 3L) { break L75; }
+           if (Words.get32(b, ((int) ((l17 = ((((l19 = (Words.get16(b, ((int) l4) - 60720) & 0xffff) | ((b[((int) l4) - 60718] & 0xff) << 16)) & 0xffffffffL) * 953497L) >>> 22L) & 1016L) + 80936L)) - 60720) != l19) { break L75; }
+           l16 = l4 + 3L;
+           l12 = 0L;
+          }
+          l20 = b[((int) (l17 + 80940L)) - 60720] & 0xff;
+          l22 = b[((int) (l17 + 80941L)) - 60720] & 0xff;
+          break L74;
+         }
+         f87(m, l6 + 176L, l4, l13);
+         if ((b[((int) l6) - 60544] & 0xff) != 1) { break L73; }
+         l12 = Words.get64(b, ((int) l6) - 60520);
+         l16 = Words.get64(b, ((int) l6) - 60528);
+         l22 = b[((int) l6) - 60535] & 0xff;
+         l20 = b[((int) l6) - 60536] & 0xff;
+        }
+        Words.put64(b, ((int) l6) - 60520, 0L);
+        Words.put64(b, ((int) l6) - 60528, 0L);
+        Words.put64(b, ((int) l6) - 60536, 0L);
+        Words.put64(b, ((int) l6) - 60544, 0L);
+        L78: {
+         L79: {
+          L80: {
+           if (l12 + Long.MIN_VALUE < -9223372036854775804L) { break L80; }
+           if (Words.get32(b, ((int) ((l17 = ((((l19 = Words.get32(b, ((int) ((l16 + l12) + -4L)) - 60720) >>> 8) & 0xffffffffL) * 953497L) >>> 22L) & 1016L) + 80936L)) - 60720) != l19) { break L79; }
+           l21 = b[((int) (l17 + 80940L)) - 60720] & 0xff;
+           l23 = b[((int) (l17 + 80941L)) - 60720] & 0xff;
+           l19 = 1;
+           break L78;
+          }
+          if (l12 != 3L) { break L79; }
+          if (Words.get32(b, ((int) ((l17 = ((((l19 = (Words.get16(b, ((int) l16) - 60720) & 0xffff) | ((b[((int) l16) - 60718] & 0xff) << 16)) & 0xffffffffL) * 953497L) >>> 22L) & 1016L) + 80936L)) - 60720) != l19) { break L79; }
+          l21 = b[((int) (l17 + 80940L)) - 60720] & 0xff;
+          l23 = b[((int) (l17 + 80941L)) - 60720] & 0xff;
+          l19 = 1;
+          break L78;
+         }
+         f87(m, l6 + 176L, l16, l12);
+         l19 = ((b[((int) l6) - 60544] & 0xff) == 1) ? 1 : 0;
+         l23 = b[((int) l6) - 60535] & 0xff;
+         l21 = b[((int) l6) - 60536] & 0xff;
+        }
+        if (l19 == 0) { break L73; }
+        if ((l21 & 255) != 1) { break L73; }
+        if (((((l20 & 255) != 1) | ((l22 & 255) == 0)) ? 1 : 0) != 1) { break L73; }
+        if ((l23 & 255) + Integer.MIN_VALUE <= -2147483647) { break L73; }
+        f88(m, l6 + 112L, l1, l14, l18, l16, l12);
+        l4 = Words.get64(b, ((int) l6) - 60592);
+        if ((b[((int) l6) - 60608] & 0xff) != 0) { break L72; }
+        if ((l20 & 255) == 0) { break L71; }
+        Words.put64(b, ((int) l6) - 60560, l4 = (Core1.f35(m, l16, l12) + l14) + 1L);
+        l18 = 1;
+        break L49;
+       }
+       f88(m, l6 + 144L, l1, l14, l18, l4, l13);
+       l4 = Words.get64(b, ((int) l6) - 60560);
+       if ((b[((int) l6) - 60576] & 0xff) != 0) { break L70; }
+       l13 = Words.get64(b, ((int) l6) - 60552);
+       break L48;
+      }
+      Words.put64(b, ((int) l6) - 60552, 0L);
+      Words.put64(b, ((int) l6) - 60560, l4);
+      l18 = b[((int) l6) - 60600] & 0xff;
+      break L49;
+     }
+     f89(m, l6 + 80L, l1, l4, Words.get64(b, ((int) l6) - 60584), l23, l22);
+     final long t81 = Words.get64(b, ((int) l6) - 60624);
+     final int t82 = l18 = ((b[((int) l6) - 60640] & 0xff) == 1) ? 1 : 0;
+     l4 = t82 != 0 ? t81 : 0L;
+     L83: {
+      if (l18 == 0) { break L83; }
+      final long t84 = Words.get64(b, ((int) l6) - 60616);
+      final int t85 = l18;
+      l13 = t85 != 0 ? t84 : 0L;
+      break L48;
+     }
+     l18 = l18 != 0 ? 0 : 2;
+     break L49;
+    }
+    l18 = b[((int) l6) - 60568] & 0xff;
+   }
+   Words.put64(b, ((int) l0) - 60720, 1L);
+   Words.put64(b, ((int) (l0 + 24L)) - 60720, 0L);
+   Words.put64(b, ((int) (l0 + 16L)) - 60720, l4);
+   Words.put64(b, ((int) (l0 + 8L)) - 60720, (l18 & 0xffffffffL) & 255L);
+   exit = 1; break PART;
+  }
+ }
+ m.kept[0] = l4;
+ m.kept[1] = l12;
+ m.kept[2] = l13;
+ m.kept[3] = l14;
+ m.kept[4] = l16;
+ m.kept[5] = l17;
+ m.kept[6] = l18;
+ m.kept[7] = l19;
+ m.kept[8] = l20;
+ m.kept[9] = l21;
+ m.kept[10] = l22;
+ m.kept[11] = l23;
+ return exit;
+}
+
 static void f82(State m, long l0, int l1, long l2, int l3, long l4) {
  final byte[] b = m.bytes;
  long l5 = 0;
@@ -7053,251 +7412,40 @@ static void f82(State m, long l0, int l1, long l2, int l3, long l4) {
     Words.put64(b, ((int) l6) - 60632, 0L);
     Words.put64(b, ((int) l6) - 60624, 0L);
     Words.put64(b, ((int) l6) - 60616, 0L);
-    L48: {
-     L49: {
-      L50: {
-       L51: {
-        L52: {
-         L53: {
-          L54: {
-           L55: {
-            if (l8 == 0L) { break L55; }
-            l14 = l13 + l2;
-            l12 = l8;
-            l4 = l9;
-            L56: while (true) {
-             L57: {
-              L58: {
-               if ((l18 = b[((int) l4) - 60720] & 0xff) + Integer.MIN_VALUE > -2147483616) { break L58; }
-               if (((1L << (l18 & 0xffffffffL)) & 4294983168L) == 0L) { break L58; }
-               l13 = 1L;
-               break L57;
-              }
-              L59: {
-               L60: {
-                L61: {
-                 if (l18 == 194) { break L61; }
-                 if (l12 + Long.MIN_VALUE < -9223372036854775805L) { break L60; }
-                 if (((l18 + 28) & 255) + Integer.MIN_VALUE < -2147483395) { break L60; }
-                 l19 = b[((int) (l4 + 1L)) - 60720] & 0xff;
-                 l21 = (int) (byte) (l20 = b[((int) (l4 + 2L)) - 60720] & 0xff);
-                 if (l18 != 226) { break L59; }
-                 if ((l19 & 255) != 128) { break L59; }
-                 l13 = 3L;
-                 if (l21 < -117) { break L57; }
-                 if ((l20 + -168) + Integer.MIN_VALUE < -2147483646) { break L57; }
-                 if (l20 != 175) { break L54; }
-                 break L57;
-                }
-                l13 = 1L;
-                l18 = b[((int) l4) - 60719] & 0xff;
-                L62: {
-                 if (l12 != 1L) { break L62; }
-                 l21 = l18 & 63;
-                 l18 = 194;
-                 break L52;
-                }
-                l13 = 2L;
-                if (l18 == 133) { break L57; }
-                if (l18 == 160) { break L57; }
-               }
-               if (l12 + Long.MIN_VALUE >= -9223372036854775805L) { break L54; }
-               l19 = b[((int) l4) - 60720] & 0xff;
-               break L53;
-              }
-              L63: {
-               L64: {
-                L65: {
-                 L66: {
-                  switch (l18 + -225) {
-                  case 1: break L65;
-                  case 2: break L64;
-                  default: break L66;
-                  }
-                 }
-                 if ((l19 & 255) != 154) { break L54; }
-                 if (l21 != -128) { break L54; }
-                 break L63;
-                }
-                if ((l19 & 255) != 129) { break L54; }
-                if (l21 == -97) { break L63; }
-                break L54;
-               }
-               if ((l19 & 255) != 128) { break L54; }
-               if (l21 != -128) { break L54; }
-              }
-              l13 = 3L;
-             }
-             l14 = l14 + 1L;
-             l4 = l4 + l13;
-             if (!((l12 = l12 - l13) == 0L)) { continue L56; }
-             break L56;
-            }
-            l4 = 0L;
-           }
-           Words.put64(b, ((int) l6) - 60560, l4);
-           Words.put64(b, ((int) l6) - 60568, l4);
-           l18 = 0;
-           break L49;
-          }
-          if (((l19 = b[((int) l4) - 60720] & 0xff) & 240) != 224) { break L53; }
-          l18 = (((b[((int) l4) - 60718] & 0xff) + ((b[((int) l4) - 60719] & 0xff) << 6)) + (l19 << 12)) + -925824;
-          l13 = l12 + -3L;
-          l4 = l4 + 3L;
-          break L50;
-         }
-         l18 = l19 & 255;
-         l16 = 1L;
-         L67: {
-          if (((int) (byte) l19) > -1) { break L67; }
-          l21 = (b[((int) l4) - 60719] & 0xff) & 63;
-          L68: {
-           if ((l19 & 255) + Integer.MIN_VALUE > -2147483425) { break L68; }
-           l13 = l12;
-           break L52;
-          }
-          l20 = (b[((int) l4) - 60718] & 0xff) & 63;
-          L69: {
-           if ((l19 & 255) + Integer.MIN_VALUE > -2147483409) { break L69; }
-           l18 = ((l21 << 6) | ((l18 << 12) & 61440)) | l20;
-           l16 = 3L;
-           break L67;
-          }
-          l18 = ((l20 << 6) | ((l21 << 12) | ((l18 << 18) & 1835008))) | ((b[((int) l4) - 60717] & 0xff) & 63);
-          l16 = 4L;
-         }
-         l13 = l12;
-         break L51;
-        }
-        l18 = ((l18 << 6) & 1984) | l21;
-        l16 = 2L;
-       }
-       l13 = l13 - l16;
-       l4 = l4 + l16;
-      }
-      Words.put64(b, ((int) l6) - 60520, 0L);
-      Words.put64(b, ((int) l6) - 60528, 0L);
-      Words.put64(b, ((int) l6) - 60536, 0L);
-      Words.put64(b, ((int) l6) - 60544, 0L);
-      L70: {
-       L71: {
-        L72: {
-         L73: {
-          L74: {
-           L75: {
-            L76: {
-             L77: {
-              if (l13 + Long.MIN_VALUE < -9223372036854775804L) { break L77; }
-              if (Words.get32(b, ((int) ((l17 = ((((l19 = Words.get32(b, ((int) ((l4 + l13) + -4L)) - 60720) >>> 8) & 0xffffffffL) * 953497L) >>> 22L) & 1016L) + 80936L)) - 60720) != l19) { break L75; }
-              l12 = l13 + -3L;
-              l16 = l4;
-              break L76;
-             }
-             if (l13 != 3L) { break L75; }
-             if (Words.get32(b, ((int) ((l17 = ((((l19 = (Words.get16(b, ((int) l4) - 60720) & 0xffff) | ((b[((int) l4) - 60718] & 0xff) << 16)) & 0xffffffffL) * 953497L) >>> 22L) & 1016L) + 80936L)) - 60720) != l19) { break L75; }
-             l16 = l4 + 3L;
-             l12 = 0L;
-            }
-            l20 = b[((int) (l17 + 80940L)) - 60720] & 0xff;
-            l22 = b[((int) (l17 + 80941L)) - 60720] & 0xff;
-            break L74;
-           }
-           f87(m, l6 + 176L, l4, l13);
-           if ((b[((int) l6) - 60544] & 0xff) != 1) { break L73; }
-           l12 = Words.get64(b, ((int) l6) - 60520);
-           l16 = Words.get64(b, ((int) l6) - 60528);
-           l22 = b[((int) l6) - 60535] & 0xff;
-           l20 = b[((int) l6) - 60536] & 0xff;
-          }
-          Words.put64(b, ((int) l6) - 60520, 0L);
-          Words.put64(b, ((int) l6) - 60528, 0L);
-          Words.put64(b, ((int) l6) - 60536, 0L);
-          Words.put64(b, ((int) l6) - 60544, 0L);
-          L78: {
-           L79: {
-            L80: {
-             if (l12 + Long.MIN_VALUE < -9223372036854775804L) { break L80; }
-             if (Words.get32(b, ((int) ((l17 = ((((l19 = Words.get32(b, ((int) ((l16 + l12) + -4L)) - 60720) >>> 8) & 0xffffffffL) * 953497L) >>> 22L) & 1016L) + 80936L)) - 60720) != l19) { break L79; }
-             l21 = b[((int) (l17 + 80940L)) - 60720] & 0xff;
-             l23 = b[((int) (l17 + 80941L)) - 60720] & 0xff;
-             l19 = 1;
-             break L78;
-            }
-            if (l12 != 3L) { break L79; }
-            if (Words.get32(b, ((int) ((l17 = ((((l19 = (Words.get16(b, ((int) l16) - 60720) & 0xffff) | ((b[((int) l16) - 60718] & 0xff) << 16)) & 0xffffffffL) * 953497L) >>> 22L) & 1016L) + 80936L)) - 60720) != l19) { break L79; }
-            l21 = b[((int) (l17 + 80940L)) - 60720] & 0xff;
-            l23 = b[((int) (l17 + 80941L)) - 60720] & 0xff;
-            l19 = 1;
-            break L78;
-           }
-           f87(m, l6 + 176L, l16, l12);
-           l19 = ((b[((int) l6) - 60544] & 0xff) == 1) ? 1 : 0;
-           l23 = b[((int) l6) - 60535] & 0xff;
-           l21 = b[((int) l6) - 60536] & 0xff;
-          }
-          if (l19 == 0) { break L73; }
-          if ((l21 & 255) != 1) { break L73; }
-          if (((((l20 & 255) != 1) | ((l22 & 255) == 0)) ? 1 : 0) != 1) { break L73; }
-          if ((l23 & 255) + Integer.MIN_VALUE <= -2147483647) { break L73; }
-          f88(m, l6 + 112L, l1, l14, l18, l16, l12);
-          l4 = Words.get64(b, ((int) l6) - 60592);
-          if ((b[((int) l6) - 60608] & 0xff) != 0) { break L72; }
-          if ((l20 & 255) == 0) { break L71; }
-          Words.put64(b, ((int) l6) - 60560, l4 = (Core1.f35(m, l16, l12) + l14) + 1L);
-          l18 = 1;
-          break L49;
-         }
-         f88(m, l6 + 144L, l1, l14, l18, l4, l13);
-         l4 = Words.get64(b, ((int) l6) - 60560);
-         if ((b[((int) l6) - 60576] & 0xff) != 0) { break L70; }
-         l13 = Words.get64(b, ((int) l6) - 60552);
-         break L48;
-        }
-        Words.put64(b, ((int) l6) - 60552, 0L);
-        Words.put64(b, ((int) l6) - 60560, l4);
-        l18 = b[((int) l6) - 60600] & 0xff;
-        break L49;
-       }
-       f89(m, l6 + 80L, l1, l4, Words.get64(b, ((int) l6) - 60584), l23, l22);
-       final long t81 = Words.get64(b, ((int) l6) - 60624);
-       final int t82 = l18 = ((b[((int) l6) - 60640] & 0xff) == 1) ? 1 : 0;
-       l4 = t82 != 0 ? t81 : 0L;
-       L83: {
-        if (l18 == 0) { break L83; }
-        final long t84 = Words.get64(b, ((int) l6) - 60616);
-        final int t85 = l18;
-        l13 = t85 != 0 ? t84 : 0L;
-        break L48;
-       }
-       l18 = l18 != 0 ? 0 : 2;
-       break L49;
-      }
-      l18 = b[((int) l6) - 60568] & 0xff;
-     }
-     Words.put64(b, ((int) l0) - 60720, 1L);
-     Words.put64(b, ((int) (l0 + 24L)) - 60720, 0L);
-     Words.put64(b, ((int) (l0 + 16L)) - 60720, l4);
-     Words.put64(b, ((int) (l0 + 8L)) - 60720, (l18 & 0xffffffffL) & 255L);
-     break L1;
+    final int x86 = f82_1(m, l0, l1, l2, l4, l6, l8, l9, l12, l13, l14, l16, l17, l18, l19, l20, l21, l22, l23);
+    l4 = m.kept[0];
+    l12 = m.kept[1];
+    l13 = m.kept[2];
+    l14 = m.kept[3];
+    l16 = m.kept[4];
+    l17 = m.kept[5];
+    l18 = (int) m.kept[6];
+    l19 = (int) m.kept[7];
+    l20 = (int) m.kept[8];
+    l21 = (int) m.kept[9];
+    l22 = (int) m.kept[10];
+    l23 = (int) m.kept[11];
+    switch (x86) {
+    case 1: break L1;
     }
-    L86: {
-     L87: {
-      L88: {
-       if ((l12 = Words.get16(b, ((int) (((((l1 & 0xffffffffL) & 255L) << 5L) + (((l3 & 0xffffffffL) & 255L) << 1L)) + 81960L)) - 60720) & 0xffffL) + Long.MIN_VALUE > -9223372036854775770L) { break L88; }
-       final int t89 = (l4 + Long.MIN_VALUE < Words.get64(b, ((int) ((l12 = l12 << 4L) + 82096L)) - 60720) + Long.MIN_VALUE) ? 1 : 0;
-       final int t90 = (l13 + Long.MIN_VALUE < (l12 = Words.get64(b, ((int) (l12 + 82104L)) - 60720)) + Long.MIN_VALUE) ? 1 : 0;
-       final int t91 = (l13 == l12) ? 1 : 0;
-       if ((t91 != 0 ? t89 : t90) == 0) { break L87; }
+    L87: {
+     L88: {
+      L89: {
+       if ((l12 = Words.get16(b, ((int) (((((l1 & 0xffffffffL) & 255L) << 5L) + (((l3 & 0xffffffffL) & 255L) << 1L)) + 81960L)) - 60720) & 0xffffL) + Long.MIN_VALUE > -9223372036854775770L) { break L89; }
+       final int t90 = (l4 + Long.MIN_VALUE < Words.get64(b, ((int) ((l12 = l12 << 4L) + 82096L)) - 60720) + Long.MIN_VALUE) ? 1 : 0;
+       final int t91 = (l13 + Long.MIN_VALUE < (l12 = Words.get64(b, ((int) (l12 + 82104L)) - 60720)) + Long.MIN_VALUE) ? 1 : 0;
+       final int t92 = (l13 == l12) ? 1 : 0;
+       if ((t92 != 0 ? t90 : t91) == 0) { break L88; }
       }
-      final long t92 = (l13 + l15) + (((l12 = l4 + l5) + Long.MIN_VALUE < l4 + Long.MIN_VALUE) ? 1L : 0L);
-      final int t93 = (l5 + Long.MIN_VALUE > (l4 ^ -1L) + Long.MIN_VALUE) ? 1 : 0;
-      final int t94 = (l15 + Long.MIN_VALUE > (l4 = l13 ^ -1L) + Long.MIN_VALUE) ? 1 : 0;
-      final int t95 = (l15 == l4) ? 1 : 0;
-      l4 = ((l18 = t95 != 0 ? t93 : t94) != 0) ? 0L : t92;
+      final long t93 = (l13 + l15) + (((l12 = l4 + l5) + Long.MIN_VALUE < l4 + Long.MIN_VALUE) ? 1L : 0L);
+      final int t94 = (l5 + Long.MIN_VALUE > (l4 ^ -1L) + Long.MIN_VALUE) ? 1 : 0;
+      final int t95 = (l15 + Long.MIN_VALUE > (l4 = l13 ^ -1L) + Long.MIN_VALUE) ? 1 : 0;
+      final int t96 = (l15 == l4) ? 1 : 0;
+      l4 = ((l18 = t96 != 0 ? t94 : t95) != 0) ? 0L : t93;
       l5 = l18 != 0 ? 0L : l12;
       l19 = l18 != 0 ? 2 : 0;
       l13 = l18 & 0xffffffffL;
-      break L86;
+      break L87;
      }
      Words.put64(b, ((int) l6) - 60648, l7);
      Words.put64(b, ((int) l6) - 60656, l8);

@@ -385,6 +385,238 @@ static int f91_1(State m, long l0, long l1, long l8, long l9, long l11, long l12
  return exit;
 }
 
+static int f91_2(State m, long l9, long l11, long l13, long l14, long l16, long l17, long l18, int l19, int l20, int l21, int l24) {
+ final byte[] b = m.bytes;
+ int exit = 0;
+ PART: {
+  L110: {
+   L111: {
+    L112: {
+     L113: {
+      L114: {
+       L115: {
+        L116: {
+         L117: {
+          L118: {
+           L119: {
+            if (l21 != 0) { break L119; }
+            if (((l19 = b[((int) l14) - 60720] & 0xff) & 240) != 224) { break L118; }
+            l20 = (((l21 = b[((int) l14) - 60719] & 0xff) << 8) | ((l24 = b[((int) l14) - 60718] & 0xff) << 16)) | l19;
+            l19 = (((l19 << 12) | l24) + (l21 << 6)) + -925824;
+            l17 = l16 + -3L;
+            l11 = l14 + 3L;
+            if (l20 != Words.get32(b, ((int) ((l18 = (((l20 & 0xffffffffL) * 953497L) >>> 22L) & 1016L) + 80936L)) - 60720)) { break L116; }
+            break L117;
+           }
+           if (l16 == 0L) { break L111; }
+           l19 = b[((int) l14) - 60720] & 0xff;
+          }
+          l11 = 1L;
+          L120: {
+           if (((int) (byte) l19) > -1) { break L120; }
+           l20 = (b[((int) l14) - 60719] & 0xff) & 63;
+           L121: {
+            if (l19 + Integer.MIN_VALUE > -2147483425) { break L121; }
+            l19 = ((l19 << 6) & 1984) | l20;
+            l11 = 2L;
+            break L120;
+           }
+           l21 = (b[((int) l14) - 60718] & 0xff) & 63;
+           L122: {
+            if (l19 + Integer.MIN_VALUE > -2147483409) { break L122; }
+            l19 = ((l20 << 6) | ((l19 << 12) & 61440)) | l21;
+            l11 = 3L;
+            break L120;
+           }
+           l19 = ((l21 << 6) | ((l20 << 12) | ((l19 << 18) & 1835008))) | ((b[((int) l14) - 60717] & 0xff) & 63);
+           l11 = 4L;
+          }
+          l17 = l16 - l11;
+          l11 = l14 + l11;
+          L123: {
+           if ((l19 + -2048) + Integer.MIN_VALUE > -2147420161) { break L123; }
+           if (Words.get32(b, ((int) ((l18 = ((((l20 = (((l19 >>> 12) | ((l19 << 2) & 16128)) | ((l19 << 16) & 4128768)) | 8421600) & 0xffffffffL) * 953497L) >>> 22L) & 1016L) + 80936L)) - 60720) == l20) { break L117; }
+           break L115;
+          }
+          if ((l19 + -48) + Integer.MIN_VALUE >= -2147483638) { break L116; }
+          break L113;
+         }
+         if ((b[((int) (l18 + 80940L)) - 60720] & 0xff) == 0) { break L113; }
+        }
+        if (l19 + Integer.MIN_VALUE > -2147483521) { break L115; }
+        l21 = 1;
+        l20 = 0;
+        if (l19 == 95) { break L110; }
+        if ((l19 + -44) + Integer.MIN_VALUE < -2147483645) { break L114; }
+        if ((l19 + -48) + Integer.MIN_VALUE < -2147483638) { break L110; }
+        if (((l19 & 95) + -65) + Integer.MIN_VALUE >= -2147483622) { break L111; }
+        break L110;
+       }
+       l21 = 0;
+       l20 = 1;
+       L124: {
+        L125: {
+         if (l19 > 24185) { break L125; }
+         L126: {
+          L127: {
+           if (l19 > 21316) { break L127; }
+           L128: {
+            if (l19 > 20959) { break L128; }
+            if (l19 == 20313) { break L110; }
+            if (l19 != 20358) { break L124; }
+            break L110;
+           }
+           if (l19 == 20960) { break L110; }
+           if (l19 == 20986) { break L126; }
+           break L124;
+          }
+          L129: {
+           switch (l19 + -21317) {
+           case 0: case 7: break L113;
+           case 1: case 2: case 3: case 4: case 5: case 6: break L124;
+           default: break L129;
+           }
+          }
+          if (l19 == 22810) { break L110; }
+          if (l19 != 22909) { break L124; }
+         }
+         l20 = f95(m, l19, l11, l17);
+         break L110;
+        }
+        L130: {
+         if (l19 > 26468) { break L130; }
+         L131: {
+          switch (l19 + -24186) {
+          case 0: break L113;
+          case 1: case 2: case 3: break L124;
+          case 4: break L110;
+          default: break L131;
+          }
+         }
+         L132: {
+          switch (l19 + -25968) {
+          case 0: case 8: break L111;
+          case 1: case 2: case 3: case 4: case 5: case 6: case 7: break L124;
+          default: break L132;
+          }
+         }
+         if (l19 == 24319) { break L113; }
+         break L124;
+        }
+        L133: {
+         if (l19 > 39191) { break L133; }
+         if (l19 == 26469) { break L110; }
+         if (l19 != 28857) { break L124; }
+         break L114;
+        }
+        if (l19 == 39192) { break L110; }
+        if (l19 == 40670) { break L114; }
+       }
+       if ((l19 + -65296) + Integer.MIN_VALUE > -2147483639) { break L111; }
+       break L113;
+      }
+      Words.put64(b, ((int) l9) - 60680, 0L);
+      Words.put64(b, ((int) l9) - 60688, 0L);
+      Words.put64(b, ((int) l9) - 60696, 0L);
+      Words.put64(b, ((int) l9) - 60704, 0L);
+      L134: {
+       L135: {
+        L136: {
+         L137: {
+          if (l17 + Long.MIN_VALUE < -9223372036854775805L) { break L137; }
+          if (((l19 = b[((int) l11) - 60720] & 0xff) & 240) != 224) { break L136; }
+          l20 = b[((int) l11) - 60718] & 0xff;
+          l21 = b[((int) l11) - 60719] & 0xff;
+          Words.put64(b, ((int) l9) - 60680, l17 + -3L);
+          Words.put64(b, ((int) l9) - 60688, l11 + 3L);
+          Words.put64(b, ((int) l9) - 60704, 1L);
+          Words.put32(b, ((int) l9) - 60696, ((l20 | (l19 << 12)) + (l21 << 6)) + -925824);
+          final int t138 = (int) l9;
+          final int t139 = b[((int) ((l11 = ((((l19 = ((l21 << 8) | (l20 << 16)) | l19) & 0xffffffffL) * 953497L) >>> 22L) & 1016L) + 80941L)) - 60720] & 0xff;
+          final int t140 = l19 = (Words.get32(b, State.far((int) l11, 80936)) == l19) ? 1 : 0;
+          b[t138 - 60691] = (byte) (t140 != 0 ? t139 : 0);
+          final int t141 = (int) l9;
+          final int t142 = b[((int) (l11 + 80940L)) - 60720] & 0xff;
+          final int t143 = l19;
+          b[t141 - 60692] = (byte) (t143 != 0 ? t142 : 2);
+          break L134;
+         }
+         if (l17 == 0L) { break L135; }
+         l19 = b[((int) l11) - 60720] & 0xff;
+        }
+        l18 = 1L;
+        L144: {
+         if (((int) (byte) l19) > -1) { break L144; }
+         l20 = (b[((int) l11) - 60719] & 0xff) & 63;
+         L145: {
+          if (l19 + Integer.MIN_VALUE > -2147483425) { break L145; }
+          l19 = ((l19 << 6) & 1984) | l20;
+          l18 = 2L;
+          break L144;
+         }
+         l21 = (b[((int) l11) - 60718] & 0xff) & 63;
+         L146: {
+          if (l19 + Integer.MIN_VALUE > -2147483409) { break L146; }
+          l19 = ((l20 << 6) | ((l19 << 12) & 61440)) | l21;
+          l18 = 3L;
+          break L144;
+         }
+         l19 = ((l21 << 6) | ((l20 << 12) | ((l19 << 18) & 1835008))) | ((b[((int) l11) - 60717] & 0xff) & 63);
+         l18 = 4L;
+        }
+        l17 = l17 - l18;
+        l11 = l11 + l18;
+        L147: {
+         L148: {
+          if ((l19 + -2048) + Integer.MIN_VALUE > -2147420161) { break L148; }
+          final int t149 = b[((int) ((l18 = ((((l20 = (((l19 >>> 12) | ((l19 << 2) & 16128)) | ((l19 << 16) & 4128768)) | 8421600) & 0xffffffffL) * 953497L) >>> 22L) & 1016L) + 80941L)) - 60720] & 0xff;
+          final int t150 = l21 = (Words.get32(b, State.far((int) l18, 80936)) == l20) ? 1 : 0;
+          l20 = t150 != 0 ? t149 : 0;
+          final int t151 = b[((int) (l18 + 80940L)) - 60720] & 0xff;
+          final int t152 = l21;
+          l21 = t152 != 0 ? t151 : 2;
+          break L147;
+         }
+         final int t153 = l20 = l19 + -48;
+         final int t154 = l21 = (l20 + Integer.MIN_VALUE < -2147483638) ? 1 : 0;
+         l20 = t154 != 0 ? t153 : 0;
+         l21 = l21 != 0 ? 0 : 2;
+        }
+        Words.put64(b, ((int) l9) - 60680, l17);
+        Words.put64(b, ((int) l9) - 60688, l11);
+        b[((int) l9) - 60691] = (byte) l20;
+        b[((int) l9) - 60692] = (byte) l21;
+        Words.put32(b, ((int) l9) - 60696, l19);
+        Words.put64(b, ((int) l9) - 60704, 1L);
+        break L134;
+       }
+       Words.put64(b, ((int) l13) - 60720, 0L);
+       Words.put64(b, ((int) l13) - 60712, 0L);
+       Words.put64(b, ((int) l9) - 60698, 0L);
+       Words.put64(b, ((int) l9) - 60704, 0L);
+      }
+      l21 = f96(m, l9 + 16L);
+      break L112;
+     }
+     l21 = 1;
+    }
+    l20 = 0;
+    break L110;
+   }
+   l20 = 0;
+   l21 = 0;
+  }
+ }
+ m.kept[0] = l11;
+ m.kept[1] = l17;
+ m.kept[2] = l18;
+ m.kept[3] = l19;
+ m.kept[4] = l20;
+ m.kept[5] = l21;
+ m.kept[6] = l24;
+ return exit;
+}
+
 static int f91(State m, long l0, long l1, long l2, int l3, int l4, long l5, long l6, long l7) {
  final byte[] b = m.bytes;
  long l8 = 0;
@@ -754,223 +986,14 @@ static int f91(State m, long l0, long l1, long l2, int l3, int l4, long l5, long
     l22 = (int) m.kept[5];
     l23 = (int) m.kept[6];
     l24 = (int) m.kept[7];
-    L110: {
-     L111: {
-      L112: {
-       L113: {
-        L114: {
-         L115: {
-          L116: {
-           L117: {
-            L118: {
-             L119: {
-              if (l21 != 0) { break L119; }
-              if (((l19 = b[((int) l14) - 60720] & 0xff) & 240) != 224) { break L118; }
-              l20 = (((l21 = b[((int) l14) - 60719] & 0xff) << 8) | ((l24 = b[((int) l14) - 60718] & 0xff) << 16)) | l19;
-              l19 = (((l19 << 12) | l24) + (l21 << 6)) + -925824;
-              l17 = l16 + -3L;
-              l11 = l14 + 3L;
-              if (l20 != Words.get32(b, ((int) ((l18 = (((l20 & 0xffffffffL) * 953497L) >>> 22L) & 1016L) + 80936L)) - 60720)) { break L116; }
-              break L117;
-             }
-             if (l16 == 0L) { break L111; }
-             l19 = b[((int) l14) - 60720] & 0xff;
-            }
-            l11 = 1L;
-            L120: {
-             if (((int) (byte) l19) > -1) { break L120; }
-             l20 = (b[((int) l14) - 60719] & 0xff) & 63;
-             L121: {
-              if (l19 + Integer.MIN_VALUE > -2147483425) { break L121; }
-              l19 = ((l19 << 6) & 1984) | l20;
-              l11 = 2L;
-              break L120;
-             }
-             l21 = (b[((int) l14) - 60718] & 0xff) & 63;
-             L122: {
-              if (l19 + Integer.MIN_VALUE > -2147483409) { break L122; }
-              l19 = ((l20 << 6) | ((l19 << 12) & 61440)) | l21;
-              l11 = 3L;
-              break L120;
-             }
-             l19 = ((l21 << 6) | ((l20 << 12) | ((l19 << 18) & 1835008))) | ((b[((int) l14) - 60717] & 0xff) & 63);
-             l11 = 4L;
-            }
-            l17 = l16 - l11;
-            l11 = l14 + l11;
-            L123: {
-             if ((l19 + -2048) + Integer.MIN_VALUE > -2147420161) { break L123; }
-             if (Words.get32(b, ((int) ((l18 = ((((l20 = (((l19 >>> 12) | ((l19 << 2) & 16128)) | ((l19 << 16) & 4128768)) | 8421600) & 0xffffffffL) * 953497L) >>> 22L) & 1016L) + 80936L)) - 60720) == l20) { break L117; }
-             break L115;
-            }
-            if ((l19 + -48) + Integer.MIN_VALUE >= -2147483638) { break L116; }
-            break L113;
-           }
-           if ((b[((int) (l18 + 80940L)) - 60720] & 0xff) == 0) { break L113; }
-          }
-          if (l19 + Integer.MIN_VALUE > -2147483521) { break L115; }
-          l21 = 1;
-          l20 = 0;
-          if (l19 == 95) { break L110; }
-          if ((l19 + -44) + Integer.MIN_VALUE < -2147483645) { break L114; }
-          if ((l19 + -48) + Integer.MIN_VALUE < -2147483638) { break L110; }
-          if (((l19 & 95) + -65) + Integer.MIN_VALUE >= -2147483622) { break L111; }
-          break L110;
-         }
-         l21 = 0;
-         l20 = 1;
-         L124: {
-          L125: {
-           if (l19 > 24185) { break L125; }
-           L126: {
-            L127: {
-             if (l19 > 21316) { break L127; }
-             L128: {
-              if (l19 > 20959) { break L128; }
-              if (l19 == 20313) { break L110; }
-              if (l19 != 20358) { break L124; }
-              break L110;
-             }
-             if (l19 == 20960) { break L110; }
-             if (l19 == 20986) { break L126; }
-             break L124;
-            }
-            L129: {
-             switch (l19 + -21317) {
-             case 0: case 7: break L113;
-             case 1: case 2: case 3: case 4: case 5: case 6: break L124;
-             default: break L129;
-             }
-            }
-            if (l19 == 22810) { break L110; }
-            if (l19 != 22909) { break L124; }
-           }
-           l20 = f95(m, l19, l11, l17);
-           break L110;
-          }
-          L130: {
-           if (l19 > 26468) { break L130; }
-           L131: {
-            switch (l19 + -24186) {
-            case 0: break L113;
-            case 1: case 2: case 3: break L124;
-            case 4: break L110;
-            default: break L131;
-            }
-           }
-           L132: {
-            switch (l19 + -25968) {
-            case 0: case 8: break L111;
-            case 1: case 2: case 3: case 4: case 5: case 6: case 7: break L124;
-            default: break L132;
-            }
-           }
-           if (l19 == 24319) { break L113; }
-           break L124;
-          }
-          L133: {
-           if (l19 > 39191) { break L133; }
-           if (l19 == 26469) { break L110; }
-           if (l19 != 28857) { break L124; }
-           break L114;
-          }
-          if (l19 == 39192) { break L110; }
-          if (l19 == 40670) { break L114; }
-         }
-         if ((l19 + -65296) + Integer.MIN_VALUE > -2147483639) { break L111; }
-         break L113;
-        }
-        Words.put64(b, ((int) l9) - 60680, 0L);
-        Words.put64(b, ((int) l9) - 60688, 0L);
-        Words.put64(b, ((int) l9) - 60696, 0L);
-        Words.put64(b, ((int) l9) - 60704, 0L);
-        L134: {
-         L135: {
-          L136: {
-           L137: {
-            if (l17 + Long.MIN_VALUE < -9223372036854775805L) { break L137; }
-            if (((l19 = b[((int) l11) - 60720] & 0xff) & 240) != 224) { break L136; }
-            l20 = b[((int) l11) - 60718] & 0xff;
-            l21 = b[((int) l11) - 60719] & 0xff;
-            Words.put64(b, ((int) l9) - 60680, l17 + -3L);
-            Words.put64(b, ((int) l9) - 60688, l11 + 3L);
-            Words.put64(b, ((int) l9) - 60704, 1L);
-            Words.put32(b, ((int) l9) - 60696, ((l20 | (l19 << 12)) + (l21 << 6)) + -925824);
-            final int t138 = (int) l9;
-            final int t139 = b[((int) ((l11 = ((((l19 = ((l21 << 8) | (l20 << 16)) | l19) & 0xffffffffL) * 953497L) >>> 22L) & 1016L) + 80941L)) - 60720] & 0xff;
-            final int t140 = l19 = (Words.get32(b, State.far((int) l11, 80936)) == l19) ? 1 : 0;
-            b[t138 - 60691] = (byte) (t140 != 0 ? t139 : 0);
-            final int t141 = (int) l9;
-            final int t142 = b[((int) (l11 + 80940L)) - 60720] & 0xff;
-            final int t143 = l19;
-            b[t141 - 60692] = (byte) (t143 != 0 ? t142 : 2);
-            break L134;
-           }
-           if (l17 == 0L) { break L135; }
-           l19 = b[((int) l11) - 60720] & 0xff;
-          }
-          l18 = 1L;
-          L144: {
-           if (((int) (byte) l19) > -1) { break L144; }
-           l20 = (b[((int) l11) - 60719] & 0xff) & 63;
-           L145: {
-            if (l19 + Integer.MIN_VALUE > -2147483425) { break L145; }
-            l19 = ((l19 << 6) & 1984) | l20;
-            l18 = 2L;
-            break L144;
-           }
-           l21 = (b[((int) l11) - 60718] & 0xff) & 63;
-           L146: {
-            if (l19 + Integer.MIN_VALUE > -2147483409) { break L146; }
-            l19 = ((l20 << 6) | ((l19 << 12) & 61440)) | l21;
-            l18 = 3L;
-            break L144;
-           }
-           l19 = ((l21 << 6) | ((l20 << 12) | ((l19 << 18) & 1835008))) | ((b[((int) l11) - 60717] & 0xff) & 63);
-           l18 = 4L;
-          }
-          l17 = l17 - l18;
-          l11 = l11 + l18;
-          L147: {
-           L148: {
-            if ((l19 + -2048) + Integer.MIN_VALUE > -2147420161) { break L148; }
-            final int t149 = b[((int) ((l18 = ((((l20 = (((l19 >>> 12) | ((l19 << 2) & 16128)) | ((l19 << 16) & 4128768)) | 8421600) & 0xffffffffL) * 953497L) >>> 22L) & 1016L) + 80941L)) - 60720] & 0xff;
-            final int t150 = l21 = (Words.get32(b, State.far((int) l18, 80936)) == l20) ? 1 : 0;
-            l20 = t150 != 0 ? t149 : 0;
-            final int t151 = b[((int) (l18 + 80940L)) - 60720] & 0xff;
-            final int t152 = l21;
-            l21 = t152 != 0 ? t151 : 2;
-            break L147;
-           }
-           final int t153 = l20 = l19 + -48;
-           final int t154 = l21 = (l20 + Integer.MIN_VALUE < -2147483638) ? 1 : 0;
-           l20 = t154 != 0 ? t153 : 0;
-           l21 = l21 != 0 ? 0 : 2;
-          }
-          Words.put64(b, ((int) l9) - 60680, l17);
-          Words.put64(b, ((int) l9) - 60688, l11);
-          b[((int) l9) - 60691] = (byte) l20;
-          b[((int) l9) - 60692] = (byte) l21;
-          Words.put32(b, ((int) l9) - 60696, l19);
-          Words.put64(b, ((int) l9) - 60704, 1L);
-          break L134;
-         }
-         Words.put64(b, ((int) l13) - 60720, 0L);
-         Words.put64(b, ((int) l13) - 60712, 0L);
-         Words.put64(b, ((int) l9) - 60698, 0L);
-         Words.put64(b, ((int) l9) - 60704, 0L);
-        }
-        l21 = f96(m, l9 + 16L);
-        break L112;
-       }
-       l21 = 1;
-      }
-      l20 = 0;
-      break L110;
-     }
-     l20 = 0;
-     l21 = 0;
-    }
+    f91_2(m, l9, l11, l13, l14, l16, l17, l18, l19, l20, l21, l24);
+    l11 = m.kept[0];
+    l17 = m.kept[1];
+    l18 = m.kept[2];
+    l19 = (int) m.kept[3];
+    l20 = (int) m.kept[4];
+    l21 = (int) m.kept[5];
+    l24 = (int) m.kept[6];
     Words.put32(b, ((int) l9) - 60704, 0);
     l19 = l22 | l21;
     L155: {
@@ -4848,265 +4871,477 @@ static int f107(State m, long l0) {
  throw State.trap();
 }
 
-static int f108_1(State m, long l1, long l2, long l3, long l4, long l5, long l6, long l7, long l8, long l9, long l10, int l12, int l13, int l14, int l15, int l16, int l17, int l18, int l19, int l20, int l21) {
+static int f108_1(State m, long l1, long l2, long l3, long l4, long l5, long l6, long l7, long l8, long l9, long l10, int l12, int l13, int l14, int l15, int l16, int l17, int l18) {
  final byte[] b = m.bytes;
  int exit = 0;
  PART: {
-  L50: {
-   L51: {
-    L52: {
-     L53: {
-      L54: {
-       L55: {
-        L56: {
-         L57: while (true) {
-          if (l9 == 0L) { break L56; }
+  L3: {
+   L4: {
+    L5: {
+     if ((l2 = l2) < 16L) { break L5; }
+     l3 = Words.get64(b, ((int) l1) - 60720);
+     l4 = Words.get64(b, ((int) l1) - 60712);
+     l5 = Words.get64(b, ((int) l1) - 60704);
+     l6 = Words.get64(b, ((int) l1) - 60696);
+     l7 = Words.get64(b, ((int) l1) - 60688);
+     if ((l12 = ((l8 = Words.get64(b, ((int) l1) - 60680)) == 0L) ? 1 : 0) != 0) { break L3; }
+     l1 = 1L;
+     l15 = l14 = (l13 = (int) b[((int) l7) - 60720]) & 255;
+     L6: {
+      if (l13 > -1) { break L6; }
+      l15 = (b[((int) l7) - 60719] & 0xff) & 63;
+      L7: {
+       if (l13 + Integer.MIN_VALUE > 2147483615) { break L7; }
+       l15 = ((l14 << 6) & 1984) | l15;
+       l1 = 2L;
+       break L6;
+      }
+      l16 = (b[((int) l7) - 60718] & 0xff) & 63;
+      L8: {
+       if (l13 + Integer.MIN_VALUE > 2147483631) { break L8; }
+       l15 = ((l15 << 6) | ((l14 << 12) & 61440)) | l16;
+       l1 = 3L;
+       break L6;
+      }
+      l15 = ((l16 << 6) | ((l15 << 12) | ((l14 << 18) & 1835008))) | ((b[((int) l7) - 60717] & 0xff) & 63);
+      l1 = 4L;
+     }
+     L9: {
+      L10: {
+       L11: {
+        L12: {
+         L13: {
+          if (l15 == 25240) { break L13; }
+          l1 = l5;
+          l9 = l6;
+          if (l15 == 25104) { break L12; }
+          l15 = Core4.f122(m, 84380L, 31L, 82788L, 1L, l7, l8);
+          if (l13 > -1) { break L9; }
+          if (l15 != 0) { break L9; }
+          if (l13 + Integer.MIN_VALUE < 2147483616) { break L3; }
+          l16 = (b[((int) l7) - 60719] & 0xff) & 63;
+          l17 = (b[((int) l7) - 60718] & 0xff) & 63;
+          if (l13 + Integer.MIN_VALUE > 2147483631) { break L11; }
+          l15 = ((l16 << 6) | ((l14 << 12) & 61440)) | l17;
+          break L10;
+         }
+         l13 = 1;
+         l15 = 3;
+         if (l8 == l1) { exit = 1; break PART; }
+         if ((l14 = (int) b[((int) (l1 = l7 + l1)) - 60720]) > -1) { exit = 1; break PART; }
+         if (l14 + Integer.MIN_VALUE < 2147483616) { exit = 1; break PART; }
+         l16 = l14 & 255;
+         l17 = (b[((int) l1) - 60719] & 0xff) & 63;
+         l18 = (b[((int) l1) - 60718] & 0xff) & 63;
+         L14: {
+          L15: {
+           if (l14 + Integer.MIN_VALUE > 2147483631) { break L15; }
+           l14 = ((l17 << 6) | ((l16 << 12) & 61440)) | l18;
+           break L14;
+          }
+          l14 = ((l18 << 6) | ((l17 << 12) | ((l16 << 18) & 1835008))) | ((b[((int) l1) - 60717] & 0xff) & 63);
+         }
+         L16: {
+          if (l14 > 30951) { break L16; }
+          L17: {
+           if (l14 > 26086) { break L17; }
+           if (l14 == 21472) { break L3; }
+           if (l14 == 21512) { break L3; }
+           exit = 1; break PART;
+          }
+          if (l14 == 26087) { break L3; }
+          if (l14 == 30090) { break L3; }
+          exit = 1; break PART;
+         }
+         L18: {
+          if (l14 > 33289) { break L18; }
+          if (l14 == 30952) { break L3; }
+          if (l14 == 31639) { break L3; }
+          exit = 1; break PART;
+         }
+         if (l14 == 33290) { break L3; }
+         if (l14 == 36820) { break L3; }
+         exit = 1; break PART;
+        }
+        L19: {
+         L20: while (true) {
+          if (l9 == 0L) { break L19; }
           l13 = (l15 = (int) b[((int) l1) - 60720]) & 255;
           l10 = 1L;
-          L58: {
-           if (l15 > -1) { break L58; }
+          L21: {
+           if (l15 > -1) { break L21; }
            l14 = (b[((int) l1) - 60719] & 0xff) & 63;
-           L59: {
-            if (l15 + Integer.MIN_VALUE > 2147483615) { break L59; }
+           L22: {
+            if (l15 + Integer.MIN_VALUE > 2147483615) { break L22; }
             l13 = ((l13 << 6) & 1984) | l14;
             l10 = 2L;
-            break L58;
+            break L21;
            }
            l16 = (b[((int) l1) - 60718] & 0xff) & 63;
-           L60: {
-            if (l15 + Integer.MIN_VALUE > 2147483631) { break L60; }
+           L23: {
+            if (l15 + Integer.MIN_VALUE > 2147483631) { break L23; }
             l13 = ((l14 << 6) | ((l13 << 12) & 61440)) | l16;
             l10 = 3L;
-            break L58;
+            break L21;
+           }
+           l13 = ((l16 << 6) | ((l14 << 12) | ((l13 << 18) & 1835008))) | ((b[((int) l1) - 60717] & 0xff) & 63);
+           l10 = 4L;
+          }
+          Core2.f50(m, l2 + 88L, l13);
+          if ((l13 + -58) + Integer.MIN_VALUE > 2147483637) { break L3; }
+          l9 = l9 - l10;
+          l1 = l1 + l10;
+          if (((b[((int) l2) - 60632] & 0xff) & 255) == 1) { continue L20; }
+          break L3;
+         }
+        }
+        l13 = 1;
+        l15 = 3;
+        if (l6 == 0L) { exit = 1; break PART; }
+        L24: {
+         L25: {
+          if ((l14 = (int) b[((int) l5) - 60720]) <= -1) { break L25; }
+          l1 = 1L;
+          break L24;
+         }
+         L26: {
+          if (l14 + Integer.MIN_VALUE >= 2147483616) { break L26; }
+          l1 = 2L;
+          break L24;
+         }
+         l1 = (l14 + Integer.MIN_VALUE < 2147483632) ? 3L : 4L;
+        }
+        if (l6 == l1) { exit = 1; break PART; }
+        L27: {
+         L28: {
+          if ((l14 = (int) b[((int) (l5 + l1)) - 60720]) <= -1) { break L28; }
+          l10 = 1L;
+          break L27;
+         }
+         L29: {
+          if (l14 + Integer.MIN_VALUE >= 2147483616) { break L29; }
+          l10 = 2L;
+          break L27;
+         }
+         l10 = (l14 + Integer.MIN_VALUE < 2147483632) ? 3L : 4L;
+        }
+        if (l6 != (l10 + l1)) { break L3; }
+        exit = 1; break PART;
+       }
+       l15 = ((l17 << 6) | ((l16 << 12) | ((l14 << 18) & 1835008))) | ((b[((int) l7) - 60717] & 0xff) & 63);
+      }
+      L30: {
+       L31: {
+        if (l15 > 27626) { break L31; }
+        if (l15 == 20811) { break L30; }
+        if (l15 == 21400) { break L30; }
+        break L4;
+       }
+       if (l15 == 27627) { break L30; }
+       if (l15 == 37328) { break L30; }
+       if (l15 != 31186) { break L4; }
+      }
+      if (Core4.f122(m, 84504L, 1L, 82784L, 1L, l5, l6) == 0) { break L4; }
+      exit = 2; break PART;
+     }
+     if (l15 != 0) { exit = 2; break PART; }
+     break L3;
+    }
+    throw State.trap();
+   }
+   L32: {
+    L33: {
+     if (l13 + Integer.MIN_VALUE > 2147483631) { break L33; }
+     l13 = ((l16 << 6) | ((l14 << 12) & 61440)) | l17;
+     l1 = 3L;
+     break L32;
+    }
+    l13 = ((l17 << 6) | ((l16 << 12) | ((l14 << 18) & 1835008))) | ((b[((int) l7) - 60717] & 0xff) & 63);
+    l1 = 4L;
+   }
+   if (l13 != 20998) { break L3; }
+   if (Core4.f122(m, 83432L, 1L, 83908L, 2L, l7 + l1, l8 - l1) != 0) { exit = 2; break PART; }
+  }
+ }
+ m.kept[0] = l1;
+ m.kept[1] = l2;
+ m.kept[2] = l3;
+ m.kept[3] = l4;
+ m.kept[4] = l5;
+ m.kept[5] = l6;
+ m.kept[6] = l7;
+ m.kept[7] = l8;
+ m.kept[8] = l9;
+ m.kept[9] = l10;
+ m.kept[10] = l12;
+ m.kept[11] = l13;
+ m.kept[12] = l14;
+ m.kept[13] = l15;
+ m.kept[14] = l16;
+ m.kept[15] = l17;
+ m.kept[16] = l18;
+ return exit;
+}
+
+static int f108_2(State m, long l1, long l2, long l3, long l4, long l5, long l6, long l7, long l8, long l9, long l10, int l12, int l13, int l14, int l15, int l16, int l17, int l18, int l19, int l20, int l21) {
+ final byte[] b = m.bytes;
+ int exit = 0;
+ PART: {
+  L51: {
+   L52: {
+    L53: {
+     L54: {
+      L55: {
+       L56: {
+        L57: {
+         L58: while (true) {
+          if (l9 == 0L) { break L57; }
+          l13 = (l15 = (int) b[((int) l1) - 60720]) & 255;
+          l10 = 1L;
+          L59: {
+           if (l15 > -1) { break L59; }
+           l14 = (b[((int) l1) - 60719] & 0xff) & 63;
+           L60: {
+            if (l15 + Integer.MIN_VALUE > 2147483615) { break L60; }
+            l13 = ((l13 << 6) & 1984) | l14;
+            l10 = 2L;
+            break L59;
+           }
+           l16 = (b[((int) l1) - 60718] & 0xff) & 63;
+           L61: {
+            if (l15 + Integer.MIN_VALUE > 2147483631) { break L61; }
+            l13 = ((l14 << 6) | ((l13 << 12) & 61440)) | l16;
+            l10 = 3L;
+            break L59;
            }
            l13 = ((l16 << 6) | ((l14 << 12) | ((l13 << 18) & 1835008))) | ((b[((int) l1) - 60717] & 0xff) & 63);
            l10 = 4L;
           }
           Core2.f50(m, l2 + 72L, l13);
-          if ((l13 + -58) + Integer.MIN_VALUE > 2147483637) { break L55; }
+          if ((l13 + -58) + Integer.MIN_VALUE > 2147483637) { break L56; }
           l9 = l9 - l10;
           l1 = l1 + l10;
-          if (((b[((int) l2) - 60648] & 0xff) & 255) == 1) { continue L57; }
-          break L55;
+          if (((b[((int) l2) - 60648] & 0xff) & 255) == 1) { continue L58; }
+          break L56;
          }
         }
-        if (l17 != 0) { break L55; }
-        L61: {
-         L62: {
-          if ((l18 = (int) b[((int) l5) - 60720]) > -1) { break L62; }
-          final long t63 = l6;
-          final long t64 = (l18 + Integer.MIN_VALUE < 2147483632) ? 3L : 4L;
-          final int t65 = (l18 + Integer.MIN_VALUE < 2147483616) ? 1 : 0;
-          if (t63 == (l1 = t65 != 0 ? 2L : t64)) { break L55; }
-          break L61;
+        if (l17 != 0) { break L56; }
+        L62: {
+         L63: {
+          if ((l18 = (int) b[((int) l5) - 60720]) > -1) { break L63; }
+          final long t64 = l6;
+          final long t65 = (l18 + Integer.MIN_VALUE < 2147483632) ? 3L : 4L;
+          final int t66 = (l18 + Integer.MIN_VALUE < 2147483616) ? 1 : 0;
+          if (t64 == (l1 = t66 != 0 ? 2L : t65)) { break L56; }
+          break L62;
          }
          l1 = 1L;
-         if (l6 == 1L) { break L55; }
+         if (l6 == 1L) { break L56; }
         }
-        L66: {
-         L67: {
-          if ((l13 = (int) b[((int) (l9 = l5 + l1)) - 60720]) <= -1) { break L67; }
-          l10 = 1L;
-          break L66;
-         }
+        L67: {
          L68: {
-          if (l13 + Integer.MIN_VALUE >= 2147483616) { break L68; }
+          if ((l13 = (int) b[((int) (l9 = l5 + l1)) - 60720]) <= -1) { break L68; }
+          l10 = 1L;
+          break L67;
+         }
+         L69: {
+          if (l13 + Integer.MIN_VALUE >= 2147483616) { break L69; }
           l10 = 2L;
-          break L66;
+          break L67;
          }
          l10 = (l13 + Integer.MIN_VALUE < 2147483632) ? 3L : 4L;
         }
         l19 = l18 & 255;
-        L69: {
-         if (l6 == (l1 = l10 + l1)) { break L69; }
-         L70: {
-          L71: {
-           if ((l13 = (int) b[((int) (l9 + l10)) - 60720]) <= -1) { break L71; }
-           l10 = 1L;
-           break L70;
-          }
+        L70: {
+         if (l6 == (l1 = l10 + l1)) { break L70; }
+         L71: {
           L72: {
-           if (l13 + Integer.MIN_VALUE >= 2147483616) { break L72; }
+           if ((l13 = (int) b[((int) (l9 + l10)) - 60720]) <= -1) { break L72; }
+           l10 = 1L;
+           break L71;
+          }
+          L73: {
+           if (l13 + Integer.MIN_VALUE >= 2147483616) { break L73; }
            l10 = 2L;
-           break L70;
+           break L71;
           }
           l10 = (l13 + Integer.MIN_VALUE < 2147483632) ? 3L : 4L;
          }
-         if (l6 == (l10 + l1)) { break L69; }
+         if (l6 == (l10 + l1)) { break L70; }
          l13 = l18;
          l9 = l6;
          l10 = l5;
-         L73: while (true) {
+         L74: while (true) {
           l15 = l13 & 255;
           l1 = 1L;
-          L74: {
-           if (((int) (byte) l13) > -1) { break L74; }
+          L75: {
+           if (((int) (byte) l13) > -1) { break L75; }
            l14 = (b[((int) l10) - 60719] & 0xff) & 63;
-           L75: {
-            if ((l13 & 255) + Integer.MIN_VALUE > -2147483425) { break L75; }
+           L76: {
+            if ((l13 & 255) + Integer.MIN_VALUE > -2147483425) { break L76; }
             l15 = ((l15 << 6) & 1984) | l14;
             l1 = 2L;
-            break L74;
+            break L75;
            }
            l16 = (b[((int) l10) - 60718] & 0xff) & 63;
-           L76: {
-            if ((l13 & 255) + Integer.MIN_VALUE > -2147483409) { break L76; }
+           L77: {
+            if ((l13 & 255) + Integer.MIN_VALUE > -2147483409) { break L77; }
             l15 = ((l14 << 6) | ((l15 << 12) & 61440)) | l16;
             l1 = 3L;
-            break L74;
+            break L75;
            }
            l15 = ((l16 << 6) | ((l14 << 12) | ((l15 << 18) & 1835008))) | ((b[((int) l10) - 60717] & 0xff) & 63);
            l1 = 4L;
           }
           Core2.f50(m, l2 + 64L, l15);
-          L77: {
-           if ((l9 = l9 - l1) == 0L) { break L77; }
+          L78: {
+           if ((l9 = l9 - l1) == 0L) { break L78; }
            l15 = (l13 = (int) b[((int) (l10 = l10 + l1)) - 60720]) & 255;
-           L78: {
-            if (l13 > -1) { break L78; }
+           L79: {
+            if (l13 > -1) { break L79; }
             l14 = (b[((int) l10) - 60719] & 0xff) & 63;
-            L79: {
-             if (l13 + Integer.MIN_VALUE > 2147483615) { break L79; }
+            L80: {
+             if (l13 + Integer.MIN_VALUE > 2147483615) { break L80; }
              l15 = ((l15 << 6) & 1984) | l14;
-             break L78;
+             break L79;
             }
             l16 = (b[((int) l10) - 60718] & 0xff) & 63;
-            L80: {
-             if (l13 + Integer.MIN_VALUE > 2147483631) { break L80; }
+            L81: {
+             if (l13 + Integer.MIN_VALUE > 2147483631) { break L81; }
              l15 = ((l14 << 6) | ((l15 << 12) & 61440)) | l16;
-             break L78;
+             break L79;
             }
             l15 = ((l16 << 6) | ((l14 << 12) | ((l15 << 18) & 1835008))) | ((b[((int) l10) - 60717] & 0xff) & 63);
            }
            l16 = b[((int) l2) - 60655] & 0xff;
            l14 = b[((int) l2) - 60656] & 0xff;
            Core2.f50(m, l2 + 56L, l15);
-           if ((l14 & 1) == 0) { continue L73; }
-           if (((b[((int) l2) - 60664] & 0xff) & 255) != 1) { continue L73; }
-           if ((l16 & 255) + Integer.MIN_VALUE > ((b[((int) l2) - 60663] & 0xff) & 255) + Integer.MIN_VALUE) { break L55; }
-           continue L73;
+           if ((l14 & 1) == 0) { continue L74; }
+           if (((b[((int) l2) - 60664] & 0xff) & 255) != 1) { continue L74; }
+           if ((l16 & 255) + Integer.MIN_VALUE > ((b[((int) l2) - 60663] & 0xff) & 255) + Integer.MIN_VALUE) { break L56; }
+           continue L74;
           }
-          break L73;
+          break L74;
          }
-         if (l18 > -1) { break L69; }
-         if (l18 + Integer.MIN_VALUE < 2147483616) { break L69; }
+         if (l18 > -1) { break L70; }
+         if (l18 + Integer.MIN_VALUE < 2147483616) { break L70; }
          l13 = (b[((int) l5) - 60719] & 0xff) & 63;
          l15 = (b[((int) l5) - 60718] & 0xff) & 63;
-         L81: {
-          L82: {
-           if (l18 + Integer.MIN_VALUE > 2147483631) { break L82; }
+         L82: {
+          L83: {
+           if (l18 + Integer.MIN_VALUE > 2147483631) { break L83; }
            l13 = ((l13 << 6) | ((l19 << 12) & 61440)) | l15;
-           break L81;
+           break L82;
           }
           l13 = ((l15 << 6) | ((l13 << 12) | ((l19 << 18) & 1835008))) | ((b[((int) l5) - 60717] & 0xff) & 63);
          }
-         if (l13 == 12295) { break L55; }
-         if (l13 == 38646) { break L55; }
+         if (l13 == 12295) { break L56; }
+         if (l13 == 38646) { break L56; }
         }
-        L83: {
-         if (l12 != 0) { break L83; }
-         if ((l14 = (int) b[((int) l7) - 60720]) > -1) { break L83; }
-         if (l14 + Integer.MIN_VALUE < 2147483616) { break L83; }
+        L84: {
+         if (l12 != 0) { break L84; }
+         if ((l14 = (int) b[((int) l7) - 60720]) > -1) { break L84; }
+         if (l14 + Integer.MIN_VALUE < 2147483616) { break L84; }
          l16 = l14 & 255;
          l20 = (b[((int) l7) - 60719] & 0xff) & 63;
          l13 = (l21 = b[((int) l7) - 60718] & 0xff) & 63;
-         L84: {
-          L85: {
-           if (l14 + Integer.MIN_VALUE > 2147483631) { break L85; }
+         L85: {
+          L86: {
+           if (l14 + Integer.MIN_VALUE > 2147483631) { break L86; }
            l15 = ((l20 << 6) | ((l16 << 12) & 61440)) | l13;
-           break L84;
+           break L85;
           }
           l15 = ((l13 << 6) | ((l20 << 12) | ((l16 << 18) & 1835008))) | ((b[((int) l7) - 60717] & 0xff) & 63);
          }
-         L86: {
-          if (l15 != 24180) { break L86; }
-          if (Core4.f122(m, 82768L, 1L, 84760L, 2L, l7, l8) == 0) { break L54; }
-         }
          L87: {
-          L88: {
-           if (l14 + Integer.MIN_VALUE > 2147483631) { break L88; }
+          if (l15 != 24180) { break L87; }
+          if (Core4.f122(m, 82768L, 1L, 84760L, 2L, l7, l8) == 0) { break L55; }
+         }
+         L88: {
+          L89: {
+           if (l14 + Integer.MIN_VALUE > 2147483631) { break L89; }
            l13 = ((l20 << 6) | ((l16 << 12) & 61440)) | l13;
-           break L87;
+           break L88;
           }
           l13 = ((l13 << 6) | ((l20 << 12) | ((l16 << 18) & 1835008))) | ((b[((int) l7) - 60717] & 0xff) & 63);
          }
-         L89: {
-          if (l13 > 25150) { break L89; }
-          if (l13 == 21150) { break L54; }
-          if (l13 == 21495) { break L54; }
-          if (l13 != 23460) { break L83; }
-          break L54;
+         L90: {
+          if (l13 > 25150) { break L90; }
+          if (l13 == 21150) { break L55; }
+          if (l13 == 21495) { break L55; }
+          if (l13 != 23460) { break L84; }
+          break L55;
          }
-         if (l13 == 25151) { break L54; }
-         if (l13 == 34399) { break L54; }
-         if (l13 == 36774) { break L54; }
+         if (l13 == 25151) { break L55; }
+         if (l13 == 34399) { break L55; }
+         if (l13 == 36774) { break L55; }
         }
-        L90: {
-         if ((l13 = (l4 == 0L) ? 1 : 0) != 0) { break L90; }
-         if (((int) b[((int) ((l1 = l3 + l4) + -1L)) - 60720]) > -1) { break L90; }
+        L91: {
+         if ((l13 = (l4 == 0L) ? 1 : 0) != 0) { break L91; }
+         if (((int) b[((int) ((l1 = l3 + l4) + -1L)) - 60720]) > -1) { break L91; }
          l10 = -2L;
-         L91: {
-          if ((b[((int) (l1 + -2L)) - 60720] & 0xff) + Integer.MIN_VALUE > -2147483457) { break L91; }
+         L92: {
+          if ((b[((int) (l1 + -2L)) - 60720] & 0xff) + Integer.MIN_VALUE > -2147483457) { break L92; }
           l10 = ((b[((int) (l1 + -3L)) - 60720] & 0xff) + Integer.MIN_VALUE > -2147483457) ? -3L : -4L;
          }
-         if ((l15 = (int) b[((int) (l1 = (l3 + l10) + l4)) - 60720]) > -1) { break L90; }
-         if (l15 + Integer.MIN_VALUE < 2147483616) { break L90; }
+         if ((l15 = (int) b[((int) (l1 = (l3 + l10) + l4)) - 60720]) > -1) { break L91; }
+         if (l15 + Integer.MIN_VALUE < 2147483616) { break L91; }
          l14 = l15 & 255;
          l16 = (b[((int) l1) - 60719] & 0xff) & 63;
          l20 = (b[((int) l1) - 60718] & 0xff) & 63;
-         L92: {
-          L93: {
-           if (l15 + Integer.MIN_VALUE > 2147483631) { break L93; }
+         L93: {
+          L94: {
+           if (l15 + Integer.MIN_VALUE > 2147483631) { break L94; }
            l15 = ((l16 << 6) | ((l14 << 12) & 61440)) | l20;
-           break L92;
+           break L93;
           }
           l15 = ((l20 << 6) | ((l16 << 12) | ((l14 << 18) & 1835008))) | ((b[((int) l1) - 60717] & 0xff) & 63);
          }
-         L94: {
-          if (l15 > 27003) { break L94; }
-          L95: {
-           if (l15 > 24230) { break L95; }
-           if (l15 == 21495) { break L55; }
-           if (l15 == 24162) { break L55; }
-           break L90;
+         L95: {
+          if (l15 > 27003) { break L95; }
+          L96: {
+           if (l15 > 24230) { break L96; }
+           if (l15 == 21495) { break L56; }
+           if (l15 == 24162) { break L56; }
+           break L91;
           }
-          if (l15 == 24231) { break L55; }
-          if (l15 == 26635) { break L55; }
-          if (l15 == 26847) { break L55; }
-          break L90;
+          if (l15 == 24231) { break L56; }
+          if (l15 == 26635) { break L56; }
+          if (l15 == 26847) { break L56; }
+          break L91;
          }
-         L96: {
-          if (l15 > 30720) { break L96; }
-          if (l15 == 27004) { break L55; }
-          if (l15 == 27155) { break L55; }
-          break L90;
+         L97: {
+          if (l15 > 30720) { break L97; }
+          if (l15 == 27004) { break L56; }
+          if (l15 == 27155) { break L56; }
+          break L91;
          }
-         if (l15 == 30721) { break L55; }
-         if (l15 == 30908) { break L55; }
-         if (l15 == 34399) { break L55; }
+         if (l15 == 30721) { break L56; }
+         if (l15 == 30908) { break L56; }
+         if (l15 == 34399) { break L56; }
         }
         l15 = 1;
         if (l18 > -1) { exit = 1; break PART; }
         if (l18 + Integer.MIN_VALUE < 2147483616) { exit = 1; break PART; }
         l14 = (b[((int) l5) - 60719] & 0xff) & 63;
         l16 = (b[((int) l5) - 60718] & 0xff) & 63;
-        L97: {
-         L98: {
-          if (l18 + Integer.MIN_VALUE > 2147483631) { break L98; }
+        L98: {
+         L99: {
+          if (l18 + Integer.MIN_VALUE > 2147483631) { break L99; }
           l14 = ((l14 << 6) | ((l19 << 12) & 61440)) | l16;
-          break L97;
+          break L98;
          }
          l14 = ((l16 << 6) | ((l14 << 12) | ((l19 << 18) & 1835008))) | ((b[((int) l5) - 60717] & 0xff) & 63);
         }
-        L99: {
-         if (l14 == 38646) { break L99; }
+        L100: {
+         if (l14 == 38646) { break L100; }
          if (l14 != 12295) { exit = 1; break PART; }
         }
         if (l13 != 0) { exit = 1; break PART; }
         if (((int) b[((int) ((l1 = l3 + l4) + -1L)) - 60720]) > -1) { exit = 1; break PART; }
         l10 = -2L;
-        L100: {
-         if ((b[((int) (l1 + -2L)) - 60720] & 0xff) + Integer.MIN_VALUE > -2147483457) { break L100; }
+        L101: {
+         if ((b[((int) (l1 + -2L)) - 60720] & 0xff) + Integer.MIN_VALUE > -2147483457) { break L101; }
          l10 = ((b[((int) (l1 + -3L)) - 60720] & 0xff) + Integer.MIN_VALUE > -2147483457) ? -3L : -4L;
         }
         if ((l13 = (int) b[((int) (l1 = (l3 + l10) + l4)) - 60720]) > -1) { exit = 1; break PART; }
@@ -5114,23 +5349,23 @@ static int f108_1(State m, long l1, long l2, long l3, long l4, long l5, long l6,
         l14 = l13 & 255;
         l16 = (b[((int) l1) - 60719] & 0xff) & 63;
         l18 = (b[((int) l1) - 60718] & 0xff) & 63;
-        L101: {
-         L102: {
-          if (l13 + Integer.MIN_VALUE > 2147483631) { break L102; }
+        L102: {
+         L103: {
+          if (l13 + Integer.MIN_VALUE > 2147483631) { break L103; }
           l13 = ((l16 << 6) | ((l14 << 12) & 61440)) | l18;
-          break L101;
+          break L102;
          }
          l13 = ((l18 << 6) | ((l16 << 12) | ((l14 << 18) & 1835008))) | ((b[((int) l1) - 60717] & 0xff) & 63);
         }
-        L103: {
-         L104: {
-          if (l13 > 26177) { break L104; }
-          if (l13 == 20998) { break L103; }
-          if (l13 == 26102) { break L103; }
+        L104: {
+         L105: {
+          if (l13 > 26177) { break L105; }
+          if (l13 == 20998) { break L104; }
+          if (l13 == 26102) { break L104; }
           exit = 1; break PART;
          }
-         if (l13 == 26178) { break L103; }
-         if (l13 == 40670) { break L103; }
+         if (l13 == 26178) { break L104; }
+         if (l13 == 40670) { break L104; }
          if (l13 != 28857) { exit = 1; break PART; }
         }
         if (l12 != 0) { exit = 1; break PART; }
@@ -5139,104 +5374,104 @@ static int f108_1(State m, long l1, long l2, long l3, long l4, long l5, long l6,
         l16 = l14 & 255;
         l20 = (b[((int) l7) - 60719] & 0xff) & 63;
         l13 = (l21 = b[((int) l7) - 60718] & 0xff) & 63;
-        L105: {
-         L106: {
-          if (l14 + Integer.MIN_VALUE > 2147483631) { break L106; }
+        L106: {
+         L107: {
+          if (l14 + Integer.MIN_VALUE > 2147483631) { break L107; }
           l18 = ((l20 << 6) | ((l16 << 12) & 61440)) | l13;
-          break L105;
+          break L106;
          }
          l18 = ((l13 << 6) | ((l20 << 12) | ((l16 << 18) & 1835008))) | ((b[((int) l7) - 60717] & 0xff) & 63);
         }
-        if (l18 == 20998) { break L54; }
+        if (l18 == 20998) { break L55; }
         l13 = 1;
-        if (l18 == 31186) { break L54; }
+        if (l18 == 31186) { break L55; }
         exit = 2; break PART;
        }
-       if (l12 != 0) { break L50; }
+       if (l12 != 0) { break L51; }
        l16 = (l14 = (int) b[((int) l7) - 60720]) & 255;
-       L107: {
-        if (l14 <= -1) { break L107; }
+       L108: {
+        if (l14 <= -1) { break L108; }
         l1 = 1L;
         l15 = 1;
         l13 = l16;
-        break L51;
+        break L52;
        }
        l20 = (b[((int) l7) - 60719] & 0xff) & 63;
-       if (l14 + Integer.MIN_VALUE < 2147483616) { break L53; }
+       if (l14 + Integer.MIN_VALUE < 2147483616) { break L54; }
        l21 = b[((int) l7) - 60718] & 0xff;
       }
       l13 = l21 & 63;
-      L108: {
-       if (l14 + Integer.MIN_VALUE > 2147483631) { break L108; }
+      L109: {
+       if (l14 + Integer.MIN_VALUE > 2147483631) { break L109; }
        l13 = (((l16 << 12) & 61440) | (l20 << 6)) | l13;
        l1 = 3L;
-       break L52;
+       break L53;
       }
       l13 = ((l13 << 6) | (((l16 << 18) & 1835008) | (l20 << 12))) | ((b[((int) l7) - 60717] & 0xff) & 63);
       l1 = 4L;
-      break L52;
+      break L53;
      }
      l13 = ((l16 << 6) & 1984) | l20;
      l1 = 2L;
     }
     l15 = 0;
    }
-   L109: {
-    L110: {
-     L111: {
-      L112: {
-       L113: {
-        L114: {
-         L115: {
-          L116: {
-           L117: {
-            L118: {
-             if (l13 > 27154) { break L118; }
-             L119: {
-              if (l13 > 23617) { break L119; }
+   L110: {
+    L111: {
+     L112: {
+      L113: {
+       L114: {
+        L115: {
+         L116: {
+          L117: {
+           L118: {
+            L119: {
+             if (l13 > 27154) { break L119; }
+             L120: {
+              if (l13 > 23617) { break L120; }
               l1 = l5;
               l9 = l6;
-              if (l13 == 21010) { break L117; }
+              if (l13 == 21010) { break L118; }
               l1 = l5;
               l9 = l6;
-              if (l13 == 21123) { break L117; }
-              break L50;
+              if (l13 == 21123) { break L118; }
+              break L51;
              }
              switch (l13 + -23618) {
-             case 0: case 34: break L113;
-             case 1: case 2: case 3: case 5: case 6: case 7: case 9: case 10: case 11: case 12: case 13: case 14: case 15: case 16: case 17: case 18: case 19: case 20: case 21: case 22: case 23: case 24: case 25: case 26: case 27: case 28: case 29: case 30: case 31: case 32: case 33: break L50;
-             case 4: case 8: break L116;
-             default: break L115;
+             case 0: case 34: break L114;
+             case 1: case 2: case 3: case 5: case 6: case 7: case 9: case 10: case 11: case 12: case 13: case 14: case 15: case 16: case 17: case 18: case 19: case 20: case 21: case 22: case 23: case 24: case 25: case 26: case 27: case 28: case 29: case 30: case 31: case 32: case 33: break L51;
+             case 4: case 8: break L117;
+             default: break L116;
              }
             }
-            if (l13 > 36826) { break L114; }
-            if (l13 == 27155) { break L113; }
+            if (l13 > 36826) { break L115; }
+            if (l13 == 27155) { break L114; }
             l1 = l5;
             l9 = l6;
-            if (l13 == 32218) { break L117; }
+            if (l13 == 32218) { break L118; }
             l1 = l5;
             l9 = l6;
-            if (l13 != 32447) { break L50; }
+            if (l13 != 32447) { break L51; }
            }
-           L120: while (true) {
-            if (l9 == 0L) { break L50; }
+           L121: while (true) {
+            if (l9 == 0L) { break L51; }
             l13 = (l15 = (int) b[((int) l1) - 60720]) & 255;
             l10 = 1L;
-            L121: {
-             if (l15 > -1) { break L121; }
+            L122: {
+             if (l15 > -1) { break L122; }
              l14 = (b[((int) l1) - 60719] & 0xff) & 63;
-             L122: {
-              if (l15 + Integer.MIN_VALUE > 2147483615) { break L122; }
+             L123: {
+              if (l15 + Integer.MIN_VALUE > 2147483615) { break L123; }
               l13 = ((l13 << 6) & 1984) | l14;
               l10 = 2L;
-              break L121;
+              break L122;
              }
              l16 = (b[((int) l1) - 60718] & 0xff) & 63;
-             L123: {
-              if (l15 + Integer.MIN_VALUE > 2147483631) { break L123; }
+             L124: {
+              if (l15 + Integer.MIN_VALUE > 2147483631) { break L124; }
               l13 = ((l14 << 6) | ((l13 << 12) & 61440)) | l16;
               l10 = 3L;
-              break L121;
+              break L122;
              }
              l13 = ((l16 << 6) | ((l14 << 12) | ((l13 << 18) & 1835008))) | ((b[((int) l1) - 60717] & 0xff) & 63);
              l10 = 4L;
@@ -5244,113 +5479,113 @@ static int f108_1(State m, long l1, long l2, long l3, long l4, long l5, long l6,
             if (l13 == 28857) { exit = 3; break PART; }
             l9 = l9 - l10;
             l1 = l1 + l10;
-            if (l13 != 40670) { continue L120; }
+            if (l13 != 40670) { continue L121; }
             exit = 3; break PART;
            }
           }
           l1 = 1L;
-          L124: {
-           if (l15 != 0) { break L124; }
+          L125: {
+           if (l15 != 0) { break L125; }
            l13 = (b[((int) l7) - 60719] & 0xff) & 63;
-           L125: {
-            if (l14 + Integer.MIN_VALUE > 2147483615) { break L125; }
+           L126: {
+            if (l14 + Integer.MIN_VALUE > 2147483615) { break L126; }
             l16 = ((l16 << 6) & 1984) | l13;
             l1 = 2L;
-            break L124;
+            break L125;
            }
            l15 = (b[((int) l7) - 60718] & 0xff) & 63;
-           L126: {
-            if (l14 + Integer.MIN_VALUE > 2147483631) { break L126; }
+           L127: {
+            if (l14 + Integer.MIN_VALUE > 2147483631) { break L127; }
             l16 = ((l13 << 6) | ((l16 << 12) & 61440)) | l15;
             l1 = 3L;
-            break L124;
+            break L125;
            }
            l16 = ((l15 << 6) | ((l13 << 12) | ((l16 << 18) & 1835008))) | ((b[((int) l7) - 60717] & 0xff) & 63);
            l1 = 4L;
           }
-          if (l8 == l1) { break L50; }
+          if (l8 == l1) { break L51; }
           l15 = (l13 = (int) b[((int) (l9 = l7 + l1)) - 60720]) & 255;
           l10 = 1L;
-          L127: {
-           if (l13 > -1) { break L127; }
+          L128: {
+           if (l13 > -1) { break L128; }
            l14 = (b[((int) l9) - 60719] & 0xff) & 63;
-           L128: {
-            if (l13 + Integer.MIN_VALUE > 2147483615) { break L128; }
+           L129: {
+            if (l13 + Integer.MIN_VALUE > 2147483615) { break L129; }
             l15 = ((l15 << 6) & 1984) | l14;
             l10 = 2L;
-            break L127;
+            break L128;
            }
            l18 = (b[((int) l9) - 60718] & 0xff) & 63;
-           L129: {
-            if (l13 + Integer.MIN_VALUE > 2147483631) { break L129; }
+           L130: {
+            if (l13 + Integer.MIN_VALUE > 2147483631) { break L130; }
             l15 = ((l14 << 6) | ((l15 << 12) & 61440)) | l18;
             l10 = 3L;
-            break L127;
+            break L128;
            }
            l15 = ((l18 << 6) | ((l14 << 12) | ((l15 << 18) & 1835008))) | ((b[((int) l9) - 60717] & 0xff) & 63);
            l10 = 4L;
           }
-          if (((l16 + -23622) & -5) != 0) { break L50; }
+          if (((l16 + -23622) & -5) != 0) { break L51; }
           Core2.f50(m, l2 + 48L, l15);
-          if (l8 == (l10 + l1)) { break L50; }
-          if ((l15 + -48) + Integer.MIN_VALUE < -2147483638) { break L50; }
-          if (((b[((int) l2) - 60672] & 0xff) & 255) != 1) { break L50; }
-          if ((l13 = (int) b[((int) (l1 = l9 + l10)) - 60720]) > -1) { break L50; }
-          if (l13 + Integer.MIN_VALUE < 2147483616) { break L50; }
+          if (l8 == (l10 + l1)) { break L51; }
+          if ((l15 + -48) + Integer.MIN_VALUE < -2147483638) { break L51; }
+          if (((b[((int) l2) - 60672] & 0xff) & 255) != 1) { break L51; }
+          if ((l13 = (int) b[((int) (l1 = l9 + l10)) - 60720]) > -1) { break L51; }
+          if (l13 + Integer.MIN_VALUE < 2147483616) { break L51; }
           l15 = l13 & 255;
           l14 = (b[((int) l1) - 60719] & 0xff) & 63;
           l16 = (b[((int) l1) - 60718] & 0xff) & 63;
-          L130: {
-           L131: {
-            if (l13 + Integer.MIN_VALUE > 2147483631) { break L131; }
+          L131: {
+           L132: {
+            if (l13 + Integer.MIN_VALUE > 2147483631) { break L132; }
             l13 = ((l14 << 6) | ((l15 << 12) & 61440)) | l16;
-            break L130;
+            break L131;
            }
            l13 = ((l16 << 6) | ((l14 << 12) | ((l15 << 18) & 1835008))) | ((b[((int) l1) - 60717] & 0xff) & 63);
           }
-          if (l13 != 20013) { break L50; }
+          if (l13 != 20013) { break L51; }
           l13 = 1;
           l15 = 2;
           exit = 2; break PART;
          }
-         if (l13 == 27004) { break L113; }
-         break L50;
+         if (l13 == 27004) { break L114; }
+         break L51;
         }
-        L132: {
-         if (l13 > 38916) { break L132; }
-         L133: {
-          if (l13 == 36827) { break L133; }
-          if (l13 != 36914) { break L50; }
+        L133: {
+         if (l13 > 38916) { break L133; }
+         L134: {
+          if (l13 == 36827) { break L134; }
+          if (l13 != 36914) { break L51; }
          }
-         if (l8 == l1) { break L50; }
-         if ((l13 = (int) b[((int) (l1 = l7 + l1)) - 60720]) > -1) { break L50; }
-         if (l13 + Integer.MIN_VALUE < 2147483616) { break L50; }
+         if (l8 == l1) { break L51; }
+         if ((l13 = (int) b[((int) (l1 = l7 + l1)) - 60720]) > -1) { break L51; }
+         if (l13 + Integer.MIN_VALUE < 2147483616) { break L51; }
          l15 = l13 & 255;
          l14 = (b[((int) l1) - 60719] & 0xff) & 63;
          l16 = (b[((int) l1) - 60718] & 0xff) & 63;
-         if (l13 + Integer.MIN_VALUE > 2147483631) { break L112; }
+         if (l13 + Integer.MIN_VALUE > 2147483631) { break L113; }
          l13 = ((l14 << 6) | ((l15 << 12) & 61440)) | l16;
-         break L111;
+         break L112;
         }
-        if (l13 == 38917) { break L113; }
-        if (l13 != 39033) { break L50; }
+        if (l13 == 38917) { break L114; }
+        if (l13 != 39033) { break L51; }
        }
-       if (l17 != 0) { break L50; }
-       if ((l13 = (int) b[((int) l5) - 60720]) > -1) { break L50; }
-       if (l13 + Integer.MIN_VALUE < 2147483616) { break L50; }
+       if (l17 != 0) { break L51; }
+       if ((l13 = (int) b[((int) l5) - 60720]) > -1) { break L51; }
+       if (l13 + Integer.MIN_VALUE < 2147483616) { break L51; }
        l15 = l13 & 255;
        l14 = (b[((int) l5) - 60719] & 0xff) & 63;
        l16 = (b[((int) l5) - 60718] & 0xff) & 63;
-       if (l13 + Integer.MIN_VALUE > 2147483631) { break L110; }
+       if (l13 + Integer.MIN_VALUE > 2147483631) { break L111; }
        l13 = ((l14 << 6) | ((l15 << 12) & 61440)) | l16;
-       break L109;
+       break L110;
       }
       l13 = ((l16 << 6) | ((l14 << 12) | ((l15 << 18) & 1835008))) | ((b[((int) l1) - 60717] & 0xff) & 63);
      }
      l15 = 2;
      if (l13 == 20301) { exit = 1; break PART; }
      if (l13 == 21046) { exit = 1; break PART; }
-     break L50;
+     break L51;
     }
     l13 = ((l16 << 6) | ((l14 << 12) | ((l15 << 18) & 1835008))) | ((b[((int) l5) - 60717] & 0xff) & 63);
    }
@@ -5373,532 +5608,441 @@ static int f108_1(State m, long l1, long l2, long l3, long l4, long l5, long l6,
  return exit;
 }
 
-static int f108_2(State m, long l1, long l2, long l3, long l4, long l5, long l6, long l7, long l8, long l9, long l10, long l11, int l12, int l13, int l14, int l15, int l16, int l17, int l18, int l20, int l21) {
+static int f108_3(State m, long l1, long l2, long l3, long l4, long l5, long l6, long l7, long l9, long l10, int l12, int l13, int l14, int l15, int l16, int l17, int l18, int l20, int l21) {
  final byte[] b = m.bytes;
  int exit = 0;
  PART: {
-  L151: {
-   L152: {
-    L153: {
-     L154: {
-      L155: {
-       if (l17 != 0) { break L155; }
-       l13 = (l15 = (int) b[((int) l5) - 60720]) & 255;
-       l1 = 1L;
-       L156: {
-        if (l15 > -1) { break L156; }
-        l14 = (b[((int) l5) - 60719] & 0xff) & 63;
-        L157: {
-         if (l15 + Integer.MIN_VALUE > 2147483615) { break L157; }
-         l13 = ((l13 << 6) & 1984) | l14;
-         l1 = 2L;
-         break L156;
-        }
-        l16 = (b[((int) l5) - 60718] & 0xff) & 63;
-        L158: {
-         if (l15 + Integer.MIN_VALUE > 2147483631) { break L158; }
-         l13 = ((l14 << 6) | ((l13 << 12) & 61440)) | l16;
-         l1 = 3L;
-         break L156;
-        }
-        l13 = ((l16 << 6) | ((l14 << 12) | ((l13 << 18) & 1835008))) | ((b[((int) l5) - 60717] & 0xff) & 63);
-        l1 = 4L;
-       }
-       L159: {
-        if (l6 == l1) { break L159; }
-        l9 = 1L;
-        l14 = l16 = (l15 = (int) b[((int) (l10 = l5 + l1)) - 60720]) & 255;
-        L160: {
-         L161: {
-          L162: {
-           L163: {
-            L164: {
-             L165: {
-              L166: {
-               if (l15 > -1) { break L166; }
-               l14 = (b[((int) l10) - 60719] & 0xff) & 63;
-               L167: {
-                L168: {
-                 if (l15 + Integer.MIN_VALUE < 2147483616) { break L168; }
-                 l20 = (b[((int) l10) - 60718] & 0xff) & 63;
-                 L169: {
-                  L170: {
-                   if (l15 + Integer.MIN_VALUE > 2147483631) { break L170; }
-                   l17 = ((l14 << 6) | ((l16 << 12) & 61440)) | l20;
-                   break L169;
-                  }
-                  l17 = ((l20 << 6) | ((l14 << 12) | ((l16 << 18) & 1835008))) | ((b[((int) l10) - 60717] & 0xff) & 63);
-                 }
-                 L171: {
-                  if (l17 == 40670) { break L171; }
-                  if (l17 != 28857) { break L167; }
-                 }
-                 Core2.f50(m, l2 + 40L, l13);
-                 if ((l13 + -58) + Integer.MIN_VALUE > 2147483637) { break L165; }
-                 if (((b[((int) l2) - 60680] & 0xff) & 255) != 1) { break L165; }
-                 if ((l13 != 12295) & (l13 != 38646)) { break L160; }
-                 if (l13 == 21313) { break L160; }
-                 break L159;
+  L154: {
+   L155: {
+    L156: {
+     if (l17 != 0) { break L156; }
+     l13 = (l15 = (int) b[((int) l5) - 60720]) & 255;
+     l1 = 1L;
+     L157: {
+      if (l15 > -1) { break L157; }
+      l14 = (b[((int) l5) - 60719] & 0xff) & 63;
+      L158: {
+       if (l15 + Integer.MIN_VALUE > 2147483615) { break L158; }
+       l13 = ((l13 << 6) & 1984) | l14;
+       l1 = 2L;
+       break L157;
+      }
+      l16 = (b[((int) l5) - 60718] & 0xff) & 63;
+      L159: {
+       if (l15 + Integer.MIN_VALUE > 2147483631) { break L159; }
+       l13 = ((l14 << 6) | ((l13 << 12) & 61440)) | l16;
+       l1 = 3L;
+       break L157;
+      }
+      l13 = ((l16 << 6) | ((l14 << 12) | ((l13 << 18) & 1835008))) | ((b[((int) l5) - 60717] & 0xff) & 63);
+      l1 = 4L;
+     }
+     L160: {
+      if (l6 == l1) { break L160; }
+      l9 = 1L;
+      l14 = l16 = (l15 = (int) b[((int) (l10 = l5 + l1)) - 60720]) & 255;
+      L161: {
+       L162: {
+        L163: {
+         L164: {
+          L165: {
+           L166: {
+            L167: {
+             if (l15 > -1) { break L167; }
+             l14 = (b[((int) l10) - 60719] & 0xff) & 63;
+             L168: {
+              L169: {
+               if (l15 + Integer.MIN_VALUE < 2147483616) { break L169; }
+               l20 = (b[((int) l10) - 60718] & 0xff) & 63;
+               L170: {
+                L171: {
+                 if (l15 + Integer.MIN_VALUE > 2147483631) { break L171; }
+                 l17 = ((l14 << 6) | ((l16 << 12) & 61440)) | l20;
+                 break L170;
                 }
-                l14 = ((l16 << 6) & 1984) | l14;
-                l9 = 2L;
-                break L166;
+                l17 = ((l20 << 6) | ((l14 << 12) | ((l16 << 18) & 1835008))) | ((b[((int) l10) - 60717] & 0xff) & 63);
                }
                L172: {
-                if (l15 + Integer.MIN_VALUE > 2147483631) { break L172; }
-                l14 = ((l14 << 6) | ((l16 << 12) & 61440)) | l20;
-                l9 = 3L;
-                break L166;
+                if (l17 == 40670) { break L172; }
+                if (l17 != 28857) { break L168; }
                }
-               l14 = ((l20 << 6) | ((l14 << 12) | ((l16 << 18) & 1835008))) | ((b[((int) l10) - 60717] & 0xff) & 63);
-               l9 = 4L;
+               Core2.f50(m, l2 + 40L, l13);
+               if ((l13 + -58) + Integer.MIN_VALUE > 2147483637) { break L166; }
+               if (((b[((int) l2) - 60680] & 0xff) & 255) != 1) { break L166; }
+               if ((l13 != 12295) & (l13 != 38646)) { break L161; }
+               if (l13 == 21313) { break L161; }
+               break L160;
               }
-              l1 = l6 - l1;
-              L173: {
-               if (l13 > 20840) { break L173; }
-               if (l13 == 20004) { break L164; }
-               if (l13 != 20108) { break L159; }
-               break L164;
-              }
-              if (l13 == 20841) { break L164; }
-              if (l13 != 21313) { break L159; }
-              Core2.f50(m, l2 + 32L, l14);
-              if ((l14 + -58) + Integer.MIN_VALUE > 2147483637) { break L159; }
-              if (((b[((int) l2) - 60688] & 0xff) & 255) != 1) { break L159; }
-              if (l14 == 12295) { break L159; }
-              if (l14 == 38646) { break L159; }
-              if (l1 == l9) { break L159; }
-              break L163;
+              l14 = ((l16 << 6) & 1984) | l14;
+              l9 = 2L;
+              break L167;
              }
-             if (l13 != 21313) { break L159; }
-             break L160;
+             L173: {
+              if (l15 + Integer.MIN_VALUE > 2147483631) { break L173; }
+              l14 = ((l14 << 6) | ((l16 << 12) & 61440)) | l20;
+              l9 = 3L;
+              break L167;
+             }
+             l14 = ((l20 << 6) | ((l14 << 12) | ((l16 << 18) & 1835008))) | ((b[((int) l10) - 60717] & 0xff) & 63);
+             l9 = 4L;
             }
-            if (l1 == l9) { break L162; }
-            if (l14 != 21313) { break L162; }
-           }
-           if ((l14 = (int) b[((int) (l9 = l10 + l9)) - 60720]) > -1) { break L162; }
-           if (l14 + Integer.MIN_VALUE < 2147483616) { break L162; }
-           l17 = l14 & 255;
-           l20 = (b[((int) l9) - 60719] & 0xff) & 63;
-           l21 = (b[((int) l9) - 60718] & 0xff) & 63;
-           L174: {
-            L175: {
-             if (l14 + Integer.MIN_VALUE > 2147483631) { break L175; }
-             l14 = ((l20 << 6) | ((l17 << 12) & 61440)) | l21;
-             break L174;
+            l1 = l6 - l1;
+            L174: {
+             if (l13 > 20840) { break L174; }
+             if (l13 == 20004) { break L165; }
+             if (l13 != 20108) { break L160; }
+             break L165;
             }
-            l14 = ((l21 << 6) | ((l20 << 12) | ((l17 << 18) & 1835008))) | ((b[((int) l9) - 60717] & 0xff) & 63);
+            if (l13 == 20841) { break L165; }
+            if (l13 != 21313) { break L160; }
+            Core2.f50(m, l2 + 32L, l14);
+            if ((l14 + -58) + Integer.MIN_VALUE > 2147483637) { break L160; }
+            if (((b[((int) l2) - 60688] & 0xff) & 255) != 1) { break L160; }
+            if (l14 == 12295) { break L160; }
+            if (l14 == 38646) { break L160; }
+            if (l1 == l9) { break L160; }
+            break L164;
            }
-           if (l14 == 28857) { break L160; }
-           if (l14 == 40670) { break L160; }
-           if (l13 != 20108) { break L159; }
-           if (l15 > -1) { break L159; }
+           if (l13 != 21313) { break L160; }
            break L161;
           }
-          if (l13 != 20108) { break L159; }
-          if (l15 > -1) { break L159; }
+          if (l1 == l9) { break L163; }
+          if (l14 != 21313) { break L163; }
          }
-         if (l15 + Integer.MIN_VALUE < 2147483616) { break L159; }
-         l13 = (b[((int) l10) - 60719] & 0xff) & 63;
-         l14 = (b[((int) l10) - 60718] & 0xff) & 63;
-         L176: {
-          L177: {
-           if (l15 + Integer.MIN_VALUE > 2147483631) { break L177; }
-           l13 = ((l13 << 6) | ((l16 << 12) & 61440)) | l14;
-           l9 = 3L;
-           break L176;
+         if ((l14 = (int) b[((int) (l9 = l10 + l9)) - 60720]) > -1) { break L163; }
+         if (l14 + Integer.MIN_VALUE < 2147483616) { break L163; }
+         l17 = l14 & 255;
+         l20 = (b[((int) l9) - 60719] & 0xff) & 63;
+         l21 = (b[((int) l9) - 60718] & 0xff) & 63;
+         L175: {
+          L176: {
+           if (l14 + Integer.MIN_VALUE > 2147483631) { break L176; }
+           l14 = ((l20 << 6) | ((l17 << 12) & 61440)) | l21;
+           break L175;
           }
-          l13 = ((l14 << 6) | ((l13 << 12) | ((l16 << 18) & 1835008))) | ((b[((int) l10) - 60717] & 0xff) & 63);
-          l9 = 4L;
+          l14 = ((l21 << 6) | ((l20 << 12) | ((l17 << 18) & 1835008))) | ((b[((int) l9) - 60717] & 0xff) & 63);
          }
-         if (l13 != 21313) { break L159; }
-         if (Core4.f122(m, 84768L, 4L, 82776L, 2L, l10 + l9, l1 - l9) == 0) { break L159; }
+         if (l14 == 28857) { break L161; }
+         if (l14 == 40670) { break L161; }
+         if (l13 != 20108) { break L160; }
+         if (l15 > -1) { break L160; }
+         break L162;
         }
+        if (l13 != 20108) { break L160; }
+        if (l15 > -1) { break L160; }
+       }
+       if (l15 + Integer.MIN_VALUE < 2147483616) { break L160; }
+       l13 = (b[((int) l10) - 60719] & 0xff) & 63;
+       l14 = (b[((int) l10) - 60718] & 0xff) & 63;
+       L177: {
         L178: {
-         if (l18 != 0) { break L178; }
-         if (((int) b[((int) ((l1 = l3 + l4) + -1L)) - 60720]) > -1) { break L178; }
-         l10 = -2L;
-         L179: {
-          if ((b[((int) (l1 + -2L)) - 60720] & 0xff) + Integer.MIN_VALUE > -2147483457) { break L179; }
-          l10 = ((b[((int) (l1 + -3L)) - 60720] & 0xff) + Integer.MIN_VALUE > -2147483457) ? -3L : -4L;
-         }
-         if ((l13 = (int) b[((int) (l1 = (l3 + l10) + l4)) - 60720]) > -1) { break L178; }
-         if (l13 + Integer.MIN_VALUE < 2147483616) { break L178; }
-         l15 = l13 & 255;
-         l14 = (b[((int) l1) - 60719] & 0xff) & 63;
-         l16 = (b[((int) l1) - 60718] & 0xff) & 63;
-         L180: {
-          L181: {
-           if (l13 + Integer.MIN_VALUE > 2147483631) { break L181; }
-           l14 = ((l14 << 6) | ((l15 << 12) & 61440)) | l16;
-           break L180;
-          }
-          l14 = ((l16 << 6) | ((l14 << 12) | ((l15 << 18) & 1835008))) | ((b[((int) l1) - 60717] & 0xff) & 63);
-         }
-         l15 = 4;
-         L182: {
-          if (l14 > 26201) { break L182; }
-          if (l14 == 21320) { exit = 1; break PART; }
-          if (l14 == 22812) { exit = 1; break PART; }
-          if (l14 == 26089) { exit = 1; break PART; }
-          break L178;
-         }
-         l13 = 1;
-         switch (l14 + -26202) {
-         case 0: case 14: exit = 2; break PART;
-         default: break L178;
-         }
+         if (l15 + Integer.MIN_VALUE > 2147483631) { break L178; }
+         l13 = ((l13 << 6) | ((l16 << 12) & 61440)) | l14;
+         l9 = 3L;
+         break L177;
         }
-        if (Core4.f136(m, 83108L, 1L, 83100L, 2L, l3, l4) == 0) { break L159; }
-        l15 = 4;
-        l13 = 1;
-        exit = 2; break PART;
+        l13 = ((l14 << 6) | ((l13 << 12) | ((l16 << 18) & 1835008))) | ((b[((int) l10) - 60717] & 0xff) & 63);
+        l9 = 4L;
        }
-       L183: {
-        if ((l13 = (int) b[((int) (l5 + (l1 = l6 + -1L))) - 60720]) >= 0) { break L183; }
-        l1 = -2L;
-        L184: {
-         if ((b[((int) ((l10 = l5 + l6) + -2L)) - 60720] & 0xff) + Integer.MIN_VALUE > -2147483457) { break L184; }
-         l1 = ((b[((int) (l10 + -3L)) - 60720] & 0xff) + Integer.MIN_VALUE > -2147483457) ? -3L : -4L;
-        }
-        l13 = (l15 = (int) b[((int) (l10 = l5 + (l1 = l1 + l6))) - 60720]) & 255;
-        if (l15 > -1) { break L183; }
-        l14 = (b[((int) l10) - 60719] & 0xff) & 63;
-        L185: {
-         if (l15 + Integer.MIN_VALUE > 2147483615) { break L185; }
-         l13 = ((l13 << 6) & 1984) | l14;
-         break L183;
-        }
-        l16 = (b[((int) l10) - 60718] & 0xff) & 63;
-        L186: {
-         if (l15 + Integer.MIN_VALUE > 2147483631) { break L186; }
-         l13 = ((l14 << 6) | ((l13 << 12) & 61440)) | l16;
-         break L183;
-        }
-        l13 = ((l16 << 6) | ((l14 << 12) | ((l13 << 18) & 1835008))) | ((b[((int) l10) - 60717] & 0xff) & 63);
-       }
-       Core2.f50(m, l2 + 24L, l13);
-       if ((l13 + -58) + Integer.MIN_VALUE > 2147483637) { break L155; }
-       if (((b[((int) l2) - 60696] & 0xff) & 255) != 1) { break L155; }
-       if (l13 == 12295) { break L155; }
-       if (l13 == 38646) { break L155; }
-       if (l1 == 0L) { break L155; }
-       L187: {
-        if ((l13 = (int) b[((int) (l5 + (l10 = l1 + -1L))) - 60720]) >= 0) { break L187; }
-        l10 = -2L;
-        L188: {
-         if ((b[((int) ((l9 = l5 + l1) + -2L)) - 60720] & 0xff) + Integer.MIN_VALUE > -2147483457) { break L188; }
-         l10 = ((b[((int) (l9 + -3L)) - 60720] & 0xff) + Integer.MIN_VALUE > -2147483457) ? -3L : -4L;
-        }
-        l13 = (l15 = (int) b[((int) (l1 = l5 + (l10 = l10 + l1))) - 60720]) & 255;
-        if (l15 > -1) { break L187; }
-        l14 = (b[((int) l1) - 60719] & 0xff) & 63;
-        L189: {
-         if (l15 + Integer.MIN_VALUE > 2147483615) { break L189; }
-         l13 = ((l13 << 6) & 1984) | l14;
-         break L187;
-        }
-        l16 = (b[((int) l1) - 60718] & 0xff) & 63;
-        L190: {
-         if (l15 + Integer.MIN_VALUE > 2147483631) { break L190; }
-         l13 = ((l14 << 6) | ((l13 << 12) & 61440)) | l16;
-         break L187;
-        }
-        l13 = ((l16 << 6) | ((l14 << 12) | ((l13 << 18) & 1835008))) | ((b[((int) l1) - 60717] & 0xff) & 63);
-       }
-       L191: {
-        if ((l15 = (l13 == 38646) ? 1 : 0) != 0) { break L191; }
-        if (l13 == 12295) { break L191; }
-        if ((((l13 == 12295) ? 1 : 0) | l15) == 0) { break L155; }
-        break L154;
-       }
-       if (l10 == 0L) { break L155; }
-       L192: {
-        if ((l13 = (int) b[((int) (l5 + (l1 = l10 + -1L))) - 60720]) >= 0) { break L192; }
-        l1 = -2L;
-        L193: {
-         if ((b[((int) ((l9 = l5 + l10) + -2L)) - 60720] & 0xff) + Integer.MIN_VALUE > -2147483457) { break L193; }
-         l1 = ((b[((int) (l9 + -3L)) - 60720] & 0xff) + Integer.MIN_VALUE > -2147483457) ? -3L : -4L;
-        }
-        l13 = (l15 = (int) b[((int) (l10 = l5 + (l1 = l1 + l10))) - 60720]) & 255;
-        if (l15 > -1) { break L192; }
-        l14 = (b[((int) l10) - 60719] & 0xff) & 63;
-        L194: {
-         if (l15 + Integer.MIN_VALUE > 2147483615) { break L194; }
-         l13 = ((l13 << 6) & 1984) | l14;
-         break L192;
-        }
-        l16 = (b[((int) l10) - 60718] & 0xff) & 63;
-        L195: {
-         if (l15 + Integer.MIN_VALUE > 2147483631) { break L195; }
-         l13 = ((l14 << 6) | ((l13 << 12) & 61440)) | l16;
-         break L192;
-        }
-        l13 = ((l16 << 6) | ((l14 << 12) | ((l13 << 18) & 1835008))) | ((b[((int) l10) - 60717] & 0xff) & 63);
-       }
-       L196: {
-        if ((l15 = (l13 == 40670) ? 1 : 0) != 0) { break L196; }
-        if (l13 == 28857) { break L196; }
-        if ((((l13 == 28857) ? 1 : 0) | l15) == 0) { break L155; }
-        break L154;
-       }
-       if (l1 == 0L) { break L155; }
-       L197: {
-        if ((l13 = (int) b[((int) (l5 + (l10 = l1 + -1L))) - 60720]) >= 0) { break L197; }
-        l10 = -2L;
-        L198: {
-         if ((b[((int) ((l9 = l5 + l1) + -2L)) - 60720] & 0xff) + Integer.MIN_VALUE > -2147483457) { break L198; }
-         l10 = ((b[((int) (l9 + -3L)) - 60720] & 0xff) + Integer.MIN_VALUE > -2147483457) ? -3L : -4L;
-        }
-        l13 = (l15 = (int) b[((int) (l1 = l5 + (l10 = l10 + l1))) - 60720]) & 255;
-        if (l15 > -1) { break L197; }
-        l14 = (b[((int) l1) - 60719] & 0xff) & 63;
-        L199: {
-         if (l15 + Integer.MIN_VALUE > 2147483615) { break L199; }
-         l13 = ((l13 << 6) & 1984) | l14;
-         break L197;
-        }
-        l16 = (b[((int) l1) - 60718] & 0xff) & 63;
-        L200: {
-         if (l15 + Integer.MIN_VALUE > 2147483631) { break L200; }
-         l13 = ((l14 << 6) | ((l13 << 12) & 61440)) | l16;
-         break L197;
-        }
-        l13 = ((l16 << 6) | ((l14 << 12) | ((l13 << 18) & 1835008))) | ((b[((int) l1) - 60717] & 0xff) & 63);
-       }
-       L201: {
-        L202: {
-         L203: {
-          L204: {
-           L205: {
-            L206: {
-             if (l10 == 0L) { break L206; }
-             L207: {
-              if ((l15 = (int) b[((int) (l5 + (l1 = l10 + -1L))) - 60720]) >= 0) { break L207; }
-              l1 = -2L;
-              L208: {
-               if ((b[((int) ((l9 = l5 + l10) + -2L)) - 60720] & 0xff) + Integer.MIN_VALUE > -2147483457) { break L208; }
-               l1 = ((b[((int) (l9 + -3L)) - 60720] & 0xff) + Integer.MIN_VALUE > -2147483457) ? -3L : -4L;
-              }
-              l15 = (l14 = (int) b[((int) (l10 = l5 + (l1 = l1 + l10))) - 60720]) & 255;
-              if (l14 > -1) { break L207; }
-              l16 = (b[((int) l10) - 60719] & 0xff) & 63;
-              L209: {
-               if (l14 + Integer.MIN_VALUE > 2147483615) { break L209; }
-               l15 = ((l15 << 6) & 1984) | l16;
-               break L207;
-              }
-              l17 = (b[((int) l10) - 60718] & 0xff) & 63;
-              L210: {
-               if (l14 + Integer.MIN_VALUE > 2147483631) { break L210; }
-               l15 = ((l16 << 6) | ((l15 << 12) & 61440)) | l17;
-               break L207;
-              }
-              l15 = ((l17 << 6) | ((l16 << 12) | ((l15 << 18) & 1835008))) | ((b[((int) l10) - 60717] & 0xff) & 63);
-             }
-             if (l1 == 0L) { break L203; }
-             if (((int) b[((int) ((l10 = l5 + l1) + -1L)) - 60720]) > -1) { break L155; }
-             l9 = -2L;
-             L211: {
-              if ((b[((int) (l10 + -2L)) - 60720] & 0xff) + Integer.MIN_VALUE > -2147483457) { break L211; }
-              l9 = ((b[((int) (l10 + -3L)) - 60720] & 0xff) + Integer.MIN_VALUE > -2147483457) ? -3L : -4L;
-             }
-             if ((l14 = (int) b[((int) (l1 = l5 + (l10 = l9 + l1))) - 60720]) > -1) { break L155; }
-             if (l14 + Integer.MIN_VALUE < 2147483616) { break L155; }
-             l16 = l14 & 255;
-             l17 = (b[((int) l1) - 60719] & 0xff) & 63;
-             l20 = (b[((int) l1) - 60718] & 0xff) & 63;
-             if (l14 + Integer.MIN_VALUE > 2147483631) { break L205; }
-             l14 = ((l17 << 6) | ((l16 << 12) & 61440)) | l20;
-             break L204;
-            }
-            Core2.f50(m, l2 + 8L, l13);
-            L212: {
-             L213: {
-              if ((l13 + -58) + Integer.MIN_VALUE > 2147483637) { break L213; }
-              if (((b[((int) l2) - 60712] & 0xff) & 255) == 1) { break L212; }
-             }
-             if (l13 != 21313) { break L155; }
-             break L154;
-            }
-            if ((l13 != 12295) & (l13 != 38646)) { break L154; }
-            if (l13 != 21313) { break L155; }
-            break L154;
-           }
-           l14 = ((l20 << 6) | ((l17 << 12) | ((l16 << 18) & 1835008))) | ((b[((int) l1) - 60717] & 0xff) & 63);
-          }
-          if (l10 != 0L) { break L155; }
-          if (l14 != 20108) { break L155; }
-          if (l15 != 21313) { break L155; }
-          switch (l13 + -19968) {
-          case 0: case 9: break L154;
-          case 1: case 2: case 3: case 4: case 5: case 6: case 7: case 8: break L155;
-          default: break L202;
-          }
-         }
-         L214: {
-          if (l15 > 20840) { break L214; }
-          if (l15 == 20004) { break L201; }
-          if (l15 != 20108) { break L155; }
-          break L201;
-         }
-         if (l15 == 20841) { break L201; }
-         if (l15 != 21313) { break L155; }
-         Core2.f50(m, l2 + 16L, l13);
-         if ((l13 + -58) + Integer.MIN_VALUE > 2147483637) { break L155; }
-         if (((b[((int) l2) - 60704] & 0xff) & 255) != 1) { break L155; }
-         if (l13 == 12295) { break L155; }
-         if (l13 == 38646) { break L155; }
-         break L154;
-        }
-        if (l13 == 20108) { break L154; }
-        if (l13 != 22235) { break L155; }
-        break L154;
-       }
-       if (l13 == 21313) { break L154; }
+       if (l13 != 21313) { break L160; }
+       if (Core4.f122(m, 84768L, 4L, 82776L, 2L, l10 + l9, l1 - l9) == 0) { break L160; }
       }
-      if (l12 == 0) { break L153; }
-      break L152;
-     }
-     l13 = 1;
-     l15 = 4;
-     if (l12 != 0) { exit = 2; break PART; }
-     if ((l14 = (int) b[((int) l7) - 60720]) > -1) { exit = 2; break PART; }
-     if (l14 + Integer.MIN_VALUE < 2147483616) { exit = 2; break PART; }
-     l16 = l14 & 255;
-     l12 = (b[((int) l7) - 60719] & 0xff) & 63;
-     l17 = (b[((int) l7) - 60718] & 0xff) & 63;
-     L215: {
-      L216: {
-       if (l14 + Integer.MIN_VALUE > 2147483631) { break L216; }
-       l14 = ((l12 << 6) | ((l16 << 12) & 61440)) | l17;
-       break L215;
-      }
-      l14 = ((l17 << 6) | ((l12 << 12) | ((l16 << 18) & 1835008))) | ((b[((int) l7) - 60717] & 0xff) & 63);
-     }
-     L217: {
-      if (l14 > 21543) { break L217; }
-      L218: {
-       switch (l14 + -20803) {
-       case 0: case 8: break L153;
-       case 1: case 2: case 3: case 4: case 5: case 6: case 7: exit = 2; break PART;
-       default: break L218;
+      L179: {
+       if (l18 != 0) { break L179; }
+       if (((int) b[((int) ((l1 = l3 + l4) + -1L)) - 60720]) > -1) { break L179; }
+       l10 = -2L;
+       L180: {
+        if ((b[((int) (l1 + -2L)) - 60720] & 0xff) + Integer.MIN_VALUE > -2147483457) { break L180; }
+        l10 = ((b[((int) (l1 + -3L)) - 60720] & 0xff) + Integer.MIN_VALUE > -2147483457) ? -3L : -4L;
        }
-      }
-      if (l14 == 20493) { break L153; }
-      if (l14 == 21319) { break L153; }
-      exit = 2; break PART;
-     }
-     L219: {
-      if (l14 > 24229) { break L219; }
-      if (l14 == 21544) { break L153; }
-      if (l14 == 22136) { break L153; }
-      exit = 2; break PART;
-     }
-     if (l14 == 24230) { break L153; }
-     if (l14 != 31859) { exit = 2; break PART; }
-    }
-    l16 = (l13 = (int) b[((int) l7) - 60720]) & 255;
-    l10 = 1L;
-    L220: {
-     if (l13 > -1) { break L220; }
-     l15 = (b[((int) l7) - 60719] & 0xff) & 63;
-     L221: {
-      if (l13 + Integer.MIN_VALUE > 2147483615) { break L221; }
-      l16 = ((l16 << 6) & 1984) | l15;
-      l10 = 2L;
-      break L220;
-     }
-     l14 = (b[((int) l7) - 60718] & 0xff) & 63;
-     L222: {
-      if (l13 + Integer.MIN_VALUE > 2147483631) { break L222; }
-      l16 = ((l15 << 6) | ((l16 << 12) & 61440)) | l14;
-      l10 = 3L;
-      break L220;
-     }
-     l16 = ((l14 << 6) | ((l15 << 12) | ((l16 << 18) & 1835008))) | ((b[((int) l7) - 60717] & 0xff) & 63);
-     l10 = 4L;
-    }
-    L223: {
-     L224: {
-      if (l16 > 12315) { break L224; }
-      L225: {
-       if (l16 > 8210) { break L225; }
-       if (l16 == 45) { break L223; }
-       if (l16 != 126) { break L152; }
-       break L223;
-      }
-      if ((l16 + -8211) + Integer.MIN_VALUE < -2147483646) { break L223; }
-      if (l16 != 12289) { break L152; }
-      break L223;
-     }
-     L226: {
-      if (l16 > 33266) { break L226; }
-      if (l16 == 12316) { break L223; }
-      if (l16 != 21040) { break L152; }
-      break L223;
-     }
-     if (l16 == 33267) { break L223; }
-     if (l16 == 65374) { break L223; }
-     if (l16 != 65293) { break L152; }
-    }
-    l1 = l11 = l7 + l10;
-    l9 = l8 = l8 - l10;
-    L227: {
-     L228: while (true) {
-      if ((l7 = l9) == 0L) { break L227; }
-      l13 = (l15 = (int) b[((int) l1) - 60720]) & 255;
-      l10 = 1L;
-      L229: {
-       if (l15 > -1) { break L229; }
+       if ((l13 = (int) b[((int) (l1 = (l3 + l10) + l4)) - 60720]) > -1) { break L179; }
+       if (l13 + Integer.MIN_VALUE < 2147483616) { break L179; }
+       l15 = l13 & 255;
        l14 = (b[((int) l1) - 60719] & 0xff) & 63;
-       L230: {
-        if (l15 + Integer.MIN_VALUE > 2147483615) { break L230; }
-        l13 = ((l13 << 6) & 1984) | l14;
-        l10 = 2L;
-        break L229;
+       l16 = (b[((int) l1) - 60718] & 0xff) & 63;
+       L181: {
+        L182: {
+         if (l13 + Integer.MIN_VALUE > 2147483631) { break L182; }
+         l14 = ((l14 << 6) | ((l15 << 12) & 61440)) | l16;
+         break L181;
+        }
+        l14 = ((l16 << 6) | ((l14 << 12) | ((l15 << 18) & 1835008))) | ((b[((int) l1) - 60717] & 0xff) & 63);
        }
-       l12 = (b[((int) l1) - 60718] & 0xff) & 63;
-       L231: {
-        if (l15 + Integer.MIN_VALUE > 2147483631) { break L231; }
-        l13 = ((l14 << 6) | ((l13 << 12) & 61440)) | l12;
-        l10 = 3L;
-        break L229;
+       l15 = 4;
+       L183: {
+        if (l14 > 26201) { break L183; }
+        if (l14 == 21320) { exit = 1; break PART; }
+        if (l14 == 22812) { exit = 1; break PART; }
+        if (l14 == 26089) { exit = 1; break PART; }
+        break L179;
        }
-       l13 = ((l12 << 6) | ((l14 << 12) | ((l13 << 18) & 1835008))) | ((b[((int) l1) - 60717] & 0xff) & 63);
-       l10 = 4L;
+       l13 = 1;
+       switch (l14 + -26202) {
+       case 0: case 14: exit = 2; break PART;
+       default: break L179;
+       }
       }
-      l9 = l7 - l10;
-      l1 = l1 + l10;
-      if (Core5.f150(m, l13) != 0) { continue L228; }
-      break L228;
+      if (Core4.f136(m, 83108L, 1L, 83100L, 2L, l3, l4) == 0) { break L160; }
+      l15 = 4;
+      l13 = 1;
+      exit = 2; break PART;
+     }
+     L184: {
+      if ((l13 = (int) b[((int) (l5 + (l1 = l6 + -1L))) - 60720]) >= 0) { break L184; }
+      l1 = -2L;
+      L185: {
+       if ((b[((int) ((l10 = l5 + l6) + -2L)) - 60720] & 0xff) + Integer.MIN_VALUE > -2147483457) { break L185; }
+       l1 = ((b[((int) (l10 + -3L)) - 60720] & 0xff) + Integer.MIN_VALUE > -2147483457) ? -3L : -4L;
+      }
+      l13 = (l15 = (int) b[((int) (l10 = l5 + (l1 = l1 + l6))) - 60720]) & 255;
+      if (l15 > -1) { break L184; }
+      l14 = (b[((int) l10) - 60719] & 0xff) & 63;
+      L186: {
+       if (l15 + Integer.MIN_VALUE > 2147483615) { break L186; }
+       l13 = ((l13 << 6) & 1984) | l14;
+       break L184;
+      }
+      l16 = (b[((int) l10) - 60718] & 0xff) & 63;
+      L187: {
+       if (l15 + Integer.MIN_VALUE > 2147483631) { break L187; }
+       l13 = ((l14 << 6) | ((l13 << 12) & 61440)) | l16;
+       break L184;
+      }
+      l13 = ((l16 << 6) | ((l14 << 12) | ((l13 << 18) & 1835008))) | ((b[((int) l10) - 60717] & 0xff) & 63);
+     }
+     Core2.f50(m, l2 + 24L, l13);
+     if ((l13 + -58) + Integer.MIN_VALUE > 2147483637) { break L156; }
+     if (((b[((int) l2) - 60696] & 0xff) & 255) != 1) { break L156; }
+     if (l13 == 12295) { break L156; }
+     if (l13 == 38646) { break L156; }
+     if (l1 == 0L) { break L156; }
+     L188: {
+      if ((l13 = (int) b[((int) (l5 + (l10 = l1 + -1L))) - 60720]) >= 0) { break L188; }
+      l10 = -2L;
+      L189: {
+       if ((b[((int) ((l9 = l5 + l1) + -2L)) - 60720] & 0xff) + Integer.MIN_VALUE > -2147483457) { break L189; }
+       l10 = ((b[((int) (l9 + -3L)) - 60720] & 0xff) + Integer.MIN_VALUE > -2147483457) ? -3L : -4L;
+      }
+      l13 = (l15 = (int) b[((int) (l1 = l5 + (l10 = l10 + l1))) - 60720]) & 255;
+      if (l15 > -1) { break L188; }
+      l14 = (b[((int) l1) - 60719] & 0xff) & 63;
+      L190: {
+       if (l15 + Integer.MIN_VALUE > 2147483615) { break L190; }
+       l13 = ((l13 << 6) & 1984) | l14;
+       break L188;
+      }
+      l16 = (b[((int) l1) - 60718] & 0xff) & 63;
+      L191: {
+       if (l15 + Integer.MIN_VALUE > 2147483631) { break L191; }
+       l13 = ((l14 << 6) | ((l13 << 12) & 61440)) | l16;
+       break L188;
+      }
+      l13 = ((l16 << 6) | ((l14 << 12) | ((l13 << 18) & 1835008))) | ((b[((int) l1) - 60717] & 0xff) & 63);
+     }
+     L192: {
+      if ((l15 = (l13 == 38646) ? 1 : 0) != 0) { break L192; }
+      if (l13 == 12295) { break L192; }
+      if ((((l13 == 12295) ? 1 : 0) | l15) == 0) { break L156; }
+      break L155;
+     }
+     if (l10 == 0L) { break L156; }
+     L193: {
+      if ((l13 = (int) b[((int) (l5 + (l1 = l10 + -1L))) - 60720]) >= 0) { break L193; }
+      l1 = -2L;
+      L194: {
+       if ((b[((int) ((l9 = l5 + l10) + -2L)) - 60720] & 0xff) + Integer.MIN_VALUE > -2147483457) { break L194; }
+       l1 = ((b[((int) (l9 + -3L)) - 60720] & 0xff) + Integer.MIN_VALUE > -2147483457) ? -3L : -4L;
+      }
+      l13 = (l15 = (int) b[((int) (l10 = l5 + (l1 = l1 + l10))) - 60720]) & 255;
+      if (l15 > -1) { break L193; }
+      l14 = (b[((int) l10) - 60719] & 0xff) & 63;
+      L195: {
+       if (l15 + Integer.MIN_VALUE > 2147483615) { break L195; }
+       l13 = ((l13 << 6) & 1984) | l14;
+       break L193;
+      }
+      l16 = (b[((int) l10) - 60718] & 0xff) & 63;
+      L196: {
+       if (l15 + Integer.MIN_VALUE > 2147483631) { break L196; }
+       l13 = ((l14 << 6) | ((l13 << 12) & 61440)) | l16;
+       break L193;
+      }
+      l13 = ((l16 << 6) | ((l14 << 12) | ((l13 << 18) & 1835008))) | ((b[((int) l10) - 60717] & 0xff) & 63);
+     }
+     L197: {
+      if ((l15 = (l13 == 40670) ? 1 : 0) != 0) { break L197; }
+      if (l13 == 28857) { break L197; }
+      if ((((l13 == 28857) ? 1 : 0) | l15) == 0) { break L156; }
+      break L155;
+     }
+     if (l1 == 0L) { break L156; }
+     L198: {
+      if ((l13 = (int) b[((int) (l5 + (l10 = l1 + -1L))) - 60720]) >= 0) { break L198; }
+      l10 = -2L;
+      L199: {
+       if ((b[((int) ((l9 = l5 + l1) + -2L)) - 60720] & 0xff) + Integer.MIN_VALUE > -2147483457) { break L199; }
+       l10 = ((b[((int) (l9 + -3L)) - 60720] & 0xff) + Integer.MIN_VALUE > -2147483457) ? -3L : -4L;
+      }
+      l13 = (l15 = (int) b[((int) (l1 = l5 + (l10 = l10 + l1))) - 60720]) & 255;
+      if (l15 > -1) { break L198; }
+      l14 = (b[((int) l1) - 60719] & 0xff) & 63;
+      L200: {
+       if (l15 + Integer.MIN_VALUE > 2147483615) { break L200; }
+       l13 = ((l13 << 6) & 1984) | l14;
+       break L198;
+      }
+      l16 = (b[((int) l1) - 60718] & 0xff) & 63;
+      L201: {
+       if (l15 + Integer.MIN_VALUE > 2147483631) { break L201; }
+       l13 = ((l14 << 6) | ((l13 << 12) & 61440)) | l16;
+       break L198;
+      }
+      l13 = ((l16 << 6) | ((l14 << 12) | ((l13 << 18) & 1835008))) | ((b[((int) l1) - 60717] & 0xff) & 63);
+     }
+     L202: {
+      L203: {
+       L204: {
+        L205: {
+         L206: {
+          L207: {
+           if (l10 == 0L) { break L207; }
+           L208: {
+            if ((l15 = (int) b[((int) (l5 + (l1 = l10 + -1L))) - 60720]) >= 0) { break L208; }
+            l1 = -2L;
+            L209: {
+             if ((b[((int) ((l9 = l5 + l10) + -2L)) - 60720] & 0xff) + Integer.MIN_VALUE > -2147483457) { break L209; }
+             l1 = ((b[((int) (l9 + -3L)) - 60720] & 0xff) + Integer.MIN_VALUE > -2147483457) ? -3L : -4L;
+            }
+            l15 = (l14 = (int) b[((int) (l10 = l5 + (l1 = l1 + l10))) - 60720]) & 255;
+            if (l14 > -1) { break L208; }
+            l16 = (b[((int) l10) - 60719] & 0xff) & 63;
+            L210: {
+             if (l14 + Integer.MIN_VALUE > 2147483615) { break L210; }
+             l15 = ((l15 << 6) & 1984) | l16;
+             break L208;
+            }
+            l17 = (b[((int) l10) - 60718] & 0xff) & 63;
+            L211: {
+             if (l14 + Integer.MIN_VALUE > 2147483631) { break L211; }
+             l15 = ((l16 << 6) | ((l15 << 12) & 61440)) | l17;
+             break L208;
+            }
+            l15 = ((l17 << 6) | ((l16 << 12) | ((l15 << 18) & 1835008))) | ((b[((int) l10) - 60717] & 0xff) & 63);
+           }
+           if (l1 == 0L) { break L204; }
+           if (((int) b[((int) ((l10 = l5 + l1) + -1L)) - 60720]) > -1) { break L156; }
+           l9 = -2L;
+           L212: {
+            if ((b[((int) (l10 + -2L)) - 60720] & 0xff) + Integer.MIN_VALUE > -2147483457) { break L212; }
+            l9 = ((b[((int) (l10 + -3L)) - 60720] & 0xff) + Integer.MIN_VALUE > -2147483457) ? -3L : -4L;
+           }
+           if ((l14 = (int) b[((int) (l1 = l5 + (l10 = l9 + l1))) - 60720]) > -1) { break L156; }
+           if (l14 + Integer.MIN_VALUE < 2147483616) { break L156; }
+           l16 = l14 & 255;
+           l17 = (b[((int) l1) - 60719] & 0xff) & 63;
+           l20 = (b[((int) l1) - 60718] & 0xff) & 63;
+           if (l14 + Integer.MIN_VALUE > 2147483631) { break L206; }
+           l14 = ((l17 << 6) | ((l16 << 12) & 61440)) | l20;
+           break L205;
+          }
+          Core2.f50(m, l2 + 8L, l13);
+          L213: {
+           L214: {
+            if ((l13 + -58) + Integer.MIN_VALUE > 2147483637) { break L214; }
+            if (((b[((int) l2) - 60712] & 0xff) & 255) == 1) { break L213; }
+           }
+           if (l13 != 21313) { break L156; }
+           break L155;
+          }
+          if ((l13 != 12295) & (l13 != 38646)) { break L155; }
+          if (l13 != 21313) { break L156; }
+          break L155;
+         }
+         l14 = ((l20 << 6) | ((l17 << 12) | ((l16 << 18) & 1835008))) | ((b[((int) l1) - 60717] & 0xff) & 63);
+        }
+        if (l10 != 0L) { break L156; }
+        if (l14 != 20108) { break L156; }
+        if (l15 != 21313) { break L156; }
+        switch (l13 + -19968) {
+        case 0: case 9: break L155;
+        case 1: case 2: case 3: case 4: case 5: case 6: case 7: case 8: break L156;
+        default: break L203;
+        }
+       }
+       L215: {
+        if (l15 > 20840) { break L215; }
+        if (l15 == 20004) { break L202; }
+        if (l15 != 20108) { break L156; }
+        break L202;
+       }
+       if (l15 == 20841) { break L202; }
+       if (l15 != 21313) { break L156; }
+       Core2.f50(m, l2 + 16L, l13);
+       if ((l13 + -58) + Integer.MIN_VALUE > 2147483637) { break L156; }
+       if (((b[((int) l2) - 60704] & 0xff) & 255) != 1) { break L156; }
+       if (l13 == 12295) { break L156; }
+       if (l13 == 38646) { break L156; }
+       break L155;
+      }
+      if (l13 == 20108) { break L155; }
+      if (l13 != 22235) { break L156; }
+      break L155;
+     }
+     if (l13 == 21313) { break L155; }
+    }
+    if (l12 == 0) { break L154; }
+    exit = 3; break PART;
+   }
+   l13 = 1;
+   l15 = 4;
+   if (l12 != 0) { exit = 2; break PART; }
+   if ((l14 = (int) b[((int) l7) - 60720]) > -1) { exit = 2; break PART; }
+   if (l14 + Integer.MIN_VALUE < 2147483616) { exit = 2; break PART; }
+   l16 = l14 & 255;
+   l12 = (b[((int) l7) - 60719] & 0xff) & 63;
+   l17 = (b[((int) l7) - 60718] & 0xff) & 63;
+   L216: {
+    L217: {
+     if (l14 + Integer.MIN_VALUE > 2147483631) { break L217; }
+     l14 = ((l12 << 6) | ((l16 << 12) & 61440)) | l17;
+     break L216;
+    }
+    l14 = ((l17 << 6) | ((l12 << 12) | ((l16 << 18) & 1835008))) | ((b[((int) l7) - 60717] & 0xff) & 63);
+   }
+   L218: {
+    if (l14 > 21543) { break L218; }
+    L219: {
+     switch (l14 + -20803) {
+     case 0: case 8: break L154;
+     case 1: case 2: case 3: case 4: case 5: case 6: case 7: exit = 2; break PART;
+     default: break L219;
      }
     }
-    l15 = ((l13 = Core5.f151(m, l16, l5, l6, l11, l8 - l7)) != 0) ? 5 : 0;
-    if (l18 != 0) { exit = 2; break PART; }
-    if (l13 != 0) { exit = 2; break PART; }
-    break L151;
+    if (l14 == 20493) { break L154; }
+    if (l14 == 21319) { break L154; }
+    exit = 2; break PART;
    }
-   if (l18 == 0) { break L151; }
-   l13 = 0;
-   l15 = 0;
-   exit = 2; break PART;
+   L220: {
+    if (l14 > 24229) { break L220; }
+    if (l14 == 21544) { break L154; }
+    if (l14 == 22136) { break L154; }
+    exit = 2; break PART;
+   }
+   if (l14 == 24230) { break L154; }
+   if (l14 != 31859) { exit = 2; break PART; }
   }
  }
  m.kept[0] = l1;
- m.kept[1] = l7;
- m.kept[2] = l8;
- m.kept[3] = l9;
- m.kept[4] = l10;
- m.kept[5] = l11;
- m.kept[6] = l12;
- m.kept[7] = l13;
- m.kept[8] = l14;
- m.kept[9] = l15;
- m.kept[10] = l16;
- m.kept[11] = l17;
- m.kept[12] = l20;
- m.kept[13] = l21;
+ m.kept[1] = l9;
+ m.kept[2] = l10;
+ m.kept[3] = l12;
+ m.kept[4] = l13;
+ m.kept[5] = l14;
+ m.kept[6] = l15;
+ m.kept[7] = l16;
+ m.kept[8] = l17;
+ m.kept[9] = l20;
+ m.kept[10] = l21;
  return exit;
 }
 
@@ -5927,288 +6071,123 @@ static void f108(State m, long l0, long l1) {
  m.g0 = l2 = m.g0 - 96L;
  L1: {
   L2: {
-   L3: {
-    L4: {
-     L5: {
-      if ((l2 = l2) < 16L) { break L5; }
-      l3 = Words.get64(b, ((int) l1) - 60720);
-      l4 = Words.get64(b, ((int) l1) - 60712);
-      l5 = Words.get64(b, ((int) l1) - 60704);
-      l6 = Words.get64(b, ((int) l1) - 60696);
-      l7 = Words.get64(b, ((int) l1) - 60688);
-      if ((l12 = ((l8 = Words.get64(b, ((int) l1) - 60680)) == 0L) ? 1 : 0) != 0) { break L3; }
-      l1 = 1L;
-      l15 = l14 = (l13 = (int) b[((int) l7) - 60720]) & 255;
-      L6: {
-       if (l13 > -1) { break L6; }
-       l15 = (b[((int) l7) - 60719] & 0xff) & 63;
-       L7: {
-        if (l13 + Integer.MIN_VALUE > 2147483615) { break L7; }
-        l15 = ((l14 << 6) & 1984) | l15;
-        l1 = 2L;
-        break L6;
-       }
-       l16 = (b[((int) l7) - 60718] & 0xff) & 63;
-       L8: {
-        if (l13 + Integer.MIN_VALUE > 2147483631) { break L8; }
-        l15 = ((l15 << 6) | ((l14 << 12) & 61440)) | l16;
-        l1 = 3L;
-        break L6;
-       }
-       l15 = ((l16 << 6) | ((l15 << 12) | ((l14 << 18) & 1835008))) | ((b[((int) l7) - 60717] & 0xff) & 63);
-       l1 = 4L;
-      }
-      L9: {
-       L10: {
-        L11: {
-         L12: {
-          L13: {
-           if (l15 == 25240) { break L13; }
-           l1 = l5;
-           l9 = l6;
-           if (l15 == 25104) { break L12; }
-           l15 = Core4.f122(m, 84380L, 31L, 82788L, 1L, l7, l8);
-           if (l13 > -1) { break L9; }
-           if (l15 != 0) { break L9; }
-           if (l13 + Integer.MIN_VALUE < 2147483616) { break L3; }
-           l16 = (b[((int) l7) - 60719] & 0xff) & 63;
-           l17 = (b[((int) l7) - 60718] & 0xff) & 63;
-           if (l13 + Integer.MIN_VALUE > 2147483631) { break L11; }
-           l15 = ((l16 << 6) | ((l14 << 12) & 61440)) | l17;
-           break L10;
-          }
-          l13 = 1;
-          l15 = 3;
-          if (l8 == l1) { break L1; }
-          if ((l14 = (int) b[((int) (l1 = l7 + l1)) - 60720]) > -1) { break L1; }
-          if (l14 + Integer.MIN_VALUE < 2147483616) { break L1; }
-          l16 = l14 & 255;
-          l17 = (b[((int) l1) - 60719] & 0xff) & 63;
-          l18 = (b[((int) l1) - 60718] & 0xff) & 63;
-          L14: {
-           L15: {
-            if (l14 + Integer.MIN_VALUE > 2147483631) { break L15; }
-            l14 = ((l17 << 6) | ((l16 << 12) & 61440)) | l18;
-            break L14;
-           }
-           l14 = ((l18 << 6) | ((l17 << 12) | ((l16 << 18) & 1835008))) | ((b[((int) l1) - 60717] & 0xff) & 63);
-          }
-          L16: {
-           if (l14 > 30951) { break L16; }
-           L17: {
-            if (l14 > 26086) { break L17; }
-            if (l14 == 21472) { break L3; }
-            if (l14 == 21512) { break L3; }
-            break L1;
-           }
-           if (l14 == 26087) { break L3; }
-           if (l14 == 30090) { break L3; }
-           break L1;
-          }
-          L18: {
-           if (l14 > 33289) { break L18; }
-           if (l14 == 30952) { break L3; }
-           if (l14 == 31639) { break L3; }
-           break L1;
-          }
-          if (l14 == 33290) { break L3; }
-          if (l14 == 36820) { break L3; }
-          break L1;
-         }
-         L19: {
-          L20: while (true) {
-           if (l9 == 0L) { break L19; }
-           l13 = (l15 = (int) b[((int) l1) - 60720]) & 255;
-           l10 = 1L;
-           L21: {
-            if (l15 > -1) { break L21; }
-            l14 = (b[((int) l1) - 60719] & 0xff) & 63;
-            L22: {
-             if (l15 + Integer.MIN_VALUE > 2147483615) { break L22; }
-             l13 = ((l13 << 6) & 1984) | l14;
-             l10 = 2L;
-             break L21;
-            }
-            l16 = (b[((int) l1) - 60718] & 0xff) & 63;
-            L23: {
-             if (l15 + Integer.MIN_VALUE > 2147483631) { break L23; }
-             l13 = ((l14 << 6) | ((l13 << 12) & 61440)) | l16;
-             l10 = 3L;
-             break L21;
-            }
-            l13 = ((l16 << 6) | ((l14 << 12) | ((l13 << 18) & 1835008))) | ((b[((int) l1) - 60717] & 0xff) & 63);
-            l10 = 4L;
-           }
-           Core2.f50(m, l2 + 88L, l13);
-           if ((l13 + -58) + Integer.MIN_VALUE > 2147483637) { break L3; }
-           l9 = l9 - l10;
-           l1 = l1 + l10;
-           if (((b[((int) l2) - 60632] & 0xff) & 255) == 1) { continue L20; }
-           break L3;
-          }
-         }
-         l13 = 1;
-         l15 = 3;
-         if (l6 == 0L) { break L1; }
-         L24: {
-          L25: {
-           if ((l14 = (int) b[((int) l5) - 60720]) <= -1) { break L25; }
-           l1 = 1L;
-           break L24;
-          }
-          L26: {
-           if (l14 + Integer.MIN_VALUE >= 2147483616) { break L26; }
-           l1 = 2L;
-           break L24;
-          }
-          l1 = (l14 + Integer.MIN_VALUE < 2147483632) ? 3L : 4L;
-         }
-         if (l6 == l1) { break L1; }
-         L27: {
-          L28: {
-           if ((l14 = (int) b[((int) (l5 + l1)) - 60720]) <= -1) { break L28; }
-           l10 = 1L;
-           break L27;
-          }
-          L29: {
-           if (l14 + Integer.MIN_VALUE >= 2147483616) { break L29; }
-           l10 = 2L;
-           break L27;
-          }
-          l10 = (l14 + Integer.MIN_VALUE < 2147483632) ? 3L : 4L;
-         }
-         if (l6 != (l10 + l1)) { break L3; }
-         break L1;
-        }
-        l15 = ((l17 << 6) | ((l16 << 12) | ((l14 << 18) & 1835008))) | ((b[((int) l7) - 60717] & 0xff) & 63);
-       }
-       L30: {
-        L31: {
-         if (l15 > 27626) { break L31; }
-         if (l15 == 20811) { break L30; }
-         if (l15 == 21400) { break L30; }
-         break L4;
-        }
-        if (l15 == 27627) { break L30; }
-        if (l15 == 37328) { break L30; }
-        if (l15 != 31186) { break L4; }
-       }
-       if (Core4.f122(m, 84504L, 1L, 82784L, 1L, l5, l6) == 0) { break L4; }
-       break L2;
-      }
-      if (l15 != 0) { break L2; }
-      break L3;
-     }
-     throw State.trap();
-    }
-    L32: {
-     L33: {
-      if (l13 + Integer.MIN_VALUE > 2147483631) { break L33; }
-      l13 = ((l16 << 6) | ((l14 << 12) & 61440)) | l17;
-      l1 = 3L;
-      break L32;
-     }
-     l13 = ((l17 << 6) | ((l16 << 12) | ((l14 << 18) & 1835008))) | ((b[((int) l7) - 60717] & 0xff) & 63);
-     l1 = 4L;
-    }
-    if (l13 != 20998) { break L3; }
-    if (Core4.f122(m, 83432L, 1L, 83908L, 2L, l7 + l1, l8 - l1) != 0) { break L2; }
+   final int x34 = f108_1(m, l1, l2, l3, l4, l5, l6, l7, l8, l9, l10, l12, l13, l14, l15, l16, l17, l18);
+   l1 = m.kept[0];
+   l2 = m.kept[1];
+   l3 = m.kept[2];
+   l4 = m.kept[3];
+   l5 = m.kept[4];
+   l6 = m.kept[5];
+   l7 = m.kept[6];
+   l8 = m.kept[7];
+   l9 = m.kept[8];
+   l10 = m.kept[9];
+   l12 = (int) m.kept[10];
+   l13 = (int) m.kept[11];
+   l14 = (int) m.kept[12];
+   l15 = (int) m.kept[13];
+   l16 = (int) m.kept[14];
+   l17 = (int) m.kept[15];
+   l18 = (int) m.kept[16];
+   switch (x34) {
+   case 1: break L1;
+   case 2: break L2;
    }
-   L34: {
-    if (Core5.f149(m, l3, l4, l5, l6, l7, l8) == 0) { break L34; }
+   L35: {
+    if (Core5.f149(m, l3, l4, l5, l6, l7, l8) == 0) { break L35; }
     l15 = 0;
     l13 = 1;
     break L1;
    }
-   L35: {
-    if ((l17 = (l6 == 0L) ? 1 : 0) != 0) { break L35; }
+   L36: {
+    if ((l17 = (l6 == 0L) ? 1 : 0) != 0) { break L36; }
     l10 = l6;
     l1 = l5;
-    L36: while (true) {
-     L37: {
-      L38: {
-       L39: {
-        L40: {
-         if ((l13 = (int) b[((int) l1) - 60720]) <= -1) { break L40; }
+    L37: while (true) {
+     L38: {
+      L39: {
+       L40: {
+        L41: {
+         if ((l13 = (int) b[((int) l1) - 60720]) <= -1) { break L41; }
          l9 = 1L;
-         break L39;
+         break L40;
         }
-        if (l13 + Integer.MIN_VALUE >= 2147483616) { break L38; }
+        if (l13 + Integer.MIN_VALUE >= 2147483616) { break L39; }
         l9 = 2L;
        }
        l10 = l10 - l9;
        l1 = l1 + l9;
-       break L37;
+       break L38;
       }
       l15 = l13 & 255;
       l14 = (b[((int) l1) - 60719] & 0xff) & 63;
       l16 = (b[((int) l1) - 60718] & 0xff) & 63;
-      L41: {
-       L42: {
-        if (l13 + Integer.MIN_VALUE > 2147483631) { break L42; }
+      L42: {
+       L43: {
+        if (l13 + Integer.MIN_VALUE > 2147483631) { break L43; }
         l13 = ((l14 << 6) | ((l15 << 12) & 61440)) | l16;
         l9 = 3L;
-        break L41;
+        break L42;
        }
        l13 = ((l16 << 6) | ((l14 << 12) | ((l15 << 18) & 1835008))) | ((b[((int) l1) - 60717] & 0xff) & 63);
        l9 = 4L;
       }
       l10 = l10 - l9;
       l1 = l1 + l9;
-      if (l13 != 21313) { break L37; }
-      if (l10 == 0L) { break L35; }
+      if (l13 != 21313) { break L38; }
+      if (l10 == 0L) { break L36; }
       l13 = (l15 = (int) b[((int) l1) - 60720]) & 255;
       l9 = 1L;
-      L43: {
-       if (l15 > -1) { break L43; }
+      L44: {
+       if (l15 > -1) { break L44; }
        l14 = (b[((int) l1) - 60719] & 0xff) & 63;
-       L44: {
-        if (l15 + Integer.MIN_VALUE > 2147483615) { break L44; }
+       L45: {
+        if (l15 + Integer.MIN_VALUE > 2147483615) { break L45; }
         l13 = ((l13 << 6) & 1984) | l14;
         l9 = 2L;
-        break L43;
+        break L44;
        }
        l16 = (b[((int) l1) - 60718] & 0xff) & 63;
-       L45: {
-        if (l15 + Integer.MIN_VALUE > 2147483631) { break L45; }
+       L46: {
+        if (l15 + Integer.MIN_VALUE > 2147483631) { break L46; }
         l13 = ((l14 << 6) | ((l13 << 12) & 61440)) | l16;
         l9 = 3L;
-        break L43;
+        break L44;
        }
        l13 = ((l16 << 6) | ((l14 << 12) | ((l13 << 18) & 1835008))) | ((b[((int) l1) - 60717] & 0xff) & 63);
        l9 = 4L;
       }
       Core2.f50(m, l2 + 80L, l13);
-      if (l10 == l9) { break L37; }
-      if ((l13 + -48) + Integer.MIN_VALUE < -2147483638) { break L37; }
-      if (((b[((int) l2) - 60640] & 0xff) & 255) != 1) { break L37; }
-      if ((l13 = (int) b[((int) (l9 = l1 + l9)) - 60720]) > -1) { break L37; }
-      if (l13 + Integer.MIN_VALUE < 2147483616) { break L37; }
+      if (l10 == l9) { break L38; }
+      if ((l13 + -48) + Integer.MIN_VALUE < -2147483638) { break L38; }
+      if (((b[((int) l2) - 60640] & 0xff) & 255) != 1) { break L38; }
+      if ((l13 = (int) b[((int) (l9 = l1 + l9)) - 60720]) > -1) { break L38; }
+      if (l13 + Integer.MIN_VALUE < 2147483616) { break L38; }
       l15 = l13 & 255;
       l14 = (b[((int) l9) - 60719] & 0xff) & 63;
       l16 = (b[((int) l9) - 60718] & 0xff) & 63;
-      L46: {
-       L47: {
-        if (l13 + Integer.MIN_VALUE > 2147483631) { break L47; }
+      L47: {
+       L48: {
+        if (l13 + Integer.MIN_VALUE > 2147483631) { break L48; }
         l13 = ((l14 << 6) | ((l15 << 12) & 61440)) | l16;
-        break L46;
+        break L47;
        }
        l13 = ((l16 << 6) | ((l14 << 12) | ((l15 << 18) & 1835008))) | ((b[((int) l9) - 60717] & 0xff) & 63);
       }
-      if (l13 != 21313) { break L37; }
+      if (l13 != 21313) { break L38; }
       l15 = 1;
       l13 = 1;
       break L1;
      }
-     if (l10 != 0L) { continue L36; }
-     break L36;
+     if (l10 != 0L) { continue L37; }
+     break L37;
     }
    }
    l1 = l5;
    l9 = l6;
-   L48: {
-    L49: {
-     final int x134 = f108_1(m, l1, l2, l3, l4, l5, l6, l7, l8, l9, l10, l12, l13, l14, l15, l16, l17, l18, l19, l20, l21);
+   L49: {
+    L50: {
+     final int x135 = f108_2(m, l1, l2, l3, l4, l5, l6, l7, l8, l9, l10, l12, l13, l14, l15, l16, l17, l18, l19, l20, l21);
      l1 = m.kept[0];
      l9 = m.kept[1];
      l10 = m.kept[2];
@@ -6220,219 +6199,305 @@ static void f108(State m, long l0, long l1) {
      l19 = (int) m.kept[8];
      l20 = (int) m.kept[9];
      l21 = (int) m.kept[10];
-     switch (x134) {
-     case 1: break L48;
+     switch (x135) {
+     case 1: break L49;
      case 2: break L1;
-     case 3: break L49;
+     case 3: break L50;
      }
-     L135: {
-      if ((l18 = (l4 == 0L) ? 1 : 0) != 0) { break L135; }
-      if (((int) b[((int) ((l1 = l3 + l4) + -1L)) - 60720]) > -1) { break L135; }
+     L136: {
+      if ((l18 = (l4 == 0L) ? 1 : 0) != 0) { break L136; }
+      if (((int) b[((int) ((l1 = l3 + l4) + -1L)) - 60720]) > -1) { break L136; }
       l10 = -2L;
-      L136: {
-       if ((b[((int) (l1 + -2L)) - 60720] & 0xff) + Integer.MIN_VALUE > -2147483457) { break L136; }
+      L137: {
+       if ((b[((int) (l1 + -2L)) - 60720] & 0xff) + Integer.MIN_VALUE > -2147483457) { break L137; }
        l10 = ((b[((int) (l1 + -3L)) - 60720] & 0xff) + Integer.MIN_VALUE > -2147483457) ? -3L : -4L;
       }
-      if ((l13 = (int) b[((int) (l1 = (l3 + l10) + l4)) - 60720]) > -1) { break L135; }
-      if (l13 + Integer.MIN_VALUE < 2147483616) { break L135; }
+      if ((l13 = (int) b[((int) (l1 = (l3 + l10) + l4)) - 60720]) > -1) { break L136; }
+      if (l13 + Integer.MIN_VALUE < 2147483616) { break L136; }
       l15 = l13 & 255;
       l14 = (b[((int) l1) - 60719] & 0xff) & 63;
       l16 = (b[((int) l1) - 60718] & 0xff) & 63;
-      L137: {
-       L138: {
-        if (l13 + Integer.MIN_VALUE > 2147483631) { break L138; }
+      L138: {
+       L139: {
+        if (l13 + Integer.MIN_VALUE > 2147483631) { break L139; }
         l13 = ((l14 << 6) | ((l15 << 12) & 61440)) | l16;
-        break L137;
+        break L138;
        }
        l13 = ((l16 << 6) | ((l14 << 12) | ((l15 << 18) & 1835008))) | ((b[((int) l1) - 60717] & 0xff) & 63);
       }
-      if (l12 != 0) { break L135; }
-      if (l13 != 31532) { break L135; }
+      if (l12 != 0) { break L136; }
+      if (l13 != 31532) { break L136; }
       l13 = (l15 = (int) b[((int) l7) - 60720]) & 255;
       l1 = 1L;
-      L139: {
-       if (l15 > -1) { break L139; }
+      L140: {
+       if (l15 > -1) { break L140; }
        l14 = (b[((int) l7) - 60719] & 0xff) & 63;
-       L140: {
-        if (l15 + Integer.MIN_VALUE > 2147483615) { break L140; }
+       L141: {
+        if (l15 + Integer.MIN_VALUE > 2147483615) { break L141; }
         l13 = ((l13 << 6) & 1984) | l14;
         l1 = 2L;
-        break L139;
+        break L140;
        }
        l16 = (b[((int) l7) - 60718] & 0xff) & 63;
-       L141: {
-        if (l15 + Integer.MIN_VALUE > 2147483631) { break L141; }
+       L142: {
+        if (l15 + Integer.MIN_VALUE > 2147483631) { break L142; }
         l13 = ((l14 << 6) | ((l13 << 12) & 61440)) | l16;
         l1 = 3L;
-        break L139;
+        break L140;
        }
        l13 = ((l16 << 6) | ((l14 << 12) | ((l13 << 18) & 1835008))) | ((b[((int) l7) - 60717] & 0xff) & 63);
        l1 = 4L;
       }
       l10 = l7 + l1;
-      L142: {
-       L143: {
-        if (l13 == 26465) { break L143; }
-        if (l13 == 27425) { break L142; }
-        if (l13 != 26781) { break L135; }
+      L143: {
+       L144: {
+        if (l13 == 26465) { break L144; }
+        if (l13 == 27425) { break L143; }
+        if (l13 != 26781) { break L136; }
        }
        l15 = 2;
-       if (l8 == l1) { break L48; }
-       if ((l13 = (int) b[((int) l10) - 60720]) > -1) { break L48; }
-       if (l13 + Integer.MIN_VALUE < 2147483616) { break L48; }
+       if (l8 == l1) { break L49; }
+       if ((l13 = (int) b[((int) l10) - 60720]) > -1) { break L49; }
+       if (l13 + Integer.MIN_VALUE < 2147483616) { break L49; }
        l14 = l13 & 255;
        l16 = (b[((int) l10) - 60719] & 0xff) & 63;
        l20 = (b[((int) l10) - 60718] & 0xff) & 63;
-       L144: {
-        L145: {
-         if (l13 + Integer.MIN_VALUE > 2147483631) { break L145; }
-         if (((l13 = (l16 << 6) | ((l14 << 12) & 61440)) + -19968) + Integer.MIN_VALUE >= -2147462656) { break L48; }
+       L145: {
+        L146: {
+         if (l13 + Integer.MIN_VALUE > 2147483631) { break L146; }
+         if (((l13 = (l16 << 6) | ((l14 << 12) & 61440)) + -19968) + Integer.MIN_VALUE >= -2147462656) { break L49; }
          l13 = l13 | l20;
-         break L144;
+         break L145;
         }
-        if (((l13 = (l20 << 6) | ((l16 << 12) | ((l14 << 18) & 1835008))) + -19968) + Integer.MIN_VALUE >= -2147462656) { break L48; }
+        if (((l13 = (l20 << 6) | ((l16 << 12) | ((l14 << 18) & 1835008))) + -19968) + Integer.MIN_VALUE >= -2147462656) { break L49; }
         l13 = l13 | ((b[((int) l10) - 60717] & 0xff) & 63);
        }
-       L146: {
-        if (l13 > 25109) { break L146; }
-        L147: {
-         if (l13 > 21039) { break L147; }
-         if (l13 == 19982) { break L48; }
-         if (l13 == 20043) { break L48; }
-         break L135;
+       L147: {
+        if (l13 > 25109) { break L147; }
+        L148: {
+         if (l13 > 21039) { break L148; }
+         if (l13 == 19982) { break L49; }
+         if (l13 == 20043) { break L49; }
+         break L136;
         }
-        if (l13 == 21040) { break L48; }
-        if (l13 == 21450) { break L48; }
-        if (l13 == 21644) { break L48; }
-        break L135;
+        if (l13 == 21040) { break L49; }
+        if (l13 == 21450) { break L49; }
+        if (l13 == 21644) { break L49; }
+        break L136;
        }
-       L148: {
-        if (l13 > 33286) { break L148; }
-        if (l13 == 25110) { break L48; }
-        if (l13 == 31532) { break L48; }
-        if (l13 == 33267) { break L48; }
-        break L135;
+       L149: {
+        if (l13 > 33286) { break L149; }
+        if (l13 == 25110) { break L49; }
+        if (l13 == 31532) { break L49; }
+        if (l13 == 33267) { break L49; }
+        break L136;
        }
-       if (l13 == 33287) { break L48; }
-       if (l13 == 35215) { break L48; }
-       if (l13 == 35268) { break L48; }
-       break L135;
+       if (l13 == 33287) { break L49; }
+       if (l13 == 35215) { break L49; }
+       if (l13 == 35268) { break L49; }
+       break L136;
       }
-      if (l8 == l1) { break L135; }
-      if ((l13 = (int) b[((int) l10) - 60720]) > -1) { break L135; }
-      if (l13 + Integer.MIN_VALUE < 2147483616) { break L135; }
+      if (l8 == l1) { break L136; }
+      if ((l13 = (int) b[((int) l10) - 60720]) > -1) { break L136; }
+      if (l13 + Integer.MIN_VALUE < 2147483616) { break L136; }
       l15 = l13 & 255;
       l14 = (b[((int) l10) - 60719] & 0xff) & 63;
       l16 = (b[((int) l10) - 60718] & 0xff) & 63;
-      L149: {
-       L150: {
-        if (l13 + Integer.MIN_VALUE > 2147483631) { break L150; }
+      L150: {
+       L151: {
+        if (l13 + Integer.MIN_VALUE > 2147483631) { break L151; }
         l13 = ((l14 << 6) | ((l15 << 12) & 61440)) | l16;
-        break L149;
+        break L150;
        }
        l13 = ((l16 << 6) | ((l14 << 12) | ((l15 << 18) & 1835008))) | ((b[((int) l10) - 60717] & 0xff) & 63);
       }
-      if (l13 == 20840) { break L49; }
+      if (l13 == 20840) { break L50; }
      }
-     final int x232 = f108_2(m, l1, l2, l3, l4, l5, l6, l7, l8, l9, l10, l11, l12, l13, l14, l15, l16, l17, l18, l20, l21);
-     l1 = m.kept[0];
-     l7 = m.kept[1];
-     l8 = m.kept[2];
-     l9 = m.kept[3];
-     l10 = m.kept[4];
-     l11 = m.kept[5];
-     l12 = (int) m.kept[6];
-     l13 = (int) m.kept[7];
-     l14 = (int) m.kept[8];
-     l15 = (int) m.kept[9];
-     l16 = (int) m.kept[10];
-     l17 = (int) m.kept[11];
-     l20 = (int) m.kept[12];
-     l21 = (int) m.kept[13];
-     switch (x232) {
-     case 1: break L48;
-     case 2: break L1;
+     L152: {
+      L153: {
+       final int x221 = f108_3(m, l1, l2, l3, l4, l5, l6, l7, l9, l10, l12, l13, l14, l15, l16, l17, l18, l20, l21);
+       l1 = m.kept[0];
+       l9 = m.kept[1];
+       l10 = m.kept[2];
+       l12 = (int) m.kept[3];
+       l13 = (int) m.kept[4];
+       l14 = (int) m.kept[5];
+       l15 = (int) m.kept[6];
+       l16 = (int) m.kept[7];
+       l17 = (int) m.kept[8];
+       l20 = (int) m.kept[9];
+       l21 = (int) m.kept[10];
+       switch (x221) {
+       case 1: break L49;
+       case 2: break L1;
+       case 3: break L153;
+       }
+       l16 = (l13 = (int) b[((int) l7) - 60720]) & 255;
+       l10 = 1L;
+       L222: {
+        if (l13 > -1) { break L222; }
+        l15 = (b[((int) l7) - 60719] & 0xff) & 63;
+        L223: {
+         if (l13 + Integer.MIN_VALUE > 2147483615) { break L223; }
+         l16 = ((l16 << 6) & 1984) | l15;
+         l10 = 2L;
+         break L222;
+        }
+        l14 = (b[((int) l7) - 60718] & 0xff) & 63;
+        L224: {
+         if (l13 + Integer.MIN_VALUE > 2147483631) { break L224; }
+         l16 = ((l15 << 6) | ((l16 << 12) & 61440)) | l14;
+         l10 = 3L;
+         break L222;
+        }
+        l16 = ((l14 << 6) | ((l15 << 12) | ((l16 << 18) & 1835008))) | ((b[((int) l7) - 60717] & 0xff) & 63);
+        l10 = 4L;
+       }
+       L225: {
+        L226: {
+         if (l16 > 12315) { break L226; }
+         L227: {
+          if (l16 > 8210) { break L227; }
+          if (l16 == 45) { break L225; }
+          if (l16 != 126) { break L153; }
+          break L225;
+         }
+         if ((l16 + -8211) + Integer.MIN_VALUE < -2147483646) { break L225; }
+         if (l16 != 12289) { break L153; }
+         break L225;
+        }
+        L228: {
+         if (l16 > 33266) { break L228; }
+         if (l16 == 12316) { break L225; }
+         if (l16 != 21040) { break L153; }
+         break L225;
+        }
+        if (l16 == 33267) { break L225; }
+        if (l16 == 65374) { break L225; }
+        if (l16 != 65293) { break L153; }
+       }
+       l1 = l11 = l7 + l10;
+       l9 = l8 = l8 - l10;
+       L229: {
+        L230: while (true) {
+         if ((l7 = l9) == 0L) { break L229; }
+         l13 = (l15 = (int) b[((int) l1) - 60720]) & 255;
+         l10 = 1L;
+         L231: {
+          if (l15 > -1) { break L231; }
+          l14 = (b[((int) l1) - 60719] & 0xff) & 63;
+          L232: {
+           if (l15 + Integer.MIN_VALUE > 2147483615) { break L232; }
+           l13 = ((l13 << 6) & 1984) | l14;
+           l10 = 2L;
+           break L231;
+          }
+          l12 = (b[((int) l1) - 60718] & 0xff) & 63;
+          L233: {
+           if (l15 + Integer.MIN_VALUE > 2147483631) { break L233; }
+           l13 = ((l14 << 6) | ((l13 << 12) & 61440)) | l12;
+           l10 = 3L;
+           break L231;
+          }
+          l13 = ((l12 << 6) | ((l14 << 12) | ((l13 << 18) & 1835008))) | ((b[((int) l1) - 60717] & 0xff) & 63);
+          l10 = 4L;
+         }
+         l9 = l7 - l10;
+         l1 = l1 + l10;
+         if (Core5.f150(m, l13) != 0) { continue L230; }
+         break L230;
+        }
+       }
+       l15 = ((l13 = Core5.f151(m, l16, l5, l6, l11, l8 - l7)) != 0) ? 5 : 0;
+       if (l18 != 0) { break L1; }
+       if (l13 != 0) { break L1; }
+       break L152;
+      }
+      if (l18 == 0) { break L152; }
+      l13 = 0;
+      l15 = 0;
+      break L1;
      }
      l13 = 0;
-     L233: {
-      if ((l14 = (int) b[((int) (l3 + (l7 = l4 + -1L))) - 60720]) >= 0) { break L233; }
+     L234: {
+      if ((l14 = (int) b[((int) (l3 + (l7 = l4 + -1L))) - 60720]) >= 0) { break L234; }
       l1 = -2L;
-      L234: {
-       if ((b[((int) ((l10 = l3 + l4) + -2L)) - 60720] & 0xff) + Integer.MIN_VALUE > -2147483457) { break L234; }
+      L235: {
+       if ((b[((int) ((l10 = l3 + l4) + -2L)) - 60720] & 0xff) + Integer.MIN_VALUE > -2147483457) { break L235; }
        l1 = ((b[((int) (l10 + -3L)) - 60720] & 0xff) + Integer.MIN_VALUE > -2147483457) ? -3L : -4L;
       }
       l14 = (l15 = (int) b[((int) (l1 = l3 + (l7 = l1 + l4))) - 60720]) & 255;
-      if (l15 > -1) { break L233; }
+      if (l15 > -1) { break L234; }
       l16 = (b[((int) l1) - 60719] & 0xff) & 63;
-      L235: {
-       if (l15 + Integer.MIN_VALUE > 2147483615) { break L235; }
+      L236: {
+       if (l15 + Integer.MIN_VALUE > 2147483615) { break L236; }
        l14 = ((l14 << 6) & 1984) | l16;
-       break L233;
+       break L234;
       }
       l12 = (b[((int) l1) - 60718] & 0xff) & 63;
-      L236: {
-       if (l15 + Integer.MIN_VALUE > 2147483631) { break L236; }
+      L237: {
+       if (l15 + Integer.MIN_VALUE > 2147483631) { break L237; }
        l14 = ((l16 << 6) | ((l14 << 12) & 61440)) | l12;
-       break L233;
+       break L234;
       }
       l14 = ((l12 << 6) | ((l16 << 12) | ((l14 << 18) & 1835008))) | ((b[((int) l1) - 60717] & 0xff) & 63);
      }
-     L237: {
-      L238: {
-       if (l14 > 12315) { break L238; }
-       L239: {
-        if (l14 > 8210) { break L239; }
-        if (l14 == 45) { break L237; }
+     L238: {
+      L239: {
+       if (l14 > 12315) { break L239; }
+       L240: {
+        if (l14 > 8210) { break L240; }
+        if (l14 == 45) { break L238; }
         l15 = 0;
-        if (l14 == 126) { break L237; }
+        if (l14 == 126) { break L238; }
         break L1;
        }
-       if ((l14 + -8211) + Integer.MIN_VALUE < -2147483646) { break L237; }
+       if ((l14 + -8211) + Integer.MIN_VALUE < -2147483646) { break L238; }
        l15 = 0;
-       if (l14 == 12289) { break L237; }
+       if (l14 == 12289) { break L238; }
        break L1;
       }
-      L240: {
-       if (l14 > 33266) { break L240; }
-       if (l14 == 12316) { break L237; }
+      L241: {
+       if (l14 > 33266) { break L241; }
+       if (l14 == 12316) { break L238; }
        l15 = 0;
-       if (l14 == 21040) { break L237; }
+       if (l14 == 21040) { break L238; }
        break L1;
       }
-      if (l14 == 33267) { break L237; }
-      if (l14 == 65374) { break L237; }
+      if (l14 == 33267) { break L238; }
+      if (l14 == 65374) { break L238; }
       l15 = 0;
       if (l14 != 65293) { break L1; }
      }
      l10 = l7;
-     L241: {
-      L242: while (true) {
-       if ((l1 = l10) == 0L) { break L241; }
-       L243: {
-        if ((l13 = (int) b[((int) (l3 + (l10 = l1 + -1L))) - 60720]) >= 0) { break L243; }
+     L242: {
+      L243: while (true) {
+       if ((l1 = l10) == 0L) { break L242; }
+       L244: {
+        if ((l13 = (int) b[((int) (l3 + (l10 = l1 + -1L))) - 60720]) >= 0) { break L244; }
         l10 = -2L;
-        L244: {
-         if ((b[((int) ((l9 = l3 + l1) + -2L)) - 60720] & 0xff) + Integer.MIN_VALUE > -2147483457) { break L244; }
+        L245: {
+         if ((b[((int) ((l9 = l3 + l1) + -2L)) - 60720] & 0xff) + Integer.MIN_VALUE > -2147483457) { break L245; }
          l10 = ((b[((int) (l9 + -3L)) - 60720] & 0xff) + Integer.MIN_VALUE > -2147483457) ? -3L : -4L;
         }
         l13 = (l15 = (int) b[((int) (l9 = l3 + (l10 = l10 + l1))) - 60720]) & 255;
-        if (l15 > -1) { break L243; }
+        if (l15 > -1) { break L244; }
         l16 = (b[((int) l9) - 60719] & 0xff) & 63;
-        L245: {
-         if (l15 + Integer.MIN_VALUE > 2147483615) { break L245; }
+        L246: {
+         if (l15 + Integer.MIN_VALUE > 2147483615) { break L246; }
          l13 = ((l13 << 6) & 1984) | l16;
-         break L243;
+         break L244;
         }
         l12 = (b[((int) l9) - 60718] & 0xff) & 63;
-        L246: {
-         if (l15 + Integer.MIN_VALUE > 2147483631) { break L246; }
+        L247: {
+         if (l15 + Integer.MIN_VALUE > 2147483631) { break L247; }
          l13 = ((l16 << 6) | ((l13 << 12) & 61440)) | l12;
-         break L243;
+         break L244;
         }
         l13 = ((l12 << 6) | ((l16 << 12) | ((l13 << 18) & 1835008))) | ((b[((int) l9) - 60717] & 0xff) & 63);
        }
-       if (Core5.f150(m, l13) != 0) { continue L242; }
-       break L242;
+       if (Core5.f150(m, l13) != 0) { continue L243; }
+       break L243;
       }
      }
      l15 = ((l13 = Core5.f151(m, l14, l3 + l1, l7 - l1, l5, l6)) != 0) ? 5 : 0;
@@ -6783,510 +6848,231 @@ static void f112(State m, long l0, int l1, long l2, long l3) {
  throw State.trap();
 }
 
-static int f113_1(State m, long l1, long l2, int l5, long l8, long l9, long l13, long l14, long l15, long l16, long l18, long l20, long l21, long l22, long l23, long l24, long l25, int l27, int l28, int l29, int l30, int l31, int l32, int l33, int l34) {
+static int f113_1(State m, long l1, long l2, long l8, long l9, long l13, long l14, long l15, long l16, long l18, long l20, long l21, long l22, long l23, long l24, long l25, int l27, int l28, int l29, int l30, int l31, int l32) {
  final byte[] b = m.bytes;
  int exit = 0;
  PART: {
-  L7: {
-   if ((l5 & 255) != 0) { break L7; }
-   L8: {
-    if ((l28 = (l2 == 0L) ? 1 : 0) != 0) { break L8; }
-    L9: {
-     L10: {
-      L11: {
-       if ((l29 = (int) b[((int) l16) - 60720]) > -1) { break L11; }
-       l31 = l30 = b[((int) l14) - 60720] & 0xff;
-       l22 = l14;
-       l32 = l30;
-       L12: {
-        L13: {
-         L14: {
-          L15: {
-           if (l30 + Integer.MIN_VALUE >= -2147483456) { break L15; }
-           if ((l32 = (int) (byte) (l31 = b[((int) (l22 = l13 + (((b[((int) l15) - 60720] & 0xff) + Integer.MIN_VALUE > -2147483457) ? -3L : -4L))) - 60720] & 0xff)) > -1) { break L14; }
-          }
-          l33 = (b[((int) l22) - 60719] & 0xff) & 63;
-          L16: {
-           L17: {
-            if ((l32 = l32 & 255) + Integer.MIN_VALUE > -2147483425) { break L17; }
-            l32 = ((l31 << 6) & 1984) | l33;
-            break L16;
-           }
-           l34 = (b[((int) l22) - 60718] & 0xff) & 63;
-           L18: {
-            if (l32 + Integer.MIN_VALUE > -2147483409) { break L18; }
-            l32 = ((l33 << 6) | ((l31 << 12) & 61440)) | l34;
-            break L16;
-           }
-           l32 = ((l34 << 6) | ((l33 << 12) | ((l31 << 18) & 1835008))) | ((b[((int) l22) - 60717] & 0xff) & 63);
-          }
-          if (l32 == 95) { exit = 1; break PART; }
-          if (((l32 & 2097119) + -65) + Integer.MIN_VALUE < -2147483622) { exit = 1; break PART; }
-          l22 = l14;
-          l32 = l30;
-          if (l30 + Integer.MIN_VALUE < -2147483456) { break L13; }
-          break L12;
-         }
-         if (l32 == 95) { exit = 1; break PART; }
-         if (((l31 & 95) + -65) + Integer.MIN_VALUE < -2147483622) { exit = 1; break PART; }
-        }
-        if ((l32 = (int) (byte) (l30 = b[((int) (l22 = l13 + (((b[((int) l15) - 60720] & 0xff) + Integer.MIN_VALUE > -2147483457) ? -3L : -4L))) - 60720] & 0xff)) > -1) { break L9; }
-       }
-       l31 = (b[((int) l22) - 60719] & 0xff) & 63;
-       if ((l32 = l32 & 255) + Integer.MIN_VALUE > -2147483425) { break L10; }
-       l30 = ((l30 << 6) & 1984) | l31;
-       break L9;
-      }
-      if (l29 == 95) { exit = 1; break PART; }
-      l30 = l29;
-      if ((((l29 & 95) + -65) & 255) + Integer.MIN_VALUE >= -2147483622) { break L9; }
-      exit = 1; break PART;
-     }
-     l33 = (b[((int) l22) - 60718] & 0xff) & 63;
-     L19: {
-      if (l32 + Integer.MIN_VALUE > -2147483409) { break L19; }
-      l30 = ((l31 << 6) | ((l30 << 12) & 61440)) | l33;
-      break L9;
-     }
-     l30 = ((l33 << 6) | ((l31 << 12) | ((l30 << 18) & 1835008))) | ((b[((int) l22) - 60717] & 0xff) & 63);
+  L48: {
+   L49: {
+    switch (l27) {
+    case 12: case 13: break L48;
+    case 17: exit = 1; break PART;
+    case 22: break L49;
+    default: exit = 2; break PART;
     }
-    L20: {
-     if ((l30 + -48) + Integer.MIN_VALUE < -2147483638) { break L20; }
-     if ((l30 + -65296) + Integer.MIN_VALUE < -2147483638) { break L20; }
-     L21: {
-      L22: {
-       if (l30 > 20190) { break L22; }
-       L23: {
-        if (l30 > 20060) { break L23; }
-        if ((l32 = l30 + -19968) + Integer.MIN_VALUE > -2147483612) { break L21; }
-        if (((1L << (l32 & 0xffffffffL)) & 68719477385L) == 0L) { break L21; }
-        break L20;
-       }
-       L24: {
-        switch (l30 + -20108) {
-        case 0: case 8: break L20;
-        case 1: case 2: case 3: case 4: case 5: case 6: case 7: break L8;
-        default: break L24;
-        }
-       }
-       if (l30 == 20061) { break L20; }
-       if (l30 == 20159) { break L20; }
-       break L8;
-      }
-      L25: {
-       L26: {
-        L27: {
-         if (l30 > 21312) { break L27; }
-         if ((l32 = l30 + -20841) + Integer.MIN_VALUE <= -2147483644) { break L26; }
-         break L25;
-        }
-        L28: {
-         L29: {
-          if (l30 > 30333) { break L29; }
-          switch (l30 + -21313) {
-          case 0: case 2: break L20;
-          case 1: break L8;
-          default: break L28;
-          }
-         }
-         if (l30 == 30334) { break L20; }
-         if (l30 == 38646) { break L20; }
-         if (l30 != 33836) { break L8; }
-         break L20;
-        }
-        if (l30 == 22235) { break L20; }
-        break L8;
-       }
-       if (((1 << l32) & 21) != 0) { break L20; }
-      }
-      if (l30 == 20191) { break L20; }
-      if (l30 == 20740) { break L20; }
-      break L8;
-     }
-     if (l30 != 12295) { break L8; }
-    }
-    if (l29 > -1) { exit = 1; break PART; }
-    l22 = -2L;
-    L30: {
-     if ((b[((int) l14) - 60720] & 0xff) + Integer.MIN_VALUE > -2147483457) { break L30; }
-     l22 = ((b[((int) l15) - 60720] & 0xff) + Integer.MIN_VALUE > -2147483457) ? -3L : -4L;
-    }
-    if ((l30 = (int) b[((int) (l22 = l1 + (l23 = l22 + l2))) - 60720]) > -1) { exit = 1; break PART; }
-    if (l30 + Integer.MIN_VALUE < 2147483616) { exit = 1; break PART; }
+   }
+   L50: {
+    if ((l27 = (l9 == 0L) ? 1 : 0) != 0) { break L50; }
+    if ((l30 = (int) b[((int) l20) - 60720]) > -1) { break L50; }
+    if (l30 + Integer.MIN_VALUE < 2147483616) { break L50; }
     l29 = l30 & 255;
-    l32 = (b[((int) l22) - 60719] & 0xff) & 63;
-    l31 = (b[((int) l22) - 60718] & 0xff) & 63;
-    L31: {
-     L32: {
-      if (l30 + Integer.MIN_VALUE > 2147483631) { break L32; }
+    l32 = (b[((int) l20) - 60719] & 0xff) & 63;
+    l31 = (b[((int) l20) - 60718] & 0xff) & 63;
+    L51: {
+     L52: {
+      if (l30 + Integer.MIN_VALUE > 2147483631) { break L52; }
       l30 = ((l32 << 6) | ((l29 << 12) & 61440)) | l31;
-      break L31;
+      break L51;
      }
-     l30 = ((l31 << 6) | ((l32 << 12) | ((l29 << 18) & 1835008))) | ((b[((int) l22) - 60717] & 0xff) & 63);
+     l30 = ((l31 << 6) | ((l32 << 12) | ((l29 << 18) & 1835008))) | ((b[((int) l20) - 60717] & 0xff) & 63);
     }
-    L33: {
-     L34: {
-      if (l30 > 20844) { break L34; }
-      L35: {
-       switch (l30 + -19968) {
-       case 0: case 9: break L33;
-       case 1: case 2: case 3: case 4: case 5: case 6: case 7: case 8: exit = 1; break PART;
-       default: break L35;
-       }
-      }
-      switch (l30 + -20108) {
-      case 0: case 8: break L33;
-      default: exit = 1; break PART;
-      }
-     }
-     if (l30 == 22235) { break L33; }
-     if (l30 != 20845) { exit = 1; break PART; }
+    L53: {
+     if (l30 == 38047) { break L53; }
+     if (l30 != 37912) { break L50; }
     }
-    if (Core4.f118(m, l1, l23) == 0) { exit = 1; break PART; }
+    if (Core4.f122(m, 82900L, 2L, 84092L, 1L, l20, l9) == 0) { exit = 2; break PART; }
    }
-   if (Core4.f118(m, l1, l2) != 0) { exit = 1; break PART; }
-   l22 = 83916L;
-   l23 = 4L;
-   l29 = 0;
-   L36: {
-    L37: {
-     L38: {
-      L39: {
-       L40: {
-        L41: {
-         switch (l27) {
-         case 3: break L36;
-         case 4: break L41;
-         case 5: case 6: break L40;
-         case 20: case 21: break L39;
-         case 31: break L38;
-         default: break L37;
-         }
-        }
-        l22 = 83932L;
-        l23 = 10L;
-        break L36;
-       }
-       l22 = 83972L;
-       l23 = 3L;
-       break L36;
-      }
-      l22 = 83984L;
-      l23 = 5L;
-      break L36;
-     }
-     l22 = 84004L;
-     l23 = 11L;
-     break L36;
-    }
-    l22 = 79940L;
-    l23 = 0L;
-    l29 = 1;
-   }
-   L42: {
-    if (l28 != 0) { break L42; }
-    L43: {
-     if ((l30 = (int) b[((int) l16) - 60720]) >= 0) { break L43; }
-     l24 = l14;
-     l32 = l30 = b[((int) l14) - 60720] & 0xff;
-     L44: {
-      if (l30 + Integer.MIN_VALUE >= -2147483456) { break L44; }
-      if ((l32 = (int) (byte) (l30 = b[((int) (l24 = l13 + (((b[((int) l15) - 60720] & 0xff) + Integer.MIN_VALUE > -2147483457) ? -3L : -4L))) - 60720] & 0xff)) > -1) { break L43; }
-     }
-     l31 = (b[((int) l24) - 60719] & 0xff) & 63;
-     L45: {
-      if ((l32 = l32 & 255) + Integer.MIN_VALUE > -2147483425) { break L45; }
-      l30 = ((l30 << 6) & 1984) | l31;
-      break L43;
-     }
-     l33 = (b[((int) l24) - 60718] & 0xff) & 63;
-     L46: {
-      if (l32 + Integer.MIN_VALUE > -2147483409) { break L46; }
-      l30 = ((l31 << 6) | ((l30 << 12) & 61440)) | l33;
-      break L43;
-     }
-     l30 = ((l33 << 6) | ((l31 << 12) | ((l30 << 18) & 1835008))) | ((b[((int) l24) - 60717] & 0xff) & 63);
-    }
-    if (l29 != 0) { break L42; }
-    L47: while (true) {
-     if (Words.get32(b, ((int) l22) - 60720) == l30) { exit = 1; break PART; }
-     l22 = l22 + 4L;
-     if ((l23 = l23 + -1L) != 0L) { continue L47; }
-     break L47;
-    }
-   }
-   L48: {
-    L49: {
-     switch (l27) {
-     case 12: case 13: break L48;
-     case 17: exit = 1; break PART;
-     case 22: break L49;
-     default: break L7;
-     }
-    }
-    L50: {
-     if ((l27 = (l9 == 0L) ? 1 : 0) != 0) { break L50; }
-     if ((l30 = (int) b[((int) l20) - 60720]) > -1) { break L50; }
-     if (l30 + Integer.MIN_VALUE < 2147483616) { break L50; }
-     l29 = l30 & 255;
-     l32 = (b[((int) l20) - 60719] & 0xff) & 63;
-     l31 = (b[((int) l20) - 60718] & 0xff) & 63;
-     L51: {
-      L52: {
-       if (l30 + Integer.MIN_VALUE > 2147483631) { break L52; }
-       l30 = ((l32 << 6) | ((l29 << 12) & 61440)) | l31;
-       break L51;
-      }
-      l30 = ((l31 << 6) | ((l32 << 12) | ((l29 << 18) & 1835008))) | ((b[((int) l20) - 60717] & 0xff) & 63);
-     }
-     L53: {
-      if (l30 == 38047) { break L53; }
-      if (l30 != 37912) { break L50; }
-     }
-     if (Core4.f122(m, 82900L, 2L, 84092L, 1L, l20, l9) == 0) { break L7; }
-    }
-    L54: {
-     L55: {
-      L56: {
-       if (l28 != 0) { break L56; }
-       if (((int) b[((int) l16) - 60720]) > -1) { break L56; }
-       l22 = l14;
-       l29 = l30 = b[((int) l14) - 60720] & 0xff;
-       L57: {
-        L58: {
-         L59: {
-          if (l30 + Integer.MIN_VALUE > -2147483457) { break L59; }
-          if ((l29 = (int) b[((int) (l22 = l13 + (((b[((int) l15) - 60720] & 0xff) + Integer.MIN_VALUE > -2147483457) ? -3L : -4L))) - 60720]) > -1) { break L58; }
-         }
-         L60: {
-          if ((l29 = l29 & 255) + Integer.MIN_VALUE < -2147483424) { break L60; }
-          l32 = (b[((int) l22) - 60719] & 0xff) & 63;
-          l31 = (b[((int) l22) - 60718] & 0xff) & 63;
-          L61: {
-           L62: {
-            if (l29 + Integer.MIN_VALUE > -2147483409) { break L62; }
-            l29 = ((l32 << 6) | ((l29 << 12) & 61440)) | l31;
-            break L61;
-           }
-           l29 = ((l31 << 6) | ((l32 << 12) | ((l29 << 18) & 1835008))) | ((b[((int) l22) - 60717] & 0xff) & 63);
-          }
-          if (l29 == 21495) { break L7; }
-          if (l29 == 26085) { break L7; }
-          if (l29 == 34399) { break L7; }
-         }
-         l22 = -2L;
-         if (l30 + Integer.MIN_VALUE > -2147483457) { break L57; }
-        }
-        l22 = ((b[((int) l15) - 60720] & 0xff) + Integer.MIN_VALUE > -2147483457) ? -3L : -4L;
-       }
-       if ((l30 = (int) b[((int) (l22 = l1 + (l23 = l22 + l2))) - 60720]) > -1) { break L56; }
-       if (l30 + Integer.MIN_VALUE < 2147483616) { break L56; }
-       l29 = l30 & 255;
-       l32 = (b[((int) l22) - 60719] & 0xff) & 63;
-       l31 = (b[((int) l22) - 60718] & 0xff) & 63;
-       L63: {
-        L64: {
-         if (l30 + Integer.MIN_VALUE > 2147483631) { break L64; }
-         l30 = ((l32 << 6) | ((l29 << 12) & 61440)) | l31;
-         break L63;
-        }
-        l30 = ((l31 << 6) | ((l32 << 12) | ((l29 << 18) & 1835008))) | ((b[((int) l22) - 60717] & 0xff) & 63);
-       }
-       if (l23 == 0L) { break L56; }
-       if (l30 != 22825) { break L56; }
-       if (((int) b[((int) (l22 + -1L)) - 60720]) > -1) { break L56; }
-       l24 = -2L;
-       L65: {
-        if ((b[((int) (l22 + -2L)) - 60720] & 0xff) + Integer.MIN_VALUE > -2147483457) { break L65; }
-        l24 = ((b[((int) (l22 + -3L)) - 60720] & 0xff) + Integer.MIN_VALUE > -2147483457) ? -3L : -4L;
-       }
-       if ((l30 = (int) b[((int) (l22 = (l1 + l24) + l23)) - 60720]) > -1) { break L56; }
-       if (l30 + Integer.MIN_VALUE < 2147483616) { break L56; }
-       l29 = l30 & 255;
-       l32 = (b[((int) l22) - 60719] & 0xff) & 63;
-       l31 = (b[((int) l22) - 60718] & 0xff) & 63;
-       L66: {
-        L67: {
-         if (l30 + Integer.MIN_VALUE > 2147483631) { break L67; }
-         l30 = ((l32 << 6) | ((l29 << 12) & 61440)) | l31;
-         break L66;
-        }
-        l30 = ((l31 << 6) | ((l32 << 12) | ((l29 << 18) & 1835008))) | ((b[((int) l22) - 60717] & 0xff) & 63);
-       }
-       L68: {
-        if (l30 > 24459) { break L68; }
-        L69: {
-         if (l30 > 21517) { break L69; }
-         if (l30 == 20170) { break L55; }
-         if (l30 != 21069) { break L56; }
-         break L55;
-        }
-        if (l30 == 21518) { break L55; }
-        if (l30 != 24403) { break L56; }
-        break L55;
-       }
-       L70: {
-        if (l30 > 26151) { break L70; }
-        if (l30 == 24460) { break L55; }
-        if (l30 != 26126) { break L56; }
-        break L55;
-       }
-       if (l30 == 26152) { break L55; }
-       if (l30 == 27599) { break L55; }
-       if (l30 == 30070) { break L55; }
-      }
-      L71: {
-       if (Core4.f122(m, 84096L, 1L, 84100L, 1L, l20, l9) != 0) { break L71; }
-       if (Core4.f122(m, 84104L, 4L, 84120L, 7L, l20, l9) != 0) { break L71; }
-       if (l27 != 0) { break L54; }
-       if ((l27 = (int) b[((int) l20) - 60720]) > -1) { break L54; }
-       if (l27 + Integer.MIN_VALUE < 2147483616) { break L54; }
-       l30 = l27 & 255;
-       l29 = (b[((int) l20) - 60719] & 0xff) & 63;
-       l32 = (b[((int) l20) - 60718] & 0xff) & 63;
-       L72: {
-        L73: {
-         if (l27 + Integer.MIN_VALUE > 2147483631) { break L73; }
-         l27 = ((l29 << 6) | ((l30 << 12) & 61440)) | l32;
-         break L72;
-        }
-        l27 = ((l32 << 6) | ((l29 << 12) | ((l30 << 18) & 1835008))) | ((b[((int) l20) - 60717] & 0xff) & 63);
-       }
-       if (l27 != 21069) { break L54; }
-       if (Core4.f122(m, 84148L, 1L, 84152L, 30L, l20, l9) != 0) { break L54; }
-      }
-      if (l28 != 0) { break L55; }
-      if (((int) b[((int) l16) - 60720]) > -1) { break L55; }
+   L54: {
+    L55: {
+     L56: {
+      if (l28 != 0) { break L56; }
+      if (((int) b[((int) l16) - 60720]) > -1) { break L56; }
       l22 = l14;
-      L74: {
-       if ((l27 = b[((int) l14) - 60720] & 0xff) + Integer.MIN_VALUE > -2147483457) { break L74; }
-       if ((l27 = (int) b[((int) (l22 = l13 + (((b[((int) l15) - 60720] & 0xff) + Integer.MIN_VALUE > -2147483457) ? -3L : -4L))) - 60720]) > -1) { break L55; }
-      }
-      if ((l27 = l27 & 255) + Integer.MIN_VALUE < -2147483424) { break L55; }
-      l30 = (b[((int) l22) - 60719] & 0xff) & 63;
-      l29 = (b[((int) l22) - 60718] & 0xff) & 63;
-      L75: {
-       L76: {
-        if (l27 + Integer.MIN_VALUE > -2147483409) { break L76; }
-        l27 = ((l30 << 6) | ((l27 << 12) & 61440)) | l29;
-        break L75;
-       }
-       l27 = ((l29 << 6) | ((l30 << 12) | ((l27 << 18) & 1835008))) | ((b[((int) l22) - 60717] & 0xff) & 63);
-      }
-      L77: {
-       if (l27 > 26367) { break L77; }
-       L78: {
-        if (l27 > 21737) { break L78; }
-        if (l27 == 19978) { break L54; }
-        if (l27 == 20197) { break L54; }
-        if (l27 != 20960) { break L55; }
-        break L54;
-       }
-       if (l27 == 21738) { break L54; }
-       if (l27 == 24046) { break L54; }
-       if (l27 != 24190) { break L55; }
-       break L54;
-      }
-      L79: {
-       if (l27 > 36824) { break L79; }
-       L80: {
-        switch (l27 + -26368) {
-        case 0: case 9: break L54;
-        case 1: case 2: case 3: case 4: case 5: case 6: case 7: case 8: break L55;
-        default: break L80;
+      l29 = l30 = b[((int) l14) - 60720] & 0xff;
+      L57: {
+       L58: {
+        L59: {
+         if (l30 + Integer.MIN_VALUE > -2147483457) { break L59; }
+         if ((l29 = (int) b[((int) (l22 = l13 + (((b[((int) l15) - 60720] & 0xff) + Integer.MIN_VALUE > -2147483457) ? -3L : -4L))) - 60720]) > -1) { break L58; }
         }
+        L60: {
+         if ((l29 = l29 & 255) + Integer.MIN_VALUE < -2147483424) { break L60; }
+         l32 = (b[((int) l22) - 60719] & 0xff) & 63;
+         l31 = (b[((int) l22) - 60718] & 0xff) & 63;
+         L61: {
+          L62: {
+           if (l29 + Integer.MIN_VALUE > -2147483409) { break L62; }
+           l29 = ((l32 << 6) | ((l29 << 12) & 61440)) | l31;
+           break L61;
+          }
+          l29 = ((l31 << 6) | ((l32 << 12) | ((l29 << 18) & 1835008))) | ((b[((int) l22) - 60717] & 0xff) & 63);
+         }
+         if (l29 == 21495) { exit = 2; break PART; }
+         if (l29 == 26085) { exit = 2; break PART; }
+         if (l29 == 34399) { exit = 2; break PART; }
+        }
+        l22 = -2L;
+        if (l30 + Integer.MIN_VALUE > -2147483457) { break L57; }
        }
-       if (l27 == 27599) { break L54; }
-       if (l27 != 31532) { break L55; }
+       l22 = ((b[((int) l15) - 60720] & 0xff) + Integer.MIN_VALUE > -2147483457) ? -3L : -4L;
+      }
+      if ((l30 = (int) b[((int) (l22 = l1 + (l23 = l22 + l2))) - 60720]) > -1) { break L56; }
+      if (l30 + Integer.MIN_VALUE < 2147483616) { break L56; }
+      l29 = l30 & 255;
+      l32 = (b[((int) l22) - 60719] & 0xff) & 63;
+      l31 = (b[((int) l22) - 60718] & 0xff) & 63;
+      L63: {
+       L64: {
+        if (l30 + Integer.MIN_VALUE > 2147483631) { break L64; }
+        l30 = ((l32 << 6) | ((l29 << 12) & 61440)) | l31;
+        break L63;
+       }
+       l30 = ((l31 << 6) | ((l32 << 12) | ((l29 << 18) & 1835008))) | ((b[((int) l22) - 60717] & 0xff) & 63);
+      }
+      if (l23 == 0L) { break L56; }
+      if (l30 != 22825) { break L56; }
+      if (((int) b[((int) (l22 + -1L)) - 60720]) > -1) { break L56; }
+      l24 = -2L;
+      L65: {
+       if ((b[((int) (l22 + -2L)) - 60720] & 0xff) + Integer.MIN_VALUE > -2147483457) { break L65; }
+       l24 = ((b[((int) (l22 + -3L)) - 60720] & 0xff) + Integer.MIN_VALUE > -2147483457) ? -3L : -4L;
+      }
+      if ((l30 = (int) b[((int) (l22 = (l1 + l24) + l23)) - 60720]) > -1) { break L56; }
+      if (l30 + Integer.MIN_VALUE < 2147483616) { break L56; }
+      l29 = l30 & 255;
+      l32 = (b[((int) l22) - 60719] & 0xff) & 63;
+      l31 = (b[((int) l22) - 60718] & 0xff) & 63;
+      L66: {
+       L67: {
+        if (l30 + Integer.MIN_VALUE > 2147483631) { break L67; }
+        l30 = ((l32 << 6) | ((l29 << 12) & 61440)) | l31;
+        break L66;
+       }
+       l30 = ((l31 << 6) | ((l32 << 12) | ((l29 << 18) & 1835008))) | ((b[((int) l22) - 60717] & 0xff) & 63);
+      }
+      L68: {
+       if (l30 > 24459) { break L68; }
+       L69: {
+        if (l30 > 21517) { break L69; }
+        if (l30 == 20170) { break L55; }
+        if (l30 != 21069) { break L56; }
+        break L55;
+       }
+       if (l30 == 21518) { break L55; }
+       if (l30 != 24403) { break L56; }
+       break L55;
+      }
+      L70: {
+       if (l30 > 26151) { break L70; }
+       if (l30 == 24460) { break L55; }
+       if (l30 != 26126) { break L56; }
+       break L55;
+      }
+      if (l30 == 26152) { break L55; }
+      if (l30 == 27599) { break L55; }
+      if (l30 == 30070) { break L55; }
+     }
+     L71: {
+      if (Core4.f122(m, 84096L, 1L, 84100L, 1L, l20, l9) != 0) { break L71; }
+      if (Core4.f122(m, 84104L, 4L, 84120L, 7L, l20, l9) != 0) { break L71; }
+      if (l27 != 0) { break L54; }
+      if ((l27 = (int) b[((int) l20) - 60720]) > -1) { break L54; }
+      if (l27 + Integer.MIN_VALUE < 2147483616) { break L54; }
+      l30 = l27 & 255;
+      l29 = (b[((int) l20) - 60719] & 0xff) & 63;
+      l32 = (b[((int) l20) - 60718] & 0xff) & 63;
+      L72: {
+       L73: {
+        if (l27 + Integer.MIN_VALUE > 2147483631) { break L73; }
+        l27 = ((l29 << 6) | ((l30 << 12) & 61440)) | l32;
+        break L72;
+       }
+       l27 = ((l32 << 6) | ((l29 << 12) | ((l30 << 18) & 1835008))) | ((b[((int) l20) - 60717] & 0xff) & 63);
+      }
+      if (l27 != 21069) { break L54; }
+      if (Core4.f122(m, 84148L, 1L, 84152L, 30L, l20, l9) != 0) { break L54; }
+     }
+     if (l28 != 0) { break L55; }
+     if (((int) b[((int) l16) - 60720]) > -1) { break L55; }
+     l22 = l14;
+     L74: {
+      if ((l27 = b[((int) l14) - 60720] & 0xff) + Integer.MIN_VALUE > -2147483457) { break L74; }
+      if ((l27 = (int) b[((int) (l22 = l13 + (((b[((int) l15) - 60720] & 0xff) + Integer.MIN_VALUE > -2147483457) ? -3L : -4L))) - 60720]) > -1) { break L55; }
+     }
+     if ((l27 = l27 & 255) + Integer.MIN_VALUE < -2147483424) { break L55; }
+     l30 = (b[((int) l22) - 60719] & 0xff) & 63;
+     l29 = (b[((int) l22) - 60718] & 0xff) & 63;
+     L75: {
+      L76: {
+       if (l27 + Integer.MIN_VALUE > -2147483409) { break L76; }
+       l27 = ((l30 << 6) | ((l27 << 12) & 61440)) | l29;
+       break L75;
+      }
+      l27 = ((l29 << 6) | ((l30 << 12) | ((l27 << 18) & 1835008))) | ((b[((int) l22) - 60717] & 0xff) & 63);
+     }
+     L77: {
+      if (l27 > 26367) { break L77; }
+      L78: {
+       if (l27 > 21737) { break L78; }
+       if (l27 == 19978) { break L54; }
+       if (l27 == 20197) { break L54; }
+       if (l27 != 20960) { break L55; }
        break L54;
       }
-      if (l27 == 36825) { break L54; }
-      if (l27 == 36889) { break L54; }
-      if (l27 == 37027) { break L54; }
+      if (l27 == 21738) { break L54; }
+      if (l27 == 24046) { break L54; }
+      if (l27 != 24190) { break L55; }
+      break L54;
      }
-     if ((l21 & 281470681743360L) != 4294967296L) { break L7; }
-    }
-    if (Core4.f123(m, 84064L, 7L, l1, l2) != 0) { break L7; }
-    Words.put64(b, ((int) l8) - 60648, 0L);
-    Words.put64(b, ((int) l8) - 60656, 0L);
-    Words.put64(b, ((int) l8) - 60664, 0L);
-    f114(m, l8 + 56L, 14, l20, l9);
-    if ((b[((int) l8) - 60664] & 0xff) != 1) { exit = 1; break PART; }
-    l22 = Words.get64(b, ((int) l8) - 60656);
-    L81: {
-     L82: {
-      if ((l23 = Words.get64(b, ((int) l8) - 60648)) == 0L) { break L82; }
-      l27 = (l30 = (int) b[((int) l22) - 60720]) & 255;
-      L83: {
-       if (l30 > -1) { break L83; }
-       l29 = (b[((int) l22) - 60719] & 0xff) & 63;
-       L84: {
-        if (l30 + Integer.MIN_VALUE > 2147483615) { break L84; }
-        l27 = ((l27 << 6) & 1984) | l29;
-        break L83;
+     L79: {
+      if (l27 > 36824) { break L79; }
+      L80: {
+       switch (l27 + -26368) {
+       case 0: case 9: break L54;
+       case 1: case 2: case 3: case 4: case 5: case 6: case 7: case 8: break L55;
+       default: break L80;
        }
-       l28 = (b[((int) l22) - 60718] & 0xff) & 63;
-       L85: {
-        if (l30 + Integer.MIN_VALUE > 2147483631) { break L85; }
-        l27 = ((l29 << 6) | ((l27 << 12) & 61440)) | l28;
-        break L83;
-       }
-       l27 = ((l28 << 6) | ((l29 << 12) | ((l27 << 18) & 1835008))) | ((b[((int) l22) - 60717] & 0xff) & 63);
       }
-      if (l27 == 32) { break L81; }
+      if (l27 == 27599) { break L54; }
+      if (l27 != 31532) { break L55; }
+      break L54;
      }
-     Words.put64(b, ((int) l8) - 60592, l23);
-     Words.put64(b, ((int) l8) - 60600, l22);
-     Words.put64(b, ((int) l8) - 60608, 0L);
-     Words.put64(b, ((int) l8) - 60616, 0L);
-     Words.put64(b, ((int) l8) - 60624, 0L);
-     Words.put64(b, ((int) l8) - 60632, 0L);
-     Words.put64(b, ((int) l8) - 60640, 0L);
-     Core4.f121(m, l8 + 80L, 0, 4, l8 + 112L);
-     if ((b[((int) l8) - 60640] & 0xff) != 1) { break L81; }
-     Words.put64(b, ((int) l8) - 60592, l24 = Words.get64(b, ((int) l18) - 60704));
-     Words.put64(b, ((int) l8) - 60600, l25 = Words.get64(b, ((int) l18) - 60712));
-     Words.put64(b, ((int) l8) - 60608, Words.get64(b, ((int) l18) - 60720));
-     Words.put64(b, ((int) l8) - 60584, 0L);
-     Words.put64(b, ((int) l8) - 60576, 0L);
-     Words.put64(b, ((int) l8) - 60568, 0L);
-     f112(m, l8 + 40L, (b[((int) l8) - 60602] & 0xff) & 1, l25, l24);
-     f114(m, l8 + 136L, 4, Words.get64(b, ((int) l8) - 60680), Words.get64(b, ((int) l8) - 60672));
-     if ((b[((int) l8) - 60584] & 0xff) == 1) { break L7; }
+     if (l27 == 36825) { break L54; }
+     if (l27 == 36889) { break L54; }
+     if (l27 == 37027) { break L54; }
     }
-    Words.put64(b, ((int) l8) - 60624, 0L);
-    Words.put64(b, ((int) l8) - 60632, 0L);
-    Words.put64(b, ((int) l8) - 60640, 0L);
-    f114(m, l8 + 80L, 21, l22, l23);
-    L86: {
-     if ((b[((int) l8) - 60640] & 0xff) != 1) { break L86; }
-     l24 = Words.get64(b, ((int) l8) - 60632);
-     Words.put64(b, ((int) l8) - 60592, Words.get64(b, ((int) l8) - 60624));
-     Words.put64(b, ((int) l8) - 60600, l24);
-     Words.put64(b, ((int) l8) - 60608, 0L);
-     Words.put64(b, ((int) l8) - 60616, 0L);
-     Words.put64(b, ((int) l8) - 60624, 0L);
-     Words.put64(b, ((int) l8) - 60632, 0L);
-     Words.put64(b, ((int) l8) - 60640, 0L);
-     Core4.f121(m, l8 + 80L, 0, 4, l8 + 112L);
-     if ((b[((int) l8) - 60640] & 0xff) != 1) { break L86; }
-     Words.put64(b, ((int) l8) - 60592, l24 = Words.get64(b, ((int) l18) - 60704));
-     Words.put64(b, ((int) l8) - 60600, l25 = Words.get64(b, ((int) l18) - 60712));
-     Words.put64(b, ((int) l8) - 60608, Words.get64(b, ((int) l18) - 60720));
-     Words.put64(b, ((int) l8) - 60584, 0L);
-     Words.put64(b, ((int) l8) - 60576, 0L);
-     Words.put64(b, ((int) l8) - 60568, 0L);
-     f112(m, l8 + 24L, (b[((int) l8) - 60602] & 0xff) & 1, l25, l24);
-     f114(m, l8 + 136L, 4, Words.get64(b, ((int) l8) - 60696), Words.get64(b, ((int) l8) - 60688));
-     if ((b[((int) l8) - 60584] & 0xff) == 1) { break L7; }
+    if ((l21 & 281470681743360L) != 4294967296L) { exit = 2; break PART; }
+   }
+   if (Core4.f123(m, 84064L, 7L, l1, l2) != 0) { exit = 2; break PART; }
+   Words.put64(b, ((int) l8) - 60648, 0L);
+   Words.put64(b, ((int) l8) - 60656, 0L);
+   Words.put64(b, ((int) l8) - 60664, 0L);
+   f114(m, l8 + 56L, 14, l20, l9);
+   if ((b[((int) l8) - 60664] & 0xff) != 1) { exit = 1; break PART; }
+   l22 = Words.get64(b, ((int) l8) - 60656);
+   L81: {
+    L82: {
+     if ((l23 = Words.get64(b, ((int) l8) - 60648)) == 0L) { break L82; }
+     l27 = (l30 = (int) b[((int) l22) - 60720]) & 255;
+     L83: {
+      if (l30 > -1) { break L83; }
+      l29 = (b[((int) l22) - 60719] & 0xff) & 63;
+      L84: {
+       if (l30 + Integer.MIN_VALUE > 2147483615) { break L84; }
+       l27 = ((l27 << 6) & 1984) | l29;
+       break L83;
+      }
+      l28 = (b[((int) l22) - 60718] & 0xff) & 63;
+      L85: {
+       if (l30 + Integer.MIN_VALUE > 2147483631) { break L85; }
+       l27 = ((l29 << 6) | ((l27 << 12) & 61440)) | l28;
+       break L83;
+      }
+      l27 = ((l28 << 6) | ((l29 << 12) | ((l27 << 18) & 1835008))) | ((b[((int) l22) - 60717] & 0xff) & 63);
+     }
+     if (l27 == 32) { break L81; }
     }
-    Words.put64(b, ((int) l8) - 60624, 0L);
-    Words.put64(b, ((int) l8) - 60632, 0L);
-    Words.put64(b, ((int) l8) - 60640, 0L);
-    f114(m, l8 + 80L, 22, l22, l23);
-    if ((b[((int) l8) - 60640] & 0xff) != 1) { exit = 1; break PART; }
-    l22 = Words.get64(b, ((int) l8) - 60632);
-    Words.put64(b, ((int) l8) - 60592, Words.get64(b, ((int) l8) - 60624));
+    Words.put64(b, ((int) l8) - 60592, l23);
     Words.put64(b, ((int) l8) - 60600, l22);
     Words.put64(b, ((int) l8) - 60608, 0L);
     Words.put64(b, ((int) l8) - 60616, 0L);
@@ -7294,19 +7080,68 @@ static int f113_1(State m, long l1, long l2, int l5, long l8, long l9, long l13,
     Words.put64(b, ((int) l8) - 60632, 0L);
     Words.put64(b, ((int) l8) - 60640, 0L);
     Core4.f121(m, l8 + 80L, 0, 4, l8 + 112L);
-    if ((b[((int) l8) - 60640] & 0xff) != 1) { exit = 1; break PART; }
-    Words.put64(b, ((int) l8) - 60592, l22 = Words.get64(b, ((int) l18) - 60704));
-    Words.put64(b, ((int) l8) - 60600, l23 = Words.get64(b, ((int) l18) - 60712));
+    if ((b[((int) l8) - 60640] & 0xff) != 1) { break L81; }
+    Words.put64(b, ((int) l8) - 60592, l24 = Words.get64(b, ((int) l18) - 60704));
+    Words.put64(b, ((int) l8) - 60600, l25 = Words.get64(b, ((int) l18) - 60712));
     Words.put64(b, ((int) l8) - 60608, Words.get64(b, ((int) l18) - 60720));
     Words.put64(b, ((int) l8) - 60584, 0L);
     Words.put64(b, ((int) l8) - 60576, 0L);
     Words.put64(b, ((int) l8) - 60568, 0L);
-    f112(m, l8 + 8L, (b[((int) l8) - 60602] & 0xff) & 1, l23, l22);
-    f114(m, l8 + 136L, 4, Words.get64(b, ((int) l8) - 60712), Words.get64(b, ((int) l8) - 60704));
-    if ((b[((int) l8) - 60584] & 0xff) == 1) { break L7; }
-    exit = 1; break PART;
+    f112(m, l8 + 40L, (b[((int) l8) - 60602] & 0xff) & 1, l25, l24);
+    f114(m, l8 + 136L, 4, Words.get64(b, ((int) l8) - 60680), Words.get64(b, ((int) l8) - 60672));
+    if ((b[((int) l8) - 60584] & 0xff) == 1) { exit = 2; break PART; }
    }
-   if (Core4.f123(m, 84048L, 4L, l1, l2) == 0) { exit = 1; break PART; }
+   Words.put64(b, ((int) l8) - 60624, 0L);
+   Words.put64(b, ((int) l8) - 60632, 0L);
+   Words.put64(b, ((int) l8) - 60640, 0L);
+   f114(m, l8 + 80L, 21, l22, l23);
+   L86: {
+    if ((b[((int) l8) - 60640] & 0xff) != 1) { break L86; }
+    l24 = Words.get64(b, ((int) l8) - 60632);
+    Words.put64(b, ((int) l8) - 60592, Words.get64(b, ((int) l8) - 60624));
+    Words.put64(b, ((int) l8) - 60600, l24);
+    Words.put64(b, ((int) l8) - 60608, 0L);
+    Words.put64(b, ((int) l8) - 60616, 0L);
+    Words.put64(b, ((int) l8) - 60624, 0L);
+    Words.put64(b, ((int) l8) - 60632, 0L);
+    Words.put64(b, ((int) l8) - 60640, 0L);
+    Core4.f121(m, l8 + 80L, 0, 4, l8 + 112L);
+    if ((b[((int) l8) - 60640] & 0xff) != 1) { break L86; }
+    Words.put64(b, ((int) l8) - 60592, l24 = Words.get64(b, ((int) l18) - 60704));
+    Words.put64(b, ((int) l8) - 60600, l25 = Words.get64(b, ((int) l18) - 60712));
+    Words.put64(b, ((int) l8) - 60608, Words.get64(b, ((int) l18) - 60720));
+    Words.put64(b, ((int) l8) - 60584, 0L);
+    Words.put64(b, ((int) l8) - 60576, 0L);
+    Words.put64(b, ((int) l8) - 60568, 0L);
+    f112(m, l8 + 24L, (b[((int) l8) - 60602] & 0xff) & 1, l25, l24);
+    f114(m, l8 + 136L, 4, Words.get64(b, ((int) l8) - 60696), Words.get64(b, ((int) l8) - 60688));
+    if ((b[((int) l8) - 60584] & 0xff) == 1) { exit = 2; break PART; }
+   }
+   Words.put64(b, ((int) l8) - 60624, 0L);
+   Words.put64(b, ((int) l8) - 60632, 0L);
+   Words.put64(b, ((int) l8) - 60640, 0L);
+   f114(m, l8 + 80L, 22, l22, l23);
+   if ((b[((int) l8) - 60640] & 0xff) != 1) { exit = 1; break PART; }
+   l22 = Words.get64(b, ((int) l8) - 60632);
+   Words.put64(b, ((int) l8) - 60592, Words.get64(b, ((int) l8) - 60624));
+   Words.put64(b, ((int) l8) - 60600, l22);
+   Words.put64(b, ((int) l8) - 60608, 0L);
+   Words.put64(b, ((int) l8) - 60616, 0L);
+   Words.put64(b, ((int) l8) - 60624, 0L);
+   Words.put64(b, ((int) l8) - 60632, 0L);
+   Words.put64(b, ((int) l8) - 60640, 0L);
+   Core4.f121(m, l8 + 80L, 0, 4, l8 + 112L);
+   if ((b[((int) l8) - 60640] & 0xff) != 1) { exit = 1; break PART; }
+   Words.put64(b, ((int) l8) - 60592, l22 = Words.get64(b, ((int) l18) - 60704));
+   Words.put64(b, ((int) l8) - 60600, l23 = Words.get64(b, ((int) l18) - 60712));
+   Words.put64(b, ((int) l8) - 60608, Words.get64(b, ((int) l18) - 60720));
+   Words.put64(b, ((int) l8) - 60584, 0L);
+   Words.put64(b, ((int) l8) - 60576, 0L);
+   Words.put64(b, ((int) l8) - 60568, 0L);
+   f112(m, l8 + 8L, (b[((int) l8) - 60602] & 0xff) & 1, l23, l22);
+   f114(m, l8 + 136L, 4, Words.get64(b, ((int) l8) - 60712), Words.get64(b, ((int) l8) - 60704));
+   if ((b[((int) l8) - 60584] & 0xff) == 1) { exit = 2; break PART; }
+   exit = 1; break PART;
   }
  }
  m.kept[0] = l22;
@@ -7319,8 +7154,6 @@ static int f113_1(State m, long l1, long l2, int l5, long l8, long l9, long l13,
  m.kept[7] = l30;
  m.kept[8] = l31;
  m.kept[9] = l32;
- m.kept[10] = l33;
- m.kept[11] = l34;
  return exit;
 }
 
@@ -7405,21 +7238,250 @@ static void f113(State m, long l0, long l1, long l2, long l3, long l4, int l5, l
      l9 = Words.get64(b, ((int) l8) - 60616);
      l20 = Words.get64(b, ((int) l8) - 60624);
      l21 = Words.get64(b, ((int) l8) - 60632);
-     final int x87 = f113_1(m, l1, l2, l5, l8, l9, l13, l14, l15, l16, l18, l20, l21, l22, l23, l24, l25, l27, l28, l29, l30, l31, l32, l33, l34);
-     l22 = m.kept[0];
-     l23 = m.kept[1];
-     l24 = m.kept[2];
-     l25 = m.kept[3];
-     l27 = (int) m.kept[4];
-     l28 = (int) m.kept[5];
-     l29 = (int) m.kept[6];
-     l30 = (int) m.kept[7];
-     l31 = (int) m.kept[8];
-     l32 = (int) m.kept[9];
-     l33 = (int) m.kept[10];
-     l34 = (int) m.kept[11];
-     switch (x87) {
-     case 1: break L5;
+     L7: {
+      if ((l5 & 255) != 0) { break L7; }
+      L8: {
+       if ((l28 = (l2 == 0L) ? 1 : 0) != 0) { break L8; }
+       L9: {
+        L10: {
+         L11: {
+          if ((l29 = (int) b[((int) l16) - 60720]) > -1) { break L11; }
+          l31 = l30 = b[((int) l14) - 60720] & 0xff;
+          l22 = l14;
+          l32 = l30;
+          L12: {
+           L13: {
+            L14: {
+             L15: {
+              if (l30 + Integer.MIN_VALUE >= -2147483456) { break L15; }
+              if ((l32 = (int) (byte) (l31 = b[((int) (l22 = l13 + (((b[((int) l15) - 60720] & 0xff) + Integer.MIN_VALUE > -2147483457) ? -3L : -4L))) - 60720] & 0xff)) > -1) { break L14; }
+             }
+             l33 = (b[((int) l22) - 60719] & 0xff) & 63;
+             L16: {
+              L17: {
+               if ((l32 = l32 & 255) + Integer.MIN_VALUE > -2147483425) { break L17; }
+               l32 = ((l31 << 6) & 1984) | l33;
+               break L16;
+              }
+              l34 = (b[((int) l22) - 60718] & 0xff) & 63;
+              L18: {
+               if (l32 + Integer.MIN_VALUE > -2147483409) { break L18; }
+               l32 = ((l33 << 6) | ((l31 << 12) & 61440)) | l34;
+               break L16;
+              }
+              l32 = ((l34 << 6) | ((l33 << 12) | ((l31 << 18) & 1835008))) | ((b[((int) l22) - 60717] & 0xff) & 63);
+             }
+             if (l32 == 95) { break L5; }
+             if (((l32 & 2097119) + -65) + Integer.MIN_VALUE < -2147483622) { break L5; }
+             l22 = l14;
+             l32 = l30;
+             if (l30 + Integer.MIN_VALUE < -2147483456) { break L13; }
+             break L12;
+            }
+            if (l32 == 95) { break L5; }
+            if (((l31 & 95) + -65) + Integer.MIN_VALUE < -2147483622) { break L5; }
+           }
+           if ((l32 = (int) (byte) (l30 = b[((int) (l22 = l13 + (((b[((int) l15) - 60720] & 0xff) + Integer.MIN_VALUE > -2147483457) ? -3L : -4L))) - 60720] & 0xff)) > -1) { break L9; }
+          }
+          l31 = (b[((int) l22) - 60719] & 0xff) & 63;
+          if ((l32 = l32 & 255) + Integer.MIN_VALUE > -2147483425) { break L10; }
+          l30 = ((l30 << 6) & 1984) | l31;
+          break L9;
+         }
+         if (l29 == 95) { break L5; }
+         l30 = l29;
+         if ((((l29 & 95) + -65) & 255) + Integer.MIN_VALUE >= -2147483622) { break L9; }
+         break L5;
+        }
+        l33 = (b[((int) l22) - 60718] & 0xff) & 63;
+        L19: {
+         if (l32 + Integer.MIN_VALUE > -2147483409) { break L19; }
+         l30 = ((l31 << 6) | ((l30 << 12) & 61440)) | l33;
+         break L9;
+        }
+        l30 = ((l33 << 6) | ((l31 << 12) | ((l30 << 18) & 1835008))) | ((b[((int) l22) - 60717] & 0xff) & 63);
+       }
+       L20: {
+        if ((l30 + -48) + Integer.MIN_VALUE < -2147483638) { break L20; }
+        if ((l30 + -65296) + Integer.MIN_VALUE < -2147483638) { break L20; }
+        L21: {
+         L22: {
+          if (l30 > 20190) { break L22; }
+          L23: {
+           if (l30 > 20060) { break L23; }
+           if ((l32 = l30 + -19968) + Integer.MIN_VALUE > -2147483612) { break L21; }
+           if (((1L << (l32 & 0xffffffffL)) & 68719477385L) == 0L) { break L21; }
+           break L20;
+          }
+          L24: {
+           switch (l30 + -20108) {
+           case 0: case 8: break L20;
+           case 1: case 2: case 3: case 4: case 5: case 6: case 7: break L8;
+           default: break L24;
+           }
+          }
+          if (l30 == 20061) { break L20; }
+          if (l30 == 20159) { break L20; }
+          break L8;
+         }
+         L25: {
+          L26: {
+           L27: {
+            if (l30 > 21312) { break L27; }
+            if ((l32 = l30 + -20841) + Integer.MIN_VALUE <= -2147483644) { break L26; }
+            break L25;
+           }
+           L28: {
+            L29: {
+             if (l30 > 30333) { break L29; }
+             switch (l30 + -21313) {
+             case 0: case 2: break L20;
+             case 1: break L8;
+             default: break L28;
+             }
+            }
+            if (l30 == 30334) { break L20; }
+            if (l30 == 38646) { break L20; }
+            if (l30 != 33836) { break L8; }
+            break L20;
+           }
+           if (l30 == 22235) { break L20; }
+           break L8;
+          }
+          if (((1 << l32) & 21) != 0) { break L20; }
+         }
+         if (l30 == 20191) { break L20; }
+         if (l30 == 20740) { break L20; }
+         break L8;
+        }
+        if (l30 != 12295) { break L8; }
+       }
+       if (l29 > -1) { break L5; }
+       l22 = -2L;
+       L30: {
+        if ((b[((int) l14) - 60720] & 0xff) + Integer.MIN_VALUE > -2147483457) { break L30; }
+        l22 = ((b[((int) l15) - 60720] & 0xff) + Integer.MIN_VALUE > -2147483457) ? -3L : -4L;
+       }
+       if ((l30 = (int) b[((int) (l22 = l1 + (l23 = l22 + l2))) - 60720]) > -1) { break L5; }
+       if (l30 + Integer.MIN_VALUE < 2147483616) { break L5; }
+       l29 = l30 & 255;
+       l32 = (b[((int) l22) - 60719] & 0xff) & 63;
+       l31 = (b[((int) l22) - 60718] & 0xff) & 63;
+       L31: {
+        L32: {
+         if (l30 + Integer.MIN_VALUE > 2147483631) { break L32; }
+         l30 = ((l32 << 6) | ((l29 << 12) & 61440)) | l31;
+         break L31;
+        }
+        l30 = ((l31 << 6) | ((l32 << 12) | ((l29 << 18) & 1835008))) | ((b[((int) l22) - 60717] & 0xff) & 63);
+       }
+       L33: {
+        L34: {
+         if (l30 > 20844) { break L34; }
+         L35: {
+          switch (l30 + -19968) {
+          case 0: case 9: break L33;
+          case 1: case 2: case 3: case 4: case 5: case 6: case 7: case 8: break L5;
+          default: break L35;
+          }
+         }
+         switch (l30 + -20108) {
+         case 0: case 8: break L33;
+         default: break L5;
+         }
+        }
+        if (l30 == 22235) { break L33; }
+        if (l30 != 20845) { break L5; }
+       }
+       if (Core4.f118(m, l1, l23) == 0) { break L5; }
+      }
+      if (Core4.f118(m, l1, l2) != 0) { break L5; }
+      l22 = 83916L;
+      l23 = 4L;
+      l29 = 0;
+      L36: {
+       L37: {
+        L38: {
+         L39: {
+          L40: {
+           L41: {
+            switch (l27) {
+            case 3: break L36;
+            case 4: break L41;
+            case 5: case 6: break L40;
+            case 20: case 21: break L39;
+            case 31: break L38;
+            default: break L37;
+            }
+           }
+           l22 = 83932L;
+           l23 = 10L;
+           break L36;
+          }
+          l22 = 83972L;
+          l23 = 3L;
+          break L36;
+         }
+         l22 = 83984L;
+         l23 = 5L;
+         break L36;
+        }
+        l22 = 84004L;
+        l23 = 11L;
+        break L36;
+       }
+       l22 = 79940L;
+       l23 = 0L;
+       l29 = 1;
+      }
+      L42: {
+       if (l28 != 0) { break L42; }
+       L43: {
+        if ((l30 = (int) b[((int) l16) - 60720]) >= 0) { break L43; }
+        l24 = l14;
+        l32 = l30 = b[((int) l14) - 60720] & 0xff;
+        L44: {
+         if (l30 + Integer.MIN_VALUE >= -2147483456) { break L44; }
+         if ((l32 = (int) (byte) (l30 = b[((int) (l24 = l13 + (((b[((int) l15) - 60720] & 0xff) + Integer.MIN_VALUE > -2147483457) ? -3L : -4L))) - 60720] & 0xff)) > -1) { break L43; }
+        }
+        l31 = (b[((int) l24) - 60719] & 0xff) & 63;
+        L45: {
+         if ((l32 = l32 & 255) + Integer.MIN_VALUE > -2147483425) { break L45; }
+         l30 = ((l30 << 6) & 1984) | l31;
+         break L43;
+        }
+        l33 = (b[((int) l24) - 60718] & 0xff) & 63;
+        L46: {
+         if (l32 + Integer.MIN_VALUE > -2147483409) { break L46; }
+         l30 = ((l31 << 6) | ((l30 << 12) & 61440)) | l33;
+         break L43;
+        }
+        l30 = ((l33 << 6) | ((l31 << 12) | ((l30 << 18) & 1835008))) | ((b[((int) l24) - 60717] & 0xff) & 63);
+       }
+       if (l29 != 0) { break L42; }
+       L47: while (true) {
+        if (Words.get32(b, ((int) l22) - 60720) == l30) { break L5; }
+        l22 = l22 + 4L;
+        if ((l23 = l23 + -1L) != 0L) { continue L47; }
+        break L47;
+       }
+      }
+      final int x87 = f113_1(m, l1, l2, l8, l9, l13, l14, l15, l16, l18, l20, l21, l22, l23, l24, l25, l27, l28, l29, l30, l31, l32);
+      l22 = m.kept[0];
+      l23 = m.kept[1];
+      l24 = m.kept[2];
+      l25 = m.kept[3];
+      l27 = (int) m.kept[4];
+      l28 = (int) m.kept[5];
+      l29 = (int) m.kept[6];
+      l30 = (int) m.kept[7];
+      l31 = (int) m.kept[8];
+      l32 = (int) m.kept[9];
+      switch (x87) {
+      case 1: break L5;
+      case 2: break L7;
+      }
+      if (Core4.f123(m, 84048L, 4L, l1, l2) == 0) { break L5; }
      }
      l19 = ((l21 << 16L) | (l19 << 8L)) | l17;
      l27 = l26 & 255;
@@ -7450,252 +7512,75 @@ static void f113(State m, long l0, long l1, long l2, long l3, long l4, int l5, l
  throw State.trap();
 }
 
-static int f114_1(State m, long l0, int l1, long l2, long l3, long l4, long l5, long l6, int l9, int l10, int l11) {
+static int f114_1(State m, int l1, long l2, long l3, long l4, long l5, long l6, int l9, int l10, int l11) {
  final byte[] b = m.bytes;
  int exit = 0;
  PART: {
-  L7: {
-   L8: {
-    L9: {
-     L10: {
-      L11: {
-       L12: {
-        L13: {
-         L14: {
-          L15: {
-           L16: {
-            L17: {
-             L18: {
-              L19: {
-               L20: {
-                L21: {
-                 L22: {
-                  L23: {
-                   L24: {
-                    L25: {
-                     L26: {
-                      L27: {
-                       switch ((int) ((l1 & 0xffffffffL) & 255L)) {
-                       case 1: break L26;
-                       case 2: break L25;
-                       case 3: break L24;
-                       case 4: break L23;
-                       case 5: break L22;
-                       case 6: break L21;
-                       case 7: break L20;
-                       case 8: break L19;
-                       case 9: break L18;
-                       case 10: break L17;
-                       case 11: break L16;
-                       case 12: break L15;
-                       case 13: break L14;
-                       case 14: break L13;
-                       case 15: break L12;
-                       case 16: break L11;
-                       case 17: break L10;
-                       case 18: break L9;
-                       case 19: break L8;
-                       case 20: break L7;
-                       case 21: exit = 1; break PART;
-                       case 22: exit = 2; break PART;
-                       default: break L27;
-                       }
-                      }
-                      if (l3 == 0L) { exit = 3; break PART; }
-                      L28: {
-                       L29: {
-                        if ((l1 = (int) b[((int) l2) - 60720]) > -1) { break L29; }
-                        if (l1 + Integer.MIN_VALUE < 2147483616) { break L29; }
-                        l9 = l1 & 255;
-                        l10 = (b[((int) l2) - 60719] & 0xff) & 63;
-                        l11 = (b[((int) l2) - 60718] & 0xff) & 63;
-                        L30: {
-                         L31: {
-                          if (l1 + Integer.MIN_VALUE > 2147483631) { break L31; }
-                          l1 = ((l10 << 6) | ((l9 << 12) & 61440)) | l11;
-                          l5 = 3L;
-                          break L30;
-                         }
-                         l1 = ((l11 << 6) | ((l10 << 12) | ((l9 << 18) & 1835008))) | ((b[((int) l2) - 60717] & 0xff) & 63);
-                         l5 = 4L;
-                        }
-                        if (l1 != 24180) { break L29; }
-                        l3 = l3 - l5;
-                        l2 = l2 + l5;
-                        l5 = 1L;
-                        break L28;
-                       }
-                       l2 = 0L;
-                       l3 = 0L;
-                       l5 = 0L;
-                      }
-                      Words.put64(b, ((int) l4) - 60672, l3);
-                      Words.put64(b, ((int) l4) - 60680, l2);
-                      Words.put64(b, ((int) l4) - 60688, l5);
-                      exit = 3; break PART;
-                     }
-                     if (l3 == 0L) { exit = 3; break PART; }
-                     L32: {
-                      L33: {
-                       if ((l1 = (int) b[((int) l2) - 60720]) > -1) { break L33; }
-                       if (l1 + Integer.MIN_VALUE < 2147483616) { break L33; }
-                       l9 = l1 & 255;
-                       l10 = (b[((int) l2) - 60719] & 0xff) & 63;
-                       l11 = (b[((int) l2) - 60718] & 0xff) & 63;
-                       L34: {
-                        L35: {
-                         if (l1 + Integer.MIN_VALUE > 2147483631) { break L35; }
-                         l1 = ((l10 << 6) | ((l9 << 12) & 61440)) | l11;
-                         l5 = 3L;
-                         break L34;
-                        }
-                        l1 = ((l11 << 6) | ((l10 << 12) | ((l9 << 18) & 1835008))) | ((b[((int) l2) - 60717] & 0xff) & 63);
-                        l5 = 4L;
-                       }
-                       if (l1 != 26376) { break L33; }
-                       l3 = l3 - l5;
-                       l2 = l2 + l5;
-                       l5 = 1L;
-                       break L32;
-                      }
-                      l2 = 0L;
-                      l3 = 0L;
-                      l5 = 0L;
-                     }
-                     Words.put64(b, ((int) l4) - 60672, l3);
-                     Words.put64(b, ((int) l4) - 60680, l2);
-                     Words.put64(b, ((int) l4) - 60688, l5);
-                     exit = 3; break PART;
-                    }
-                    if (l3 == 0L) { exit = 3; break PART; }
-                    L36: {
-                     L37: {
-                      if ((l1 = (int) b[((int) l2) - 60720]) > -1) { break L37; }
-                      if (l1 + Integer.MIN_VALUE < 2147483616) { break L37; }
-                      l9 = l1 & 255;
-                      l10 = (b[((int) l2) - 60719] & 0xff) & 63;
-                      l11 = (b[((int) l2) - 60718] & 0xff) & 63;
-                      L38: {
-                       L39: {
-                        if (l1 + Integer.MIN_VALUE > 2147483631) { break L39; }
-                        l1 = ((l10 << 6) | ((l9 << 12) & 61440)) | l11;
-                        l5 = 3L;
-                        break L38;
-                       }
-                       l1 = ((l11 << 6) | ((l10 << 12) | ((l9 << 18) & 1835008))) | ((b[((int) l2) - 60717] & 0xff) & 63);
-                       l5 = 4L;
-                      }
-                      l3 = l3 - l5;
-                      l2 = l2 + l5;
-                      l5 = 1L;
-                      if (l1 == 21495) { break L36; }
-                      if (l1 == 26085) { break L36; }
-                      if (l1 == 34399) { break L36; }
-                     }
-                     l2 = 0L;
-                     l3 = 0L;
-                     l5 = 0L;
-                    }
-                    Words.put64(b, ((int) l4) - 60672, l3);
-                    Words.put64(b, ((int) l4) - 60680, l2);
-                    Words.put64(b, ((int) l4) - 60688, l5);
-                    exit = 3; break PART;
-                   }
-                   if (l3 == 0L) { exit = 3; break PART; }
-                   L40: {
-                    L41: {
-                     if ((l1 = (int) b[((int) l2) - 60720]) > -1) { break L41; }
-                     if (l1 + Integer.MIN_VALUE < 2147483616) { break L41; }
-                     l9 = l1 & 255;
-                     l10 = (b[((int) l2) - 60719] & 0xff) & 63;
-                     l11 = (b[((int) l2) - 60718] & 0xff) & 63;
-                     L42: {
-                      L43: {
-                       if (l1 + Integer.MIN_VALUE > 2147483631) { break L43; }
-                       l1 = ((l10 << 6) | ((l9 << 12) & 61440)) | l11;
-                       l5 = 3L;
-                       break L42;
-                      }
-                      l1 = ((l11 << 6) | ((l10 << 12) | ((l9 << 18) & 1835008))) | ((b[((int) l2) - 60717] & 0xff) & 63);
-                      l5 = 4L;
-                     }
-                     l3 = l3 - l5;
-                     l2 = l2 + l5;
-                     l5 = 1L;
-                     if (l1 == 28857) { break L40; }
-                     if (l1 == 40670) { break L40; }
-                    }
-                    l2 = 0L;
-                    l3 = 0L;
-                    l5 = 0L;
-                   }
-                   Words.put64(b, ((int) l4) - 60672, l3);
-                   Words.put64(b, ((int) l4) - 60680, l2);
-                   Words.put64(b, ((int) l4) - 60688, l5);
-                   exit = 3; break PART;
+  L12: {
+   L13: {
+    L14: {
+     L15: {
+      L16: {
+       L17: {
+        L18: {
+         L19: {
+          L20: {
+           L21: {
+            L22: {
+             L23: {
+              L24: {
+               L25: {
+                L26: {
+                 L27: {
+                  switch ((int) ((l1 & 0xffffffffL) & 255L)) {
+                  case 1: break L26;
+                  case 2: break L25;
+                  case 3: break L24;
+                  case 4: break L23;
+                  case 5: break L22;
+                  case 6: break L21;
+                  case 7: break L20;
+                  case 8: break L19;
+                  case 9: break L18;
+                  case 10: break L17;
+                  case 11: break L16;
+                  case 12: break L15;
+                  case 13: break L14;
+                  case 14: break L13;
+                  case 15: break L12;
+                  case 16: exit = 1; break PART;
+                  case 17: exit = 2; break PART;
+                  case 18: exit = 3; break PART;
+                  case 19: exit = 4; break PART;
+                  case 20: exit = 5; break PART;
+                  case 21: exit = 6; break PART;
+                  case 22: exit = 7; break PART;
+                  default: break L27;
                   }
-                  if (l3 == 0L) { exit = 3; break PART; }
-                  L44: {
-                   L45: {
-                    if ((l1 = (int) b[((int) l2) - 60720]) > -1) { break L45; }
-                    if (l1 + Integer.MIN_VALUE < 2147483616) { break L45; }
-                    l9 = l1 & 255;
-                    l10 = (b[((int) l2) - 60719] & 0xff) & 63;
-                    l11 = (b[((int) l2) - 60718] & 0xff) & 63;
-                    L46: {
-                     L47: {
-                      if (l1 + Integer.MIN_VALUE > 2147483631) { break L47; }
-                      l1 = ((l10 << 6) | ((l9 << 12) & 61440)) | l11;
-                      l5 = 3L;
-                      break L46;
-                     }
-                     l1 = ((l11 << 6) | ((l10 << 12) | ((l9 << 18) & 1835008))) | ((b[((int) l2) - 60717] & 0xff) & 63);
-                     l5 = 4L;
-                    }
-                    l3 = l3 - l5;
-                    l2 = l2 + l5;
-                    l5 = 1L;
-                    L48: {
-                     if (l1 > 28856) { break L48; }
-                     if (l1 == 26102) { break L44; }
-                     if (l1 != 26178) { break L45; }
-                     break L44;
-                    }
-                    if (l1 == 28857) { break L44; }
-                    if (l1 == 40670) { break L44; }
-                   }
-                   l2 = 0L;
-                   l3 = 0L;
-                   l5 = 0L;
-                  }
-                  Words.put64(b, ((int) l4) - 60672, l3);
-                  Words.put64(b, ((int) l4) - 60680, l2);
-                  Words.put64(b, ((int) l4) - 60688, l5);
-                  exit = 3; break PART;
                  }
-                 if (l3 == 0L) { exit = 3; break PART; }
-                 L49: {
-                  L50: {
-                   if ((l1 = (int) b[((int) l2) - 60720]) > -1) { break L50; }
-                   if (l1 + Integer.MIN_VALUE < 2147483616) { break L50; }
+                 if (l3 == 0L) { exit = 8; break PART; }
+                 L28: {
+                  L29: {
+                   if ((l1 = (int) b[((int) l2) - 60720]) > -1) { break L29; }
+                   if (l1 + Integer.MIN_VALUE < 2147483616) { break L29; }
                    l9 = l1 & 255;
                    l10 = (b[((int) l2) - 60719] & 0xff) & 63;
                    l11 = (b[((int) l2) - 60718] & 0xff) & 63;
-                   L51: {
-                    L52: {
-                     if (l1 + Integer.MIN_VALUE > 2147483631) { break L52; }
+                   L30: {
+                    L31: {
+                     if (l1 + Integer.MIN_VALUE > 2147483631) { break L31; }
                      l1 = ((l10 << 6) | ((l9 << 12) & 61440)) | l11;
                      l5 = 3L;
-                     break L51;
+                     break L30;
                     }
                     l1 = ((l11 << 6) | ((l10 << 12) | ((l9 << 18) & 1835008))) | ((b[((int) l2) - 60717] & 0xff) & 63);
                     l5 = 4L;
                    }
-                   if (l1 != 20998) { break L50; }
+                   if (l1 != 24180) { break L29; }
                    l3 = l3 - l5;
                    l2 = l2 + l5;
                    l5 = 1L;
-                   break L49;
+                   break L28;
                   }
                   l2 = 0L;
                   l3 = 0L;
@@ -7704,31 +7589,31 @@ static int f114_1(State m, long l0, int l1, long l2, long l3, long l4, long l5, 
                  Words.put64(b, ((int) l4) - 60672, l3);
                  Words.put64(b, ((int) l4) - 60680, l2);
                  Words.put64(b, ((int) l4) - 60688, l5);
-                 exit = 3; break PART;
+                 exit = 8; break PART;
                 }
-                if (l3 == 0L) { exit = 3; break PART; }
-                L53: {
-                 L54: {
-                  if ((l1 = (int) b[((int) l2) - 60720]) > -1) { break L54; }
-                  if (l1 + Integer.MIN_VALUE < 2147483616) { break L54; }
+                if (l3 == 0L) { exit = 8; break PART; }
+                L32: {
+                 L33: {
+                  if ((l1 = (int) b[((int) l2) - 60720]) > -1) { break L33; }
+                  if (l1 + Integer.MIN_VALUE < 2147483616) { break L33; }
                   l9 = l1 & 255;
                   l10 = (b[((int) l2) - 60719] & 0xff) & 63;
                   l11 = (b[((int) l2) - 60718] & 0xff) & 63;
-                  L55: {
-                   L56: {
-                    if (l1 + Integer.MIN_VALUE > 2147483631) { break L56; }
+                  L34: {
+                   L35: {
+                    if (l1 + Integer.MIN_VALUE > 2147483631) { break L35; }
                     l1 = ((l10 << 6) | ((l9 << 12) & 61440)) | l11;
                     l5 = 3L;
-                    break L55;
+                    break L34;
                    }
                    l1 = ((l11 << 6) | ((l10 << 12) | ((l9 << 18) & 1835008))) | ((b[((int) l2) - 60717] & 0xff) & 63);
                    l5 = 4L;
                   }
-                  if (l1 != 31186) { break L54; }
+                  if (l1 != 26376) { break L33; }
                   l3 = l3 - l5;
                   l2 = l2 + l5;
                   l5 = 1L;
-                  break L53;
+                  break L32;
                  }
                  l2 = 0L;
                  l3 = 0L;
@@ -7737,31 +7622,32 @@ static int f114_1(State m, long l0, int l1, long l2, long l3, long l4, long l5, 
                 Words.put64(b, ((int) l4) - 60672, l3);
                 Words.put64(b, ((int) l4) - 60680, l2);
                 Words.put64(b, ((int) l4) - 60688, l5);
-                exit = 3; break PART;
+                exit = 8; break PART;
                }
-               if (l3 == 0L) { exit = 3; break PART; }
-               L57: {
-                L58: {
-                 if ((l1 = (int) b[((int) l2) - 60720]) > -1) { break L58; }
-                 if (l1 + Integer.MIN_VALUE < 2147483616) { break L58; }
+               if (l3 == 0L) { exit = 8; break PART; }
+               L36: {
+                L37: {
+                 if ((l1 = (int) b[((int) l2) - 60720]) > -1) { break L37; }
+                 if (l1 + Integer.MIN_VALUE < 2147483616) { break L37; }
                  l9 = l1 & 255;
                  l10 = (b[((int) l2) - 60719] & 0xff) & 63;
                  l11 = (b[((int) l2) - 60718] & 0xff) & 63;
-                 L59: {
-                  L60: {
-                   if (l1 + Integer.MIN_VALUE > 2147483631) { break L60; }
+                 L38: {
+                  L39: {
+                   if (l1 + Integer.MIN_VALUE > 2147483631) { break L39; }
                    l1 = ((l10 << 6) | ((l9 << 12) & 61440)) | l11;
                    l5 = 3L;
-                   break L59;
+                   break L38;
                   }
                   l1 = ((l11 << 6) | ((l10 << 12) | ((l9 << 18) & 1835008))) | ((b[((int) l2) - 60717] & 0xff) & 63);
                   l5 = 4L;
                  }
-                 if (l1 != 21322) { break L58; }
                  l3 = l3 - l5;
                  l2 = l2 + l5;
                  l5 = 1L;
-                 break L57;
+                 if (l1 == 21495) { break L36; }
+                 if (l1 == 26085) { break L36; }
+                 if (l1 == 34399) { break L36; }
                 }
                 l2 = 0L;
                 l3 = 0L;
@@ -7770,31 +7656,31 @@ static int f114_1(State m, long l0, int l1, long l2, long l3, long l4, long l5, 
                Words.put64(b, ((int) l4) - 60672, l3);
                Words.put64(b, ((int) l4) - 60680, l2);
                Words.put64(b, ((int) l4) - 60688, l5);
-               exit = 3; break PART;
+               exit = 8; break PART;
               }
-              if (l3 == 0L) { exit = 3; break PART; }
-              L61: {
-               L62: {
-                if ((l1 = (int) b[((int) l2) - 60720]) > -1) { break L62; }
-                if (l1 + Integer.MIN_VALUE < 2147483616) { break L62; }
+              if (l3 == 0L) { exit = 8; break PART; }
+              L40: {
+               L41: {
+                if ((l1 = (int) b[((int) l2) - 60720]) > -1) { break L41; }
+                if (l1 + Integer.MIN_VALUE < 2147483616) { break L41; }
                 l9 = l1 & 255;
                 l10 = (b[((int) l2) - 60719] & 0xff) & 63;
                 l11 = (b[((int) l2) - 60718] & 0xff) & 63;
-                L63: {
-                 L64: {
-                  if (l1 + Integer.MIN_VALUE > 2147483631) { break L64; }
+                L42: {
+                 L43: {
+                  if (l1 + Integer.MIN_VALUE > 2147483631) { break L43; }
                   l1 = ((l10 << 6) | ((l9 << 12) & 61440)) | l11;
                   l5 = 3L;
-                  break L63;
+                  break L42;
                  }
                  l1 = ((l11 << 6) | ((l10 << 12) | ((l9 << 18) & 1835008))) | ((b[((int) l2) - 60717] & 0xff) & 63);
                  l5 = 4L;
                 }
-                if (l1 != 21051) { break L62; }
                 l3 = l3 - l5;
                 l2 = l2 + l5;
                 l5 = 1L;
-                break L61;
+                if (l1 == 28857) { break L40; }
+                if (l1 == 40670) { break L40; }
                }
                l2 = 0L;
                l3 = 0L;
@@ -7803,137 +7689,136 @@ static int f114_1(State m, long l0, int l1, long l2, long l3, long l4, long l5, 
               Words.put64(b, ((int) l4) - 60672, l3);
               Words.put64(b, ((int) l4) - 60680, l2);
               Words.put64(b, ((int) l4) - 60688, l5);
-              exit = 3; break PART;
+              exit = 8; break PART;
              }
-             if (l3 == 0L) { exit = 3; break PART; }
-             l1 = (l9 = (int) b[((int) l2) - 60720]) & 255;
-             l6 = 1L;
-             L65: {
-              L66: {
-               if (l9 <= -1) { break L66; }
+             if (l3 == 0L) { exit = 8; break PART; }
+             L44: {
+              L45: {
+               if ((l1 = (int) b[((int) l2) - 60720]) > -1) { break L45; }
+               if (l1 + Integer.MIN_VALUE < 2147483616) { break L45; }
+               l9 = l1 & 255;
+               l10 = (b[((int) l2) - 60719] & 0xff) & 63;
+               l11 = (b[((int) l2) - 60718] & 0xff) & 63;
+               L46: {
+                L47: {
+                 if (l1 + Integer.MIN_VALUE > 2147483631) { break L47; }
+                 l1 = ((l10 << 6) | ((l9 << 12) & 61440)) | l11;
+                 l5 = 3L;
+                 break L46;
+                }
+                l1 = ((l11 << 6) | ((l10 << 12) | ((l9 << 18) & 1835008))) | ((b[((int) l2) - 60717] & 0xff) & 63);
+                l5 = 4L;
+               }
+               l3 = l3 - l5;
+               l2 = l2 + l5;
                l5 = 1L;
-               break L65;
+               L48: {
+                if (l1 > 28856) { break L48; }
+                if (l1 == 26102) { break L44; }
+                if (l1 != 26178) { break L45; }
+                break L44;
+               }
+               if (l1 == 28857) { break L44; }
+               if (l1 == 40670) { break L44; }
               }
-              l10 = (b[((int) l2) - 60719] & 0xff) & 63;
-              L67: {
-               if (l9 + Integer.MIN_VALUE > 2147483615) { break L67; }
-               l1 = ((l1 << 6) & 1984) | l10;
-               l5 = 2L;
-               break L65;
-              }
-              l11 = (b[((int) l2) - 60718] & 0xff) & 63;
-              L68: {
-               if (l9 + Integer.MIN_VALUE > 2147483631) { break L68; }
-               l1 = ((l10 << 6) | ((l1 << 12) & 61440)) | l11;
-               l5 = 3L;
-               break L65;
-              }
-              l1 = ((l11 << 6) | ((l10 << 12) | ((l1 << 18) & 1835008))) | ((b[((int) l2) - 60717] & 0xff) & 63);
-              l5 = 4L;
-             }
-             l3 = l3 - l5;
-             l2 = l2 + l5;
-             L69: {
-              if (l1 == 58) { break L69; }
-              if (l1 == 65306) { break L69; }
-              l6 = 0L;
               l2 = 0L;
               l3 = 0L;
+              l5 = 0L;
              }
              Words.put64(b, ((int) l4) - 60672, l3);
              Words.put64(b, ((int) l4) - 60680, l2);
-             Words.put64(b, ((int) l4) - 60688, l6);
-             exit = 3; break PART;
+             Words.put64(b, ((int) l4) - 60688, l5);
+             exit = 8; break PART;
             }
-            if (l3 == 0L) { exit = 3; break PART; }
-            l1 = (l9 = (int) b[((int) l2) - 60720]) & 255;
-            l5 = 1L;
-            L70: {
-             if (l9 > -1) { break L70; }
+            if (l3 == 0L) { exit = 8; break PART; }
+            L49: {
+             L50: {
+              if ((l1 = (int) b[((int) l2) - 60720]) > -1) { break L50; }
+              if (l1 + Integer.MIN_VALUE < 2147483616) { break L50; }
+              l9 = l1 & 255;
+              l10 = (b[((int) l2) - 60719] & 0xff) & 63;
+              l11 = (b[((int) l2) - 60718] & 0xff) & 63;
+              L51: {
+               L52: {
+                if (l1 + Integer.MIN_VALUE > 2147483631) { break L52; }
+                l1 = ((l10 << 6) | ((l9 << 12) & 61440)) | l11;
+                l5 = 3L;
+                break L51;
+               }
+               l1 = ((l11 << 6) | ((l10 << 12) | ((l9 << 18) & 1835008))) | ((b[((int) l2) - 60717] & 0xff) & 63);
+               l5 = 4L;
+              }
+              if (l1 != 20998) { break L50; }
+              l3 = l3 - l5;
+              l2 = l2 + l5;
+              l5 = 1L;
+              break L49;
+             }
+             l2 = 0L;
+             l3 = 0L;
+             l5 = 0L;
+            }
+            Words.put64(b, ((int) l4) - 60672, l3);
+            Words.put64(b, ((int) l4) - 60680, l2);
+            Words.put64(b, ((int) l4) - 60688, l5);
+            exit = 8; break PART;
+           }
+           if (l3 == 0L) { exit = 8; break PART; }
+           L53: {
+            L54: {
+             if ((l1 = (int) b[((int) l2) - 60720]) > -1) { break L54; }
+             if (l1 + Integer.MIN_VALUE < 2147483616) { break L54; }
+             l9 = l1 & 255;
              l10 = (b[((int) l2) - 60719] & 0xff) & 63;
-             L71: {
-              if (l9 + Integer.MIN_VALUE > 2147483615) { break L71; }
-              l1 = ((l1 << 6) & 1984) | l10;
-              l5 = 2L;
-              break L70;
-             }
              l11 = (b[((int) l2) - 60718] & 0xff) & 63;
-             L72: {
-              if (l9 + Integer.MIN_VALUE > 2147483631) { break L72; }
-              l1 = ((l10 << 6) | ((l1 << 12) & 61440)) | l11;
-              l5 = 3L;
-              break L70;
+             L55: {
+              L56: {
+               if (l1 + Integer.MIN_VALUE > 2147483631) { break L56; }
+               l1 = ((l10 << 6) | ((l9 << 12) & 61440)) | l11;
+               l5 = 3L;
+               break L55;
+              }
+              l1 = ((l11 << 6) | ((l10 << 12) | ((l9 << 18) & 1835008))) | ((b[((int) l2) - 60717] & 0xff) & 63);
+              l5 = 4L;
              }
-             l1 = ((l11 << 6) | ((l10 << 12) | ((l1 << 18) & 1835008))) | ((b[((int) l2) - 60717] & 0xff) & 63);
-             l5 = 4L;
+             if (l1 != 31186) { break L54; }
+             l3 = l3 - l5;
+             l2 = l2 + l5;
+             l5 = 1L;
+             break L53;
             }
-            final int t73 = (int) l4;
-            final long t74 = l3 - l5;
-            final int t75 = l1 = (l1 == 45) ? 1 : 0;
-            Words.put64(b, t73 - 60672, t75 != 0 ? t74 : 0L);
-            final int t76 = (int) l4;
-            final long t77 = l2 + l5;
-            final int t78 = l1;
-            Words.put64(b, t76 - 60680, t78 != 0 ? t77 : 0L);
-            Words.put64(b, ((int) l4) - 60688, l1 & 0xffffffffL);
-            exit = 3; break PART;
+            l2 = 0L;
+            l3 = 0L;
+            l5 = 0L;
            }
-           if (l3 == 0L) { exit = 3; break PART; }
-           l1 = (l9 = (int) b[((int) l2) - 60720]) & 255;
-           l5 = 1L;
-           L79: {
-            if (l9 > -1) { break L79; }
-            l10 = (b[((int) l2) - 60719] & 0xff) & 63;
-            L80: {
-             if (l9 + Integer.MIN_VALUE > 2147483615) { break L80; }
-             l1 = ((l1 << 6) & 1984) | l10;
-             l5 = 2L;
-             break L79;
-            }
-            l11 = (b[((int) l2) - 60718] & 0xff) & 63;
-            L81: {
-             if (l9 + Integer.MIN_VALUE > 2147483631) { break L81; }
-             l1 = ((l10 << 6) | ((l1 << 12) & 61440)) | l11;
-             l5 = 3L;
-             break L79;
-            }
-            l1 = ((l11 << 6) | ((l10 << 12) | ((l1 << 18) & 1835008))) | ((b[((int) l2) - 60717] & 0xff) & 63);
-            l5 = 4L;
-           }
-           final int t82 = (int) l4;
-           final long t83 = l3 - l5;
-           final int t84 = l1 = (l1 == 47) ? 1 : 0;
-           Words.put64(b, t82 - 60672, t84 != 0 ? t83 : 0L);
-           final int t85 = (int) l4;
-           final long t86 = l2 + l5;
-           final int t87 = l1;
-           Words.put64(b, t85 - 60680, t87 != 0 ? t86 : 0L);
-           Words.put64(b, ((int) l4) - 60688, l1 & 0xffffffffL);
-           exit = 3; break PART;
+           Words.put64(b, ((int) l4) - 60672, l3);
+           Words.put64(b, ((int) l4) - 60680, l2);
+           Words.put64(b, ((int) l4) - 60688, l5);
+           exit = 8; break PART;
           }
-          if (l3 == 0L) { exit = 3; break PART; }
-          L88: {
-           L89: {
-            if ((l1 = (int) b[((int) l2) - 60720]) > -1) { break L89; }
-            if (l1 + Integer.MIN_VALUE < 2147483616) { break L89; }
+          if (l3 == 0L) { exit = 8; break PART; }
+          L57: {
+           L58: {
+            if ((l1 = (int) b[((int) l2) - 60720]) > -1) { break L58; }
+            if (l1 + Integer.MIN_VALUE < 2147483616) { break L58; }
             l9 = l1 & 255;
             l10 = (b[((int) l2) - 60719] & 0xff) & 63;
             l11 = (b[((int) l2) - 60718] & 0xff) & 63;
-            L90: {
-             L91: {
-              if (l1 + Integer.MIN_VALUE > 2147483631) { break L91; }
+            L59: {
+             L60: {
+              if (l1 + Integer.MIN_VALUE > 2147483631) { break L60; }
               l1 = ((l10 << 6) | ((l9 << 12) & 61440)) | l11;
               l5 = 3L;
-              break L90;
+              break L59;
              }
              l1 = ((l11 << 6) | ((l10 << 12) | ((l9 << 18) & 1835008))) | ((b[((int) l2) - 60717] & 0xff) & 63);
              l5 = 4L;
             }
-            if (l1 != 27604) { break L89; }
+            if (l1 != 21322) { break L58; }
             l3 = l3 - l5;
             l2 = l2 + l5;
             l5 = 1L;
-            break L88;
+            break L57;
            }
            l2 = 0L;
            l3 = 0L;
@@ -7942,32 +7827,31 @@ static int f114_1(State m, long l0, int l1, long l2, long l3, long l4, long l5, 
           Words.put64(b, ((int) l4) - 60672, l3);
           Words.put64(b, ((int) l4) - 60680, l2);
           Words.put64(b, ((int) l4) - 60688, l5);
-          exit = 3; break PART;
+          exit = 8; break PART;
          }
-         if (l3 == 0L) { exit = 3; break PART; }
-         L92: {
-          L93: {
-           if ((l1 = (int) b[((int) l2) - 60720]) > -1) { break L93; }
-           if (l1 + Integer.MIN_VALUE < 2147483616) { break L93; }
+         if (l3 == 0L) { exit = 8; break PART; }
+         L61: {
+          L62: {
+           if ((l1 = (int) b[((int) l2) - 60720]) > -1) { break L62; }
+           if (l1 + Integer.MIN_VALUE < 2147483616) { break L62; }
            l9 = l1 & 255;
            l10 = (b[((int) l2) - 60719] & 0xff) & 63;
            l11 = (b[((int) l2) - 60718] & 0xff) & 63;
-           L94: {
-            L95: {
-             if (l1 + Integer.MIN_VALUE > 2147483631) { break L95; }
+           L63: {
+            L64: {
+             if (l1 + Integer.MIN_VALUE > 2147483631) { break L64; }
              l1 = ((l10 << 6) | ((l9 << 12) & 61440)) | l11;
              l5 = 3L;
-             break L94;
+             break L63;
             }
             l1 = ((l11 << 6) | ((l10 << 12) | ((l9 << 18) & 1835008))) | ((b[((int) l2) - 60717] & 0xff) & 63);
             l5 = 4L;
            }
+           if (l1 != 21051) { break L62; }
            l3 = l3 - l5;
            l2 = l2 + l5;
            l5 = 1L;
-           if (l1 == 24230) { break L92; }
-           if (l1 == 31186) { break L92; }
-           if (l1 == 31859) { break L92; }
+           break L61;
           }
           l2 = 0L;
           l3 = 0L;
@@ -7976,137 +7860,236 @@ static int f114_1(State m, long l0, int l1, long l2, long l3, long l4, long l5, 
          Words.put64(b, ((int) l4) - 60672, l3);
          Words.put64(b, ((int) l4) - 60680, l2);
          Words.put64(b, ((int) l4) - 60688, l5);
-         exit = 3; break PART;
+         exit = 8; break PART;
         }
-        if (l3 == 0L) { exit = 3; break PART; }
+        if (l3 == 0L) { exit = 8; break PART; }
         l1 = (l9 = (int) b[((int) l2) - 60720]) & 255;
-        l5 = 1L;
-        L96: {
-         L97: {
-          L98: {
-           L99: {
-            if (l9 > -1) { break L99; }
-            l10 = (b[((int) l2) - 60719] & 0xff) & 63;
-            if (l9 + Integer.MIN_VALUE > 2147483615) { break L98; }
-            l1 = ((l1 << 6) & 1984) | l10;
-            l5 = 2L;
-           }
-           l6 = l3 - l5;
-           l2 = l2 + l5;
-           break L97;
-          }
-          l11 = (b[((int) l2) - 60718] & 0xff) & 63;
-          L100: {
-           L101: {
-            if (l9 + Integer.MIN_VALUE > 2147483631) { break L101; }
-            l1 = ((l10 << 6) | ((l1 << 12) & 61440)) | l11;
-            l5 = 3L;
-            break L100;
-           }
-           l1 = ((l11 << 6) | ((l10 << 12) | ((l1 << 18) & 1835008))) | ((b[((int) l2) - 60717] & 0xff) & 63);
-           l5 = 4L;
-          }
-          l6 = l3 - l5;
-          l2 = l2 + l5;
-          l3 = 1L;
-          if (l1 == 21040) { break L96; }
-          if (l1 == 33267) { break L96; }
+        l6 = 1L;
+        L65: {
+         L66: {
+          if (l9 <= -1) { break L66; }
+          l5 = 1L;
+          break L65;
          }
-         l3 = 1L;
-         L102: {
-          L103: {
-           if (l1 > 12315) { break L103; }
-           if ((l1 + -8211) + Integer.MIN_VALUE < -2147483646) { break L96; }
-           if (l1 == 45) { break L96; }
-           if (l1 != 126) { break L102; }
-           break L96;
-          }
-          if (l1 == 12316) { break L96; }
-          if (l1 == 65293) { break L96; }
-          if (l1 == 65374) { break L96; }
+         l10 = (b[((int) l2) - 60719] & 0xff) & 63;
+         L67: {
+          if (l9 + Integer.MIN_VALUE > 2147483615) { break L67; }
+          l1 = ((l1 << 6) & 1984) | l10;
+          l5 = 2L;
+          break L65;
          }
+         l11 = (b[((int) l2) - 60718] & 0xff) & 63;
+         L68: {
+          if (l9 + Integer.MIN_VALUE > 2147483631) { break L68; }
+          l1 = ((l10 << 6) | ((l1 << 12) & 61440)) | l11;
+          l5 = 3L;
+          break L65;
+         }
+         l1 = ((l11 << 6) | ((l10 << 12) | ((l1 << 18) & 1835008))) | ((b[((int) l2) - 60717] & 0xff) & 63);
+         l5 = 4L;
+        }
+        l3 = l3 - l5;
+        l2 = l2 + l5;
+        L69: {
+         if (l1 == 58) { break L69; }
+         if (l1 == 65306) { break L69; }
          l6 = 0L;
          l2 = 0L;
          l3 = 0L;
         }
-        Words.put64(b, ((int) l4) - 60672, l6);
+        Words.put64(b, ((int) l4) - 60672, l3);
         Words.put64(b, ((int) l4) - 60680, l2);
-        Words.put64(b, ((int) l4) - 60688, l3);
-        exit = 3; break PART;
+        Words.put64(b, ((int) l4) - 60688, l6);
+        exit = 8; break PART;
        }
-       L104: {
-        L105: {
-         if (!(l3 == 0L)) { break L105; }
-         l5 = l2;
-         l6 = 0L;
-         break L104;
+       if (l3 == 0L) { exit = 8; break PART; }
+       l1 = (l9 = (int) b[((int) l2) - 60720]) & 255;
+       l5 = 1L;
+       L70: {
+        if (l9 > -1) { break L70; }
+        l10 = (b[((int) l2) - 60719] & 0xff) & 63;
+        L71: {
+         if (l9 + Integer.MIN_VALUE > 2147483615) { break L71; }
+         l1 = ((l1 << 6) & 1984) | l10;
+         l5 = 2L;
+         break L70;
         }
-        L106: {
-         if ((l1 = (int) b[((int) l2) - 60720]) > -1) { break L106; }
-         if (l1 + Integer.MIN_VALUE < 2147483616) { break L106; }
-         l9 = l1 & 255;
-         l10 = (b[((int) l2) - 60719] & 0xff) & 63;
-         l11 = (b[((int) l2) - 60718] & 0xff) & 63;
-         L107: {
-          L108: {
-           if (l1 + Integer.MIN_VALUE > 2147483631) { break L108; }
-           l1 = ((l10 << 6) | ((l9 << 12) & 61440)) | l11;
-           l5 = 3L;
-           break L107;
-          }
-          l1 = ((l11 << 6) | ((l10 << 12) | ((l9 << 18) & 1835008))) | ((b[((int) l2) - 60717] & 0xff) & 63);
-          l5 = 4L;
-         }
-         l6 = l3 - l5;
-         l5 = l2 + l5;
-         if (l1 == 20010) { break L104; }
-         if (l1 == 20491) { break L104; }
+        l11 = (b[((int) l2) - 60718] & 0xff) & 63;
+        L72: {
+         if (l9 + Integer.MIN_VALUE > 2147483631) { break L72; }
+         l1 = ((l10 << 6) | ((l1 << 12) & 61440)) | l11;
+         l5 = 3L;
+         break L70;
         }
-        l5 = l2;
-        l6 = l3;
+        l1 = ((l11 << 6) | ((l10 << 12) | ((l1 << 18) & 1835008))) | ((b[((int) l2) - 60717] & 0xff) & 63);
+        l5 = 4L;
        }
-       Words.put64(b, ((int) l4) - 60472, 0L);
-       Words.put64(b, ((int) l4) - 60464, 0L);
-       Words.put64(b, ((int) l4) - 60456, 0L);
-       Words.put64(b, ((int) l4) - 60496, 0L);
-       Words.put64(b, ((int) l4) - 60488, 0L);
-       Words.put64(b, ((int) l4) - 60480, 0L);
-       l3 = 1L;
-       Core4.f124(m, l4 + 248L, 82888L, 1L, 82892L, 2L, l5, l6);
-       L109: {
-        L110: {
-         if ((b[((int) l4) - 60472] & 0xff) != 1) { break L110; }
-         Words.put64(b, ((int) l4) - 60480, Words.get64(b, ((int) l4) - 60456));
-         Words.put64(b, ((int) l4) - 60488, Words.get64(b, ((int) l4) - 60464));
-         break L109;
-        }
-        Core4.f124(m, l4 + 224L, 82900L, 2L, 82908L, 2L, l5, l6);
-        l3 = b[((int) l4) - 60496] & 0xffL;
-       }
-       Words.put64(b, ((int) l4) - 60688, l3);
-       Words.put64(b, ((int) l4) - 60680, Words.get64(b, ((int) l4) - 60488));
-       Words.put64(b, ((int) l4) - 60672, Words.get64(b, ((int) l4) - 60480));
-       exit = 3; break PART;
+       final int t73 = (int) l4;
+       final long t74 = l3 - l5;
+       final int t75 = l1 = (l1 == 45) ? 1 : 0;
+       Words.put64(b, t73 - 60672, t75 != 0 ? t74 : 0L);
+       final int t76 = (int) l4;
+       final long t77 = l2 + l5;
+       final int t78 = l1;
+       Words.put64(b, t76 - 60680, t78 != 0 ? t77 : 0L);
+       Words.put64(b, ((int) l4) - 60688, l1 & 0xffffffffL);
+       exit = 8; break PART;
       }
-      Core4.f125(m, l4 + 32L, 20998, l2, l3);
-      exit = 3; break PART;
+      if (l3 == 0L) { exit = 8; break PART; }
+      l1 = (l9 = (int) b[((int) l2) - 60720]) & 255;
+      l5 = 1L;
+      L79: {
+       if (l9 > -1) { break L79; }
+       l10 = (b[((int) l2) - 60719] & 0xff) & 63;
+       L80: {
+        if (l9 + Integer.MIN_VALUE > 2147483615) { break L80; }
+        l1 = ((l1 << 6) & 1984) | l10;
+        l5 = 2L;
+        break L79;
+       }
+       l11 = (b[((int) l2) - 60718] & 0xff) & 63;
+       L81: {
+        if (l9 + Integer.MIN_VALUE > 2147483631) { break L81; }
+        l1 = ((l10 << 6) | ((l1 << 12) & 61440)) | l11;
+        l5 = 3L;
+        break L79;
+       }
+       l1 = ((l11 << 6) | ((l10 << 12) | ((l1 << 18) & 1835008))) | ((b[((int) l2) - 60717] & 0xff) & 63);
+       l5 = 4L;
+      }
+      final int t82 = (int) l4;
+      final long t83 = l3 - l5;
+      final int t84 = l1 = (l1 == 47) ? 1 : 0;
+      Words.put64(b, t82 - 60672, t84 != 0 ? t83 : 0L);
+      final int t85 = (int) l4;
+      final long t86 = l2 + l5;
+      final int t87 = l1;
+      Words.put64(b, t85 - 60680, t87 != 0 ? t86 : 0L);
+      Words.put64(b, ((int) l4) - 60688, l1 & 0xffffffffL);
+      exit = 8; break PART;
      }
-     Core4.f125(m, l4 + 32L, 31186, l2, l3);
-     exit = 3; break PART;
+     if (l3 == 0L) { exit = 8; break PART; }
+     L88: {
+      L89: {
+       if ((l1 = (int) b[((int) l2) - 60720]) > -1) { break L89; }
+       if (l1 + Integer.MIN_VALUE < 2147483616) { break L89; }
+       l9 = l1 & 255;
+       l10 = (b[((int) l2) - 60719] & 0xff) & 63;
+       l11 = (b[((int) l2) - 60718] & 0xff) & 63;
+       L90: {
+        L91: {
+         if (l1 + Integer.MIN_VALUE > 2147483631) { break L91; }
+         l1 = ((l10 << 6) | ((l9 << 12) & 61440)) | l11;
+         l5 = 3L;
+         break L90;
+        }
+        l1 = ((l11 << 6) | ((l10 << 12) | ((l9 << 18) & 1835008))) | ((b[((int) l2) - 60717] & 0xff) & 63);
+        l5 = 4L;
+       }
+       if (l1 != 27604) { break L89; }
+       l3 = l3 - l5;
+       l2 = l2 + l5;
+       l5 = 1L;
+       break L88;
+      }
+      l2 = 0L;
+      l3 = 0L;
+      l5 = 0L;
+     }
+     Words.put64(b, ((int) l4) - 60672, l3);
+     Words.put64(b, ((int) l4) - 60680, l2);
+     Words.put64(b, ((int) l4) - 60688, l5);
+     exit = 8; break PART;
     }
-    Core4.f124(m, l4 + 8L, 82828L, 2L, 82788L, 1L, l2, l3);
-    L111: {
-     if ((b[((int) l4) - 60712] & 0xff) != 1) { break L111; }
-     Core4.f126(m, l4 + 32L, Words.get64(b, ((int) l4) - 60704), Words.get64(b, ((int) l4) - 60696));
-     exit = 3; break PART;
+    if (l3 == 0L) { exit = 8; break PART; }
+    L92: {
+     L93: {
+      if ((l1 = (int) b[((int) l2) - 60720]) > -1) { break L93; }
+      if (l1 + Integer.MIN_VALUE < 2147483616) { break L93; }
+      l9 = l1 & 255;
+      l10 = (b[((int) l2) - 60719] & 0xff) & 63;
+      l11 = (b[((int) l2) - 60718] & 0xff) & 63;
+      L94: {
+       L95: {
+        if (l1 + Integer.MIN_VALUE > 2147483631) { break L95; }
+        l1 = ((l10 << 6) | ((l9 << 12) & 61440)) | l11;
+        l5 = 3L;
+        break L94;
+       }
+       l1 = ((l11 << 6) | ((l10 << 12) | ((l9 << 18) & 1835008))) | ((b[((int) l2) - 60717] & 0xff) & 63);
+       l5 = 4L;
+      }
+      l3 = l3 - l5;
+      l2 = l2 + l5;
+      l5 = 1L;
+      if (l1 == 24230) { break L92; }
+      if (l1 == 31186) { break L92; }
+      if (l1 == 31859) { break L92; }
+     }
+     l2 = 0L;
+     l3 = 0L;
+     l5 = 0L;
     }
-    Words.put64(b, ((int) l0) - 60704, 0L);
-    Words.put64(b, ((int) l0) - 60712, 0L);
-    Words.put64(b, ((int) l0) - 60720, 0L);
-    exit = 4; break PART;
+    Words.put64(b, ((int) l4) - 60672, l3);
+    Words.put64(b, ((int) l4) - 60680, l2);
+    Words.put64(b, ((int) l4) - 60688, l5);
+    exit = 8; break PART;
    }
-   Core4.f124(m, l4 + 32L, 82836L, 13L, 82788L, 1L, l2, l3);
-   exit = 3; break PART;
+   if (l3 == 0L) { exit = 8; break PART; }
+   l1 = (l9 = (int) b[((int) l2) - 60720]) & 255;
+   l5 = 1L;
+   L96: {
+    L97: {
+     L98: {
+      L99: {
+       if (l9 > -1) { break L99; }
+       l10 = (b[((int) l2) - 60719] & 0xff) & 63;
+       if (l9 + Integer.MIN_VALUE > 2147483615) { break L98; }
+       l1 = ((l1 << 6) & 1984) | l10;
+       l5 = 2L;
+      }
+      l6 = l3 - l5;
+      l2 = l2 + l5;
+      break L97;
+     }
+     l11 = (b[((int) l2) - 60718] & 0xff) & 63;
+     L100: {
+      L101: {
+       if (l9 + Integer.MIN_VALUE > 2147483631) { break L101; }
+       l1 = ((l10 << 6) | ((l1 << 12) & 61440)) | l11;
+       l5 = 3L;
+       break L100;
+      }
+      l1 = ((l11 << 6) | ((l10 << 12) | ((l1 << 18) & 1835008))) | ((b[((int) l2) - 60717] & 0xff) & 63);
+      l5 = 4L;
+     }
+     l6 = l3 - l5;
+     l2 = l2 + l5;
+     l3 = 1L;
+     if (l1 == 21040) { break L96; }
+     if (l1 == 33267) { break L96; }
+    }
+    l3 = 1L;
+    L102: {
+     L103: {
+      if (l1 > 12315) { break L103; }
+      if ((l1 + -8211) + Integer.MIN_VALUE < -2147483646) { break L96; }
+      if (l1 == 45) { break L96; }
+      if (l1 != 126) { break L102; }
+      break L96;
+     }
+     if (l1 == 12316) { break L96; }
+     if (l1 == 65293) { break L96; }
+     if (l1 == 65374) { break L96; }
+    }
+    l6 = 0L;
+    l2 = 0L;
+    l3 = 0L;
+   }
+   Words.put64(b, ((int) l4) - 60672, l6);
+   Words.put64(b, ((int) l4) - 60680, l2);
+   Words.put64(b, ((int) l4) - 60688, l3);
+   exit = 8; break PART;
   }
  }
  m.kept[0] = l1;
@@ -8145,20 +8128,103 @@ static void f114(State m, long l0, int l1, long l2, long l3) {
      Words.put64(b, ((int) l4) - 60696, 0L);
      L5: {
       L6: {
-       final int x112 = f114_1(m, l0, l1, l2, l3, l4, l5, l6, l9, l10, l11);
-       l1 = (int) m.kept[0];
-       l2 = m.kept[1];
-       l3 = m.kept[2];
-       l5 = m.kept[3];
-       l6 = m.kept[4];
-       l9 = (int) m.kept[5];
-       l10 = (int) m.kept[6];
-       l11 = (int) m.kept[7];
-       switch (x112) {
-       case 1: break L6;
-       case 2: break L5;
-       case 3: break L2;
-       case 4: break L1;
+       L7: {
+        L8: {
+         L9: {
+          L10: {
+           L11: {
+            final int x104 = f114_1(m, l1, l2, l3, l4, l5, l6, l9, l10, l11);
+            l1 = (int) m.kept[0];
+            l2 = m.kept[1];
+            l3 = m.kept[2];
+            l5 = m.kept[3];
+            l6 = m.kept[4];
+            l9 = (int) m.kept[5];
+            l10 = (int) m.kept[6];
+            l11 = (int) m.kept[7];
+            switch (x104) {
+            case 1: break L11;
+            case 2: break L10;
+            case 3: break L9;
+            case 4: break L8;
+            case 5: break L7;
+            case 6: break L6;
+            case 7: break L5;
+            case 8: break L2;
+            }
+            L105: {
+             L106: {
+              if (!(l3 == 0L)) { break L106; }
+              l5 = l2;
+              l6 = 0L;
+              break L105;
+             }
+             L107: {
+              if ((l1 = (int) b[((int) l2) - 60720]) > -1) { break L107; }
+              if (l1 + Integer.MIN_VALUE < 2147483616) { break L107; }
+              l9 = l1 & 255;
+              l10 = (b[((int) l2) - 60719] & 0xff) & 63;
+              l11 = (b[((int) l2) - 60718] & 0xff) & 63;
+              L108: {
+               L109: {
+                if (l1 + Integer.MIN_VALUE > 2147483631) { break L109; }
+                l1 = ((l10 << 6) | ((l9 << 12) & 61440)) | l11;
+                l5 = 3L;
+                break L108;
+               }
+               l1 = ((l11 << 6) | ((l10 << 12) | ((l9 << 18) & 1835008))) | ((b[((int) l2) - 60717] & 0xff) & 63);
+               l5 = 4L;
+              }
+              l6 = l3 - l5;
+              l5 = l2 + l5;
+              if (l1 == 20010) { break L105; }
+              if (l1 == 20491) { break L105; }
+             }
+             l5 = l2;
+             l6 = l3;
+            }
+            Words.put64(b, ((int) l4) - 60472, 0L);
+            Words.put64(b, ((int) l4) - 60464, 0L);
+            Words.put64(b, ((int) l4) - 60456, 0L);
+            Words.put64(b, ((int) l4) - 60496, 0L);
+            Words.put64(b, ((int) l4) - 60488, 0L);
+            Words.put64(b, ((int) l4) - 60480, 0L);
+            l3 = 1L;
+            Core4.f124(m, l4 + 248L, 82888L, 1L, 82892L, 2L, l5, l6);
+            L110: {
+             L111: {
+              if ((b[((int) l4) - 60472] & 0xff) != 1) { break L111; }
+              Words.put64(b, ((int) l4) - 60480, Words.get64(b, ((int) l4) - 60456));
+              Words.put64(b, ((int) l4) - 60488, Words.get64(b, ((int) l4) - 60464));
+              break L110;
+             }
+             Core4.f124(m, l4 + 224L, 82900L, 2L, 82908L, 2L, l5, l6);
+             l3 = b[((int) l4) - 60496] & 0xffL;
+            }
+            Words.put64(b, ((int) l4) - 60688, l3);
+            Words.put64(b, ((int) l4) - 60680, Words.get64(b, ((int) l4) - 60488));
+            Words.put64(b, ((int) l4) - 60672, Words.get64(b, ((int) l4) - 60480));
+            break L2;
+           }
+           Core4.f125(m, l4 + 32L, 20998, l2, l3);
+           break L2;
+          }
+          Core4.f125(m, l4 + 32L, 31186, l2, l3);
+          break L2;
+         }
+         Core4.f124(m, l4 + 8L, 82828L, 2L, 82788L, 1L, l2, l3);
+         L112: {
+          if ((b[((int) l4) - 60712] & 0xff) != 1) { break L112; }
+          Core4.f126(m, l4 + 32L, Words.get64(b, ((int) l4) - 60704), Words.get64(b, ((int) l4) - 60696));
+          break L2;
+         }
+         Words.put64(b, ((int) l0) - 60704, 0L);
+         Words.put64(b, ((int) l0) - 60712, 0L);
+         Words.put64(b, ((int) l0) - 60720, 0L);
+         break L1;
+        }
+        Core4.f124(m, l4 + 32L, 82836L, 13L, 82788L, 1L, l2, l3);
+        break L2;
        }
        Words.put64(b, ((int) l4) - 60456, 0L);
        Words.put64(b, ((int) l4) - 60464, 0L);

@@ -1056,6 +1056,702 @@ static void f120(State m, long l0, int l1, long l2, long l3) {
  throw State.trap();
 }
 
+static int f121_1(State m, long l0, int l1, int l2, long l3, long l4, long l5, long l6, long l7, long l8, long l9, long l10, int l11, int l12, int l13, int l14, int l15, int l16, int l17, int l18, int l19, int l20) {
+ final byte[] b = m.bytes;
+ int exit = 0;
+ PART: {
+  L4: {
+   L5: {
+    L6: {
+     L7: {
+      L8: {
+       L9: {
+        L10: {
+         L11: {
+          L12: {
+           L13: {
+            L14: {
+             L15: {
+              L16: {
+               L17: {
+                L18: {
+                 L19: {
+                  L20: {
+                   L21: {
+                    L22: {
+                     if ((l4 = l4) < 16L) { break L22; }
+                     l5 = Words.get64(b, ((int) l3) - 60704);
+                     l6 = Words.get64(b, ((int) l3) - 60712);
+                     l11 = b[((int) l3) - 60713] & 0xff;
+                     l12 = b[((int) l3) - 60714] & 0xff;
+                     l13 = Words.get16(b, ((int) l3) - 60716) & 0xffff;
+                     l14 = Words.get16(b, ((int) l3) - 60718) & 0xffff;
+                     l15 = Words.get16(b, ((int) l3) - 60720) & 0xffff;
+                     Words.put64(b, ((int) l4) - 60520, 0L);
+                     Words.put64(b, ((int) l4) - 60528, 0L);
+                     Words.put64(b, ((int) l4) - 60536, 0L);
+                     l7 = 1L;
+                     l16 = l15;
+                     l17 = l14;
+                     l18 = l13;
+                     l19 = l12;
+                     l20 = l11;
+                     l8 = l6;
+                     l3 = l5;
+                     L23: {
+                      L24: {
+                       L25: {
+                        switch ((int) ((l1 & 0xffffffffL) & 255L)) {
+                        case 1: break L24;
+                        case 2: break L23;
+                        case 3: exit = 1; break PART;
+                        default: break L25;
+                        }
+                       }
+                       Core3.f112(m, l4 + 152L, l12 & 1, l6, l5);
+                       l9 = Words.get64(b, ((int) l4) - 60560);
+                       l7 = Words.get64(b, ((int) l4) - 60568);
+                       Words.put64(b, ((int) l4) - 60488, 0L);
+                       Words.put64(b, ((int) l4) - 60496, 0L);
+                       Words.put64(b, ((int) l4) - 60504, 0L);
+                       Words.put64(b, ((int) l4) - 60512, 0L);
+                       Core3.f111(m, l4 + 208L, l7, l9);
+                       l5 = Words.get64(b, ((int) l4) - 60512);
+                       L26: {
+                        if ((l19 = ((l10 = Words.get64(b, ((int) l4) - 60504)) == 0L) ? 1 : 0) != 0) { break L26; }
+                        L27: {
+                         L28: {
+                          if ((l18 = (int) b[((int) l5) - 60720]) <= -1) { break L28; }
+                          l3 = 1L;
+                          break L27;
+                         }
+                         L29: {
+                          if (l18 + Integer.MIN_VALUE >= 2147483616) { break L29; }
+                          l3 = 2L;
+                          break L27;
+                         }
+                         l3 = (l18 + Integer.MIN_VALUE < 2147483632) ? 3L : 4L;
+                        }
+                        l6 = l10 - l3;
+                        l3 = l5 + l3;
+                        L30: while (true) {
+                         if (l6 == 0L) { break L26; }
+                         l18 = (l12 = (int) b[((int) l3) - 60720]) & 255;
+                         l8 = 1L;
+                         L31: {
+                          if (l12 > -1) { break L31; }
+                          l20 = (b[((int) l3) - 60719] & 0xff) & 63;
+                          L32: {
+                           if (l12 + Integer.MIN_VALUE > 2147483615) { break L32; }
+                           l18 = ((l18 << 6) & 1984) | l20;
+                           l8 = 2L;
+                           break L31;
+                          }
+                          l17 = (b[((int) l3) - 60718] & 0xff) & 63;
+                          L33: {
+                           if (l12 + Integer.MIN_VALUE > 2147483631) { break L33; }
+                           l18 = ((l20 << 6) | ((l18 << 12) & 61440)) | l17;
+                           l8 = 3L;
+                           break L31;
+                          }
+                          l18 = ((l17 << 6) | ((l20 << 12) | ((l18 << 18) & 1835008))) | ((b[((int) l3) - 60717] & 0xff) & 63);
+                          l8 = 4L;
+                         }
+                         if (l18 == 20004) { exit = 2; break PART; }
+                         l6 = l6 - l8;
+                         l3 = l3 + l8;
+                         if (l18 != 20841) { continue L30; }
+                         exit = 2; break PART;
+                        }
+                       }
+                       L34: {
+                        L35: {
+                         L36: {
+                          L37: {
+                           L38: {
+                            L39: {
+                             L40: {
+                              L41: {
+                               L42: {
+                                L43: {
+                                 L44: {
+                                  L45: {
+                                   switch ((int) ((l2 & 0xffffffffL) & 255L)) {
+                                   case 1: break L44;
+                                   case 2: break L43;
+                                   case 3: break L42;
+                                   case 4: break L41;
+                                   case 5: break L40;
+                                   case 6: break L39;
+                                   case 7: break L38;
+                                   case 8: case 9: break L37;
+                                   case 10: break L36;
+                                   case 11: break L35;
+                                   case 12: break L34;
+                                   default: break L45;
+                                   }
+                                  }
+                                  f128(m, l4 + 8L, l5, l10);
+                                  l18 = Words.get16(b, ((int) l4) - 60710) & 0xffff;
+                                  l12 = b[((int) l4) - 60712] & 0xff;
+                                  break L4;
+                                 }
+                                 f129(m, l4 + 16L, l5, l10);
+                                 l18 = Words.get16(b, ((int) l4) - 60702) & 0xffff;
+                                 l12 = b[((int) l4) - 60704] & 0xff;
+                                 break L4;
+                                }
+                                f129(m, l4 + 32L, l5, l10);
+                                l12 = 1;
+                                L46: {
+                                 if ((b[((int) l4) - 60688] & 0xff) != 1) { break L46; }
+                                 l18 = Words.get16(b, ((int) l4) - 60686) & 0xffff;
+                                 break L4;
+                                }
+                                f130(m, l4 + 24L, l5, l10);
+                                l18 = Words.get16(b, ((int) l4) - 60694) & 0xffff;
+                                l12 = b[((int) l4) - 60696] & 0xff;
+                                break L4;
+                               }
+                               f131(m, l4 + 40L, l5, l10);
+                               final int t47 = b[((int) l4) - 60679] & 0xff;
+                               final int t48 = l12 = (b[((int) l4) - 60680] & 0xff) & 1;
+                               l18 = t48 != 0 ? t47 : 0;
+                               break L4;
+                              }
+                              f131(m, l4 + 56L, l5, l10);
+                              l12 = 1;
+                              L49: {
+                               L50: {
+                                if ((b[((int) l4) - 60664] & 0xff) != 1) { break L50; }
+                                l18 = (b[((int) l4) - 60663] & 0xff) & 255;
+                                break L49;
+                               }
+                               f132(m, l4 + 48L, l5, l10);
+                               final int t51 = (b[((int) l4) - 60671] & 0xff) & 255;
+                               final int t52 = (l12 = b[((int) l4) - 60672] & 0xff) & 1;
+                               l18 = t52 != 0 ? t51 : 0;
+                               l12 = l12;
+                              }
+                              l12 = l12 & 1;
+                              break L4;
+                             }
+                             L53: {
+                              L54: {
+                               if (l19 == 0) { break L54; }
+                               l12 = 0;
+                               l18 = 0;
+                               break L53;
+                              }
+                              L55: {
+                               L56: {
+                                if ((l18 = (int) b[((int) l5) - 60720]) <= -1) { break L56; }
+                                l3 = 1L;
+                                break L55;
+                               }
+                               L57: {
+                                if (l18 + Integer.MIN_VALUE >= 2147483616) { break L57; }
+                                l3 = 2L;
+                                break L55;
+                               }
+                               l3 = (l18 + Integer.MIN_VALUE < 2147483632) ? 3L : 4L;
+                              }
+                              l12 = 0;
+                              l18 = 0;
+                              if (l10 == l3) { break L53; }
+                              f131(m, l4 + 64L, l5, l10);
+                              final int t58 = (b[((int) l4) - 60655] & 0xff) & 255;
+                              final int t59 = (l12 = b[((int) l4) - 60656] & 0xff) & 1;
+                              l18 = t59 != 0 ? t58 : 0;
+                             }
+                             l12 = l12 & 1;
+                             break L4;
+                            }
+                            f132(m, l4 + 72L, l5, l10);
+                            final int t60 = b[((int) l4) - 60647] & 0xff;
+                            final int t61 = l12 = (b[((int) l4) - 60648] & 0xff) & 1;
+                            l18 = t61 != 0 ? t60 : 0;
+                            break L4;
+                           }
+                           f130(m, l4 + 80L, l5, l10);
+                           l18 = Words.get16(b, ((int) l4) - 60638) & 0xffff;
+                           l12 = b[((int) l4) - 60640] & 0xff;
+                           break L4;
+                          }
+                          L62: {
+                           if (l19 == 0) { break L62; }
+                           l12 = 0;
+                           l18 = 0;
+                           break L5;
+                          }
+                          l20 = (l18 = (int) b[((int) l5) - 60720]) & 255;
+                          l3 = 1L;
+                          L63: {
+                           if (l18 > -1) { break L63; }
+                           l12 = (b[((int) l5) - 60719] & 0xff) & 63;
+                           L64: {
+                            if (l18 + Integer.MIN_VALUE > 2147483615) { break L64; }
+                            l20 = ((l20 << 6) & 1984) | l12;
+                            l3 = 2L;
+                            break L63;
+                           }
+                           l17 = (b[((int) l5) - 60718] & 0xff) & 63;
+                           L65: {
+                            if (l18 + Integer.MIN_VALUE > 2147483631) { break L65; }
+                            l20 = ((l12 << 6) | ((l20 << 12) & 61440)) | l17;
+                            l3 = 3L;
+                            break L63;
+                           }
+                           l20 = ((l17 << 6) | ((l12 << 12) | ((l20 << 18) & 1835008))) | ((b[((int) l5) - 60717] & 0xff) & 63);
+                           l3 = 4L;
+                          }
+                          l12 = 0;
+                          l18 = 0;
+                          if (l10 != l3) { break L5; }
+                          Core1.f24(m, l4 + 96L, l20);
+                          l12 = 1;
+                          L66: {
+                           if ((b[((int) l4) - 60624] & 0xff) != 1) { break L66; }
+                           l18 = (b[((int) l4) - 60623] & 0xff) & 255;
+                           break L5;
+                          }
+                          l18 = 0;
+                          l12 = 0;
+                          L67: {
+                           if (l20 > 20107) { break L67; }
+                           if ((l17 = l20 + -19968) + Integer.MIN_VALUE <= -2147483612) { break L21; }
+                           break L7;
+                          }
+                          L68: {
+                           if (l20 > 22234) { break L68; }
+                           if ((l17 = l20 + -20841) + Integer.MIN_VALUE > -2147483644) { break L8; }
+                           if (((1 << l17) & 21) == 0) { break L8; }
+                           break L6;
+                          }
+                          if (l20 == 38646) { break L6; }
+                          if (l20 != 22235) { break L5; }
+                          break L6;
+                         }
+                         f133(m, l4 + 120L, l5, l10);
+                         l12 = 1;
+                         L69: {
+                          if ((b[((int) l4) - 60600] & 0xff) != 1) { break L69; }
+                          l18 = (b[((int) l4) - 60599] & 0xff) & 255;
+                          break L9;
+                         }
+                         L70: {
+                          if (l19 == 0) { break L70; }
+                          l18 = 0;
+                          l12 = 0;
+                          break L9;
+                         }
+                         l20 = (l18 = (int) b[((int) l5) - 60720]) & 255;
+                         l3 = 1L;
+                         L71: {
+                          if (l18 > -1) { break L71; }
+                          l12 = (b[((int) l5) - 60719] & 0xff) & 63;
+                          L72: {
+                           if (l18 + Integer.MIN_VALUE > 2147483615) { break L72; }
+                           l20 = ((l20 << 6) & 1984) | l12;
+                           l3 = 2L;
+                           break L71;
+                          }
+                          l17 = (b[((int) l5) - 60718] & 0xff) & 63;
+                          L73: {
+                           if (l18 + Integer.MIN_VALUE > 2147483631) { break L73; }
+                           l20 = ((l12 << 6) | ((l20 << 12) & 61440)) | l17;
+                           l3 = 3L;
+                           break L71;
+                          }
+                          l20 = ((l17 << 6) | ((l12 << 12) | ((l20 << 18) & 1835008))) | ((b[((int) l5) - 60717] & 0xff) & 63);
+                          l3 = 4L;
+                         }
+                         l12 = 0;
+                         l18 = 0;
+                         if (l10 == l3) { break L9; }
+                         l17 = (l18 = (int) b[((int) (l6 = l5 + l3)) - 60720]) & 255;
+                         l8 = 1L;
+                         L74: {
+                          if (l18 > -1) { break L74; }
+                          l12 = (b[((int) l6) - 60719] & 0xff) & 63;
+                          L75: {
+                           if (l18 + Integer.MIN_VALUE > 2147483615) { break L75; }
+                           l17 = ((l17 << 6) & 1984) | l12;
+                           l8 = 2L;
+                           break L74;
+                          }
+                          l19 = (b[((int) l6) - 60718] & 0xff) & 63;
+                          L76: {
+                           if (l18 + Integer.MIN_VALUE > 2147483631) { break L76; }
+                           l17 = ((l12 << 6) | ((l17 << 12) & 61440)) | l19;
+                           l8 = 3L;
+                           break L74;
+                          }
+                          l17 = ((l19 << 6) | ((l12 << 12) | ((l17 << 18) & 1835008))) | ((b[((int) l6) - 60717] & 0xff) & 63);
+                          l8 = 4L;
+                         }
+                         l12 = 0;
+                         l18 = 0;
+                         if (l10 != (l8 + l3)) { break L9; }
+                         l19 = 0;
+                         L77: {
+                          if (l20 > 20107) { break L77; }
+                          if ((l18 = l20 + -19968) + Integer.MIN_VALUE <= -2147483612) { break L20; }
+                          break L12;
+                         }
+                         L78: {
+                          if (l20 > 22234) { break L78; }
+                          if ((l18 = l20 + -20841) + Integer.MIN_VALUE > -2147483644) { break L13; }
+                          if (((1 << l18) & 21) == 0) { break L13; }
+                          break L11;
+                         }
+                         if (l20 == 38646) { break L11; }
+                         l16 = 0;
+                         if (l20 != 22235) { break L10; }
+                         break L11;
+                        }
+                        f133(m, l4 + 128L, l5, l10);
+                        final int t79 = b[((int) l4) - 60591] & 0xff;
+                        final int t80 = l12 = (b[((int) l4) - 60592] & 0xff) & 1;
+                        l18 = t80 != 0 ? t79 : 0;
+                        break L4;
+                       }
+                       L81: {
+                        L82: {
+                         if (l19 == 0) { break L82; }
+                         l12 = 0;
+                         l18 = 0;
+                         break L81;
+                        }
+                        l12 = (l18 = (int) b[((int) l5) - 60720]) & 255;
+                        l3 = 1L;
+                        L83: {
+                         if (l18 > -1) { break L83; }
+                         l20 = (b[((int) l5) - 60719] & 0xff) & 63;
+                         L84: {
+                          if (l18 + Integer.MIN_VALUE > 2147483615) { break L84; }
+                          l12 = ((l12 << 6) & 1984) | l20;
+                          l3 = 2L;
+                          break L83;
+                         }
+                         l17 = (b[((int) l5) - 60718] & 0xff) & 63;
+                         L85: {
+                          if (l18 + Integer.MIN_VALUE > 2147483631) { break L85; }
+                          l12 = ((l20 << 6) | ((l12 << 12) & 61440)) | l17;
+                          l3 = 3L;
+                          break L83;
+                         }
+                         l12 = ((l17 << 6) | ((l20 << 12) | ((l12 << 18) & 1835008))) | ((b[((int) l5) - 60717] & 0xff) & 63);
+                         l3 = 4L;
+                        }
+                        L86: {
+                         L87: {
+                          if (l10 == l3) { break L87; }
+                          f133(m, l4 + 144L, l5, l10);
+                          l18 = b[((int) l4) - 60575] & 0xff;
+                          l12 = b[((int) l4) - 60576] & 0xff;
+                          break L86;
+                         }
+                         Core1.f24(m, l4 + 136L, l12);
+                         l18 = b[((int) l4) - 60583] & 0xff;
+                         l12 = b[((int) l4) - 60584] & 0xff;
+                        }
+                        final int t88 = l18 & 255;
+                        final int t89 = l12 & 1;
+                        l18 = t89 != 0 ? t88 : 0;
+                       }
+                       l12 = l12 & 1;
+                       break L4;
+                      }
+                      Core3.f112(m, l4 + 168L, l12 & 1, l6, l5);
+                      Core3.f114(m, l4 + 184L, l2, Words.get64(b, ((int) l4) - 60552), Words.get64(b, ((int) l4) - 60544));
+                      L90: {
+                       if ((b[((int) l4) - 60536] & 0xff) != 1) { break L90; }
+                       l19 = 0;
+                       l3 = Words.get64(b, ((int) l4) - 60520);
+                       l8 = Words.get64(b, ((int) l4) - 60528);
+                       l16 = l15;
+                       l17 = l14;
+                       l18 = l13;
+                       l20 = 0;
+                       exit = 1; break PART;
+                      }
+                      Words.put64(b, ((int) l0) - 60696, 0L);
+                      Words.put64(b, ((int) l0) - 60704, 0L);
+                      Words.put64(b, ((int) l0) - 60712, 0L);
+                      Words.put64(b, ((int) l0) - 60720, 0L);
+                      exit = 3; break PART;
+                     }
+                     if (l5 == 0L) { break L16; }
+                     l18 = (l20 = (int) b[((int) l6) - 60720]) & 255;
+                     l7 = 1L;
+                     L91: {
+                      if (l20 > -1) { break L91; }
+                      l17 = (b[((int) l6) - 60719] & 0xff) & 63;
+                      L92: {
+                       if (l20 + Integer.MIN_VALUE > 2147483615) { break L92; }
+                       l18 = ((l18 << 6) & 1984) | l17;
+                       l7 = 2L;
+                       break L91;
+                      }
+                      l19 = (b[((int) l6) - 60718] & 0xff) & 63;
+                      L93: {
+                       if (l20 + Integer.MIN_VALUE > 2147483631) { break L93; }
+                       l18 = ((l17 << 6) | ((l18 << 12) & 61440)) | l19;
+                       l7 = 3L;
+                       break L91;
+                      }
+                      l18 = ((l19 << 6) | ((l17 << 12) | ((l18 << 18) & 1835008))) | ((b[((int) l6) - 60717] & 0xff) & 63);
+                      l7 = 4L;
+                     }
+                     l9 = l6 + l7;
+                     l3 = Words.get64(b, State.far((int) (l8 = ((l2 & 0xffffffffL) & 255L) << 3L), 87912));
+                     l8 = Words.get64(b, State.far((int) l8, 87824));
+                     L94: while (true) {
+                      if (Words.get32(b, ((int) l3) - 60720) == l18) { break L15; }
+                      l3 = l3 + 4L;
+                      if ((l8 = l8 + -1L) != 0L) { continue L94; }
+                      break L94;
+                     }
+                     L95: {
+                      L96: {
+                       L97: {
+                        switch ((l2 & 255) + -4) {
+                        case 0: break L97;
+                        case 6: break L96;
+                        default: break L16;
+                        }
+                       }
+                       if (l5 == l7) { break L16; }
+                       if (l18 != 20043) { break L16; }
+                       l1 = (l18 = (int) b[((int) l9) - 60720]) & 255;
+                       L98: {
+                        if (l18 > -1) { break L98; }
+                        l20 = (b[((int) l9) - 60719] & 0xff) & 63;
+                        L99: {
+                         if (l18 + Integer.MIN_VALUE > 2147483615) { break L99; }
+                         l1 = ((l1 << 6) & 1984) | l20;
+                         break L98;
+                        }
+                        l17 = (b[((int) l9) - 60718] & 0xff) & 63;
+                        L100: {
+                         if (l18 + Integer.MIN_VALUE > 2147483631) { break L100; }
+                         l1 = ((l20 << 6) | ((l1 << 12) & 61440)) | l17;
+                         break L98;
+                        }
+                        l1 = ((l17 << 6) | ((l20 << 12) | ((l1 << 18) & 1835008))) | ((b[((int) l9) - 60717] & 0xff) & 63);
+                       }
+                       l7 = 0L;
+                       l16 = 0;
+                       if ((l1 + -48) + Integer.MIN_VALUE < -2147483638) { break L14; }
+                       l17 = 0;
+                       l18 = 0;
+                       l19 = 0;
+                       l20 = 0;
+                       l8 = 0L;
+                       l3 = 0L;
+                       if ((l1 + -65296) + Integer.MIN_VALUE < -2147483638) { exit = 1; break PART; }
+                       l8 = 0L;
+                       l19 = 0;
+                       l16 = 0;
+                       l7 = 0L;
+                       L101: {
+                        if (l1 > 20840) { break L101; }
+                        L102: {
+                         if (l1 > 20060) { break L102; }
+                         if ((l18 = l1 + -19968) + Integer.MIN_VALUE > -2147483612) { break L17; }
+                         if (((1L << (l18 & 0xffffffffL)) & 68719477257L) == 0L) { break L17; }
+                         break L18;
+                        }
+                        l17 = 0;
+                        l18 = 0;
+                        l20 = 0;
+                        l3 = 0L;
+                        switch (l1 + -20108) {
+                        case 0: case 8: exit = 1; break PART;
+                        case 1: case 2: case 3: case 4: case 5: case 6: case 7: break L16;
+                        default: break L95;
+                        }
+                       }
+                       L103: {
+                        if (l1 > 21312) { break L103; }
+                        if ((l18 = l1 + -20841) + Integer.MIN_VALUE > -2147483644) { break L19; }
+                        if (((1 << l18) & 21) != 0) { break L18; }
+                        break L19;
+                       }
+                       L104: {
+                        if (l1 > 24189) { break L104; }
+                        if (l1 == 21313) { break L18; }
+                        l17 = 0;
+                        l18 = 0;
+                        l20 = 0;
+                        l3 = 0L;
+                        if (l1 != 22235) { break L16; }
+                        exit = 1; break PART;
+                       }
+                       if (l1 == 24190) { break L18; }
+                       if (l1 == 30334) { break L18; }
+                       l17 = 0;
+                       l18 = 0;
+                       l20 = 0;
+                       l3 = 0L;
+                       if (l1 != 38646) { break L16; }
+                       exit = 1; break PART;
+                      }
+                      if (((l18 & 2097119) + -65) + Integer.MIN_VALUE < -2147483622) { break L15; }
+                      break L16;
+                     }
+                     l17 = 0;
+                     l18 = 0;
+                     l20 = 0;
+                     l3 = 0L;
+                     if (l1 == 20061) { exit = 1; break PART; }
+                     break L16;
+                    }
+                    throw State.trap();
+                   }
+                   if (((1L << (l17 & 0xffffffffL)) & 68719477257L) == 0L) { break L7; }
+                   break L6;
+                  }
+                  if (((1L << (l18 & 0xffffffffL)) & 68719477257L) == 0L) { break L12; }
+                  break L11;
+                 }
+                 l17 = 0;
+                 l18 = 0;
+                 l20 = 0;
+                 l3 = 0L;
+                 if (l1 != 20960) { break L16; }
+                 exit = 1; break PART;
+                }
+                l17 = 0;
+                l18 = 0;
+                l20 = 0;
+                l3 = 0L;
+                exit = 1; break PART;
+               }
+               l17 = 0;
+               l18 = 0;
+               l20 = 0;
+               l3 = 0L;
+               if (l1 == 12295) { exit = 1; break PART; }
+              }
+              l7 = 1L;
+              l16 = l15;
+              l17 = l14;
+              l18 = l13;
+              l19 = l12;
+              l20 = l11;
+              l8 = l6;
+              l3 = l5;
+              exit = 1; break PART;
+             }
+             l7 = 0L;
+             l16 = 0;
+            }
+            l17 = 0;
+            l18 = 0;
+            l19 = 0;
+            l20 = 0;
+            l8 = 0L;
+            l3 = 0L;
+            exit = 1; break PART;
+           }
+           l16 = 0;
+           switch (l20 + -20108) {
+           case 0: case 8: break L11;
+           default: break L10;
+           }
+          }
+          if (l20 == 12295) { break L11; }
+          l16 = 0;
+          if (l20 != 20061) { break L10; }
+         }
+         Core2.f50(m, l4 + 112L, l20);
+         l16 = (b[((int) l4) - 60607] & 0xff) * 10;
+         l19 = b[((int) l4) - 60608] & 0xff;
+        }
+        l12 = 0;
+        L105: {
+         L106: {
+          L107: {
+           L108: {
+            L109: {
+             if (l17 > 20107) { break L109; }
+             if ((l18 = l17 + -19968) + Integer.MIN_VALUE <= -2147483612) { break L108; }
+             break L106;
+            }
+            L110: {
+             if (l17 > 22234) { break L110; }
+             if ((l18 = l17 + -20841) + Integer.MIN_VALUE > -2147483644) { break L107; }
+             if (((1 << l18) & 21) == 0) { break L107; }
+             break L105;
+            }
+            if (l17 == 38646) { break L105; }
+            l18 = 0;
+            if (l17 != 22235) { break L9; }
+            break L105;
+           }
+           if (((1L << (l18 & 0xffffffffL)) & 68719477257L) == 0L) { break L106; }
+           break L105;
+          }
+          l18 = 0;
+          switch (l17 + -20108) {
+          case 0: case 8: break L105;
+          default: break L9;
+          }
+         }
+         if (l17 == 12295) { break L105; }
+         l18 = 0;
+         if (l17 != 20061) { break L9; }
+        }
+        Core2.f50(m, l4 + 104L, l17);
+        final int t111 = (b[((int) l4) - 60615] & 0xff) + l16;
+        final int t112 = (l12 = (b[((int) l4) - 60616] & 0xff) & l19) & 255;
+        final int t113 = (t112 != 0 ? t111 : 0) & 255;
+        final int t114 = l12 & 1;
+        l18 = t114 != 0 ? t113 : 0;
+       }
+       l12 = l12 & 1;
+       break L4;
+      }
+      switch (l20 + -20108) {
+      case 0: case 8: break L6;
+      default: break L5;
+      }
+     }
+     if (l20 == 12295) { break L6; }
+     if (l20 != 20061) { break L5; }
+    }
+    Core2.f50(m, l4 + 88L, l20);
+    final int t115 = (b[((int) l4) - 60631] & 0xff) & 255;
+    final int t116 = (l12 = b[((int) l4) - 60632] & 0xff) & 1;
+    l18 = t116 != 0 ? t115 : 0;
+   }
+   l12 = l12 & 1;
+  }
+ }
+ m.kept[0] = l1;
+ m.kept[1] = l3;
+ m.kept[2] = l4;
+ m.kept[3] = l5;
+ m.kept[4] = l6;
+ m.kept[5] = l7;
+ m.kept[6] = l8;
+ m.kept[7] = l9;
+ m.kept[8] = l10;
+ m.kept[9] = l11;
+ m.kept[10] = l12;
+ m.kept[11] = l13;
+ m.kept[12] = l14;
+ m.kept[13] = l15;
+ m.kept[14] = l16;
+ m.kept[15] = l17;
+ m.kept[16] = l18;
+ m.kept[17] = l19;
+ m.kept[18] = l20;
+ return exit;
+}
+
 static void f121(State m, long l0, int l1, int l2, long l3) {
  final byte[] b = m.bytes;
  long l4 = 0;
@@ -1079,696 +1775,52 @@ static void f121(State m, long l0, int l1, int l2, long l3) {
  L1: {
   L2: {
    L3: {
-    L4: {
-     L5: {
-      L6: {
-       L7: {
-        L8: {
-         L9: {
-          L10: {
-           L11: {
-            L12: {
-             L13: {
-              L14: {
-               L15: {
-                L16: {
-                 L17: {
-                  L18: {
-                   L19: {
-                    L20: {
-                     L21: {
-                      L22: {
-                       if ((l4 = l4) < 16L) { break L22; }
-                       l5 = Words.get64(b, ((int) l3) - 60704);
-                       l6 = Words.get64(b, ((int) l3) - 60712);
-                       l11 = b[((int) l3) - 60713] & 0xff;
-                       l12 = b[((int) l3) - 60714] & 0xff;
-                       l13 = Words.get16(b, ((int) l3) - 60716) & 0xffff;
-                       l14 = Words.get16(b, ((int) l3) - 60718) & 0xffff;
-                       l15 = Words.get16(b, ((int) l3) - 60720) & 0xffff;
-                       Words.put64(b, ((int) l4) - 60520, 0L);
-                       Words.put64(b, ((int) l4) - 60528, 0L);
-                       Words.put64(b, ((int) l4) - 60536, 0L);
-                       l7 = 1L;
-                       l16 = l15;
-                       l17 = l14;
-                       l18 = l13;
-                       l19 = l12;
-                       l20 = l11;
-                       l8 = l6;
-                       l3 = l5;
-                       L23: {
-                        L24: {
-                         L25: {
-                          switch ((int) ((l1 & 0xffffffffL) & 255L)) {
-                          case 1: break L24;
-                          case 2: break L23;
-                          case 3: break L2;
-                          default: break L25;
-                          }
-                         }
-                         Core3.f112(m, l4 + 152L, l12 & 1, l6, l5);
-                         l9 = Words.get64(b, ((int) l4) - 60560);
-                         l7 = Words.get64(b, ((int) l4) - 60568);
-                         Words.put64(b, ((int) l4) - 60488, 0L);
-                         Words.put64(b, ((int) l4) - 60496, 0L);
-                         Words.put64(b, ((int) l4) - 60504, 0L);
-                         Words.put64(b, ((int) l4) - 60512, 0L);
-                         Core3.f111(m, l4 + 208L, l7, l9);
-                         l5 = Words.get64(b, ((int) l4) - 60512);
-                         L26: {
-                          if ((l19 = ((l10 = Words.get64(b, ((int) l4) - 60504)) == 0L) ? 1 : 0) != 0) { break L26; }
-                          L27: {
-                           L28: {
-                            if ((l18 = (int) b[((int) l5) - 60720]) <= -1) { break L28; }
-                            l3 = 1L;
-                            break L27;
-                           }
-                           L29: {
-                            if (l18 + Integer.MIN_VALUE >= 2147483616) { break L29; }
-                            l3 = 2L;
-                            break L27;
-                           }
-                           l3 = (l18 + Integer.MIN_VALUE < 2147483632) ? 3L : 4L;
-                          }
-                          l6 = l10 - l3;
-                          l3 = l5 + l3;
-                          L30: while (true) {
-                           if (l6 == 0L) { break L26; }
-                           l18 = (l12 = (int) b[((int) l3) - 60720]) & 255;
-                           l8 = 1L;
-                           L31: {
-                            if (l12 > -1) { break L31; }
-                            l20 = (b[((int) l3) - 60719] & 0xff) & 63;
-                            L32: {
-                             if (l12 + Integer.MIN_VALUE > 2147483615) { break L32; }
-                             l18 = ((l18 << 6) & 1984) | l20;
-                             l8 = 2L;
-                             break L31;
-                            }
-                            l17 = (b[((int) l3) - 60718] & 0xff) & 63;
-                            L33: {
-                             if (l12 + Integer.MIN_VALUE > 2147483631) { break L33; }
-                             l18 = ((l20 << 6) | ((l18 << 12) & 61440)) | l17;
-                             l8 = 3L;
-                             break L31;
-                            }
-                            l18 = ((l17 << 6) | ((l20 << 12) | ((l18 << 18) & 1835008))) | ((b[((int) l3) - 60717] & 0xff) & 63);
-                            l8 = 4L;
-                           }
-                           if (l18 == 20004) { break L3; }
-                           l6 = l6 - l8;
-                           l3 = l3 + l8;
-                           if (l18 != 20841) { continue L30; }
-                           break L3;
-                          }
-                         }
-                         L34: {
-                          L35: {
-                           L36: {
-                            L37: {
-                             L38: {
-                              L39: {
-                               L40: {
-                                L41: {
-                                 L42: {
-                                  L43: {
-                                   L44: {
-                                    L45: {
-                                     switch ((int) ((l2 & 0xffffffffL) & 255L)) {
-                                     case 1: break L44;
-                                     case 2: break L43;
-                                     case 3: break L42;
-                                     case 4: break L41;
-                                     case 5: break L40;
-                                     case 6: break L39;
-                                     case 7: break L38;
-                                     case 8: case 9: break L37;
-                                     case 10: break L36;
-                                     case 11: break L35;
-                                     case 12: break L34;
-                                     default: break L45;
-                                     }
-                                    }
-                                    f128(m, l4 + 8L, l5, l10);
-                                    l18 = Words.get16(b, ((int) l4) - 60710) & 0xffff;
-                                    l12 = b[((int) l4) - 60712] & 0xff;
-                                    break L4;
-                                   }
-                                   f129(m, l4 + 16L, l5, l10);
-                                   l18 = Words.get16(b, ((int) l4) - 60702) & 0xffff;
-                                   l12 = b[((int) l4) - 60704] & 0xff;
-                                   break L4;
-                                  }
-                                  f129(m, l4 + 32L, l5, l10);
-                                  l12 = 1;
-                                  L46: {
-                                   if ((b[((int) l4) - 60688] & 0xff) != 1) { break L46; }
-                                   l18 = Words.get16(b, ((int) l4) - 60686) & 0xffff;
-                                   break L4;
-                                  }
-                                  f130(m, l4 + 24L, l5, l10);
-                                  l18 = Words.get16(b, ((int) l4) - 60694) & 0xffff;
-                                  l12 = b[((int) l4) - 60696] & 0xff;
-                                  break L4;
-                                 }
-                                 f131(m, l4 + 40L, l5, l10);
-                                 final int t47 = b[((int) l4) - 60679] & 0xff;
-                                 final int t48 = l12 = (b[((int) l4) - 60680] & 0xff) & 1;
-                                 l18 = t48 != 0 ? t47 : 0;
-                                 break L4;
-                                }
-                                f131(m, l4 + 56L, l5, l10);
-                                l12 = 1;
-                                L49: {
-                                 L50: {
-                                  if ((b[((int) l4) - 60664] & 0xff) != 1) { break L50; }
-                                  l18 = (b[((int) l4) - 60663] & 0xff) & 255;
-                                  break L49;
-                                 }
-                                 f132(m, l4 + 48L, l5, l10);
-                                 final int t51 = (b[((int) l4) - 60671] & 0xff) & 255;
-                                 final int t52 = (l12 = b[((int) l4) - 60672] & 0xff) & 1;
-                                 l18 = t52 != 0 ? t51 : 0;
-                                 l12 = l12;
-                                }
-                                l12 = l12 & 1;
-                                break L4;
-                               }
-                               L53: {
-                                L54: {
-                                 if (l19 == 0) { break L54; }
-                                 l12 = 0;
-                                 l18 = 0;
-                                 break L53;
-                                }
-                                L55: {
-                                 L56: {
-                                  if ((l18 = (int) b[((int) l5) - 60720]) <= -1) { break L56; }
-                                  l3 = 1L;
-                                  break L55;
-                                 }
-                                 L57: {
-                                  if (l18 + Integer.MIN_VALUE >= 2147483616) { break L57; }
-                                  l3 = 2L;
-                                  break L55;
-                                 }
-                                 l3 = (l18 + Integer.MIN_VALUE < 2147483632) ? 3L : 4L;
-                                }
-                                l12 = 0;
-                                l18 = 0;
-                                if (l10 == l3) { break L53; }
-                                f131(m, l4 + 64L, l5, l10);
-                                final int t58 = (b[((int) l4) - 60655] & 0xff) & 255;
-                                final int t59 = (l12 = b[((int) l4) - 60656] & 0xff) & 1;
-                                l18 = t59 != 0 ? t58 : 0;
-                               }
-                               l12 = l12 & 1;
-                               break L4;
-                              }
-                              f132(m, l4 + 72L, l5, l10);
-                              final int t60 = b[((int) l4) - 60647] & 0xff;
-                              final int t61 = l12 = (b[((int) l4) - 60648] & 0xff) & 1;
-                              l18 = t61 != 0 ? t60 : 0;
-                              break L4;
-                             }
-                             f130(m, l4 + 80L, l5, l10);
-                             l18 = Words.get16(b, ((int) l4) - 60638) & 0xffff;
-                             l12 = b[((int) l4) - 60640] & 0xff;
-                             break L4;
-                            }
-                            L62: {
-                             if (l19 == 0) { break L62; }
-                             l12 = 0;
-                             l18 = 0;
-                             break L5;
-                            }
-                            l20 = (l18 = (int) b[((int) l5) - 60720]) & 255;
-                            l3 = 1L;
-                            L63: {
-                             if (l18 > -1) { break L63; }
-                             l12 = (b[((int) l5) - 60719] & 0xff) & 63;
-                             L64: {
-                              if (l18 + Integer.MIN_VALUE > 2147483615) { break L64; }
-                              l20 = ((l20 << 6) & 1984) | l12;
-                              l3 = 2L;
-                              break L63;
-                             }
-                             l17 = (b[((int) l5) - 60718] & 0xff) & 63;
-                             L65: {
-                              if (l18 + Integer.MIN_VALUE > 2147483631) { break L65; }
-                              l20 = ((l12 << 6) | ((l20 << 12) & 61440)) | l17;
-                              l3 = 3L;
-                              break L63;
-                             }
-                             l20 = ((l17 << 6) | ((l12 << 12) | ((l20 << 18) & 1835008))) | ((b[((int) l5) - 60717] & 0xff) & 63);
-                             l3 = 4L;
-                            }
-                            l12 = 0;
-                            l18 = 0;
-                            if (l10 != l3) { break L5; }
-                            Core1.f24(m, l4 + 96L, l20);
-                            l12 = 1;
-                            L66: {
-                             if ((b[((int) l4) - 60624] & 0xff) != 1) { break L66; }
-                             l18 = (b[((int) l4) - 60623] & 0xff) & 255;
-                             break L5;
-                            }
-                            l18 = 0;
-                            l12 = 0;
-                            L67: {
-                             if (l20 > 20107) { break L67; }
-                             if ((l17 = l20 + -19968) + Integer.MIN_VALUE <= -2147483612) { break L21; }
-                             break L7;
-                            }
-                            L68: {
-                             if (l20 > 22234) { break L68; }
-                             if ((l17 = l20 + -20841) + Integer.MIN_VALUE > -2147483644) { break L8; }
-                             if (((1 << l17) & 21) == 0) { break L8; }
-                             break L6;
-                            }
-                            if (l20 == 38646) { break L6; }
-                            if (l20 != 22235) { break L5; }
-                            break L6;
-                           }
-                           f133(m, l4 + 120L, l5, l10);
-                           l12 = 1;
-                           L69: {
-                            if ((b[((int) l4) - 60600] & 0xff) != 1) { break L69; }
-                            l18 = (b[((int) l4) - 60599] & 0xff) & 255;
-                            break L9;
-                           }
-                           L70: {
-                            if (l19 == 0) { break L70; }
-                            l18 = 0;
-                            l12 = 0;
-                            break L9;
-                           }
-                           l20 = (l18 = (int) b[((int) l5) - 60720]) & 255;
-                           l3 = 1L;
-                           L71: {
-                            if (l18 > -1) { break L71; }
-                            l12 = (b[((int) l5) - 60719] & 0xff) & 63;
-                            L72: {
-                             if (l18 + Integer.MIN_VALUE > 2147483615) { break L72; }
-                             l20 = ((l20 << 6) & 1984) | l12;
-                             l3 = 2L;
-                             break L71;
-                            }
-                            l17 = (b[((int) l5) - 60718] & 0xff) & 63;
-                            L73: {
-                             if (l18 + Integer.MIN_VALUE > 2147483631) { break L73; }
-                             l20 = ((l12 << 6) | ((l20 << 12) & 61440)) | l17;
-                             l3 = 3L;
-                             break L71;
-                            }
-                            l20 = ((l17 << 6) | ((l12 << 12) | ((l20 << 18) & 1835008))) | ((b[((int) l5) - 60717] & 0xff) & 63);
-                            l3 = 4L;
-                           }
-                           l12 = 0;
-                           l18 = 0;
-                           if (l10 == l3) { break L9; }
-                           l17 = (l18 = (int) b[((int) (l6 = l5 + l3)) - 60720]) & 255;
-                           l8 = 1L;
-                           L74: {
-                            if (l18 > -1) { break L74; }
-                            l12 = (b[((int) l6) - 60719] & 0xff) & 63;
-                            L75: {
-                             if (l18 + Integer.MIN_VALUE > 2147483615) { break L75; }
-                             l17 = ((l17 << 6) & 1984) | l12;
-                             l8 = 2L;
-                             break L74;
-                            }
-                            l19 = (b[((int) l6) - 60718] & 0xff) & 63;
-                            L76: {
-                             if (l18 + Integer.MIN_VALUE > 2147483631) { break L76; }
-                             l17 = ((l12 << 6) | ((l17 << 12) & 61440)) | l19;
-                             l8 = 3L;
-                             break L74;
-                            }
-                            l17 = ((l19 << 6) | ((l12 << 12) | ((l17 << 18) & 1835008))) | ((b[((int) l6) - 60717] & 0xff) & 63);
-                            l8 = 4L;
-                           }
-                           l12 = 0;
-                           l18 = 0;
-                           if (l10 != (l8 + l3)) { break L9; }
-                           l19 = 0;
-                           L77: {
-                            if (l20 > 20107) { break L77; }
-                            if ((l18 = l20 + -19968) + Integer.MIN_VALUE <= -2147483612) { break L20; }
-                            break L12;
-                           }
-                           L78: {
-                            if (l20 > 22234) { break L78; }
-                            if ((l18 = l20 + -20841) + Integer.MIN_VALUE > -2147483644) { break L13; }
-                            if (((1 << l18) & 21) == 0) { break L13; }
-                            break L11;
-                           }
-                           if (l20 == 38646) { break L11; }
-                           l16 = 0;
-                           if (l20 != 22235) { break L10; }
-                           break L11;
-                          }
-                          f133(m, l4 + 128L, l5, l10);
-                          final int t79 = b[((int) l4) - 60591] & 0xff;
-                          final int t80 = l12 = (b[((int) l4) - 60592] & 0xff) & 1;
-                          l18 = t80 != 0 ? t79 : 0;
-                          break L4;
-                         }
-                         L81: {
-                          L82: {
-                           if (l19 == 0) { break L82; }
-                           l12 = 0;
-                           l18 = 0;
-                           break L81;
-                          }
-                          l12 = (l18 = (int) b[((int) l5) - 60720]) & 255;
-                          l3 = 1L;
-                          L83: {
-                           if (l18 > -1) { break L83; }
-                           l20 = (b[((int) l5) - 60719] & 0xff) & 63;
-                           L84: {
-                            if (l18 + Integer.MIN_VALUE > 2147483615) { break L84; }
-                            l12 = ((l12 << 6) & 1984) | l20;
-                            l3 = 2L;
-                            break L83;
-                           }
-                           l17 = (b[((int) l5) - 60718] & 0xff) & 63;
-                           L85: {
-                            if (l18 + Integer.MIN_VALUE > 2147483631) { break L85; }
-                            l12 = ((l20 << 6) | ((l12 << 12) & 61440)) | l17;
-                            l3 = 3L;
-                            break L83;
-                           }
-                           l12 = ((l17 << 6) | ((l20 << 12) | ((l12 << 18) & 1835008))) | ((b[((int) l5) - 60717] & 0xff) & 63);
-                           l3 = 4L;
-                          }
-                          L86: {
-                           L87: {
-                            if (l10 == l3) { break L87; }
-                            f133(m, l4 + 144L, l5, l10);
-                            l18 = b[((int) l4) - 60575] & 0xff;
-                            l12 = b[((int) l4) - 60576] & 0xff;
-                            break L86;
-                           }
-                           Core1.f24(m, l4 + 136L, l12);
-                           l18 = b[((int) l4) - 60583] & 0xff;
-                           l12 = b[((int) l4) - 60584] & 0xff;
-                          }
-                          final int t88 = l18 & 255;
-                          final int t89 = l12 & 1;
-                          l18 = t89 != 0 ? t88 : 0;
-                         }
-                         l12 = l12 & 1;
-                         break L4;
-                        }
-                        Core3.f112(m, l4 + 168L, l12 & 1, l6, l5);
-                        Core3.f114(m, l4 + 184L, l2, Words.get64(b, ((int) l4) - 60552), Words.get64(b, ((int) l4) - 60544));
-                        L90: {
-                         if ((b[((int) l4) - 60536] & 0xff) != 1) { break L90; }
-                         l19 = 0;
-                         l3 = Words.get64(b, ((int) l4) - 60520);
-                         l8 = Words.get64(b, ((int) l4) - 60528);
-                         l16 = l15;
-                         l17 = l14;
-                         l18 = l13;
-                         l20 = 0;
-                         break L2;
-                        }
-                        Words.put64(b, ((int) l0) - 60696, 0L);
-                        Words.put64(b, ((int) l0) - 60704, 0L);
-                        Words.put64(b, ((int) l0) - 60712, 0L);
-                        Words.put64(b, ((int) l0) - 60720, 0L);
-                        break L1;
-                       }
-                       if (l5 == 0L) { break L16; }
-                       l18 = (l20 = (int) b[((int) l6) - 60720]) & 255;
-                       l7 = 1L;
-                       L91: {
-                        if (l20 > -1) { break L91; }
-                        l17 = (b[((int) l6) - 60719] & 0xff) & 63;
-                        L92: {
-                         if (l20 + Integer.MIN_VALUE > 2147483615) { break L92; }
-                         l18 = ((l18 << 6) & 1984) | l17;
-                         l7 = 2L;
-                         break L91;
-                        }
-                        l19 = (b[((int) l6) - 60718] & 0xff) & 63;
-                        L93: {
-                         if (l20 + Integer.MIN_VALUE > 2147483631) { break L93; }
-                         l18 = ((l17 << 6) | ((l18 << 12) & 61440)) | l19;
-                         l7 = 3L;
-                         break L91;
-                        }
-                        l18 = ((l19 << 6) | ((l17 << 12) | ((l18 << 18) & 1835008))) | ((b[((int) l6) - 60717] & 0xff) & 63);
-                        l7 = 4L;
-                       }
-                       l9 = l6 + l7;
-                       l3 = Words.get64(b, State.far((int) (l8 = ((l2 & 0xffffffffL) & 255L) << 3L), 87912));
-                       l8 = Words.get64(b, State.far((int) l8, 87824));
-                       L94: while (true) {
-                        if (Words.get32(b, ((int) l3) - 60720) == l18) { break L15; }
-                        l3 = l3 + 4L;
-                        if ((l8 = l8 + -1L) != 0L) { continue L94; }
-                        break L94;
-                       }
-                       L95: {
-                        L96: {
-                         L97: {
-                          switch ((l2 & 255) + -4) {
-                          case 0: break L97;
-                          case 6: break L96;
-                          default: break L16;
-                          }
-                         }
-                         if (l5 == l7) { break L16; }
-                         if (l18 != 20043) { break L16; }
-                         l1 = (l18 = (int) b[((int) l9) - 60720]) & 255;
-                         L98: {
-                          if (l18 > -1) { break L98; }
-                          l20 = (b[((int) l9) - 60719] & 0xff) & 63;
-                          L99: {
-                           if (l18 + Integer.MIN_VALUE > 2147483615) { break L99; }
-                           l1 = ((l1 << 6) & 1984) | l20;
-                           break L98;
-                          }
-                          l17 = (b[((int) l9) - 60718] & 0xff) & 63;
-                          L100: {
-                           if (l18 + Integer.MIN_VALUE > 2147483631) { break L100; }
-                           l1 = ((l20 << 6) | ((l1 << 12) & 61440)) | l17;
-                           break L98;
-                          }
-                          l1 = ((l17 << 6) | ((l20 << 12) | ((l1 << 18) & 1835008))) | ((b[((int) l9) - 60717] & 0xff) & 63);
-                         }
-                         l7 = 0L;
-                         l16 = 0;
-                         if ((l1 + -48) + Integer.MIN_VALUE < -2147483638) { break L14; }
-                         l17 = 0;
-                         l18 = 0;
-                         l19 = 0;
-                         l20 = 0;
-                         l8 = 0L;
-                         l3 = 0L;
-                         if ((l1 + -65296) + Integer.MIN_VALUE < -2147483638) { break L2; }
-                         l8 = 0L;
-                         l19 = 0;
-                         l16 = 0;
-                         l7 = 0L;
-                         L101: {
-                          if (l1 > 20840) { break L101; }
-                          L102: {
-                           if (l1 > 20060) { break L102; }
-                           if ((l18 = l1 + -19968) + Integer.MIN_VALUE > -2147483612) { break L17; }
-                           if (((1L << (l18 & 0xffffffffL)) & 68719477257L) == 0L) { break L17; }
-                           break L18;
-                          }
-                          l17 = 0;
-                          l18 = 0;
-                          l20 = 0;
-                          l3 = 0L;
-                          switch (l1 + -20108) {
-                          case 0: case 8: break L2;
-                          case 1: case 2: case 3: case 4: case 5: case 6: case 7: break L16;
-                          default: break L95;
-                          }
-                         }
-                         L103: {
-                          if (l1 > 21312) { break L103; }
-                          if ((l18 = l1 + -20841) + Integer.MIN_VALUE > -2147483644) { break L19; }
-                          if (((1 << l18) & 21) != 0) { break L18; }
-                          break L19;
-                         }
-                         L104: {
-                          if (l1 > 24189) { break L104; }
-                          if (l1 == 21313) { break L18; }
-                          l17 = 0;
-                          l18 = 0;
-                          l20 = 0;
-                          l3 = 0L;
-                          if (l1 != 22235) { break L16; }
-                          break L2;
-                         }
-                         if (l1 == 24190) { break L18; }
-                         if (l1 == 30334) { break L18; }
-                         l17 = 0;
-                         l18 = 0;
-                         l20 = 0;
-                         l3 = 0L;
-                         if (l1 != 38646) { break L16; }
-                         break L2;
-                        }
-                        if (((l18 & 2097119) + -65) + Integer.MIN_VALUE < -2147483622) { break L15; }
-                        break L16;
-                       }
-                       l17 = 0;
-                       l18 = 0;
-                       l20 = 0;
-                       l3 = 0L;
-                       if (l1 == 20061) { break L2; }
-                       break L16;
-                      }
-                      throw State.trap();
-                     }
-                     if (((1L << (l17 & 0xffffffffL)) & 68719477257L) == 0L) { break L7; }
-                     break L6;
-                    }
-                    if (((1L << (l18 & 0xffffffffL)) & 68719477257L) == 0L) { break L12; }
-                    break L11;
-                   }
-                   l17 = 0;
-                   l18 = 0;
-                   l20 = 0;
-                   l3 = 0L;
-                   if (l1 != 20960) { break L16; }
-                   break L2;
-                  }
-                  l17 = 0;
-                  l18 = 0;
-                  l20 = 0;
-                  l3 = 0L;
-                  break L2;
-                 }
-                 l17 = 0;
-                 l18 = 0;
-                 l20 = 0;
-                 l3 = 0L;
-                 if (l1 == 12295) { break L2; }
-                }
-                l7 = 1L;
-                l16 = l15;
-                l17 = l14;
-                l18 = l13;
-                l19 = l12;
-                l20 = l11;
-                l8 = l6;
-                l3 = l5;
-                break L2;
-               }
-               l7 = 0L;
-               l16 = 0;
-              }
-              l17 = 0;
-              l18 = 0;
-              l19 = 0;
-              l20 = 0;
-              l8 = 0L;
-              l3 = 0L;
-              break L2;
-             }
-             l16 = 0;
-             switch (l20 + -20108) {
-             case 0: case 8: break L11;
-             default: break L10;
-             }
-            }
-            if (l20 == 12295) { break L11; }
-            l16 = 0;
-            if (l20 != 20061) { break L10; }
-           }
-           Core2.f50(m, l4 + 112L, l20);
-           l16 = (b[((int) l4) - 60607] & 0xff) * 10;
-           l19 = b[((int) l4) - 60608] & 0xff;
-          }
-          l12 = 0;
-          L105: {
-           L106: {
-            L107: {
-             L108: {
-              L109: {
-               if (l17 > 20107) { break L109; }
-               if ((l18 = l17 + -19968) + Integer.MIN_VALUE <= -2147483612) { break L108; }
-               break L106;
-              }
-              L110: {
-               if (l17 > 22234) { break L110; }
-               if ((l18 = l17 + -20841) + Integer.MIN_VALUE > -2147483644) { break L107; }
-               if (((1 << l18) & 21) == 0) { break L107; }
-               break L105;
-              }
-              if (l17 == 38646) { break L105; }
-              l18 = 0;
-              if (l17 != 22235) { break L9; }
-              break L105;
-             }
-             if (((1L << (l18 & 0xffffffffL)) & 68719477257L) == 0L) { break L106; }
-             break L105;
-            }
-            l18 = 0;
-            switch (l17 + -20108) {
-            case 0: case 8: break L105;
-            default: break L9;
-            }
-           }
-           if (l17 == 12295) { break L105; }
-           l18 = 0;
-           if (l17 != 20061) { break L9; }
-          }
-          Core2.f50(m, l4 + 104L, l17);
-          final int t111 = (b[((int) l4) - 60615] & 0xff) + l16;
-          final int t112 = (l12 = (b[((int) l4) - 60616] & 0xff) & l19) & 255;
-          final int t113 = (t112 != 0 ? t111 : 0) & 255;
-          final int t114 = l12 & 1;
-          l18 = t114 != 0 ? t113 : 0;
-         }
-         l12 = l12 & 1;
-         break L4;
-        }
-        switch (l20 + -20108) {
-        case 0: case 8: break L6;
-        default: break L5;
-        }
-       }
-       if (l20 == 12295) { break L6; }
-       if (l20 != 20061) { break L5; }
-      }
-      Core2.f50(m, l4 + 88L, l20);
-      final int t115 = (b[((int) l4) - 60631] & 0xff) & 255;
-      final int t116 = (l12 = b[((int) l4) - 60632] & 0xff) & 1;
-      l18 = t116 != 0 ? t115 : 0;
-     }
-     l12 = l12 & 1;
+    final int x117 = f121_1(m, l0, l1, l2, l3, l4, l5, l6, l7, l8, l9, l10, l11, l12, l13, l14, l15, l16, l17, l18, l19, l20);
+    l1 = (int) m.kept[0];
+    l3 = m.kept[1];
+    l4 = m.kept[2];
+    l5 = m.kept[3];
+    l6 = m.kept[4];
+    l7 = m.kept[5];
+    l8 = m.kept[6];
+    l9 = m.kept[7];
+    l10 = m.kept[8];
+    l11 = (int) m.kept[9];
+    l12 = (int) m.kept[10];
+    l13 = (int) m.kept[11];
+    l14 = (int) m.kept[12];
+    l15 = (int) m.kept[13];
+    l16 = (int) m.kept[14];
+    l17 = (int) m.kept[15];
+    l18 = (int) m.kept[16];
+    l19 = (int) m.kept[17];
+    l20 = (int) m.kept[18];
+    switch (x117) {
+    case 1: break L2;
+    case 2: break L3;
+    case 3: break L1;
     }
     if ((l12 & 1) == 0) { break L3; }
-    L117: {
-     L118: {
-      if (!(l9 == 0L)) { break L118; }
+    L118: {
+     L119: {
+      if (!(l9 == 0L)) { break L119; }
       l19 = 0;
-      break L117;
+      break L118;
      }
      l12 = (l20 = (int) b[((int) l7) - 60720]) & 255;
-     L119: {
-      if (l20 > -1) { break L119; }
+     L120: {
+      if (l20 > -1) { break L120; }
       l17 = (b[((int) l7) - 60719] & 0xff) & 63;
-      L120: {
-       if (l20 + Integer.MIN_VALUE > 2147483615) { break L120; }
+      L121: {
+       if (l20 + Integer.MIN_VALUE > 2147483615) { break L121; }
        l12 = ((l12 << 6) & 1984) | l17;
-       break L119;
+       break L120;
       }
       l19 = (b[((int) l7) - 60718] & 0xff) & 63;
-      L121: {
-       if (l20 + Integer.MIN_VALUE > 2147483631) { break L121; }
+      L122: {
+       if (l20 + Integer.MIN_VALUE > 2147483631) { break L122; }
        l12 = ((l17 << 6) | ((l12 << 12) & 61440)) | l19;
-       break L119;
+       break L120;
       }
       l12 = ((l19 << 6) | ((l17 << 12) | ((l12 << 18) & 1835008))) | ((b[((int) l7) - 60717] & 0xff) & 63);
      }

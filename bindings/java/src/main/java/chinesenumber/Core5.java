@@ -987,75 +987,125 @@ static int f149_9(State m, long l0, long l1, long l2, long l3, long l4, long l7,
  return exit;
 }
 
-static int f149_10(State m, long l0, long l1, long l2, long l3, long l4, long l7, int l15, int l16, int l17, int l18, int l19) {
+static int f149_10(State m, long l0, long l1, long l2, long l3, long l4, int l15, int l16, int l17, int l18, int l19) {
  final byte[] b = m.bytes;
  int exit = 0;
  PART: {
-  L172: {
-   if (l3 == l1) { break L172; }
-   if (l16 != 19968) { break L172; }
-   if ((l16 = (int) b[((int) (l0 = l2 + l1)) - 60720]) > -1) { break L172; }
-   if (l16 + Integer.MIN_VALUE < 2147483616) { break L172; }
+  L165: {
+   if (l3 == l1) { break L165; }
+   if (l16 != 21313) { break L165; }
+   if ((l16 = (int) b[((int) (l0 = l2 + l1)) - 60720]) > -1) { break L165; }
+   if (l16 + Integer.MIN_VALUE < 2147483616) { break L165; }
    l17 = l16 & 255;
    l18 = (b[((int) l0) - 60719] & 0xff) & 63;
    l19 = (b[((int) l0) - 60718] & 0xff) & 63;
-   L173: {
-    L174: {
-     if (l16 + Integer.MIN_VALUE < 2147483632) { break L174; }
-     l16 = ((l19 << 6) | ((l18 << 12) | ((l17 << 18) & 1835008))) | ((b[((int) l0) - 60717] & 0xff) & 63);
-     l7 = 4L;
-     break L173;
-    }
-    l16 = ((l18 << 6) | ((l17 << 12) & 61440)) | l19;
-    l7 = 3L;
-   }
-   if (l16 != 21315) { break L172; }
-   if (l3 == (l1 = l7 + l1)) { break L172; }
-   if ((l16 = (int) b[((int) (l0 = l0 + l7)) - 60720]) > -1) { break L172; }
-   if (l16 + Integer.MIN_VALUE < 2147483616) { break L172; }
-   l17 = l16 & 255;
-   l18 = (b[((int) l0) - 60719] & 0xff) & 63;
-   l19 = (b[((int) l0) - 60718] & 0xff) & 63;
-   L175: {
-    L176: {
-     if (l16 + Integer.MIN_VALUE < 2147483632) { break L176; }
-     l16 = ((l19 << 6) | ((l18 << 12) | ((l17 << 18) & 1835008))) | ((b[((int) l0) - 60717] & 0xff) & 63);
-     l7 = 4L;
-     break L175;
-    }
-    l16 = ((l18 << 6) | ((l17 << 12) & 61440)) | l19;
-    l7 = 3L;
-   }
-   if (l16 != 38646) { break L172; }
-   if (l3 == (l1 = l7 + l1)) { break L172; }
-   if ((l16 = (int) b[((int) (l0 = l0 + l7)) - 60720]) > -1) { break L172; }
-   if (l16 + Integer.MIN_VALUE < 2147483616) { break L172; }
-   l17 = l16 & 255;
-   l18 = (b[((int) l0) - 60719] & 0xff) & 63;
-   l19 = (b[((int) l0) - 60718] & 0xff) & 63;
-   L177: {
-    L178: {
-     if (l16 + Integer.MIN_VALUE < 2147483632) { break L178; }
+   L166: {
+    L167: {
+     if (l16 + Integer.MIN_VALUE < 2147483632) { break L167; }
      l16 = ((l19 << 6) | ((l18 << 12) | ((l17 << 18) & 1835008))) | ((b[((int) l0) - 60717] & 0xff) & 63);
      l0 = 4L;
-     break L177;
+     break L166;
     }
     l16 = ((l18 << 6) | ((l17 << 12) & 61440)) | l19;
     l0 = 3L;
    }
-   if (l16 != 19968) { break L172; }
-   if (l15 != 0) { break L172; }
-   if (l3 != (l0 + l1)) { break L172; }
-   if ((l16 = (int) b[((int) l4) - 60720]) > -1) { break L172; }
-   if (l16 + Integer.MIN_VALUE < 2147483616) { break L172; }
+   if (l16 != 19977) { break L165; }
+   if (l15 != 0) { break L165; }
+   if (l3 != (l0 + l1)) { break L165; }
+   if ((l16 = (int) b[((int) l4) - 60720]) > -1) { break L165; }
+   if (l16 + Integer.MIN_VALUE < 2147483616) { break L165; }
    l17 = l16 & 255;
    l18 = (b[((int) l4) - 60719] & 0xff) & 63;
    l19 = (b[((int) l4) - 60718] & 0xff) & 63;
-   L179: {
-    L180: {
-     if (l16 + Integer.MIN_VALUE > 2147483631) { break L180; }
+   L168: {
+    L169: {
+     if (l16 + Integer.MIN_VALUE > 2147483631) { break L169; }
      l16 = ((l18 << 6) | ((l17 << 12) & 61440)) | l19;
-     break L179;
+     break L168;
+    }
+    l16 = ((l19 << 6) | ((l18 << 12) | ((l17 << 18) & 1835008))) | ((b[((int) l4) - 60717] & 0xff) & 63);
+   }
+   if (l16 == 22969) { exit = 1; break PART; }
+   if (l16 == 38517) { exit = 1; break PART; }
+  }
+ }
+ m.kept[0] = l0;
+ m.kept[1] = l16;
+ m.kept[2] = l17;
+ m.kept[3] = l18;
+ m.kept[4] = l19;
+ return exit;
+}
+
+static int f149_11(State m, long l0, long l1, long l2, long l3, long l4, long l7, int l15, int l16, int l17, int l18, int l19) {
+ final byte[] b = m.bytes;
+ int exit = 0;
+ PART: {
+  L173: {
+   if (l3 == l1) { break L173; }
+   if (l16 != 19968) { break L173; }
+   if ((l16 = (int) b[((int) (l0 = l2 + l1)) - 60720]) > -1) { break L173; }
+   if (l16 + Integer.MIN_VALUE < 2147483616) { break L173; }
+   l17 = l16 & 255;
+   l18 = (b[((int) l0) - 60719] & 0xff) & 63;
+   l19 = (b[((int) l0) - 60718] & 0xff) & 63;
+   L174: {
+    L175: {
+     if (l16 + Integer.MIN_VALUE < 2147483632) { break L175; }
+     l16 = ((l19 << 6) | ((l18 << 12) | ((l17 << 18) & 1835008))) | ((b[((int) l0) - 60717] & 0xff) & 63);
+     l7 = 4L;
+     break L174;
+    }
+    l16 = ((l18 << 6) | ((l17 << 12) & 61440)) | l19;
+    l7 = 3L;
+   }
+   if (l16 != 21315) { break L173; }
+   if (l3 == (l1 = l7 + l1)) { break L173; }
+   if ((l16 = (int) b[((int) (l0 = l0 + l7)) - 60720]) > -1) { break L173; }
+   if (l16 + Integer.MIN_VALUE < 2147483616) { break L173; }
+   l17 = l16 & 255;
+   l18 = (b[((int) l0) - 60719] & 0xff) & 63;
+   l19 = (b[((int) l0) - 60718] & 0xff) & 63;
+   L176: {
+    L177: {
+     if (l16 + Integer.MIN_VALUE < 2147483632) { break L177; }
+     l16 = ((l19 << 6) | ((l18 << 12) | ((l17 << 18) & 1835008))) | ((b[((int) l0) - 60717] & 0xff) & 63);
+     l7 = 4L;
+     break L176;
+    }
+    l16 = ((l18 << 6) | ((l17 << 12) & 61440)) | l19;
+    l7 = 3L;
+   }
+   if (l16 != 38646) { break L173; }
+   if (l3 == (l1 = l7 + l1)) { break L173; }
+   if ((l16 = (int) b[((int) (l0 = l0 + l7)) - 60720]) > -1) { break L173; }
+   if (l16 + Integer.MIN_VALUE < 2147483616) { break L173; }
+   l17 = l16 & 255;
+   l18 = (b[((int) l0) - 60719] & 0xff) & 63;
+   l19 = (b[((int) l0) - 60718] & 0xff) & 63;
+   L178: {
+    L179: {
+     if (l16 + Integer.MIN_VALUE < 2147483632) { break L179; }
+     l16 = ((l19 << 6) | ((l18 << 12) | ((l17 << 18) & 1835008))) | ((b[((int) l0) - 60717] & 0xff) & 63);
+     l0 = 4L;
+     break L178;
+    }
+    l16 = ((l18 << 6) | ((l17 << 12) & 61440)) | l19;
+    l0 = 3L;
+   }
+   if (l16 != 19968) { break L173; }
+   if (l15 != 0) { break L173; }
+   if (l3 != (l0 + l1)) { break L173; }
+   if ((l16 = (int) b[((int) l4) - 60720]) > -1) { break L173; }
+   if (l16 + Integer.MIN_VALUE < 2147483616) { break L173; }
+   l17 = l16 & 255;
+   l18 = (b[((int) l4) - 60719] & 0xff) & 63;
+   l19 = (b[((int) l4) - 60718] & 0xff) & 63;
+   L180: {
+    L181: {
+     if (l16 + Integer.MIN_VALUE > 2147483631) { break L181; }
+     l16 = ((l18 << 6) | ((l17 << 12) & 61440)) | l19;
+     break L180;
     }
     l16 = ((l19 << 6) | ((l18 << 12) | ((l17 << 18) & 1835008))) | ((b[((int) l4) - 60717] & 0xff) & 63);
    }
@@ -1072,62 +1122,62 @@ static int f149_10(State m, long l0, long l1, long l2, long l3, long l4, long l7
  return exit;
 }
 
-static int f149_11(State m, long l0, long l1, long l2, long l3, long l4, long l5, int l11, int l12, int l13, int l14, int l16, int l17, int l18, int l19) {
+static int f149_12(State m, long l0, long l1, long l2, long l3, long l4, long l5, int l11, int l12, int l13, int l14, int l16, int l17, int l18, int l19) {
  final byte[] b = m.bytes;
  int exit = 0;
  PART: {
-  L189: {
-   L190: {
-    L191: {
-     if (l3 == l1) { break L191; }
-     if (l16 != 21313) { break L191; }
-     if ((l16 = (int) b[((int) (l0 = l2 + l1)) - 60720]) > -1) { break L191; }
-     if (l16 + Integer.MIN_VALUE < 2147483616) { break L191; }
+  L190: {
+   L191: {
+    L192: {
+     if (l3 == l1) { break L192; }
+     if (l16 != 21313) { break L192; }
+     if ((l16 = (int) b[((int) (l0 = l2 + l1)) - 60720]) > -1) { break L192; }
+     if (l16 + Integer.MIN_VALUE < 2147483616) { break L192; }
      l17 = l16 & 255;
      l18 = (b[((int) l0) - 60719] & 0xff) & 63;
      l19 = (b[((int) l0) - 60718] & 0xff) & 63;
-     L192: {
-      L193: {
-       if (l16 + Integer.MIN_VALUE < 2147483632) { break L193; }
+     L193: {
+      L194: {
+       if (l16 + Integer.MIN_VALUE < 2147483632) { break L194; }
        l16 = ((l19 << 6) | ((l18 << 12) | ((l17 << 18) & 1835008))) | ((b[((int) l0) - 60717] & 0xff) & 63);
        l0 = 4L;
-       break L192;
+       break L193;
       }
       l16 = ((l18 << 6) | ((l17 << 12) & 61440)) | l19;
       l0 = 3L;
      }
-     if (l16 != 19975) { break L191; }
-     if (l3 == (l0 + l1)) { break L190; }
+     if (l16 != 19975) { break L192; }
+     if (l3 == (l0 + l1)) { break L191; }
     }
-    L194: {
-     L195: {
-      if (l11 + Integer.MIN_VALUE > 2147483631) { break L195; }
+    L195: {
+     L196: {
+      if (l11 + Integer.MIN_VALUE > 2147483631) { break L196; }
       l16 = ((l13 << 6) | ((l12 << 12) & 61440)) | l14;
       l1 = 3L;
-      break L194;
+      break L195;
      }
      l16 = ((l14 << 6) | ((l13 << 12) | ((l12 << 18) & 1835008))) | ((b[((int) l2) - 60717] & 0xff) & 63);
      l1 = 4L;
     }
-    if (l3 == l1) { break L189; }
-    if (l16 != 21313) { break L189; }
-    if ((l16 = (int) b[((int) (l0 = l2 + l1)) - 60720]) > -1) { break L189; }
-    if (l16 + Integer.MIN_VALUE < 2147483616) { break L189; }
+    if (l3 == l1) { break L190; }
+    if (l16 != 21313) { break L190; }
+    if ((l16 = (int) b[((int) (l0 = l2 + l1)) - 60720]) > -1) { break L190; }
+    if (l16 + Integer.MIN_VALUE < 2147483616) { break L190; }
     l17 = l16 & 255;
     l18 = (b[((int) l0) - 60719] & 0xff) & 63;
     l19 = (b[((int) l0) - 60718] & 0xff) & 63;
-    L196: {
-     L197: {
-      if (l16 + Integer.MIN_VALUE < 2147483632) { break L197; }
+    L197: {
+     L198: {
+      if (l16 + Integer.MIN_VALUE < 2147483632) { break L198; }
       l16 = ((l19 << 6) | ((l18 << 12) | ((l17 << 18) & 1835008))) | ((b[((int) l0) - 60717] & 0xff) & 63);
       l0 = 4L;
-      break L196;
+      break L197;
      }
      l16 = ((l18 << 6) | ((l17 << 12) & 61440)) | l19;
      l0 = 3L;
     }
-    if (l16 != 33836) { break L189; }
-    if (l3 != (l0 + l1)) { break L189; }
+    if (l16 != 33836) { break L190; }
+    if (l3 != (l0 + l1)) { break L190; }
    }
    if (Core4.f122(m, 84704L, 1L, 84708L, 1L, l4, l5) != 0) { exit = 1; break PART; }
   }
@@ -1141,146 +1191,146 @@ static int f149_11(State m, long l0, long l1, long l2, long l3, long l4, long l5
  return exit;
 }
 
-static int f149_12(State m, long l0, long l1, long l2, long l3, long l4, long l7, int l11, int l12, int l13, int l14, int l15, int l16, int l17, int l18, int l19) {
+static int f149_13(State m, long l0, long l1, long l2, long l3, long l4, long l7, int l11, int l12, int l13, int l14, int l15, int l16, int l17, int l18, int l19) {
  final byte[] b = m.bytes;
  int exit = 0;
  PART: {
-  L201: {
-   L202: {
-    L203: {
-     L204: {
-      if (l3 == l1) { break L204; }
-      if (l16 != 21313) { break L204; }
-      if ((l16 = (int) b[((int) (l0 = l2 + l1)) - 60720]) > -1) { break L204; }
-      if (l16 + Integer.MIN_VALUE < 2147483616) { break L204; }
+  L202: {
+   L203: {
+    L204: {
+     L205: {
+      if (l3 == l1) { break L205; }
+      if (l16 != 21313) { break L205; }
+      if ((l16 = (int) b[((int) (l0 = l2 + l1)) - 60720]) > -1) { break L205; }
+      if (l16 + Integer.MIN_VALUE < 2147483616) { break L205; }
       l17 = l16 & 255;
       l18 = (b[((int) l0) - 60719] & 0xff) & 63;
       l19 = (b[((int) l0) - 60718] & 0xff) & 63;
-      L205: {
-       L206: {
-        if (l16 + Integer.MIN_VALUE < 2147483632) { break L206; }
+      L206: {
+       L207: {
+        if (l16 + Integer.MIN_VALUE < 2147483632) { break L207; }
         l16 = ((l19 << 6) | ((l18 << 12) | ((l17 << 18) & 1835008))) | ((b[((int) l0) - 60717] & 0xff) & 63);
         l7 = 4L;
-        break L205;
+        break L206;
        }
        l16 = ((l18 << 6) | ((l17 << 12) & 61440)) | l19;
        l7 = 3L;
       }
-      if (l16 != 19975) { break L204; }
-      if (l3 == (l1 = l7 + l1)) { break L204; }
-      if ((l16 = (int) b[((int) (l0 = l0 + l7)) - 60720]) > -1) { break L204; }
-      if (l16 + Integer.MIN_VALUE < 2147483616) { break L204; }
+      if (l16 != 19975) { break L205; }
+      if (l3 == (l1 = l7 + l1)) { break L205; }
+      if ((l16 = (int) b[((int) (l0 = l0 + l7)) - 60720]) > -1) { break L205; }
+      if (l16 + Integer.MIN_VALUE < 2147483616) { break L205; }
       l17 = l16 & 255;
       l18 = (b[((int) l0) - 60719] & 0xff) & 63;
       l19 = (b[((int) l0) - 60718] & 0xff) & 63;
-      L207: {
-       L208: {
-        if (l16 + Integer.MIN_VALUE < 2147483632) { break L208; }
+      L208: {
+       L209: {
+        if (l16 + Integer.MIN_VALUE < 2147483632) { break L209; }
         l16 = ((l19 << 6) | ((l18 << 12) | ((l17 << 18) & 1835008))) | ((b[((int) l0) - 60717] & 0xff) & 63);
         l7 = 4L;
-        break L207;
+        break L208;
        }
        l16 = ((l18 << 6) | ((l17 << 12) & 61440)) | l19;
        l7 = 3L;
       }
-      if (l16 != 20843) { break L204; }
-      if (l3 == (l1 = l7 + l1)) { break L204; }
-      if ((l16 = (int) b[((int) (l0 = l0 + l7)) - 60720]) > -1) { break L204; }
-      if (l16 + Integer.MIN_VALUE < 2147483616) { break L204; }
+      if (l16 != 20843) { break L205; }
+      if (l3 == (l1 = l7 + l1)) { break L205; }
+      if ((l16 = (int) b[((int) (l0 = l0 + l7)) - 60720]) > -1) { break L205; }
+      if (l16 + Integer.MIN_VALUE < 2147483616) { break L205; }
       l17 = l16 & 255;
       l18 = (b[((int) l0) - 60719] & 0xff) & 63;
       l19 = (b[((int) l0) - 60718] & 0xff) & 63;
-      L209: {
-       L210: {
-        if (l16 + Integer.MIN_VALUE < 2147483632) { break L210; }
+      L210: {
+       L211: {
+        if (l16 + Integer.MIN_VALUE < 2147483632) { break L211; }
         l16 = ((l19 << 6) | ((l18 << 12) | ((l17 << 18) & 1835008))) | ((b[((int) l0) - 60717] & 0xff) & 63);
         l0 = 4L;
-        break L209;
+        break L210;
        }
        l16 = ((l18 << 6) | ((l17 << 12) & 61440)) | l19;
        l0 = 3L;
       }
-      if (l16 != 21315) { break L204; }
-      if (l3 == (l0 + l1)) { break L203; }
+      if (l16 != 21315) { break L205; }
+      if (l3 == (l0 + l1)) { break L204; }
      }
-     L211: {
-      L212: {
-       if (l11 + Integer.MIN_VALUE > 2147483631) { break L212; }
+     L212: {
+      L213: {
+       if (l11 + Integer.MIN_VALUE > 2147483631) { break L213; }
        l16 = ((l13 << 6) | ((l12 << 12) & 61440)) | l14;
        l1 = 3L;
-       break L211;
+       break L212;
       }
       l16 = ((l14 << 6) | ((l13 << 12) | ((l12 << 18) & 1835008))) | ((b[((int) l2) - 60717] & 0xff) & 63);
       l1 = 4L;
      }
-     if (l3 == l1) { break L201; }
-     if (l16 != 21313) { break L201; }
-     if ((l16 = (int) b[((int) (l0 = l2 + l1)) - 60720]) > -1) { break L201; }
-     if (l16 + Integer.MIN_VALUE < 2147483616) { break L201; }
+     if (l3 == l1) { break L202; }
+     if (l16 != 21313) { break L202; }
+     if ((l16 = (int) b[((int) (l0 = l2 + l1)) - 60720]) > -1) { break L202; }
+     if (l16 + Integer.MIN_VALUE < 2147483616) { break L202; }
      l17 = l16 & 255;
      l18 = (b[((int) l0) - 60719] & 0xff) & 63;
      l19 = (b[((int) l0) - 60718] & 0xff) & 63;
-     L213: {
-      L214: {
-       if (l16 + Integer.MIN_VALUE < 2147483632) { break L214; }
+     L214: {
+      L215: {
+       if (l16 + Integer.MIN_VALUE < 2147483632) { break L215; }
        l16 = ((l19 << 6) | ((l18 << 12) | ((l17 << 18) & 1835008))) | ((b[((int) l0) - 60717] & 0xff) & 63);
        l7 = 4L;
-       break L213;
+       break L214;
       }
       l16 = ((l18 << 6) | ((l17 << 12) & 61440)) | l19;
       l7 = 3L;
      }
-     if (l16 != 33836) { break L201; }
-     if (l3 == (l1 = l7 + l1)) { break L201; }
-     if ((l16 = (int) b[((int) (l0 = l0 + l7)) - 60720]) > -1) { break L201; }
-     if (l16 + Integer.MIN_VALUE < 2147483616) { break L201; }
+     if (l16 != 33836) { break L202; }
+     if (l3 == (l1 = l7 + l1)) { break L202; }
+     if ((l16 = (int) b[((int) (l0 = l0 + l7)) - 60720]) > -1) { break L202; }
+     if (l16 + Integer.MIN_VALUE < 2147483616) { break L202; }
      l17 = l16 & 255;
      l18 = (b[((int) l0) - 60719] & 0xff) & 63;
      l19 = (b[((int) l0) - 60718] & 0xff) & 63;
-     L215: {
-      L216: {
-       if (l16 + Integer.MIN_VALUE < 2147483632) { break L216; }
+     L216: {
+      L217: {
+       if (l16 + Integer.MIN_VALUE < 2147483632) { break L217; }
        l16 = ((l19 << 6) | ((l18 << 12) | ((l17 << 18) & 1835008))) | ((b[((int) l0) - 60717] & 0xff) & 63);
        l7 = 4L;
-       break L215;
+       break L216;
       }
       l16 = ((l18 << 6) | ((l17 << 12) & 61440)) | l19;
       l7 = 3L;
      }
-     if (l16 != 20843) { break L201; }
-     if (l3 == (l1 = l7 + l1)) { break L201; }
-     if ((l16 = (int) b[((int) (l0 = l0 + l7)) - 60720]) > -1) { break L201; }
-     if (l16 + Integer.MIN_VALUE < 2147483616) { break L201; }
+     if (l16 != 20843) { break L202; }
+     if (l3 == (l1 = l7 + l1)) { break L202; }
+     if ((l16 = (int) b[((int) (l0 = l0 + l7)) - 60720]) > -1) { break L202; }
+     if (l16 + Integer.MIN_VALUE < 2147483616) { break L202; }
      l17 = l16 & 255;
      l18 = (b[((int) l0) - 60719] & 0xff) & 63;
      l19 = (b[((int) l0) - 60718] & 0xff) & 63;
-     L217: {
-      L218: {
-       if (l16 + Integer.MIN_VALUE < 2147483632) { break L218; }
+     L218: {
+      L219: {
+       if (l16 + Integer.MIN_VALUE < 2147483632) { break L219; }
        l16 = ((l19 << 6) | ((l18 << 12) | ((l17 << 18) & 1835008))) | ((b[((int) l0) - 60717] & 0xff) & 63);
        l0 = 4L;
-       break L217;
+       break L218;
       }
       l16 = ((l18 << 6) | ((l17 << 12) & 61440)) | l19;
       l0 = 3L;
      }
-     if (l16 != 21315) { break L201; }
-     if (l15 != 0) { break L201; }
-     if (l3 == (l0 + l1)) { break L202; }
-     break L201;
+     if (l16 != 21315) { break L202; }
+     if (l15 != 0) { break L202; }
+     if (l3 == (l0 + l1)) { break L203; }
+     break L202;
     }
-    if (l15 != 0) { break L201; }
+    if (l15 != 0) { break L202; }
    }
-   if ((l15 = (int) b[((int) l4) - 60720]) > -1) { break L201; }
-   if (l15 + Integer.MIN_VALUE < 2147483616) { break L201; }
+   if ((l15 = (int) b[((int) l4) - 60720]) > -1) { break L202; }
+   if (l15 + Integer.MIN_VALUE < 2147483616) { break L202; }
    l16 = l15 & 255;
    l17 = (b[((int) l4) - 60719] & 0xff) & 63;
    l18 = (b[((int) l4) - 60718] & 0xff) & 63;
-   L219: {
-    L220: {
-     if (l15 + Integer.MIN_VALUE > 2147483631) { break L220; }
+   L220: {
+    L221: {
+     if (l15 + Integer.MIN_VALUE > 2147483631) { break L221; }
      l15 = ((l17 << 6) | ((l16 << 12) & 61440)) | l18;
-     break L219;
+     break L220;
     }
     l15 = ((l18 << 6) | ((l17 << 12) | ((l16 << 18) & 1835008))) | ((b[((int) l4) - 60717] & 0xff) & 63);
    }
@@ -1298,46 +1348,46 @@ static int f149_12(State m, long l0, long l1, long l2, long l3, long l4, long l7
  return exit;
 }
 
-static int f149_13(State m, long l0, long l1, long l2, long l3, long l5, int l15, int l16, int l17, int l18) {
+static int f149_14(State m, long l0, long l1, long l2, long l3, long l5, int l15, int l16, int l17, int l18) {
  final byte[] b = m.bytes;
  int exit = 0;
  PART: {
-  L249: {
-   if (l3 == l1) { break L249; }
-   if (l15 != 20108) { break L249; }
-   if ((l15 = (int) b[((int) (l0 = l2 + l1)) - 60720]) > -1) { break L249; }
-   if (l15 + Integer.MIN_VALUE < 2147483616) { break L249; }
+  L250: {
+   if (l3 == l1) { break L250; }
+   if (l15 != 20108) { break L250; }
+   if ((l15 = (int) b[((int) (l0 = l2 + l1)) - 60720]) > -1) { break L250; }
+   if (l15 + Integer.MIN_VALUE < 2147483616) { break L250; }
    l16 = l15 & 255;
    l17 = (b[((int) l0) - 60719] & 0xff) & 63;
    l18 = (b[((int) l0) - 60718] & 0xff) & 63;
-   L250: {
-    L251: {
-     if (l15 + Integer.MIN_VALUE < 2147483632) { break L251; }
+   L251: {
+    L252: {
+     if (l15 + Integer.MIN_VALUE < 2147483632) { break L252; }
      l15 = ((l18 << 6) | ((l17 << 12) | ((l16 << 18) & 1835008))) | ((b[((int) l0) - 60717] & 0xff) & 63);
      l5 = 4L;
-     break L250;
+     break L251;
     }
     l15 = ((l17 << 6) | ((l16 << 12) & 61440)) | l18;
     l5 = 3L;
    }
-   if (l15 != 30334) { break L249; }
-   if (l3 == (l1 = l5 + l1)) { break L249; }
-   if ((l15 = (int) b[((int) (l0 = l0 + l5)) - 60720]) > -1) { break L249; }
-   if (l15 + Integer.MIN_VALUE < 2147483616) { break L249; }
+   if (l15 != 30334) { break L250; }
+   if (l3 == (l1 = l5 + l1)) { break L250; }
+   if ((l15 = (int) b[((int) (l0 = l0 + l5)) - 60720]) > -1) { break L250; }
+   if (l15 + Integer.MIN_VALUE < 2147483616) { break L250; }
    l16 = l15 & 255;
    l17 = (b[((int) l0) - 60719] & 0xff) & 63;
    l18 = (b[((int) l0) - 60718] & 0xff) & 63;
-   L252: {
-    L253: {
-     if (l15 + Integer.MIN_VALUE < 2147483632) { break L253; }
+   L253: {
+    L254: {
+     if (l15 + Integer.MIN_VALUE < 2147483632) { break L254; }
      l15 = ((l18 << 6) | ((l17 << 12) | ((l16 << 18) & 1835008))) | ((b[((int) l0) - 60717] & 0xff) & 63);
      l0 = 4L;
-     break L252;
+     break L253;
     }
     l15 = ((l17 << 6) | ((l16 << 12) & 61440)) | l18;
     l0 = 3L;
    }
-   if (l15 != 20116) { break L249; }
+   if (l15 != 20116) { break L250; }
    if (l3 == (l0 + l1)) { exit = 1; break PART; }
   }
  }
@@ -1636,54 +1686,26 @@ static int f149(State m, long l0, long l1, long l2, long l3, long l4, long l5) {
    l16 = ((l14 << 6) | ((l13 << 12) | ((l12 << 18) & 1835008))) | ((b[((int) l2) - 60717] & 0xff) & 63);
    l1 = 4L;
   }
-  L165: {
-   if (l3 == l1) { break L165; }
-   if (l16 != 21313) { break L165; }
-   if ((l16 = (int) b[((int) (l0 = l2 + l1)) - 60720]) > -1) { break L165; }
-   if (l16 + Integer.MIN_VALUE < 2147483616) { break L165; }
-   l17 = l16 & 255;
-   l18 = (b[((int) l0) - 60719] & 0xff) & 63;
-   l19 = (b[((int) l0) - 60718] & 0xff) & 63;
-   L166: {
-    L167: {
-     if (l16 + Integer.MIN_VALUE < 2147483632) { break L167; }
-     l16 = ((l19 << 6) | ((l18 << 12) | ((l17 << 18) & 1835008))) | ((b[((int) l0) - 60717] & 0xff) & 63);
-     l0 = 4L;
-     break L166;
-    }
-    l16 = ((l18 << 6) | ((l17 << 12) & 61440)) | l19;
-    l0 = 3L;
-   }
-   if (l16 != 19977) { break L165; }
-   if (l15 != 0) { break L165; }
-   if (l3 != (l0 + l1)) { break L165; }
-   if ((l16 = (int) b[((int) l4) - 60720]) > -1) { break L165; }
-   if (l16 + Integer.MIN_VALUE < 2147483616) { break L165; }
-   l17 = l16 & 255;
-   l18 = (b[((int) l4) - 60719] & 0xff) & 63;
-   l19 = (b[((int) l4) - 60718] & 0xff) & 63;
-   L168: {
-    L169: {
-     if (l16 + Integer.MIN_VALUE > 2147483631) { break L169; }
-     l16 = ((l18 << 6) | ((l17 << 12) & 61440)) | l19;
-     break L168;
-    }
-    l16 = ((l19 << 6) | ((l18 << 12) | ((l17 << 18) & 1835008))) | ((b[((int) l4) - 60717] & 0xff) & 63);
-   }
-   if (l16 == 22969) { break L1; }
-   if (l16 == 38517) { break L1; }
+  final int x170 = f149_10(m, l0, l1, l2, l3, l4, l15, l16, l17, l18, l19);
+  l0 = m.kept[0];
+  l16 = (int) m.kept[1];
+  l17 = (int) m.kept[2];
+  l18 = (int) m.kept[3];
+  l19 = (int) m.kept[4];
+  switch (x170) {
+  case 1: break L1;
   }
-  L170: {
-   L171: {
-    if (l11 + Integer.MIN_VALUE > 2147483631) { break L171; }
+  L171: {
+   L172: {
+    if (l11 + Integer.MIN_VALUE > 2147483631) { break L172; }
     l16 = ((l13 << 6) | ((l12 << 12) & 61440)) | l14;
     l1 = 3L;
-    break L170;
+    break L171;
    }
    l16 = ((l14 << 6) | ((l13 << 12) | ((l12 << 18) & 1835008))) | ((b[((int) l2) - 60717] & 0xff) & 63);
    l1 = 4L;
   }
-  final int x181 = f149_10(m, l0, l1, l2, l3, l4, l7, l15, l16, l17, l18, l19);
+  final int x182 = f149_11(m, l0, l1, l2, l3, l4, l7, l15, l16, l17, l18, l19);
   l0 = m.kept[0];
   l1 = m.kept[1];
   l7 = m.kept[2];
@@ -1691,73 +1713,73 @@ static int f149(State m, long l0, long l1, long l2, long l3, long l4, long l5) {
   l17 = (int) m.kept[4];
   l18 = (int) m.kept[5];
   l19 = (int) m.kept[6];
-  switch (x181) {
+  switch (x182) {
   case 1: break L1;
   }
-  L182: {
-   L183: {
-    if (l11 + Integer.MIN_VALUE > 2147483631) { break L183; }
+  L183: {
+   L184: {
+    if (l11 + Integer.MIN_VALUE > 2147483631) { break L184; }
     l14 = ((l13 << 6) | ((l12 << 12) & 61440)) | l14;
     l1 = 3L;
-    break L182;
+    break L183;
    }
    l14 = ((l14 << 6) | ((l13 << 12) | ((l12 << 18) & 1835008))) | ((b[((int) l2) - 60717] & 0xff) & 63);
    l1 = 4L;
   }
-  L184: {
-   if (l3 == l1) { break L184; }
-   if (l14 != 20108) { break L184; }
-   if ((l14 = (int) b[((int) (l0 = l2 + l1)) - 60720]) > -1) { break L184; }
-   if (l14 + Integer.MIN_VALUE < 2147483616) { break L184; }
+  L185: {
+   if (l3 == l1) { break L185; }
+   if (l14 != 20108) { break L185; }
+   if ((l14 = (int) b[((int) (l0 = l2 + l1)) - 60720]) > -1) { break L185; }
+   if (l14 + Integer.MIN_VALUE < 2147483616) { break L185; }
    l16 = l14 & 255;
    l17 = (b[((int) l0) - 60719] & 0xff) & 63;
    l18 = (b[((int) l0) - 60718] & 0xff) & 63;
-   L185: {
-    L186: {
-     if (l14 + Integer.MIN_VALUE < 2147483632) { break L186; }
+   L186: {
+    L187: {
+     if (l14 + Integer.MIN_VALUE < 2147483632) { break L187; }
      l14 = ((l18 << 6) | ((l17 << 12) | ((l16 << 18) & 1835008))) | ((b[((int) l0) - 60717] & 0xff) & 63);
      l0 = 4L;
-     break L185;
+     break L186;
     }
     l14 = ((l17 << 6) | ((l16 << 12) & 61440)) | l18;
     l0 = 3L;
    }
-   if (l14 != 20843) { break L184; }
-   if (l3 != (l0 + l1)) { break L184; }
+   if (l14 != 20843) { break L185; }
+   if (l3 != (l0 + l1)) { break L185; }
    if (Core4.f122(m, 82768L, 1L, 83452L, 2L, l4, l5) != 0) { break L1; }
   }
   l14 = (b[((int) l2) - 60718] & 0xff) & 63;
-  L187: {
-   L188: {
-    if (l11 + Integer.MIN_VALUE > 2147483631) { break L188; }
+  L188: {
+   L189: {
+    if (l11 + Integer.MIN_VALUE > 2147483631) { break L189; }
     l16 = ((l13 << 6) | ((l12 << 12) & 61440)) | l14;
     l1 = 3L;
-    break L187;
+    break L188;
    }
    l16 = ((l14 << 6) | ((l13 << 12) | ((l12 << 18) & 1835008))) | ((b[((int) l2) - 60717] & 0xff) & 63);
    l1 = 4L;
   }
-  final int x198 = f149_11(m, l0, l1, l2, l3, l4, l5, l11, l12, l13, l14, l16, l17, l18, l19);
+  final int x199 = f149_12(m, l0, l1, l2, l3, l4, l5, l11, l12, l13, l14, l16, l17, l18, l19);
   l0 = m.kept[0];
   l1 = m.kept[1];
   l16 = (int) m.kept[2];
   l17 = (int) m.kept[3];
   l18 = (int) m.kept[4];
   l19 = (int) m.kept[5];
-  switch (x198) {
+  switch (x199) {
   case 1: break L1;
   }
-  L199: {
-   L200: {
-    if (l11 + Integer.MIN_VALUE > 2147483631) { break L200; }
+  L200: {
+   L201: {
+    if (l11 + Integer.MIN_VALUE > 2147483631) { break L201; }
     l16 = ((l13 << 6) | ((l12 << 12) & 61440)) | l14;
     l1 = 3L;
-    break L199;
+    break L200;
    }
    l16 = ((l14 << 6) | ((l13 << 12) | ((l12 << 18) & 1835008))) | ((b[((int) l2) - 60717] & 0xff) & 63);
    l1 = 4L;
   }
-  final int x221 = f149_12(m, l0, l1, l2, l3, l4, l7, l11, l12, l13, l14, l15, l16, l17, l18, l19);
+  final int x222 = f149_13(m, l0, l1, l2, l3, l4, l7, l11, l12, l13, l14, l15, l16, l17, l18, l19);
   l0 = m.kept[0];
   l1 = m.kept[1];
   l7 = m.kept[2];
@@ -1766,181 +1788,181 @@ static int f149(State m, long l0, long l1, long l2, long l3, long l4, long l5) {
   l17 = (int) m.kept[5];
   l18 = (int) m.kept[6];
   l19 = (int) m.kept[7];
-  switch (x221) {
+  switch (x222) {
   case 1: break L1;
   }
-  L222: {
-   L223: {
-    if (l11 + Integer.MIN_VALUE > 2147483631) { break L223; }
+  L223: {
+   L224: {
+    if (l11 + Integer.MIN_VALUE > 2147483631) { break L224; }
     l15 = ((l13 << 6) | ((l12 << 12) & 61440)) | l14;
     l1 = 3L;
-    break L222;
+    break L223;
    }
    l15 = ((l14 << 6) | ((l13 << 12) | ((l12 << 18) & 1835008))) | ((b[((int) l2) - 60717] & 0xff) & 63);
    l1 = 4L;
   }
-  L224: {
-   if (l3 == l1) { break L224; }
-   if (l15 != 19968) { break L224; }
-   if ((l15 = (int) b[((int) (l0 = l2 + l1)) - 60720]) > -1) { break L224; }
-   if (l15 + Integer.MIN_VALUE < 2147483616) { break L224; }
+  L225: {
+   if (l3 == l1) { break L225; }
+   if (l15 != 19968) { break L225; }
+   if ((l15 = (int) b[((int) (l0 = l2 + l1)) - 60720]) > -1) { break L225; }
+   if (l15 + Integer.MIN_VALUE < 2147483616) { break L225; }
    l16 = l15 & 255;
    l17 = (b[((int) l0) - 60719] & 0xff) & 63;
    l18 = (b[((int) l0) - 60718] & 0xff) & 63;
-   L225: {
-    L226: {
-     if (l15 + Integer.MIN_VALUE < 2147483632) { break L226; }
+   L226: {
+    L227: {
+     if (l15 + Integer.MIN_VALUE < 2147483632) { break L227; }
      l15 = ((l18 << 6) | ((l17 << 12) | ((l16 << 18) & 1835008))) | ((b[((int) l0) - 60717] & 0xff) & 63);
      l0 = 4L;
-     break L225;
+     break L226;
     }
     l15 = ((l17 << 6) | ((l16 << 12) & 61440)) | l18;
     l0 = 3L;
    }
-   if (l15 != 21315) { break L224; }
-   if (l3 != (l0 + l1)) { break L224; }
+   if (l15 != 21315) { break L225; }
+   if (l3 != (l0 + l1)) { break L225; }
    if (Core4.f122(m, 84348L, 1L, 83144L, 1L, l4, l5) != 0) { break L1; }
   }
-  L227: {
-   L228: {
-    if (l11 + Integer.MIN_VALUE > 2147483631) { break L228; }
+  L228: {
+   L229: {
+    if (l11 + Integer.MIN_VALUE > 2147483631) { break L229; }
     l15 = ((l13 << 6) | ((l12 << 12) & 61440)) | l14;
     l1 = 3L;
-    break L227;
+    break L228;
    }
    l15 = ((l14 << 6) | ((l13 << 12) | ((l12 << 18) & 1835008))) | ((b[((int) l2) - 60717] & 0xff) & 63);
    l1 = 4L;
   }
-  L229: {
-   if (l3 == l1) { break L229; }
-   if (l15 != 19977) { break L229; }
-   if ((l15 = (int) b[((int) (l0 = l2 + l1)) - 60720]) > -1) { break L229; }
-   if (l15 + Integer.MIN_VALUE < 2147483616) { break L229; }
+  L230: {
+   if (l3 == l1) { break L230; }
+   if (l15 != 19977) { break L230; }
+   if ((l15 = (int) b[((int) (l0 = l2 + l1)) - 60720]) > -1) { break L230; }
+   if (l15 + Integer.MIN_VALUE < 2147483616) { break L230; }
    l16 = l15 & 255;
    l17 = (b[((int) l0) - 60719] & 0xff) & 63;
    l18 = (b[((int) l0) - 60718] & 0xff) & 63;
-   L230: {
-    L231: {
-     if (l15 + Integer.MIN_VALUE < 2147483632) { break L231; }
+   L231: {
+    L232: {
+     if (l15 + Integer.MIN_VALUE < 2147483632) { break L232; }
      l15 = ((l18 << 6) | ((l17 << 12) | ((l16 << 18) & 1835008))) | ((b[((int) l0) - 60717] & 0xff) & 63);
      l0 = 4L;
-     break L230;
+     break L231;
     }
     l15 = ((l17 << 6) | ((l16 << 12) & 61440)) | l18;
     l0 = 3L;
    }
-   if (l15 != 21313) { break L229; }
-   if (l3 != (l0 + l1)) { break L229; }
+   if (l15 != 21313) { break L230; }
+   if (l3 != (l0 + l1)) { break L230; }
    if (Core4.f122(m, 84712L, 1L, 84716L, 1L, l4, l5) != 0) { break L1; }
    if (Core4.f122(m, 82768L, 1L, 84720L, 1L, l4, l5) != 0) { break L1; }
   }
-  L232: {
-   L233: {
-    if (l11 + Integer.MIN_VALUE > 2147483631) { break L233; }
+  L233: {
+   L234: {
+    if (l11 + Integer.MIN_VALUE > 2147483631) { break L234; }
     l15 = ((l13 << 6) | ((l12 << 12) & 61440)) | l14;
     l1 = 3L;
-    break L232;
+    break L233;
    }
    l15 = ((l14 << 6) | ((l13 << 12) | ((l12 << 18) & 1835008))) | ((b[((int) l2) - 60717] & 0xff) & 63);
    l1 = 4L;
   }
-  L234: {
-   if (l3 == l1) { break L234; }
-   if (l15 != 22235) { break L234; }
-   if ((l15 = (int) b[((int) (l0 = l2 + l1)) - 60720]) > -1) { break L234; }
-   if (l15 + Integer.MIN_VALUE < 2147483616) { break L234; }
+  L235: {
+   if (l3 == l1) { break L235; }
+   if (l15 != 22235) { break L235; }
+   if ((l15 = (int) b[((int) (l0 = l2 + l1)) - 60720]) > -1) { break L235; }
+   if (l15 + Integer.MIN_VALUE < 2147483616) { break L235; }
    l16 = l15 & 255;
    l17 = (b[((int) l0) - 60719] & 0xff) & 63;
    l18 = (b[((int) l0) - 60718] & 0xff) & 63;
-   L235: {
-    L236: {
-     if (l15 + Integer.MIN_VALUE < 2147483632) { break L236; }
+   L236: {
+    L237: {
+     if (l15 + Integer.MIN_VALUE < 2147483632) { break L237; }
      l15 = ((l18 << 6) | ((l17 << 12) | ((l16 << 18) & 1835008))) | ((b[((int) l0) - 60717] & 0xff) & 63);
      l0 = 4L;
-     break L235;
+     break L236;
     }
     l15 = ((l17 << 6) | ((l16 << 12) & 61440)) | l18;
     l0 = 3L;
    }
-   if (l15 != 21313) { break L234; }
-   if (l3 != (l0 + l1)) { break L234; }
+   if (l15 != 21313) { break L235; }
+   if (l3 != (l0 + l1)) { break L235; }
    if (Core4.f122(m, 84724L, 1L, 84728L, 1L, l4, l5) != 0) { break L1; }
   }
-  L237: {
-   L238: {
-    if (l11 + Integer.MIN_VALUE > 2147483631) { break L238; }
+  L238: {
+   L239: {
+    if (l11 + Integer.MIN_VALUE > 2147483631) { break L239; }
     l15 = ((l13 << 6) | ((l12 << 12) & 61440)) | l14;
     l1 = 3L;
-    break L237;
+    break L238;
    }
    l15 = ((l14 << 6) | ((l13 << 12) | ((l12 << 18) & 1835008))) | ((b[((int) l2) - 60717] & 0xff) & 63);
    l1 = 4L;
   }
-  L239: {
-   if (l3 == l1) { break L239; }
-   if (l15 != 20116) { break L239; }
-   if ((l15 = (int) b[((int) (l0 = l2 + l1)) - 60720]) > -1) { break L239; }
-   if (l15 + Integer.MIN_VALUE < 2147483616) { break L239; }
+  L240: {
+   if (l3 == l1) { break L240; }
+   if (l15 != 20116) { break L240; }
+   if ((l15 = (int) b[((int) (l0 = l2 + l1)) - 60720]) > -1) { break L240; }
+   if (l15 + Integer.MIN_VALUE < 2147483616) { break L240; }
    l16 = l15 & 255;
    l17 = (b[((int) l0) - 60719] & 0xff) & 63;
    l18 = (b[((int) l0) - 60718] & 0xff) & 63;
-   L240: {
-    L241: {
-     if (l15 + Integer.MIN_VALUE < 2147483632) { break L241; }
+   L241: {
+    L242: {
+     if (l15 + Integer.MIN_VALUE < 2147483632) { break L242; }
      l15 = ((l18 << 6) | ((l17 << 12) | ((l16 << 18) & 1835008))) | ((b[((int) l0) - 60717] & 0xff) & 63);
      l0 = 4L;
-     break L240;
+     break L241;
     }
     l15 = ((l17 << 6) | ((l16 << 12) & 61440)) | l18;
     l0 = 3L;
    }
-   if (l15 != 21313) { break L239; }
-   if (l3 != (l0 + l1)) { break L239; }
+   if (l15 != 21313) { break L240; }
+   if (l3 != (l0 + l1)) { break L240; }
    if (Core4.f122(m, 84732L, 1L, 84736L, 1L, l4, l5) != 0) { break L1; }
   }
-  L242: {
-   L243: {
-    if (l11 + Integer.MIN_VALUE > 2147483631) { break L243; }
+  L243: {
+   L244: {
+    if (l11 + Integer.MIN_VALUE > 2147483631) { break L244; }
     l15 = ((l13 << 6) | ((l12 << 12) & 61440)) | l14;
     l1 = 3L;
-    break L242;
+    break L243;
    }
    l15 = ((l14 << 6) | ((l13 << 12) | ((l12 << 18) & 1835008))) | ((b[((int) l2) - 60717] & 0xff) & 63);
    l1 = 4L;
   }
-  L244: {
-   if (l3 == l1) { break L244; }
-   if (l15 != 21313) { break L244; }
-   if ((l15 = (int) b[((int) (l0 = l2 + l1)) - 60720]) > -1) { break L244; }
-   if (l15 + Integer.MIN_VALUE < 2147483616) { break L244; }
+  L245: {
+   if (l3 == l1) { break L245; }
+   if (l15 != 21313) { break L245; }
+   if ((l15 = (int) b[((int) (l0 = l2 + l1)) - 60720]) > -1) { break L245; }
+   if (l15 + Integer.MIN_VALUE < 2147483616) { break L245; }
    l16 = l15 & 255;
    l17 = (b[((int) l0) - 60719] & 0xff) & 63;
    l18 = (b[((int) l0) - 60718] & 0xff) & 63;
-   L245: {
-    L246: {
-     if (l15 + Integer.MIN_VALUE < 2147483632) { break L246; }
+   L246: {
+    L247: {
+     if (l15 + Integer.MIN_VALUE < 2147483632) { break L247; }
      l15 = ((l18 << 6) | ((l17 << 12) | ((l16 << 18) & 1835008))) | ((b[((int) l0) - 60717] & 0xff) & 63);
      l0 = 4L;
-     break L245;
+     break L246;
     }
     l15 = ((l17 << 6) | ((l16 << 12) & 61440)) | l18;
     l0 = 3L;
    }
-   if (l15 != 20116) { break L244; }
-   if (l3 != (l0 + l1)) { break L244; }
+   if (l15 != 20116) { break L245; }
+   if (l3 != (l0 + l1)) { break L245; }
    if (Core4.f122(m, 84740L, 4L, 84756L, 1L, l4, l5) != 0) { break L1; }
   }
-  L247: {
-   L248: {
-    if (l11 + Integer.MIN_VALUE > 2147483631) { break L248; }
+  L248: {
+   L249: {
+    if (l11 + Integer.MIN_VALUE > 2147483631) { break L249; }
     l15 = ((l13 << 6) | ((l12 << 12) & 61440)) | l14;
     l1 = 3L;
-    break L247;
+    break L248;
    }
    l15 = ((l14 << 6) | ((l13 << 12) | ((l12 << 18) & 1835008))) | ((b[((int) l2) - 60717] & 0xff) & 63);
    l1 = 4L;
   }
-  final int x254 = f149_13(m, l0, l1, l2, l3, l5, l15, l16, l17, l18);
+  final int x255 = f149_14(m, l0, l1, l2, l3, l5, l15, l16, l17, l18);
   l0 = m.kept[0];
   l1 = m.kept[1];
   l5 = m.kept[2];
@@ -1948,79 +1970,79 @@ static int f149(State m, long l0, long l1, long l2, long l3, long l4, long l5) {
   l16 = (int) m.kept[4];
   l17 = (int) m.kept[5];
   l18 = (int) m.kept[6];
-  switch (x254) {
+  switch (x255) {
   case 1: break L1;
   }
-  L255: {
-   L256: {
-    if (l11 + Integer.MIN_VALUE > 2147483631) { break L256; }
+  L256: {
+   L257: {
+    if (l11 + Integer.MIN_VALUE > 2147483631) { break L257; }
     l15 = ((l13 << 6) | ((l12 << 12) & 61440)) | l14;
     l1 = 3L;
-    break L255;
+    break L256;
    }
    l15 = ((l14 << 6) | ((l13 << 12) | ((l12 << 18) & 1835008))) | ((b[((int) l2) - 60717] & 0xff) & 63);
    l1 = 4L;
   }
-  L257: {
-   if (l3 == l1) { break L257; }
-   if (l15 != 20159) { break L257; }
-   if ((l15 = (int) b[((int) (l0 = l2 + l1)) - 60720]) > -1) { break L257; }
-   if (l15 + Integer.MIN_VALUE < 2147483616) { break L257; }
+  L258: {
+   if (l3 == l1) { break L258; }
+   if (l15 != 20159) { break L258; }
+   if ((l15 = (int) b[((int) (l0 = l2 + l1)) - 60720]) > -1) { break L258; }
+   if (l15 + Integer.MIN_VALUE < 2147483616) { break L258; }
    l16 = l15 & 255;
    l17 = (b[((int) l0) - 60719] & 0xff) & 63;
    l18 = (b[((int) l0) - 60718] & 0xff) & 63;
-   L258: {
-    L259: {
-     if (l15 + Integer.MIN_VALUE < 2147483632) { break L259; }
+   L259: {
+    L260: {
+     if (l15 + Integer.MIN_VALUE < 2147483632) { break L260; }
      l15 = ((l18 << 6) | ((l17 << 12) | ((l16 << 18) & 1835008))) | ((b[((int) l0) - 60717] & 0xff) & 63);
      l0 = 4L;
-     break L258;
+     break L259;
     }
     l15 = ((l17 << 6) | ((l16 << 12) & 61440)) | l18;
     l0 = 3L;
    }
-   if (l15 != 19975) { break L257; }
+   if (l15 != 19975) { break L258; }
    if (l3 == (l0 + l1)) { break L1; }
   }
-  L260: {
-   L261: {
-    if (l11 + Integer.MIN_VALUE > 2147483631) { break L261; }
+  L261: {
+   L262: {
+    if (l11 + Integer.MIN_VALUE > 2147483631) { break L262; }
     l10 = ((l13 << 6) | ((l12 << 12) & 61440)) | l14;
     l1 = 3L;
-    break L260;
+    break L261;
    }
    l10 = ((l14 << 6) | ((l13 << 12) | ((l12 << 18) & 1835008))) | ((b[((int) l2) - 60717] & 0xff) & 63);
    l1 = 4L;
   }
-  L262: {
-   if (l3 != l1) { break L262; }
-   m.g0 = l6;
-   return 0;
-  }
   L263: {
-   if (l10 == 20740) { break L263; }
+   if (l3 != l1) { break L263; }
    m.g0 = l6;
    return 0;
   }
   L264: {
-   if ((l10 = (int) b[((int) (l2 = l2 + l1)) - 60720]) <= -1) { break L264; }
+   if (l10 == 20740) { break L264; }
    m.g0 = l6;
    return 0;
   }
   L265: {
-   if (l10 + Integer.MIN_VALUE >= 2147483616) { break L265; }
+   if ((l10 = (int) b[((int) (l2 = l2 + l1)) - 60720]) <= -1) { break L265; }
+   m.g0 = l6;
+   return 0;
+  }
+  L266: {
+   if (l10 + Integer.MIN_VALUE >= 2147483616) { break L266; }
    m.g0 = l6;
    return 0;
   }
   l11 = l10 & 255;
   l12 = (b[((int) l2) - 60719] & 0xff) & 63;
   l13 = (b[((int) l2) - 60718] & 0xff) & 63;
-  L266: {
-   L267: {
-    if (l10 + Integer.MIN_VALUE < 2147483632) { break L267; }
+  L267: {
+   L268: {
+    if (l10 + Integer.MIN_VALUE < 2147483632) { break L268; }
     l11 = ((l13 << 6) | ((l12 << 12) | ((l11 << 18) & 1835008))) | ((b[((int) l2) - 60717] & 0xff) & 63);
     l2 = 4L;
-    break L266;
+    break L267;
    }
    l11 = ((l12 << 6) | ((l11 << 12) & 61440)) | l13;
    l2 = 3L;
@@ -2483,6 +2505,562 @@ static int f151(State m, int l0, long l1, long l2, long l3, long l4) {
  return l19;
 }
 
+static int f152_1(State m, long l0, long l1, long l2, int l3, int l4, long l5, long l6, long l8, long l9, long l10, long l11, long l12, long l13, long l14, long l15, long l16, long l17, long l18, int l20, int l21, int l22, int l23, int l24, int l25) {
+ final byte[] b = m.bytes;
+ int exit = 0;
+ PART: {
+  L4: while (true) {
+   Words.put64(b, ((int) l8) - 60664, 0L);
+   Words.put64(b, ((int) l8) - 60672, 0L);
+   Words.put64(b, ((int) l8) - 60680, 0L);
+   Words.put64(b, ((int) l8) - 60688, 0L);
+   Words.put64(b, ((int) l8) - 60696, 0L);
+   Words.put64(b, ((int) l8) - 60704, 0L);
+   Words.put64(b, ((int) l8) - 60712, 0L);
+   if (l2 == 0L) { exit = 1; break PART; }
+   f153(m, l8 + 8L, l3, l4, l0, l1, l10, l2);
+   if ((b[((int) l8) - 60712] & 0xff) != 1) { exit = 1; break PART; }
+   l12 = Words.get64(b, ((int) l8) - 60680);
+   l13 = Words.get64(b, ((int) l8) - 60688);
+   l14 = Words.get64(b, ((int) l8) - 60704);
+   l2 = Words.get64(b, ((int) l8) - 60664);
+   l10 = Words.get64(b, ((int) l8) - 60672);
+   L5: {
+    L6: {
+     L7: {
+      L8: {
+       L9: {
+        L10: {
+         L11: {
+          L12: {
+           L13: {
+            L14: {
+             L15: {
+              if ((l15 = Words.get64(b, ((int) l8) - 60696)) + Long.MIN_VALUE < -9223372036854775805L) { break L15; }
+              if (((l20 = b[((int) ((l16 = l14 + l15) + -3L)) - 60720] & 0xff) & 240) != 224) { break L14; }
+              l23 = (((l20 << 12) | (l21 = b[((int) (l16 + -1L)) - 60720] & 0xff)) + ((l22 = b[((int) (l16 + -2L)) - 60720] & 0xff) << 6)) + -925824;
+              l16 = l15 + -3L;
+              if (Words.get32(b, ((int) ((l17 = ((((l20 = ((l22 << 8) | (l21 << 16)) | l20) & 0xffffffffL) * 953497L) >>> 22L) & 1016L) + 80936L)) - 60720) == l20) { break L13; }
+              break L11;
+             }
+             if (l15 == 0L) { break L6; }
+            }
+            l20 = 0;
+            if ((l23 = (int) b[((int) (l14 + (l16 = l15 + -1L))) - 60720]) >= 0) { break L12; }
+            l16 = -2L;
+            L16: {
+             if ((b[((int) ((l17 = l14 + l15) + -2L)) - 60720] & 0xff) + Integer.MIN_VALUE > -2147483457) { break L16; }
+             l16 = ((b[((int) (l17 + -3L)) - 60720] & 0xff) + Integer.MIN_VALUE > -2147483457) ? -3L : -4L;
+            }
+            l23 = (l21 = (int) b[((int) (l17 = l14 + (l16 = l16 + l15))) - 60720]) & 255;
+            if (l21 > -1) { break L12; }
+            l22 = (b[((int) l17) - 60719] & 0xff) & 63;
+            L17: {
+             if (l21 + Integer.MIN_VALUE > 2147483615) { break L17; }
+             l23 = ((l23 << 6) & 1984) | l22;
+             break L12;
+            }
+            l24 = (b[((int) l17) - 60718] & 0xff) & 63;
+            L18: {
+             L19: {
+              if (l21 + Integer.MIN_VALUE > 2147483631) { break L19; }
+              l23 = ((l22 << 6) | ((l23 << 12) & 61440)) | l24;
+              break L18;
+             }
+             l23 = ((l24 << 6) | ((l22 << 12) | ((l23 << 18) & 1835008))) | ((b[((int) l17) - 60717] & 0xff) & 63);
+            }
+            if ((l23 + -2048) + Integer.MIN_VALUE > -2147420161) { break L12; }
+            if (Words.get32(b, ((int) ((l17 = ((((l20 = (((l23 >>> 12) | ((l23 << 2) & 16128)) | ((l23 << 16) & 4128768)) | 8421600) & 0xffffffffL) * 953497L) >>> 22L) & 1016L) + 80936L)) - 60720) != l20) { break L10; }
+           }
+           if ((b[((int) (l17 + 80940L)) - 60720] & 0xff) != 0) { break L11; }
+           break L8;
+          }
+          if ((l23 + -48) + Integer.MIN_VALUE >= -2147483638) { break L11; }
+          l22 = 1;
+          break L5;
+         }
+         if (l23 + Integer.MIN_VALUE > -2147483521) { break L10; }
+         l22 = 1;
+         l20 = 0;
+         if (l23 == 95) { break L5; }
+         if ((l23 + -44) + Integer.MIN_VALUE < -2147483645) { break L9; }
+         if ((l23 + -48) + Integer.MIN_VALUE < -2147483638) { break L5; }
+         if (((l23 & 95) + -65) + Integer.MIN_VALUE >= -2147483622) { break L6; }
+         break L5;
+        }
+        l22 = 0;
+        l20 = 1;
+        L20: {
+         L21: {
+          if (l23 > 24185) { break L21; }
+          L22: {
+           if (l23 > 21316) { break L22; }
+           L23: {
+            if (l23 > 20959) { break L23; }
+            if (l23 == 20313) { break L6; }
+            if (l23 == 20358) { break L6; }
+            break L20;
+           }
+           if (l23 == 20960) { break L5; }
+           if (l23 == 20986) { break L6; }
+           break L20;
+          }
+          L24: {
+           switch (l23 + -21317) {
+           case 0: case 7: break L8;
+           case 1: case 2: case 3: case 4: case 5: case 6: break L20;
+           default: break L24;
+           }
+          }
+          if (l23 == 22810) { break L6; }
+          if (l23 == 22909) { break L6; }
+          break L20;
+         }
+         L25: {
+          if (l23 > 26468) { break L25; }
+          L26: {
+           switch (l23 + -24186) {
+           case 0: break L8;
+           case 1: case 2: case 3: break L20;
+           case 4: break L5;
+           default: break L26;
+           }
+          }
+          L27: {
+           switch (l23 + -25968) {
+           case 0: case 8: break L5;
+           case 1: case 2: case 3: case 4: case 5: case 6: case 7: break L20;
+           default: break L27;
+           }
+          }
+          if (l23 == 24319) { break L8; }
+          break L20;
+         }
+         L28: {
+          if (l23 > 39191) { break L28; }
+          if (l23 == 26469) { break L6; }
+          if (l23 != 28857) { break L20; }
+          break L9;
+         }
+         if (l23 == 39192) { break L6; }
+         if (l23 == 40670) { break L9; }
+        }
+        if ((l23 + -65296) + Integer.MIN_VALUE > -2147483639) { break L6; }
+        break L8;
+       }
+       Words.put64(b, ((int) l8) - 60688, 0L);
+       Words.put64(b, ((int) l8) - 60696, 0L);
+       Words.put64(b, ((int) l8) - 60704, 0L);
+       Words.put64(b, ((int) l8) - 60712, 0L);
+       L29: {
+        L30: {
+         L31: {
+          L32: {
+           L33: {
+            L34: {
+             if (l16 + Long.MIN_VALUE < -9223372036854775805L) { break L34; }
+             if (((l23 = b[((int) ((l17 = l14 + l16) + -3L)) - 60720] & 0xff) & 240) != 224) { break L33; }
+             Words.put64(b, ((int) l8) - 60696, l14);
+             Words.put64(b, ((int) l8) - 60712, 1L);
+             Words.put64(b, ((int) l8) - 60688, l16 + -3L);
+             Words.put32(b, ((int) l8) - 60704, (((l23 << 12) | (l20 = b[((int) (l17 + -1L)) - 60720] & 0xff)) + ((l21 = b[((int) (l17 + -2L)) - 60720] & 0xff) << 6)) + -925824);
+             final int t35 = (int) l8;
+             final int t36 = b[((int) ((l16 = ((((l23 = ((l21 << 8) | (l20 << 16)) | l23) & 0xffffffffL) * 953497L) >>> 22L) & 1016L) + 80941L)) - 60720] & 0xff;
+             final int t37 = l23 = (Words.get32(b, State.far((int) l16, 80936)) == l23) ? 1 : 0;
+             b[t35 - 60699] = (byte) (t37 != 0 ? t36 : 0);
+             final int t38 = (int) l8;
+             final int t39 = b[((int) (l16 + 80940L)) - 60720] & 0xff;
+             final int t40 = l23;
+             b[t38 - 60700] = (byte) (t40 != 0 ? t39 : 2);
+             break L29;
+            }
+            if (l16 == 0L) { break L32; }
+           }
+           if ((l23 = (int) b[((int) (l14 + (l17 = l16 + -1L))) - 60720]) >= 0) { break L31; }
+           l17 = -2L;
+           L41: {
+            if ((b[((int) ((l18 = l14 + l16) + -2L)) - 60720] & 0xff) + Integer.MIN_VALUE > -2147483457) { break L41; }
+            l17 = ((b[((int) (l18 + -3L)) - 60720] & 0xff) + Integer.MIN_VALUE > -2147483457) ? -3L : -4L;
+           }
+           l23 = (l20 = (int) b[((int) (l16 = l14 + (l17 = l17 + l16))) - 60720]) & 255;
+           if (l20 > -1) { break L31; }
+           l21 = (b[((int) l16) - 60719] & 0xff) & 63;
+           L42: {
+            if (l20 + Integer.MIN_VALUE > 2147483615) { break L42; }
+            l23 = ((l23 << 6) & 1984) | l21;
+            break L31;
+           }
+           l22 = (b[((int) l16) - 60718] & 0xff) & 63;
+           L43: {
+            L44: {
+             if (l20 + Integer.MIN_VALUE > 2147483631) { break L44; }
+             l23 = ((l21 << 6) | ((l23 << 12) & 61440)) | l22;
+             break L43;
+            }
+            l23 = ((l22 << 6) | ((l21 << 12) | ((l23 << 18) & 1835008))) | ((b[((int) l16) - 60717] & 0xff) & 63);
+           }
+           if ((l23 + -2048) + Integer.MIN_VALUE > -2147420161) { break L31; }
+           final int t45 = b[((int) ((l16 = ((((l20 = (((l23 >>> 12) | ((l23 << 2) & 16128)) | ((l23 << 16) & 4128768)) | 8421600) & 0xffffffffL) * 953497L) >>> 22L) & 1016L) + 80941L)) - 60720] & 0xff;
+           final int t46 = l21 = (Words.get32(b, State.far((int) l16, 80936)) == l20) ? 1 : 0;
+           l20 = t46 != 0 ? t45 : 0;
+           final int t47 = b[((int) (l16 + 80940L)) - 60720] & 0xff;
+           final int t48 = l21;
+           l21 = t48 != 0 ? t47 : 2;
+           break L30;
+          }
+          Words.put64(b, ((int) l11) - 60720, 0L);
+          Words.put64(b, ((int) l11) - 60712, 0L);
+          Words.put64(b, ((int) l8) - 60706, 0L);
+          Words.put64(b, ((int) l8) - 60712, 0L);
+          break L29;
+         }
+         final int t49 = l20 = l23 + -48;
+         final int t50 = l21 = (l20 + Integer.MIN_VALUE < -2147483638) ? 1 : 0;
+         l20 = t50 != 0 ? t49 : 0;
+         l21 = l21 != 0 ? 0 : 2;
+        }
+        Words.put64(b, ((int) l8) - 60688, l17);
+        Words.put64(b, ((int) l8) - 60696, l14);
+        b[((int) l8) - 60699] = (byte) l20;
+        b[((int) l8) - 60700] = (byte) l21;
+        Words.put32(b, ((int) l8) - 60704, l23);
+        Words.put64(b, ((int) l8) - 60712, 1L);
+       }
+       l22 = Core3.f94(m, l8 + 8L);
+       break L7;
+      }
+      l22 = 1;
+     }
+     l20 = 0;
+     break L5;
+    }
+    l20 = 0;
+    l22 = 0;
+   }
+   L51: {
+    L52: {
+     L53: {
+      L54: {
+       L55: {
+        L56: {
+         L57: {
+          L58: {
+           L59: {
+            L60: {
+             if (l2 + Long.MIN_VALUE < -9223372036854775805L) { break L60; }
+             if (((l23 = b[((int) l10) - 60720] & 0xff) & 240) != 224) { break L59; }
+             l21 = (((l24 = b[((int) l10) - 60719] & 0xff) << 8) | ((l25 = b[((int) l10) - 60718] & 0xff) << 16)) | l23;
+             l23 = (((l23 << 12) | l25) + (l24 << 6)) + -925824;
+             l17 = l2 + -3L;
+             l16 = l10 + 3L;
+             if (l21 != Words.get32(b, ((int) ((l18 = (((l21 & 0xffffffffL) * 953497L) >>> 22L) & 1016L) + 80936L)) - 60720)) { break L57; }
+             break L58;
+            }
+            if (l2 == 0L) { break L52; }
+            l23 = b[((int) l10) - 60720] & 0xff;
+           }
+           l16 = 1L;
+           L61: {
+            if (((int) (byte) l23) > -1) { break L61; }
+            l21 = (b[((int) l10) - 60719] & 0xff) & 63;
+            L62: {
+             if (l23 + Integer.MIN_VALUE > -2147483425) { break L62; }
+             l23 = ((l23 << 6) & 1984) | l21;
+             l16 = 2L;
+             break L61;
+            }
+            l24 = (b[((int) l10) - 60718] & 0xff) & 63;
+            L63: {
+             if (l23 + Integer.MIN_VALUE > -2147483409) { break L63; }
+             l23 = ((l21 << 6) | ((l23 << 12) & 61440)) | l24;
+             l16 = 3L;
+             break L61;
+            }
+            l23 = ((l24 << 6) | ((l21 << 12) | ((l23 << 18) & 1835008))) | ((b[((int) l10) - 60717] & 0xff) & 63);
+            l16 = 4L;
+           }
+           l17 = l2 - l16;
+           l16 = l10 + l16;
+           L64: {
+            if ((l23 + -2048) + Integer.MIN_VALUE > -2147420161) { break L64; }
+            if (Words.get32(b, ((int) ((l18 = ((((l21 = (((l23 >>> 12) | ((l23 << 2) & 16128)) | ((l23 << 16) & 4128768)) | 8421600) & 0xffffffffL) * 953497L) >>> 22L) & 1016L) + 80936L)) - 60720) == l21) { break L58; }
+            break L56;
+           }
+           if ((l23 + -48) + Integer.MIN_VALUE >= -2147483638) { break L57; }
+           break L54;
+          }
+          if ((b[((int) (l18 + 80940L)) - 60720] & 0xff) == 0) { break L54; }
+         }
+         if (l23 + Integer.MIN_VALUE > -2147483521) { break L56; }
+         l24 = 1;
+         l21 = 0;
+         if (l23 == 95) { break L51; }
+         if ((l23 + -44) + Integer.MIN_VALUE < -2147483645) { break L55; }
+         if ((l23 + -48) + Integer.MIN_VALUE < -2147483638) { break L51; }
+         if (((l23 & 95) + -65) + Integer.MIN_VALUE >= -2147483622) { break L52; }
+         break L51;
+        }
+        l24 = 0;
+        l21 = 1;
+        L65: {
+         L66: {
+          if (l23 > 24185) { break L66; }
+          L67: {
+           L68: {
+            if (l23 > 21316) { break L68; }
+            L69: {
+             if (l23 > 20959) { break L69; }
+             if (l23 == 20313) { break L51; }
+             if (l23 != 20358) { break L65; }
+             break L51;
+            }
+            if (l23 == 20960) { break L51; }
+            if (l23 == 20986) { break L67; }
+            break L65;
+           }
+           L70: {
+            switch (l23 + -21317) {
+            case 0: case 7: break L54;
+            case 1: case 2: case 3: case 4: case 5: case 6: break L65;
+            default: break L70;
+            }
+           }
+           if (l23 == 22810) { break L51; }
+           if (l23 != 22909) { break L65; }
+          }
+          l21 = Core3.f95(m, l23, l16, l17);
+          break L51;
+         }
+         L71: {
+          if (l23 > 26468) { break L71; }
+          L72: {
+           switch (l23 + -24186) {
+           case 0: break L54;
+           case 1: case 2: case 3: break L65;
+           case 4: break L51;
+           default: break L72;
+           }
+          }
+          L73: {
+           switch (l23 + -25968) {
+           case 0: case 8: break L52;
+           case 1: case 2: case 3: case 4: case 5: case 6: case 7: break L65;
+           default: break L73;
+           }
+          }
+          if (l23 == 24319) { break L54; }
+          break L65;
+         }
+         L74: {
+          if (l23 > 39191) { break L74; }
+          if (l23 == 26469) { break L51; }
+          if (l23 != 28857) { break L65; }
+          break L55;
+         }
+         if (l23 == 39192) { break L51; }
+         if (l23 == 40670) { break L55; }
+        }
+        if ((l23 + -65296) + Integer.MIN_VALUE > -2147483639) { break L52; }
+        break L54;
+       }
+       Words.put64(b, ((int) l8) - 60688, 0L);
+       Words.put64(b, ((int) l8) - 60696, 0L);
+       Words.put64(b, ((int) l8) - 60704, 0L);
+       Words.put64(b, ((int) l8) - 60712, 0L);
+       L75: {
+        L76: {
+         L77: {
+          L78: {
+           if (l17 + Long.MIN_VALUE < -9223372036854775805L) { break L78; }
+           if (((l23 = b[((int) l16) - 60720] & 0xff) & 240) != 224) { break L77; }
+           l21 = b[((int) l16) - 60718] & 0xff;
+           l24 = b[((int) l16) - 60719] & 0xff;
+           Words.put64(b, ((int) l8) - 60688, l17 + -3L);
+           Words.put64(b, ((int) l8) - 60696, l16 + 3L);
+           Words.put64(b, ((int) l8) - 60712, 1L);
+           Words.put32(b, ((int) l8) - 60704, ((l21 | (l23 << 12)) + (l24 << 6)) + -925824);
+           final int t79 = (int) l8;
+           final int t80 = b[((int) ((l16 = ((((l23 = ((l24 << 8) | (l21 << 16)) | l23) & 0xffffffffL) * 953497L) >>> 22L) & 1016L) + 80941L)) - 60720] & 0xff;
+           final int t81 = l23 = (Words.get32(b, State.far((int) l16, 80936)) == l23) ? 1 : 0;
+           b[t79 - 60699] = (byte) (t81 != 0 ? t80 : 0);
+           final int t82 = (int) l8;
+           final int t83 = b[((int) (l16 + 80940L)) - 60720] & 0xff;
+           final int t84 = l23;
+           b[t82 - 60700] = (byte) (t84 != 0 ? t83 : 2);
+           break L75;
+          }
+          if (l17 == 0L) { break L76; }
+          l23 = b[((int) l16) - 60720] & 0xff;
+         }
+         l18 = 1L;
+         L85: {
+          if (((int) (byte) l23) > -1) { break L85; }
+          l21 = (b[((int) l16) - 60719] & 0xff) & 63;
+          L86: {
+           if (l23 + Integer.MIN_VALUE > -2147483425) { break L86; }
+           l23 = ((l23 << 6) & 1984) | l21;
+           l18 = 2L;
+           break L85;
+          }
+          l24 = (b[((int) l16) - 60718] & 0xff) & 63;
+          L87: {
+           if (l23 + Integer.MIN_VALUE > -2147483409) { break L87; }
+           l23 = ((l21 << 6) | ((l23 << 12) & 61440)) | l24;
+           l18 = 3L;
+           break L85;
+          }
+          l23 = ((l24 << 6) | ((l21 << 12) | ((l23 << 18) & 1835008))) | ((b[((int) l16) - 60717] & 0xff) & 63);
+          l18 = 4L;
+         }
+         l17 = l17 - l18;
+         l16 = l16 + l18;
+         L88: {
+          L89: {
+           if ((l23 + -2048) + Integer.MIN_VALUE > -2147420161) { break L89; }
+           final int t90 = b[((int) ((l18 = ((((l21 = (((l23 >>> 12) | ((l23 << 2) & 16128)) | ((l23 << 16) & 4128768)) | 8421600) & 0xffffffffL) * 953497L) >>> 22L) & 1016L) + 80941L)) - 60720] & 0xff;
+           final int t91 = l24 = (Words.get32(b, State.far((int) l18, 80936)) == l21) ? 1 : 0;
+           l21 = t91 != 0 ? t90 : 0;
+           final int t92 = b[((int) (l18 + 80940L)) - 60720] & 0xff;
+           final int t93 = l24;
+           l24 = t93 != 0 ? t92 : 2;
+           break L88;
+          }
+          final int t94 = l21 = l23 + -48;
+          final int t95 = l24 = (l21 + Integer.MIN_VALUE < -2147483638) ? 1 : 0;
+          l21 = t95 != 0 ? t94 : 0;
+          l24 = l24 != 0 ? 0 : 2;
+         }
+         Words.put64(b, ((int) l8) - 60688, l17);
+         Words.put64(b, ((int) l8) - 60696, l16);
+         b[((int) l8) - 60699] = (byte) l21;
+         b[((int) l8) - 60700] = (byte) l24;
+         Words.put32(b, ((int) l8) - 60704, l23);
+         Words.put64(b, ((int) l8) - 60712, 1L);
+         break L75;
+        }
+        Words.put64(b, ((int) l11) - 60720, 0L);
+        Words.put64(b, ((int) l11) - 60712, 0L);
+        Words.put64(b, ((int) l8) - 60706, 0L);
+        Words.put64(b, ((int) l8) - 60712, 0L);
+       }
+       l24 = Core3.f96(m, l8 + 8L);
+       break L53;
+      }
+      l24 = 1;
+     }
+     l21 = 0;
+     break L51;
+    }
+    l21 = 0;
+    l24 = 0;
+   }
+   l16 = l12 + l15;
+   Words.put32(b, ((int) l8) - 60712, 0);
+   l23 = l22 | l24;
+   L96: {
+    L97: {
+     L98: {
+      L99: {
+       L100: {
+        L101: {
+         L102: {
+          L103: {
+           if ((l17 = l12 + -1L) + Long.MIN_VALUE > -9223372036854775806L) { break L103; }
+           L104: {
+            switch ((int) l17) {
+            case 1: break L103;
+            case 2: break L104;
+            default: break L100;
+            }
+           }
+           if ((l24 = (Words.get32(b, State.far((int) (l17 = ((((l22 = (((b[((int) l13) - 60719] & 0xff) << 8) | (l25 = b[((int) l13) - 60720] & 0xff)) | ((b[((int) l13) - 60718] & 0xff) << 16)) & 0xffffffffL) * 953497L) >>> 22L) & 1016L), 80936)) != l22) ? 1 : 0) != 0) { break L102; }
+           l22 = 1;
+           final int t105 = b[((int) (l17 + 80940L)) - 60720] & 0xff;
+           final int t106 = l24;
+           if (((l24 = t106 != 0 ? 0 : t105) & 255) == 2) { break L102; }
+           break L99;
+          }
+          if (l12 + Long.MIN_VALUE > -9223372036854775804L) { break L98; }
+          if (l12 == 0L) { break L101; }
+          l25 = b[((int) l13) - 60720] & 0xff;
+         }
+         if (((int) (byte) l25) > -1) { break L98; }
+        }
+        Core3.f97(m, l8 + 8L, l13, l12);
+        if ((b[((int) l8) - 60712] & 0xff) != 1) { break L98; }
+        l22 = b[((int) l8) - 60709] & 0xff;
+        l24 = b[((int) l8) - 60711] & 0xff;
+        break L99;
+       }
+       l24 = ((l22 = ((((b[((int) l13) - 60720] & 0xff) + -58) & 255) + Integer.MIN_VALUE < -2147483402) ? 1 : 0) != 0) ? 2 : 0;
+      }
+      l23 = (l23 != 0 ? 0 : 2) | (((l24 = l24 & 255) == 0) ? 1 : 0);
+      l22 = ((l22 & 1) != 0) ? 8 : 0;
+      if ((l21 | (l20 & ((l24 == 1) ? 1 : 0))) != 0) { break L97; }
+      break L96;
+     }
+     l24 = Core3.f98(m, l13, l12);
+     L107: {
+      L108: {
+       L109: {
+        if (l20 == 0) { break L109; }
+        if ((l21 | Core3.f99(m, l13, l12)) != 0) { break L108; }
+        break L107;
+       }
+       if (l21 == 0) { break L107; }
+      }
+      l22 = 0;
+      l23 = (l23 != 0 ? 0 : 2) | l24;
+      break L97;
+     }
+     l22 = 0;
+     l23 = (l23 != 0 ? 0 : 2) | l24;
+     if (Core3.f100(m, l13, l12) == 0) { break L96; }
+    }
+    l23 = l23 | 4;
+   }
+   Words.put64(b, ((int) l8) - 60672, l2);
+   Words.put64(b, ((int) l8) - 60680, l10);
+   Words.put64(b, ((int) l8) - 60688, l12);
+   Words.put64(b, ((int) l8) - 60696, l13);
+   Words.put64(b, ((int) l8) - 60704, l15);
+   Words.put64(b, ((int) l8) - 60712, l14);
+   Core3.f108(m, l8, l8 + 8L);
+   l20 = b[((int) l8) - 60719] & 0xff;
+   l21 = b[((int) l8) - 60720] & 0xff;
+   Words.put32(b, ((int) (l5 + 20L)) - 60720, 0);
+   Words.put64(b, ((int) (l5 + 8L)) - 60720, l16);
+   Words.put64(b, ((int) l5) - 60720, l15);
+   final int t110 = (int) (l5 + 16L);
+   final int t111 = l22 | l23;
+   final int t112 = ((l20 + 1) & 255) << 4;
+   final int t113 = l21 & 1;
+   Words.put32(b, t110 - 60720, t111 | (t113 != 0 ? t112 : 0));
+   l5 = l5 + 24L;
+   if (l6 != (l9 = l9 + 1L)) { continue L4; }
+   break L4;
+  }
+ }
+ m.kept[0] = l2;
+ m.kept[1] = l5;
+ m.kept[2] = l9;
+ m.kept[3] = l10;
+ m.kept[4] = l12;
+ m.kept[5] = l13;
+ m.kept[6] = l14;
+ m.kept[7] = l15;
+ m.kept[8] = l16;
+ m.kept[9] = l17;
+ m.kept[10] = l18;
+ m.kept[11] = l20;
+ m.kept[12] = l21;
+ m.kept[13] = l22;
+ m.kept[14] = l23;
+ m.kept[15] = l24;
+ m.kept[16] = l25;
+ return exit;
+}
+
 static int f152(State m, long l0, long l1, long l2, int l3, int l4, long l5, long l6, long l7) {
  final byte[] b = m.bytes;
  long l8 = 0;
@@ -2523,544 +3101,34 @@ static int f152(State m, long l0, long l1, long l2, int l3, int l4, long l5, lon
    l2 = l1 - l2;
    l11 = l8 + 24L;
    l9 = 0L;
-   L4: while (true) {
-    Words.put64(b, ((int) l8) - 60664, 0L);
-    Words.put64(b, ((int) l8) - 60672, 0L);
-    Words.put64(b, ((int) l8) - 60680, 0L);
-    Words.put64(b, ((int) l8) - 60688, 0L);
-    Words.put64(b, ((int) l8) - 60696, 0L);
-    Words.put64(b, ((int) l8) - 60704, 0L);
-    Words.put64(b, ((int) l8) - 60712, 0L);
-    if (l2 == 0L) { break L2; }
-    f153(m, l8 + 8L, l3, l4, l0, l1, l10, l2);
-    if ((b[((int) l8) - 60712] & 0xff) != 1) { break L2; }
-    l12 = Words.get64(b, ((int) l8) - 60680);
-    l13 = Words.get64(b, ((int) l8) - 60688);
-    l14 = Words.get64(b, ((int) l8) - 60704);
-    l2 = Words.get64(b, ((int) l8) - 60664);
-    l10 = Words.get64(b, ((int) l8) - 60672);
-    L5: {
-     L6: {
-      L7: {
-       L8: {
-        L9: {
-         L10: {
-          L11: {
-           L12: {
-            L13: {
-             L14: {
-              L15: {
-               if ((l15 = Words.get64(b, ((int) l8) - 60696)) + Long.MIN_VALUE < -9223372036854775805L) { break L15; }
-               if (((l20 = b[((int) ((l16 = l14 + l15) + -3L)) - 60720] & 0xff) & 240) != 224) { break L14; }
-               l23 = (((l20 << 12) | (l21 = b[((int) (l16 + -1L)) - 60720] & 0xff)) + ((l22 = b[((int) (l16 + -2L)) - 60720] & 0xff) << 6)) + -925824;
-               l16 = l15 + -3L;
-               if (Words.get32(b, ((int) ((l17 = ((((l20 = ((l22 << 8) | (l21 << 16)) | l20) & 0xffffffffL) * 953497L) >>> 22L) & 1016L) + 80936L)) - 60720) == l20) { break L13; }
-               break L11;
-              }
-              if (l15 == 0L) { break L6; }
-             }
-             l20 = 0;
-             if ((l23 = (int) b[((int) (l14 + (l16 = l15 + -1L))) - 60720]) >= 0) { break L12; }
-             l16 = -2L;
-             L16: {
-              if ((b[((int) ((l17 = l14 + l15) + -2L)) - 60720] & 0xff) + Integer.MIN_VALUE > -2147483457) { break L16; }
-              l16 = ((b[((int) (l17 + -3L)) - 60720] & 0xff) + Integer.MIN_VALUE > -2147483457) ? -3L : -4L;
-             }
-             l23 = (l21 = (int) b[((int) (l17 = l14 + (l16 = l16 + l15))) - 60720]) & 255;
-             if (l21 > -1) { break L12; }
-             l22 = (b[((int) l17) - 60719] & 0xff) & 63;
-             L17: {
-              if (l21 + Integer.MIN_VALUE > 2147483615) { break L17; }
-              l23 = ((l23 << 6) & 1984) | l22;
-              break L12;
-             }
-             l24 = (b[((int) l17) - 60718] & 0xff) & 63;
-             L18: {
-              L19: {
-               if (l21 + Integer.MIN_VALUE > 2147483631) { break L19; }
-               l23 = ((l22 << 6) | ((l23 << 12) & 61440)) | l24;
-               break L18;
-              }
-              l23 = ((l24 << 6) | ((l22 << 12) | ((l23 << 18) & 1835008))) | ((b[((int) l17) - 60717] & 0xff) & 63);
-             }
-             if ((l23 + -2048) + Integer.MIN_VALUE > -2147420161) { break L12; }
-             if (Words.get32(b, ((int) ((l17 = ((((l20 = (((l23 >>> 12) | ((l23 << 2) & 16128)) | ((l23 << 16) & 4128768)) | 8421600) & 0xffffffffL) * 953497L) >>> 22L) & 1016L) + 80936L)) - 60720) != l20) { break L10; }
-            }
-            if ((b[((int) (l17 + 80940L)) - 60720] & 0xff) != 0) { break L11; }
-            break L8;
-           }
-           if ((l23 + -48) + Integer.MIN_VALUE >= -2147483638) { break L11; }
-           l22 = 1;
-           break L5;
-          }
-          if (l23 + Integer.MIN_VALUE > -2147483521) { break L10; }
-          l22 = 1;
-          l20 = 0;
-          if (l23 == 95) { break L5; }
-          if ((l23 + -44) + Integer.MIN_VALUE < -2147483645) { break L9; }
-          if ((l23 + -48) + Integer.MIN_VALUE < -2147483638) { break L5; }
-          if (((l23 & 95) + -65) + Integer.MIN_VALUE >= -2147483622) { break L6; }
-          break L5;
-         }
-         l22 = 0;
-         l20 = 1;
-         L20: {
-          L21: {
-           if (l23 > 24185) { break L21; }
-           L22: {
-            if (l23 > 21316) { break L22; }
-            L23: {
-             if (l23 > 20959) { break L23; }
-             if (l23 == 20313) { break L6; }
-             if (l23 == 20358) { break L6; }
-             break L20;
-            }
-            if (l23 == 20960) { break L5; }
-            if (l23 == 20986) { break L6; }
-            break L20;
-           }
-           L24: {
-            switch (l23 + -21317) {
-            case 0: case 7: break L8;
-            case 1: case 2: case 3: case 4: case 5: case 6: break L20;
-            default: break L24;
-            }
-           }
-           if (l23 == 22810) { break L6; }
-           if (l23 == 22909) { break L6; }
-           break L20;
-          }
-          L25: {
-           if (l23 > 26468) { break L25; }
-           L26: {
-            switch (l23 + -24186) {
-            case 0: break L8;
-            case 1: case 2: case 3: break L20;
-            case 4: break L5;
-            default: break L26;
-            }
-           }
-           L27: {
-            switch (l23 + -25968) {
-            case 0: case 8: break L5;
-            case 1: case 2: case 3: case 4: case 5: case 6: case 7: break L20;
-            default: break L27;
-            }
-           }
-           if (l23 == 24319) { break L8; }
-           break L20;
-          }
-          L28: {
-           if (l23 > 39191) { break L28; }
-           if (l23 == 26469) { break L6; }
-           if (l23 != 28857) { break L20; }
-           break L9;
-          }
-          if (l23 == 39192) { break L6; }
-          if (l23 == 40670) { break L9; }
-         }
-         if ((l23 + -65296) + Integer.MIN_VALUE > -2147483639) { break L6; }
-         break L8;
-        }
-        Words.put64(b, ((int) l8) - 60688, 0L);
-        Words.put64(b, ((int) l8) - 60696, 0L);
-        Words.put64(b, ((int) l8) - 60704, 0L);
-        Words.put64(b, ((int) l8) - 60712, 0L);
-        L29: {
-         L30: {
-          L31: {
-           L32: {
-            L33: {
-             L34: {
-              if (l16 + Long.MIN_VALUE < -9223372036854775805L) { break L34; }
-              if (((l23 = b[((int) ((l17 = l14 + l16) + -3L)) - 60720] & 0xff) & 240) != 224) { break L33; }
-              Words.put64(b, ((int) l8) - 60696, l14);
-              Words.put64(b, ((int) l8) - 60712, 1L);
-              Words.put64(b, ((int) l8) - 60688, l16 + -3L);
-              Words.put32(b, ((int) l8) - 60704, (((l23 << 12) | (l20 = b[((int) (l17 + -1L)) - 60720] & 0xff)) + ((l21 = b[((int) (l17 + -2L)) - 60720] & 0xff) << 6)) + -925824);
-              final int t35 = (int) l8;
-              final int t36 = b[((int) ((l16 = ((((l23 = ((l21 << 8) | (l20 << 16)) | l23) & 0xffffffffL) * 953497L) >>> 22L) & 1016L) + 80941L)) - 60720] & 0xff;
-              final int t37 = l23 = (Words.get32(b, State.far((int) l16, 80936)) == l23) ? 1 : 0;
-              b[t35 - 60699] = (byte) (t37 != 0 ? t36 : 0);
-              final int t38 = (int) l8;
-              final int t39 = b[((int) (l16 + 80940L)) - 60720] & 0xff;
-              final int t40 = l23;
-              b[t38 - 60700] = (byte) (t40 != 0 ? t39 : 2);
-              break L29;
-             }
-             if (l16 == 0L) { break L32; }
-            }
-            if ((l23 = (int) b[((int) (l14 + (l17 = l16 + -1L))) - 60720]) >= 0) { break L31; }
-            l17 = -2L;
-            L41: {
-             if ((b[((int) ((l18 = l14 + l16) + -2L)) - 60720] & 0xff) + Integer.MIN_VALUE > -2147483457) { break L41; }
-             l17 = ((b[((int) (l18 + -3L)) - 60720] & 0xff) + Integer.MIN_VALUE > -2147483457) ? -3L : -4L;
-            }
-            l23 = (l20 = (int) b[((int) (l16 = l14 + (l17 = l17 + l16))) - 60720]) & 255;
-            if (l20 > -1) { break L31; }
-            l21 = (b[((int) l16) - 60719] & 0xff) & 63;
-            L42: {
-             if (l20 + Integer.MIN_VALUE > 2147483615) { break L42; }
-             l23 = ((l23 << 6) & 1984) | l21;
-             break L31;
-            }
-            l22 = (b[((int) l16) - 60718] & 0xff) & 63;
-            L43: {
-             L44: {
-              if (l20 + Integer.MIN_VALUE > 2147483631) { break L44; }
-              l23 = ((l21 << 6) | ((l23 << 12) & 61440)) | l22;
-              break L43;
-             }
-             l23 = ((l22 << 6) | ((l21 << 12) | ((l23 << 18) & 1835008))) | ((b[((int) l16) - 60717] & 0xff) & 63);
-            }
-            if ((l23 + -2048) + Integer.MIN_VALUE > -2147420161) { break L31; }
-            final int t45 = b[((int) ((l16 = ((((l20 = (((l23 >>> 12) | ((l23 << 2) & 16128)) | ((l23 << 16) & 4128768)) | 8421600) & 0xffffffffL) * 953497L) >>> 22L) & 1016L) + 80941L)) - 60720] & 0xff;
-            final int t46 = l21 = (Words.get32(b, State.far((int) l16, 80936)) == l20) ? 1 : 0;
-            l20 = t46 != 0 ? t45 : 0;
-            final int t47 = b[((int) (l16 + 80940L)) - 60720] & 0xff;
-            final int t48 = l21;
-            l21 = t48 != 0 ? t47 : 2;
-            break L30;
-           }
-           Words.put64(b, ((int) l11) - 60720, 0L);
-           Words.put64(b, ((int) l11) - 60712, 0L);
-           Words.put64(b, ((int) l8) - 60706, 0L);
-           Words.put64(b, ((int) l8) - 60712, 0L);
-           break L29;
-          }
-          final int t49 = l20 = l23 + -48;
-          final int t50 = l21 = (l20 + Integer.MIN_VALUE < -2147483638) ? 1 : 0;
-          l20 = t50 != 0 ? t49 : 0;
-          l21 = l21 != 0 ? 0 : 2;
-         }
-         Words.put64(b, ((int) l8) - 60688, l17);
-         Words.put64(b, ((int) l8) - 60696, l14);
-         b[((int) l8) - 60699] = (byte) l20;
-         b[((int) l8) - 60700] = (byte) l21;
-         Words.put32(b, ((int) l8) - 60704, l23);
-         Words.put64(b, ((int) l8) - 60712, 1L);
-        }
-        l22 = Core3.f94(m, l8 + 8L);
-        break L7;
-       }
-       l22 = 1;
-      }
-      l20 = 0;
-      break L5;
-     }
-     l20 = 0;
-     l22 = 0;
-    }
-    L51: {
-     L52: {
-      L53: {
-       L54: {
-        L55: {
-         L56: {
-          L57: {
-           L58: {
-            L59: {
-             L60: {
-              if (l2 + Long.MIN_VALUE < -9223372036854775805L) { break L60; }
-              if (((l23 = b[((int) l10) - 60720] & 0xff) & 240) != 224) { break L59; }
-              l21 = (((l24 = b[((int) l10) - 60719] & 0xff) << 8) | ((l25 = b[((int) l10) - 60718] & 0xff) << 16)) | l23;
-              l23 = (((l23 << 12) | l25) + (l24 << 6)) + -925824;
-              l17 = l2 + -3L;
-              l16 = l10 + 3L;
-              if (l21 != Words.get32(b, ((int) ((l18 = (((l21 & 0xffffffffL) * 953497L) >>> 22L) & 1016L) + 80936L)) - 60720)) { break L57; }
-              break L58;
-             }
-             if (l2 == 0L) { break L52; }
-             l23 = b[((int) l10) - 60720] & 0xff;
-            }
-            l16 = 1L;
-            L61: {
-             if (((int) (byte) l23) > -1) { break L61; }
-             l21 = (b[((int) l10) - 60719] & 0xff) & 63;
-             L62: {
-              if (l23 + Integer.MIN_VALUE > -2147483425) { break L62; }
-              l23 = ((l23 << 6) & 1984) | l21;
-              l16 = 2L;
-              break L61;
-             }
-             l24 = (b[((int) l10) - 60718] & 0xff) & 63;
-             L63: {
-              if (l23 + Integer.MIN_VALUE > -2147483409) { break L63; }
-              l23 = ((l21 << 6) | ((l23 << 12) & 61440)) | l24;
-              l16 = 3L;
-              break L61;
-             }
-             l23 = ((l24 << 6) | ((l21 << 12) | ((l23 << 18) & 1835008))) | ((b[((int) l10) - 60717] & 0xff) & 63);
-             l16 = 4L;
-            }
-            l17 = l2 - l16;
-            l16 = l10 + l16;
-            L64: {
-             if ((l23 + -2048) + Integer.MIN_VALUE > -2147420161) { break L64; }
-             if (Words.get32(b, ((int) ((l18 = ((((l21 = (((l23 >>> 12) | ((l23 << 2) & 16128)) | ((l23 << 16) & 4128768)) | 8421600) & 0xffffffffL) * 953497L) >>> 22L) & 1016L) + 80936L)) - 60720) == l21) { break L58; }
-             break L56;
-            }
-            if ((l23 + -48) + Integer.MIN_VALUE >= -2147483638) { break L57; }
-            break L54;
-           }
-           if ((b[((int) (l18 + 80940L)) - 60720] & 0xff) == 0) { break L54; }
-          }
-          if (l23 + Integer.MIN_VALUE > -2147483521) { break L56; }
-          l24 = 1;
-          l21 = 0;
-          if (l23 == 95) { break L51; }
-          if ((l23 + -44) + Integer.MIN_VALUE < -2147483645) { break L55; }
-          if ((l23 + -48) + Integer.MIN_VALUE < -2147483638) { break L51; }
-          if (((l23 & 95) + -65) + Integer.MIN_VALUE >= -2147483622) { break L52; }
-          break L51;
-         }
-         l24 = 0;
-         l21 = 1;
-         L65: {
-          L66: {
-           if (l23 > 24185) { break L66; }
-           L67: {
-            L68: {
-             if (l23 > 21316) { break L68; }
-             L69: {
-              if (l23 > 20959) { break L69; }
-              if (l23 == 20313) { break L51; }
-              if (l23 != 20358) { break L65; }
-              break L51;
-             }
-             if (l23 == 20960) { break L51; }
-             if (l23 == 20986) { break L67; }
-             break L65;
-            }
-            L70: {
-             switch (l23 + -21317) {
-             case 0: case 7: break L54;
-             case 1: case 2: case 3: case 4: case 5: case 6: break L65;
-             default: break L70;
-             }
-            }
-            if (l23 == 22810) { break L51; }
-            if (l23 != 22909) { break L65; }
-           }
-           l21 = Core3.f95(m, l23, l16, l17);
-           break L51;
-          }
-          L71: {
-           if (l23 > 26468) { break L71; }
-           L72: {
-            switch (l23 + -24186) {
-            case 0: break L54;
-            case 1: case 2: case 3: break L65;
-            case 4: break L51;
-            default: break L72;
-            }
-           }
-           L73: {
-            switch (l23 + -25968) {
-            case 0: case 8: break L52;
-            case 1: case 2: case 3: case 4: case 5: case 6: case 7: break L65;
-            default: break L73;
-            }
-           }
-           if (l23 == 24319) { break L54; }
-           break L65;
-          }
-          L74: {
-           if (l23 > 39191) { break L74; }
-           if (l23 == 26469) { break L51; }
-           if (l23 != 28857) { break L65; }
-           break L55;
-          }
-          if (l23 == 39192) { break L51; }
-          if (l23 == 40670) { break L55; }
-         }
-         if ((l23 + -65296) + Integer.MIN_VALUE > -2147483639) { break L52; }
-         break L54;
-        }
-        Words.put64(b, ((int) l8) - 60688, 0L);
-        Words.put64(b, ((int) l8) - 60696, 0L);
-        Words.put64(b, ((int) l8) - 60704, 0L);
-        Words.put64(b, ((int) l8) - 60712, 0L);
-        L75: {
-         L76: {
-          L77: {
-           L78: {
-            if (l17 + Long.MIN_VALUE < -9223372036854775805L) { break L78; }
-            if (((l23 = b[((int) l16) - 60720] & 0xff) & 240) != 224) { break L77; }
-            l21 = b[((int) l16) - 60718] & 0xff;
-            l24 = b[((int) l16) - 60719] & 0xff;
-            Words.put64(b, ((int) l8) - 60688, l17 + -3L);
-            Words.put64(b, ((int) l8) - 60696, l16 + 3L);
-            Words.put64(b, ((int) l8) - 60712, 1L);
-            Words.put32(b, ((int) l8) - 60704, ((l21 | (l23 << 12)) + (l24 << 6)) + -925824);
-            final int t79 = (int) l8;
-            final int t80 = b[((int) ((l16 = ((((l23 = ((l24 << 8) | (l21 << 16)) | l23) & 0xffffffffL) * 953497L) >>> 22L) & 1016L) + 80941L)) - 60720] & 0xff;
-            final int t81 = l23 = (Words.get32(b, State.far((int) l16, 80936)) == l23) ? 1 : 0;
-            b[t79 - 60699] = (byte) (t81 != 0 ? t80 : 0);
-            final int t82 = (int) l8;
-            final int t83 = b[((int) (l16 + 80940L)) - 60720] & 0xff;
-            final int t84 = l23;
-            b[t82 - 60700] = (byte) (t84 != 0 ? t83 : 2);
-            break L75;
-           }
-           if (l17 == 0L) { break L76; }
-           l23 = b[((int) l16) - 60720] & 0xff;
-          }
-          l18 = 1L;
-          L85: {
-           if (((int) (byte) l23) > -1) { break L85; }
-           l21 = (b[((int) l16) - 60719] & 0xff) & 63;
-           L86: {
-            if (l23 + Integer.MIN_VALUE > -2147483425) { break L86; }
-            l23 = ((l23 << 6) & 1984) | l21;
-            l18 = 2L;
-            break L85;
-           }
-           l24 = (b[((int) l16) - 60718] & 0xff) & 63;
-           L87: {
-            if (l23 + Integer.MIN_VALUE > -2147483409) { break L87; }
-            l23 = ((l21 << 6) | ((l23 << 12) & 61440)) | l24;
-            l18 = 3L;
-            break L85;
-           }
-           l23 = ((l24 << 6) | ((l21 << 12) | ((l23 << 18) & 1835008))) | ((b[((int) l16) - 60717] & 0xff) & 63);
-           l18 = 4L;
-          }
-          l17 = l17 - l18;
-          l16 = l16 + l18;
-          L88: {
-           L89: {
-            if ((l23 + -2048) + Integer.MIN_VALUE > -2147420161) { break L89; }
-            final int t90 = b[((int) ((l18 = ((((l21 = (((l23 >>> 12) | ((l23 << 2) & 16128)) | ((l23 << 16) & 4128768)) | 8421600) & 0xffffffffL) * 953497L) >>> 22L) & 1016L) + 80941L)) - 60720] & 0xff;
-            final int t91 = l24 = (Words.get32(b, State.far((int) l18, 80936)) == l21) ? 1 : 0;
-            l21 = t91 != 0 ? t90 : 0;
-            final int t92 = b[((int) (l18 + 80940L)) - 60720] & 0xff;
-            final int t93 = l24;
-            l24 = t93 != 0 ? t92 : 2;
-            break L88;
-           }
-           final int t94 = l21 = l23 + -48;
-           final int t95 = l24 = (l21 + Integer.MIN_VALUE < -2147483638) ? 1 : 0;
-           l21 = t95 != 0 ? t94 : 0;
-           l24 = l24 != 0 ? 0 : 2;
-          }
-          Words.put64(b, ((int) l8) - 60688, l17);
-          Words.put64(b, ((int) l8) - 60696, l16);
-          b[((int) l8) - 60699] = (byte) l21;
-          b[((int) l8) - 60700] = (byte) l24;
-          Words.put32(b, ((int) l8) - 60704, l23);
-          Words.put64(b, ((int) l8) - 60712, 1L);
-          break L75;
-         }
-         Words.put64(b, ((int) l11) - 60720, 0L);
-         Words.put64(b, ((int) l11) - 60712, 0L);
-         Words.put64(b, ((int) l8) - 60706, 0L);
-         Words.put64(b, ((int) l8) - 60712, 0L);
-        }
-        l24 = Core3.f96(m, l8 + 8L);
-        break L53;
-       }
-       l24 = 1;
-      }
-      l21 = 0;
-      break L51;
-     }
-     l21 = 0;
-     l24 = 0;
-    }
-    l16 = l12 + l15;
-    Words.put32(b, ((int) l8) - 60712, 0);
-    l23 = l22 | l24;
-    L96: {
-     L97: {
-      L98: {
-       L99: {
-        L100: {
-         L101: {
-          L102: {
-           L103: {
-            if ((l17 = l12 + -1L) + Long.MIN_VALUE > -9223372036854775806L) { break L103; }
-            L104: {
-             switch ((int) l17) {
-             case 1: break L103;
-             case 2: break L104;
-             default: break L100;
-             }
-            }
-            if ((l24 = (Words.get32(b, State.far((int) (l17 = ((((l22 = (((b[((int) l13) - 60719] & 0xff) << 8) | (l25 = b[((int) l13) - 60720] & 0xff)) | ((b[((int) l13) - 60718] & 0xff) << 16)) & 0xffffffffL) * 953497L) >>> 22L) & 1016L), 80936)) != l22) ? 1 : 0) != 0) { break L102; }
-            l22 = 1;
-            final int t105 = b[((int) (l17 + 80940L)) - 60720] & 0xff;
-            final int t106 = l24;
-            if (((l24 = t106 != 0 ? 0 : t105) & 255) == 2) { break L102; }
-            break L99;
-           }
-           if (l12 + Long.MIN_VALUE > -9223372036854775804L) { break L98; }
-           if (l12 == 0L) { break L101; }
-           l25 = b[((int) l13) - 60720] & 0xff;
-          }
-          if (((int) (byte) l25) > -1) { break L98; }
-         }
-         Core3.f97(m, l8 + 8L, l13, l12);
-         if ((b[((int) l8) - 60712] & 0xff) != 1) { break L98; }
-         l22 = b[((int) l8) - 60709] & 0xff;
-         l24 = b[((int) l8) - 60711] & 0xff;
-         break L99;
-        }
-        l24 = ((l22 = ((((b[((int) l13) - 60720] & 0xff) + -58) & 255) + Integer.MIN_VALUE < -2147483402) ? 1 : 0) != 0) ? 2 : 0;
-       }
-       l23 = (l23 != 0 ? 0 : 2) | (((l24 = l24 & 255) == 0) ? 1 : 0);
-       l22 = ((l22 & 1) != 0) ? 8 : 0;
-       if ((l21 | (l20 & ((l24 == 1) ? 1 : 0))) != 0) { break L97; }
-       break L96;
-      }
-      l24 = Core3.f98(m, l13, l12);
-      L107: {
-       L108: {
-        L109: {
-         if (l20 == 0) { break L109; }
-         if ((l21 | Core3.f99(m, l13, l12)) != 0) { break L108; }
-         break L107;
-        }
-        if (l21 == 0) { break L107; }
-       }
-       l22 = 0;
-       l23 = (l23 != 0 ? 0 : 2) | l24;
-       break L97;
-      }
-      l22 = 0;
-      l23 = (l23 != 0 ? 0 : 2) | l24;
-      if (Core3.f100(m, l13, l12) == 0) { break L96; }
-     }
-     l23 = l23 | 4;
-    }
-    Words.put64(b, ((int) l8) - 60672, l2);
-    Words.put64(b, ((int) l8) - 60680, l10);
-    Words.put64(b, ((int) l8) - 60688, l12);
-    Words.put64(b, ((int) l8) - 60696, l13);
-    Words.put64(b, ((int) l8) - 60704, l15);
-    Words.put64(b, ((int) l8) - 60712, l14);
-    Core3.f108(m, l8, l8 + 8L);
-    l20 = b[((int) l8) - 60719] & 0xff;
-    l21 = b[((int) l8) - 60720] & 0xff;
-    Words.put32(b, ((int) (l5 + 20L)) - 60720, 0);
-    Words.put64(b, ((int) (l5 + 8L)) - 60720, l16);
-    Words.put64(b, ((int) l5) - 60720, l15);
-    final int t110 = (int) (l5 + 16L);
-    final int t111 = l22 | l23;
-    final int t112 = ((l20 + 1) & 255) << 4;
-    final int t113 = l21 & 1;
-    Words.put32(b, t110 - 60720, t111 | (t113 != 0 ? t112 : 0));
-    l5 = l5 + 24L;
-    if (l6 != (l9 = l9 + 1L)) { continue L4; }
-    break L4;
+   final int x114 = f152_1(m, l0, l1, l2, l3, l4, l5, l6, l8, l9, l10, l11, l12, l13, l14, l15, l16, l17, l18, l20, l21, l22, l23, l24, l25);
+   l2 = m.kept[0];
+   l5 = m.kept[1];
+   l9 = m.kept[2];
+   l10 = m.kept[3];
+   l12 = m.kept[4];
+   l13 = m.kept[5];
+   l14 = m.kept[6];
+   l15 = m.kept[7];
+   l16 = m.kept[8];
+   l17 = m.kept[9];
+   l18 = m.kept[10];
+   l20 = (int) m.kept[11];
+   l21 = (int) m.kept[12];
+   l22 = (int) m.kept[13];
+   l23 = (int) m.kept[14];
+   l24 = (int) m.kept[15];
+   l25 = (int) m.kept[16];
+   switch (x114) {
+   case 1: break L2;
    }
    l9 = l6;
    l19 = 0;
   }
   Words.put64(b, ((int) l7) - 60720, l9);
   m.g0 = l8 + 64L;
-  final int t114 = l19;
-  return t114;
+  final int t115 = l19;
+  return t115;
  }
  throw State.trap();
 }
@@ -4046,29 +4114,10 @@ static void f155(State m, long l0, int l1, int l2, int l3, long l4, long l5) {
  m.g0 = l7 + 32L;
 }
 
-static void f156(State m, long l0, int l1, long l2, long l3, long l4) {
+static int f156_1(State m, int l1, long l3, long l4, long l5, long l6, long l7, long l8, long l9, long l10, long l11, long l12, long l13, long l14, long l15, long l16, long l17, int l18, int l19, int l20, int l21, int l22) {
  final byte[] b = m.bytes;
- long l5 = 0;
- long l6 = 0;
- long l7 = 0;
- long l8 = 0;
- long l9 = 0;
- long l10 = 0;
- long l11 = 0;
- long l12 = 0;
- long l13 = 0;
- long l14 = 0;
- long l15 = 0;
- long l16 = 0;
- long l17 = 0;
- int l18 = 0;
- int l19 = 0;
- int l20 = 0;
- int l21 = 0;
- int l22 = 0;
- int l23 = 0;
- m.g0 = l5 = m.g0 - 240L;
- L1: {
+ int exit = 0;
+ PART: {
   L2: {
    L3: {
     L4: {
@@ -4413,7 +4462,7 @@ static void f156(State m, long l0, int l1, long l2, long l3, long l4) {
     if ((t61 != 0 ? t59 : t60) != 0) { break L2; }
     l3 = (l16 + l14) + (((l5 = l15 + l13) + Long.MIN_VALUE < l15 + Long.MIN_VALUE) ? 1L : 0L);
     l4 = 0L;
-    break L1;
+    exit = 1; break PART;
    }
    l12 = 0L;
    Core1.f3(m, l6 + 16L, l15, 0L, l5, 0L);
@@ -4425,7 +4474,78 @@ static void f156(State m, long l0, int l1, long l2, long l3, long l4) {
    if ((t64 != 0 ? t62 : t63) == 0) { break L2; }
    l3 = (l15 + l14) + (((l5 = l16 + l13) + Long.MIN_VALUE < l16 + Long.MIN_VALUE) ? 1L : 0L);
    l4 = 0L;
-   break L1;
+   exit = 1; break PART;
+  }
+ }
+ m.kept[0] = l3;
+ m.kept[1] = l4;
+ m.kept[2] = l5;
+ m.kept[3] = l6;
+ m.kept[4] = l7;
+ m.kept[5] = l8;
+ m.kept[6] = l9;
+ m.kept[7] = l10;
+ m.kept[8] = l11;
+ m.kept[9] = l12;
+ m.kept[10] = l13;
+ m.kept[11] = l14;
+ m.kept[12] = l15;
+ m.kept[13] = l16;
+ m.kept[14] = l17;
+ m.kept[15] = l18;
+ m.kept[16] = l19;
+ m.kept[17] = l20;
+ m.kept[18] = l21;
+ m.kept[19] = l22;
+ return exit;
+}
+
+static void f156(State m, long l0, int l1, long l2, long l3, long l4) {
+ final byte[] b = m.bytes;
+ long l5 = 0;
+ long l6 = 0;
+ long l7 = 0;
+ long l8 = 0;
+ long l9 = 0;
+ long l10 = 0;
+ long l11 = 0;
+ long l12 = 0;
+ long l13 = 0;
+ long l14 = 0;
+ long l15 = 0;
+ long l16 = 0;
+ long l17 = 0;
+ int l18 = 0;
+ int l19 = 0;
+ int l20 = 0;
+ int l21 = 0;
+ int l22 = 0;
+ int l23 = 0;
+ m.g0 = l5 = m.g0 - 240L;
+ L1: {
+  final int x65 = f156_1(m, l1, l3, l4, l5, l6, l7, l8, l9, l10, l11, l12, l13, l14, l15, l16, l17, l18, l19, l20, l21, l22);
+  l3 = m.kept[0];
+  l4 = m.kept[1];
+  l5 = m.kept[2];
+  l6 = m.kept[3];
+  l7 = m.kept[4];
+  l8 = m.kept[5];
+  l9 = m.kept[6];
+  l10 = m.kept[7];
+  l11 = m.kept[8];
+  l12 = m.kept[9];
+  l13 = m.kept[10];
+  l14 = m.kept[11];
+  l15 = m.kept[12];
+  l16 = m.kept[13];
+  l17 = m.kept[14];
+  l18 = (int) m.kept[15];
+  l19 = (int) m.kept[16];
+  l20 = (int) m.kept[17];
+  l21 = (int) m.kept[18];
+  l22 = (int) m.kept[19];
+  switch (x65) {
+  case 1: break L1;
   }
   l5 = 0L;
   Words.put64(b, ((int) l6) - 60560, 0L);
@@ -4440,113 +4560,113 @@ static void f156(State m, long l0, int l1, long l2, long l3, long l4) {
   Words.put64(b, ((int) l6) - 60616, 0L);
   Words.put64(b, ((int) l6) - 60608, 0L);
   Words.put64(b, ((int) l6) - 60600, 0L);
-  L65: {
-   L66: {
-    if (l4 == 0L) { break L66; }
-    L67: {
-     L68: {
-      L69: {
-       L70: {
-        L71: {
-         L72: while (true) {
-          L73: {
-           L74: {
-            if ((l18 = b[((int) l3) - 60720] & 0xff) + Integer.MIN_VALUE > -2147483616) { break L74; }
-            if (((1L << (l18 & 0xffffffffL)) & 4294983168L) == 0L) { break L74; }
-            l5 = 1L;
-            break L73;
-           }
+  L66: {
+   L67: {
+    if (l4 == 0L) { break L67; }
+    L68: {
+     L69: {
+      L70: {
+       L71: {
+        L72: {
+         L73: while (true) {
+          L74: {
            L75: {
-            L76: {
-             L77: {
-              if (l18 == 194) { break L77; }
-              if (l4 + Long.MIN_VALUE < -9223372036854775805L) { break L76; }
-              if (((l18 + 28) & 255) + Integer.MIN_VALUE < -2147483395) { break L76; }
+            if ((l18 = b[((int) l3) - 60720] & 0xff) + Integer.MIN_VALUE > -2147483616) { break L75; }
+            if (((1L << (l18 & 0xffffffffL)) & 4294983168L) == 0L) { break L75; }
+            l5 = 1L;
+            break L74;
+           }
+           L76: {
+            L77: {
+             L78: {
+              if (l18 == 194) { break L78; }
+              if (l4 + Long.MIN_VALUE < -9223372036854775805L) { break L77; }
+              if (((l18 + 28) & 255) + Integer.MIN_VALUE < -2147483395) { break L77; }
               l20 = b[((int) (l3 + 1L)) - 60720] & 0xff;
               l19 = (int) (byte) (l22 = b[((int) (l3 + 2L)) - 60720] & 0xff);
-              if (l18 != 226) { break L75; }
-              if ((l20 & 255) != 128) { break L75; }
+              if (l18 != 226) { break L76; }
+              if ((l20 & 255) != 128) { break L76; }
               l5 = 3L;
-              if (l19 < -117) { break L73; }
-              if ((l22 + -168) + Integer.MIN_VALUE < -2147483646) { break L73; }
-              if (l22 != 175) { break L71; }
-              break L73;
+              if (l19 < -117) { break L74; }
+              if ((l22 + -168) + Integer.MIN_VALUE < -2147483646) { break L74; }
+              if (l22 != 175) { break L72; }
+              break L74;
              }
              l5 = 1L;
              l18 = b[((int) l3) - 60719] & 0xff;
-             L78: {
-              if (l4 != 1L) { break L78; }
+             L79: {
+              if (l4 != 1L) { break L79; }
               l19 = l18 & 63;
               l18 = 194;
-              break L69;
+              break L70;
              }
              l5 = 2L;
-             if (l18 == 133) { break L73; }
-             if (l18 == 160) { break L73; }
+             if (l18 == 133) { break L74; }
+             if (l18 == 160) { break L74; }
             }
-            if (l4 + Long.MIN_VALUE >= -9223372036854775805L) { break L71; }
+            if (l4 + Long.MIN_VALUE >= -9223372036854775805L) { break L72; }
             l20 = b[((int) l3) - 60720] & 0xff;
-            break L70;
+            break L71;
            }
-           L79: {
-            L80: {
-             L81: {
-              L82: {
+           L80: {
+            L81: {
+             L82: {
+              L83: {
                switch (l18 + -225) {
-               case 1: break L81;
-               case 2: break L80;
-               default: break L82;
+               case 1: break L82;
+               case 2: break L81;
+               default: break L83;
                }
               }
-              if ((l20 & 255) != 154) { break L71; }
-              if (l19 != -128) { break L71; }
-              break L79;
+              if ((l20 & 255) != 154) { break L72; }
+              if (l19 != -128) { break L72; }
+              break L80;
              }
-             if ((l20 & 255) != 129) { break L71; }
-             if (l19 == -97) { break L79; }
-             break L71;
+             if ((l20 & 255) != 129) { break L72; }
+             if (l19 == -97) { break L80; }
+             break L72;
             }
-            if ((l20 & 255) != 128) { break L71; }
-            if (l19 != -128) { break L71; }
+            if ((l20 & 255) != 128) { break L72; }
+            if (l19 != -128) { break L72; }
            }
            l5 = 3L;
           }
           l2 = l2 + 1L;
           l3 = l3 + l5;
-          if (!((l4 = l4 - l5) == 0L)) { continue L72; }
-          break L72;
+          if (!((l4 = l4 - l5) == 0L)) { continue L73; }
+          break L73;
          }
          l5 = 0L;
-         break L66;
+         break L67;
         }
-        if (((l20 = b[((int) l3) - 60720] & 0xff) & 240) != 224) { break L70; }
+        if (((l20 = b[((int) l3) - 60720] & 0xff) & 240) != 224) { break L71; }
         l18 = (((b[((int) l3) - 60718] & 0xff) + ((b[((int) l3) - 60719] & 0xff) << 6)) + (l20 << 12)) + -925824;
         l5 = l4 + -3L;
         l3 = l3 + 3L;
-        break L67;
+        break L68;
        }
        l18 = l20 & 255;
        l12 = 1L;
-       L83: {
-        if (((int) (byte) l20) > -1) { break L83; }
+       L84: {
+        if (((int) (byte) l20) > -1) { break L84; }
         l19 = (b[((int) l3) - 60719] & 0xff) & 63;
-        L84: {
-         if ((l20 & 255) + Integer.MIN_VALUE > -2147483425) { break L84; }
+        L85: {
+         if ((l20 & 255) + Integer.MIN_VALUE > -2147483425) { break L85; }
          l5 = l4;
-         break L69;
+         break L70;
         }
         l22 = (b[((int) l3) - 60718] & 0xff) & 63;
-        L85: {
-         if ((l20 & 255) + Integer.MIN_VALUE > -2147483409) { break L85; }
+        L86: {
+         if ((l20 & 255) + Integer.MIN_VALUE > -2147483409) { break L86; }
          l18 = ((l19 << 6) | ((l18 << 12) & 61440)) | l22;
          l12 = 3L;
-         break L83;
+         break L84;
         }
         l18 = ((l22 << 6) | ((l19 << 12) | ((l18 << 18) & 1835008))) | ((b[((int) l3) - 60717] & 0xff) & 63);
         l12 = 4L;
        }
        l5 = l4;
-       break L68;
+       break L69;
       }
       l18 = ((l18 << 6) & 1984) | l19;
       l12 = 2L;
@@ -4558,29 +4678,29 @@ static void f156(State m, long l0, int l1, long l2, long l3, long l4) {
     Words.put64(b, ((int) l6) - 60504, 0L);
     Words.put64(b, ((int) l6) - 60512, 0L);
     Words.put64(b, ((int) l6) - 60520, 0L);
-    L86: {
-     L87: {
-      L88: {
-       L89: {
-        L90: {
-         L91: {
-          if (l5 + Long.MIN_VALUE < -9223372036854775804L) { break L91; }
-          if (Words.get32(b, ((int) ((l15 = ((((l20 = Words.get32(b, ((int) ((l3 + l5) + -4L)) - 60720) >>> 8) & 0xffffffffL) * 953497L) >>> 22L) & 1016L) + 80936L)) - 60720) != l20) { break L89; }
+    L87: {
+     L88: {
+      L89: {
+       L90: {
+        L91: {
+         L92: {
+          if (l5 + Long.MIN_VALUE < -9223372036854775804L) { break L92; }
+          if (Words.get32(b, ((int) ((l15 = ((((l20 = Words.get32(b, ((int) ((l3 + l5) + -4L)) - 60720) >>> 8) & 0xffffffffL) * 953497L) >>> 22L) & 1016L) + 80936L)) - 60720) != l20) { break L90; }
           l4 = l5 + -3L;
           l12 = l3;
-          break L90;
+          break L91;
          }
-         if (l5 != 3L) { break L89; }
-         if (Words.get32(b, ((int) ((l15 = ((((l20 = (Words.get16(b, ((int) l3) - 60720) & 0xffff) | ((b[((int) l3) - 60718] & 0xff) << 16)) & 0xffffffffL) * 953497L) >>> 22L) & 1016L) + 80936L)) - 60720) != l20) { break L89; }
+         if (l5 != 3L) { break L90; }
+         if (Words.get32(b, ((int) ((l15 = ((((l20 = (Words.get16(b, ((int) l3) - 60720) & 0xffff) | ((b[((int) l3) - 60718] & 0xff) << 16)) & 0xffffffffL) * 953497L) >>> 22L) & 1016L) + 80936L)) - 60720) != l20) { break L90; }
          l12 = l3 + 3L;
          l4 = 0L;
         }
         l22 = b[((int) (l15 + 80940L)) - 60720] & 0xff;
         l21 = b[((int) (l15 + 80941L)) - 60720] & 0xff;
-        break L88;
+        break L89;
        }
        Core2.f87(m, l6 + 200L, l3, l5);
-       if ((b[((int) l6) - 60520] & 0xff) != 1) { break L87; }
+       if ((b[((int) l6) - 60520] & 0xff) != 1) { break L88; }
        l4 = Words.get64(b, ((int) l6) - 60496);
        l12 = Words.get64(b, ((int) l6) - 60504);
        l21 = b[((int) l6) - 60511] & 0xff;
@@ -4590,66 +4710,66 @@ static void f156(State m, long l0, int l1, long l2, long l3, long l4) {
       Words.put64(b, ((int) l6) - 60504, 0L);
       Words.put64(b, ((int) l6) - 60512, 0L);
       Words.put64(b, ((int) l6) - 60520, 0L);
-      L92: {
-       L93: {
-        L94: {
-         if (l4 + Long.MIN_VALUE < -9223372036854775804L) { break L94; }
-         if (Words.get32(b, ((int) ((l15 = ((((l20 = Words.get32(b, ((int) ((l12 + l4) + -4L)) - 60720) >>> 8) & 0xffffffffL) * 953497L) >>> 22L) & 1016L) + 80936L)) - 60720) != l20) { break L93; }
+      L93: {
+       L94: {
+        L95: {
+         if (l4 + Long.MIN_VALUE < -9223372036854775804L) { break L95; }
+         if (Words.get32(b, ((int) ((l15 = ((((l20 = Words.get32(b, ((int) ((l12 + l4) + -4L)) - 60720) >>> 8) & 0xffffffffL) * 953497L) >>> 22L) & 1016L) + 80936L)) - 60720) != l20) { break L94; }
          l19 = b[((int) (l15 + 80940L)) - 60720] & 0xff;
          l23 = b[((int) (l15 + 80941L)) - 60720] & 0xff;
          l20 = 1;
-         break L92;
+         break L93;
         }
-        if (l4 != 3L) { break L93; }
-        if (Words.get32(b, ((int) ((l15 = ((((l20 = (Words.get16(b, ((int) l12) - 60720) & 0xffff) | ((b[((int) l12) - 60718] & 0xff) << 16)) & 0xffffffffL) * 953497L) >>> 22L) & 1016L) + 80936L)) - 60720) != l20) { break L93; }
+        if (l4 != 3L) { break L94; }
+        if (Words.get32(b, ((int) ((l15 = ((((l20 = (Words.get16(b, ((int) l12) - 60720) & 0xffff) | ((b[((int) l12) - 60718] & 0xff) << 16)) & 0xffffffffL) * 953497L) >>> 22L) & 1016L) + 80936L)) - 60720) != l20) { break L94; }
         l19 = b[((int) (l15 + 80940L)) - 60720] & 0xff;
         l23 = b[((int) (l15 + 80941L)) - 60720] & 0xff;
         l20 = 1;
-        break L92;
+        break L93;
        }
        Core2.f87(m, l6 + 200L, l12, l4);
        l20 = ((b[((int) l6) - 60520] & 0xff) == 1) ? 1 : 0;
        l23 = b[((int) l6) - 60511] & 0xff;
        l19 = b[((int) l6) - 60512] & 0xff;
       }
-      if (l20 == 0) { break L87; }
-      if ((l19 & 255) != 1) { break L87; }
-      if (((((l22 & 255) != 1) | ((l21 & 255) == 0)) ? 1 : 0) != 1) { break L87; }
-      if ((l23 & 255) + Integer.MIN_VALUE <= -2147483647) { break L87; }
+      if (l20 == 0) { break L88; }
+      if ((l19 & 255) != 1) { break L88; }
+      if (((((l22 & 255) != 1) | ((l21 & 255) == 0)) ? 1 : 0) != 1) { break L88; }
+      if ((l23 & 255) + Integer.MIN_VALUE <= -2147483647) { break L88; }
       Core2.f88(m, l6 + 128L, l1, l2, l18, l12, l4);
       l5 = Words.get64(b, ((int) l6) - 60576);
-      if ((b[((int) l6) - 60592] & 0xff) != 0) { break L86; }
-      L95: {
-       if ((l22 & 255) != 0) { break L95; }
+      if ((b[((int) l6) - 60592] & 0xff) != 0) { break L87; }
+      L96: {
+       if ((l22 & 255) != 0) { break L96; }
        Core2.f89(m, l6 + 96L, l1, l5, Words.get64(b, ((int) l6) - 60568), l23, l21);
-       final long t96 = Words.get64(b, ((int) l6) - 60600);
-       final int t97 = l18 = ((b[((int) l6) - 60624] & 0xff) != 1) ? 1 : 0;
-       l3 = t97 != 0 ? 0L : t96;
-       final long t98 = Words.get64(b, ((int) l6) - 60608);
-       final int t99 = l18;
-       l5 = t99 != 0 ? 0L : t98;
+       final long t97 = Words.get64(b, ((int) l6) - 60600);
+       final int t98 = l18 = ((b[((int) l6) - 60624] & 0xff) != 1) ? 1 : 0;
+       l3 = t98 != 0 ? 0L : t97;
+       final long t99 = Words.get64(b, ((int) l6) - 60608);
+       final int t100 = l18;
+       l5 = t100 != 0 ? 0L : t99;
        l20 = l18 != 0 ? 2 : 0;
-       break L65;
+       break L66;
       }
       Words.put64(b, ((int) l6) - 60544, l5 = (Core1.f35(m, l12, l4) + l2) + 1L);
       l18 = 1;
       l3 = Words.get64(b, ((int) l6) - 60536);
       l20 = 1;
-      break L65;
+      break L66;
      }
      Core2.f88(m, l6 + 160L, l1, l2, l18, l3, l5);
      l3 = Words.get64(b, ((int) l6) - 60536);
      l5 = Words.get64(b, ((int) l6) - 60544);
      l20 = b[((int) l6) - 60552] & 0xff;
      l18 = b[((int) l6) - 60560] & 0xff;
-     break L65;
+     break L66;
     }
     l3 = 0L;
     Words.put64(b, ((int) l6) - 60536, 0L);
     Words.put64(b, ((int) l6) - 60544, l5);
     l18 = 1;
     l20 = b[((int) l6) - 60584] & 0xff;
-    break L65;
+    break L66;
    }
    Words.put64(b, ((int) l6) - 60544, l5);
    Words.put64(b, ((int) l6) - 60552, l5);

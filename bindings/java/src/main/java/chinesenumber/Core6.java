@@ -3403,238 +3403,67 @@ static int f205(State m, long l0, int l1, long l2, long l3, long l4, long l5) {
  throw State.trap();
 }
 
-static int f206_1(State m, long l0, long l1, int l2, long l4, long l5, long l6, long l7, long l8, long l9, long l10, long l11, long l12, long l13, int l14, int l15, int l16, int l17, int l18) {
+static int f206_1(State m, long l0, long l1, int l2, long l4, long l5, long l6, long l7, long l8, long l9, long l10, long l11, long l12, int l14, int l15, int l16, int l17, int l18) {
  final byte[] b = m.bytes;
  int exit = 0;
  PART: {
-  L11: {
-   L12: {
-    L13: {
-     L14: {
-      switch ((int) ((l2 & 0xffffffffL) & 255L)) {
-      case 1: break L13;
-      case 2: break L12;
-      case 3: break L11;
-      default: break L14;
-      }
-     }
-     l5 = 235L;
-     L15: {
-      L16: {
-       if (l4 + Long.MIN_VALUE < -9223372036854775798L) { break L16; }
-       l7 = l1 + 40L;
-       l5 = 235L;
-       l2 = 0;
-       l8 = 0L;
-       L17: while (true) {
-        Words.put32(b, ((int) ((l0 + l5) + -4L)) - 60720, Words.get32(b, ((int) (l7 + ((b[((int) (l8 + 85470L)) - 60720] & 0xffL) << 2L))) - 60720));
-        final long t18 = l0;
-        final long t19 = ((l14 = ((l10 = (l9 = l4) - ((l4 = Long.divideUnsigned(l9, 10L)) * 10L)) != 0L) ? 1 : 0) != 0) ? -3L : 0L;
-        final int t20 = (l8 != 0L) ? 1 : 0;
-        Words.put32(b, ((int) ((t18 + (l5 = (t20 != 0 ? t19 : 0L) + l5)) + -4L)) - 60720, Words.get32(b, ((int) (l1 + (l10 << 2L))) - 60720));
-        final long t21 = l5;
-        final long t22 = ((l2 & 255) != 0) ? -3L : 0L;
-        final int t23 = l14;
-        l5 = t21 + (t23 != 0 ? -3L : t22);
-        l8 = l8 + 1L;
-        l2 = (int) l10;
-        if (l9 + Long.MIN_VALUE > -9223372036854775709L) { continue L17; }
-        break L17;
-       }
-       if (l8 == 0L) { break L16; }
-       Words.put32(b, ((int) ((l0 + l5) + -4L)) - 60720, Words.get32(b, ((int) (l7 + ((b[((int) (l8 + 85470L)) - 60720] & 0xffL) << 2L))) - 60720));
-       l5 = l5 + -3L;
-       if ((l9 + -10L) + Long.MIN_VALUE >= -9223372036854775798L) { break L15; }
-       if (l8 == 1L) { exit = 1; break PART; }
-       exit = 2; break PART;
-      }
-      if (l4 == 1L) { exit = 2; break PART; }
-     }
-     Words.put32(b, ((int) ((l0 + l5) + -4L)) - 60720, Words.get32(b, ((int) (l1 + (l4 << 2L))) - 60720));
-     l5 = l5 + -3L;
-     exit = 1; break PART;
-    }
-    Words.put16(b, ((int) l6) - 60696, (short) 0);
-    l9 = 0L;
-    Words.put64(b, ((int) l6) - 60704, 0L);
-    Words.put64(b, ((int) l6) - 60712, 0L);
-    L24: {
-     if (l5 == 0L) { break L24; }
-     l7 = (l4 >>> 42L) | (l5 << 22L);
-     l8 = l5 >>> 4L;
-     l5 = l6 + 8L;
-     l9 = 0L;
-     L25: while (true) {
-      Words.put16(b, ((int) (l5 + 6L)) - 60720, (short) Long.divideUnsigned(l4 = (((l7 = (((l8 = ((l8 - ((l10 = Long.divideUnsigned(l8, 152587890625L)) * 152587890625L)) << 26L) | (l7 & 67108863L)) - ((l8 = Long.divideUnsigned(l8, 152587890625L)) * 152587890625L)) << 26L) | ((l4 >>> 16L) & 67108863L)) - ((l7 = Long.divideUnsigned(l7, 152587890625L)) * 152587890625L)) << 16L) | (l4 & 65535L), 1000000000000L));
-      Words.put16(b, ((int) (l5 + 4L)) - 60720, (short) ((int) ((((int) (l11 = Long.divideUnsigned(l4, 100000000L))) & 0xffffffffL) % 10000L)));
-      Words.put16(b, ((int) (l5 + 2L)) - 60720, (short) (l14 = (int) (((l2 = (int) (l4 - (l11 * 100000000L))) & 0xffffffffL) / 10000L)));
-      Words.put16(b, ((int) l5) - 60720, (short) (l2 - (l14 * 10000)));
-      l7 = ((l4 = (l11 = l10 << 52L) + (l7 + (l8 << 26L))) >>> 42L) | ((l10 = (l10 >>> 12L) + ((l4 + Long.MIN_VALUE < l11 + Long.MIN_VALUE) ? 1L : 0L)) << 22L);
-      l8 = l10 >>> 4L;
-      l5 = l5 + 8L;
-      l9 = l9 + 4L;
-      if (l10 != 0L) { continue L25; }
-      break L25;
+  L12: {
+   L13: {
+    L14: {
+     switch ((int) ((l2 & 0xffffffffL) & 255L)) {
+     case 1: break L13;
+     case 2: break L12;
+     case 3: exit = 1; break PART;
+     default: break L14;
      }
     }
-    L26: {
-     if (l4 + Long.MIN_VALUE < -9223372036854765808L) { break L26; }
-     l5 = (l6 + 8L) + (l9 << 1L);
-     L27: while (true) {
-      Words.put16(b, ((int) l5) - 60720, (short) ((l8 = l4) - ((l4 = Long.divideUnsigned(l8, 10000L)) * 10000L)));
-      l5 = l5 + 2L;
-      l9 = l9 + 1L;
-      if (l8 + Long.MIN_VALUE > -9223372036754775809L) { continue L27; }
-      break L27;
-     }
-    }
-    L28: {
-     L29: {
-      if (!(l9 == 0L)) { break L29; }
-      l5 = 235L;
-      break L28;
-     }
-     l12 = l1 + 40L;
-     l5 = 235L;
-     l8 = 0L;
-     l10 = l6 + 8L;
-     l11 = l9;
-     l7 = 0L;
-     L30: while (true) {
-      L31: {
-       if ((l2 = Words.get16(b, ((int) l10) - 60720) & 0xffff) == 0) { break L31; }
-       L32: {
-        if (l8 == 0L) { break L32; }
-        L33: {
-         if (l8 + Long.MIN_VALUE >= (l7 + 4L) + Long.MIN_VALUE) { break L33; }
-         Words.put32(b, ((int) ((l0 + l5) + -4L)) - 60720, Words.get32(b, ((int) l1) - 60720));
-         Words.put32(b, ((int) ((l0 + (l5 = ((l7 + Long.MIN_VALUE < l8 + Long.MIN_VALUE) ? -3L : 0L) + l5)) + -4L)) - 60720, Words.get32(b, ((int) (l12 + ((b[((int) (l8 + 85486L)) - 60720] & 0xffL) << 2L))) - 60720));
-         l5 = l5 + -3L;
-         break L32;
-        }
-        L34: {
-         if ((l6 = (l7 + Long.MIN_VALUE > -9223372036854775807L) ? l7 : 1L) + Long.MIN_VALUE > l8 + Long.MIN_VALUE) { break L34; }
-         L35: {
-          if (l7 == 0L) { break L35; }
-          if (l7 + Long.MIN_VALUE >= l8 + Long.MIN_VALUE) { break L35; }
-          Words.put32(b, ((int) ((l0 + l5) + -4L)) - 60720, Words.get32(b, ((int) l1) - 60720));
-          l5 = l5 + -3L;
-         }
-         Words.put32(b, ((int) ((l0 + l5) + -4L)) - 60720, Words.get32(b, ((int) (l12 + ((b[((int) (l8 + 85486L)) - 60720] & 0xffL) << 2L))) - 60720));
-         l6 = l8 + 1L;
-         l5 = l5 + -3L;
-        }
-        if (l6 + Long.MIN_VALUE > l8 + Long.MIN_VALUE) { break L32; }
-        L36: {
-         if (l7 + Long.MIN_VALUE >= l8 + Long.MIN_VALUE) { break L36; }
-         if (l6 != l7) { break L36; }
-         Words.put32(b, ((int) ((l0 + l5) + -4L)) - 60720, Words.get32(b, ((int) l1) - 60720));
-         l5 = l5 + -3L;
-        }
-        Words.put32(b, ((int) ((l0 + l5) + -4L)) - 60720, Words.get32(b, ((int) (l12 + ((b[((int) (l8 + 85486L)) - 60720] & 0xffL) << 2L))) - 60720));
-        l5 = l5 + -3L;
-       }
-       Words.put32(b, ((int) (l7 = (l0 + l5) + -4L)) - 60720, Words.get32(b, ((int) (l1 + 40L)) - 60720));
-       Words.put32(b, ((int) l7) - 60720, Words.get32(b, ((int) (l1 + ((((l18 = (l14 = l2 - ((l15 = (int) ((l2 & 0xffffffffL) / 100L)) * 100)) - ((l17 = (int) (((l16 = l14 & 255) & 0xffffffffL) / 10L)) * 10)) << 2) & 0xffffffffL) & 252L))) - 60720));
-       Words.put32(b, ((int) ((l0 + (l5 = l5 + (l7 = ((l18 & 255) != 0) ? -3L : 0L))) + -4L)) - 60720, Words.get32(b, ((int) (l1 + 44L)) - 60720));
-       Words.put32(b, ((int) ((l0 + (l5 = l5 + (((l16 = (l16 + Integer.MIN_VALUE > -2147483639) ? 1 : 0) != 0) ? -3L : 0L))) + -4L)) - 60720, Words.get32(b, ((int) (l1 + ((l17 << 2) & 0xffffffffL))) - 60720));
-       final long t37 = l0;
-       final long t38 = l5;
-       final long t39 = ((l17 = (l2 + Integer.MIN_VALUE > -2147483549) ? 1 : 0) != 0) ? l7 : 0L;
-       final int t40 = l16;
-       Words.put32(b, ((int) ((t37 + (l5 = t38 + (t40 != 0 ? -3L : t39))) + -4L)) - 60720, Words.get32(b, ((int) (l1 + 48L)) - 60720));
-       Words.put32(b, ((int) ((l0 + (l5 = l5 + (((l15 = (int) ((l15 & 0xffffffffL) % 10L)) != 0) ? -3L : 0L))) + -4L)) - 60720, Words.get32(b, ((int) (l1 + ((l15 << 2) & 0xffffffffL))) - 60720));
-       final long t41 = l0;
-       final long t42 = l5;
-       final long t43 = ((l14 & 65535) + Integer.MIN_VALUE > -2147483639) ? -3L : 0L;
-       final int t44 = l14 = (l2 + Integer.MIN_VALUE > -2147482649) ? 1 : 0;
-       final long t45 = t44 != 0 ? t43 : 0L;
-       final int t46 = l15;
-       Words.put32(b, ((int) ((t41 + (l5 = t42 + (t46 != 0 ? -3L : t45))) + -4L)) - 60720, Words.get32(b, ((int) (l1 + 52L)) - 60720));
-       Words.put32(b, ((int) ((l0 + (l5 = l5 - (l7 = (l2 + Integer.MIN_VALUE < -2147482648) ? 0L : 3L))) + -4L)) - 60720, Words.get32(b, ((int) (l1 + ((((int) ((l2 & 0xffffffffL) / 1000L)) << 2) & 0xffffffffL))) - 60720));
-       l5 = l5 - l7;
-       l7 = l8 + ((((l2 + Integer.MIN_VALUE > -2147483639) ? 2L : 1L) + (l17 & 0xffffffffL)) + (l14 & 0xffffffffL));
-      }
-      l10 = l10 + 2L;
-      l8 = l8 + 4L;
-      if ((l11 = l11 + -1L) != 0L) { continue L30; }
-      break L30;
-     }
-     if ((l8 = l9 << 2L) == 0L) { break L28; }
-     L47: {
-      if (l8 + Long.MIN_VALUE >= (l7 + 4L) + Long.MIN_VALUE) { break L47; }
-      Words.put32(b, ((int) ((l0 + l5) + -4L)) - 60720, Words.get32(b, ((int) l1) - 60720));
-      Words.put32(b, ((int) ((l0 + (l5 = ((l7 + Long.MIN_VALUE < l8 + Long.MIN_VALUE) ? -3L : 0L) + l5)) + -4L)) - 60720, Words.get32(b, ((int) (l12 + ((b[State.far((int) l8, 85486)] & 0xffL) << 2L))) - 60720));
-      l5 = l5 + -3L;
-      break L28;
-     }
-     L48: {
-      if ((l9 = (l7 + Long.MIN_VALUE > -9223372036854775807L) ? l7 : 1L) + Long.MIN_VALUE > l8 + Long.MIN_VALUE) { break L48; }
-      L49: {
-       if (l7 == 0L) { break L49; }
-       if (l7 + Long.MIN_VALUE >= l8 + Long.MIN_VALUE) { break L49; }
-       Words.put32(b, ((int) ((l0 + l5) + -4L)) - 60720, Words.get32(b, ((int) l1) - 60720));
-       l5 = l5 + -3L;
-      }
-      Words.put32(b, ((int) ((l0 + l5) + -4L)) - 60720, Words.get32(b, ((int) (l12 + ((b[State.far((int) l8, 85486)] & 0xffL) << 2L))) - 60720));
-      l9 = l8 | 1L;
-      l5 = l5 + -3L;
-     }
-     if (l9 + Long.MIN_VALUE > l8 + Long.MIN_VALUE) { break L28; }
-     L50: {
-      if (l7 + Long.MIN_VALUE >= l8 + Long.MIN_VALUE) { break L50; }
-      if (l9 != l7) { break L50; }
-      Words.put32(b, ((int) ((l0 + l5) + -4L)) - 60720, Words.get32(b, ((int) l1) - 60720));
-      l5 = l5 + -3L;
-     }
-     Words.put32(b, ((int) ((l0 + l5) + -4L)) - 60720, Words.get32(b, ((int) (l12 + ((b[State.far((int) l8, 85486)] & 0xffL) << 2L))) - 60720));
-     l5 = l5 + -3L;
-    }
-    L51: {
-     L52: {
-      if (l4 + Long.MIN_VALUE < -9223372036854775798L) { break L52; }
+    l5 = 235L;
+    L15: {
+     L16: {
+      if (l4 + Long.MIN_VALUE < -9223372036854775798L) { break L16; }
       l7 = l1 + 40L;
+      l5 = 235L;
       l2 = 0;
       l8 = 0L;
-      L53: while (true) {
+      L17: while (true) {
        Words.put32(b, ((int) ((l0 + l5) + -4L)) - 60720, Words.get32(b, ((int) (l7 + ((b[((int) (l8 + 85470L)) - 60720] & 0xffL) << 2L))) - 60720));
-       final long t54 = l0;
-       final long t55 = ((l14 = ((l10 = (l9 = l4) - ((l4 = Long.divideUnsigned(l9, 10L)) * 10L)) != 0L) ? 1 : 0) != 0) ? -3L : 0L;
-       final int t56 = (l8 != 0L) ? 1 : 0;
-       Words.put32(b, ((int) ((t54 + (l5 = (t56 != 0 ? t55 : 0L) + l5)) + -4L)) - 60720, Words.get32(b, ((int) (l1 + (l10 << 2L))) - 60720));
-       final long t57 = l5;
-       final long t58 = ((l2 & 255) != 0) ? -3L : 0L;
-       final int t59 = l14;
-       l5 = t57 + (t59 != 0 ? -3L : t58);
+       final long t18 = l0;
+       final long t19 = ((l14 = ((l10 = (l9 = l4) - ((l4 = Long.divideUnsigned(l9, 10L)) * 10L)) != 0L) ? 1 : 0) != 0) ? -3L : 0L;
+       final int t20 = (l8 != 0L) ? 1 : 0;
+       Words.put32(b, ((int) ((t18 + (l5 = (t20 != 0 ? t19 : 0L) + l5)) + -4L)) - 60720, Words.get32(b, ((int) (l1 + (l10 << 2L))) - 60720));
+       final long t21 = l5;
+       final long t22 = ((l2 & 255) != 0) ? -3L : 0L;
+       final int t23 = l14;
+       l5 = t21 + (t23 != 0 ? -3L : t22);
        l8 = l8 + 1L;
        l2 = (int) l10;
-       if (l9 + Long.MIN_VALUE > -9223372036854775709L) { continue L53; }
-       break L53;
+       if (l9 + Long.MIN_VALUE > -9223372036854775709L) { continue L17; }
+       break L17;
       }
-      if (l8 == 0L) { break L52; }
+      if (l8 == 0L) { break L16; }
       Words.put32(b, ((int) ((l0 + l5) + -4L)) - 60720, Words.get32(b, ((int) (l7 + ((b[((int) (l8 + 85470L)) - 60720] & 0xffL) << 2L))) - 60720));
       l5 = l5 + -3L;
-      if ((l9 + -10L) + Long.MIN_VALUE >= -9223372036854775798L) { break L51; }
-      if (l8 == 1L) { exit = 3; break PART; }
-      exit = 4; break PART;
+      if ((l9 + -10L) + Long.MIN_VALUE >= -9223372036854775798L) { break L15; }
+      if (l8 == 1L) { exit = 2; break PART; }
+      exit = 3; break PART;
      }
-     if (l4 == 1L) { exit = 4; break PART; }
+     if (l4 == 1L) { exit = 3; break PART; }
     }
     Words.put32(b, ((int) ((l0 + l5) + -4L)) - 60720, Words.get32(b, ((int) (l1 + (l4 << 2L))) - 60720));
     l5 = l5 + -3L;
-    exit = 3; break PART;
+    exit = 2; break PART;
    }
    Words.put16(b, ((int) l6) - 60696, (short) 0);
    l9 = 0L;
    Words.put64(b, ((int) l6) - 60704, 0L);
    Words.put64(b, ((int) l6) - 60712, 0L);
-   L60: {
-    if (l5 == 0L) { break L60; }
+   L24: {
+    if (l5 == 0L) { break L24; }
     l7 = (l4 >>> 42L) | (l5 << 22L);
     l8 = l5 >>> 4L;
     l5 = l6 + 8L;
     l9 = 0L;
-    L61: while (true) {
+    L25: while (true) {
      Words.put16(b, ((int) (l5 + 6L)) - 60720, (short) Long.divideUnsigned(l4 = (((l7 = (((l8 = ((l8 - ((l10 = Long.divideUnsigned(l8, 152587890625L)) * 152587890625L)) << 26L) | (l7 & 67108863L)) - ((l8 = Long.divideUnsigned(l8, 152587890625L)) * 152587890625L)) << 26L) | ((l4 >>> 16L) & 67108863L)) - ((l7 = Long.divideUnsigned(l7, 152587890625L)) * 152587890625L)) << 16L) | (l4 & 65535L), 1000000000000L));
      Words.put16(b, ((int) (l5 + 4L)) - 60720, (short) ((int) ((((int) (l11 = Long.divideUnsigned(l4, 100000000L))) & 0xffffffffL) % 10000L)));
      Words.put16(b, ((int) (l5 + 2L)) - 60720, (short) (l14 = (int) (((l2 = (int) (l4 - (l11 * 100000000L))) & 0xffffffffL) / 10000L)));
@@ -3643,26 +3472,26 @@ static int f206_1(State m, long l0, long l1, int l2, long l4, long l5, long l6, 
      l8 = l10 >>> 4L;
      l5 = l5 + 8L;
      l9 = l9 + 4L;
-     if (l10 != 0L) { continue L61; }
-     break L61;
+     if (l10 != 0L) { continue L25; }
+     break L25;
     }
    }
-   L62: {
-    if (l4 + Long.MIN_VALUE < -9223372036854765808L) { break L62; }
+   L26: {
+    if (l4 + Long.MIN_VALUE < -9223372036854765808L) { break L26; }
     l5 = (l6 + 8L) + (l9 << 1L);
-    L63: while (true) {
+    L27: while (true) {
      Words.put16(b, ((int) l5) - 60720, (short) ((l8 = l4) - ((l4 = Long.divideUnsigned(l8, 10000L)) * 10000L)));
      l5 = l5 + 2L;
      l9 = l9 + 1L;
-     if (l8 + Long.MIN_VALUE > -9223372036754775809L) { continue L63; }
-     break L63;
+     if (l8 + Long.MIN_VALUE > -9223372036754775809L) { continue L27; }
+     break L27;
     }
    }
-   L64: {
-    L65: {
-     if (!(l9 == 0L)) { break L65; }
+   L28: {
+    L29: {
+     if (!(l9 == 0L)) { break L29; }
      l5 = 235L;
-     break L64;
+     break L28;
     }
     l12 = l1 + 40L;
     l5 = 235L;
@@ -3670,153 +3499,129 @@ static int f206_1(State m, long l0, long l1, int l2, long l4, long l5, long l6, 
     l10 = l6 + 8L;
     l11 = l9;
     l7 = 0L;
-    L66: while (true) {
-     L67: {
-      if ((l2 = Words.get16(b, ((int) l10) - 60720) & 0xffff) == 0) { break L67; }
-      L68: {
-       if (l8 == 0L) { break L68; }
-       L69: {
-        if (l8 + Long.MIN_VALUE >= (l7 + 4L) + Long.MIN_VALUE) { break L69; }
+    L30: while (true) {
+     L31: {
+      if ((l2 = Words.get16(b, ((int) l10) - 60720) & 0xffff) == 0) { break L31; }
+      L32: {
+       if (l8 == 0L) { break L32; }
+       L33: {
+        if (l8 + Long.MIN_VALUE >= (l7 + 4L) + Long.MIN_VALUE) { break L33; }
         Words.put32(b, ((int) ((l0 + l5) + -4L)) - 60720, Words.get32(b, ((int) l1) - 60720));
-        Words.put32(b, ((int) ((l0 + (l5 = ((l7 + Long.MIN_VALUE < l8 + Long.MIN_VALUE) ? -3L : 0L) + l5)) + -4L)) - 60720, Words.get32(b, ((int) (l12 + ((b[((int) (l8 + 85525L)) - 60720] & 0xffL) << 2L))) - 60720));
+        Words.put32(b, ((int) ((l0 + (l5 = ((l7 + Long.MIN_VALUE < l8 + Long.MIN_VALUE) ? -3L : 0L) + l5)) + -4L)) - 60720, Words.get32(b, ((int) (l12 + ((b[((int) (l8 + 85486L)) - 60720] & 0xffL) << 2L))) - 60720));
         l5 = l5 + -3L;
-        break L68;
+        break L32;
        }
-       L70: {
-        if ((l6 = (l7 + Long.MIN_VALUE > -9223372036854775807L) ? l7 : 1L) + Long.MIN_VALUE > (l13 = l8 & -8L) + Long.MIN_VALUE) { break L70; }
-        L71: {
-         if (l7 == 0L) { break L71; }
-         if (l7 + Long.MIN_VALUE >= l13 + Long.MIN_VALUE) { break L71; }
+       L34: {
+        if ((l6 = (l7 + Long.MIN_VALUE > -9223372036854775807L) ? l7 : 1L) + Long.MIN_VALUE > l8 + Long.MIN_VALUE) { break L34; }
+        L35: {
+         if (l7 == 0L) { break L35; }
+         if (l7 + Long.MIN_VALUE >= l8 + Long.MIN_VALUE) { break L35; }
          Words.put32(b, ((int) ((l0 + l5) + -4L)) - 60720, Words.get32(b, ((int) l1) - 60720));
          l5 = l5 + -3L;
         }
-        Words.put32(b, ((int) ((l0 + l5) + -4L)) - 60720, Words.get32(b, ((int) (l12 + ((b[State.far((int) l13, 85525)] & 0xffL) << 2L))) - 60720));
-        l6 = l13 | 1L;
-        l5 = l5 + -3L;
-       }
-       L72: {
-        if (l6 + Long.MIN_VALUE > l8 + Long.MIN_VALUE) { break L72; }
-        L73: {
-         if (l7 + Long.MIN_VALUE >= l8 + Long.MIN_VALUE) { break L73; }
-         if (l6 != l7) { break L73; }
-         Words.put32(b, ((int) ((l0 + l5) + -4L)) - 60720, Words.get32(b, ((int) l1) - 60720));
-         l5 = l5 + -3L;
-        }
-        Words.put32(b, ((int) ((l0 + l5) + -4L)) - 60720, Words.get32(b, ((int) (l12 + ((b[((int) (l8 + 85525L)) - 60720] & 0xffL) << 2L))) - 60720));
+        Words.put32(b, ((int) ((l0 + l5) + -4L)) - 60720, Words.get32(b, ((int) (l12 + ((b[((int) (l8 + 85486L)) - 60720] & 0xffL) << 2L))) - 60720));
         l6 = l8 + 1L;
         l5 = l5 + -3L;
        }
-       if (l6 + Long.MIN_VALUE > l8 + Long.MIN_VALUE) { break L68; }
-       L74: {
-        if (l7 + Long.MIN_VALUE >= l8 + Long.MIN_VALUE) { break L74; }
-        if (l6 != l7) { break L74; }
+       if (l6 + Long.MIN_VALUE > l8 + Long.MIN_VALUE) { break L32; }
+       L36: {
+        if (l7 + Long.MIN_VALUE >= l8 + Long.MIN_VALUE) { break L36; }
+        if (l6 != l7) { break L36; }
         Words.put32(b, ((int) ((l0 + l5) + -4L)) - 60720, Words.get32(b, ((int) l1) - 60720));
         l5 = l5 + -3L;
        }
-       Words.put32(b, ((int) ((l0 + l5) + -4L)) - 60720, Words.get32(b, ((int) (l12 + ((b[((int) (l8 + 85525L)) - 60720] & 0xffL) << 2L))) - 60720));
+       Words.put32(b, ((int) ((l0 + l5) + -4L)) - 60720, Words.get32(b, ((int) (l12 + ((b[((int) (l8 + 85486L)) - 60720] & 0xffL) << 2L))) - 60720));
        l5 = l5 + -3L;
       }
       Words.put32(b, ((int) (l7 = (l0 + l5) + -4L)) - 60720, Words.get32(b, ((int) (l1 + 40L)) - 60720));
       Words.put32(b, ((int) l7) - 60720, Words.get32(b, ((int) (l1 + ((((l18 = (l14 = l2 - ((l15 = (int) ((l2 & 0xffffffffL) / 100L)) * 100)) - ((l17 = (int) (((l16 = l14 & 255) & 0xffffffffL) / 10L)) * 10)) << 2) & 0xffffffffL) & 252L))) - 60720));
       Words.put32(b, ((int) ((l0 + (l5 = l5 + (l7 = ((l18 & 255) != 0) ? -3L : 0L))) + -4L)) - 60720, Words.get32(b, ((int) (l1 + 44L)) - 60720));
       Words.put32(b, ((int) ((l0 + (l5 = l5 + (((l16 = (l16 + Integer.MIN_VALUE > -2147483639) ? 1 : 0) != 0) ? -3L : 0L))) + -4L)) - 60720, Words.get32(b, ((int) (l1 + ((l17 << 2) & 0xffffffffL))) - 60720));
-      final long t75 = l0;
-      final long t76 = l5;
-      final long t77 = ((l17 = (l2 + Integer.MIN_VALUE > -2147483549) ? 1 : 0) != 0) ? l7 : 0L;
-      final int t78 = l16;
-      Words.put32(b, ((int) ((t75 + (l5 = t76 + (t78 != 0 ? -3L : t77))) + -4L)) - 60720, Words.get32(b, ((int) (l1 + 48L)) - 60720));
+      final long t37 = l0;
+      final long t38 = l5;
+      final long t39 = ((l17 = (l2 + Integer.MIN_VALUE > -2147483549) ? 1 : 0) != 0) ? l7 : 0L;
+      final int t40 = l16;
+      Words.put32(b, ((int) ((t37 + (l5 = t38 + (t40 != 0 ? -3L : t39))) + -4L)) - 60720, Words.get32(b, ((int) (l1 + 48L)) - 60720));
       Words.put32(b, ((int) ((l0 + (l5 = l5 + (((l15 = (int) ((l15 & 0xffffffffL) % 10L)) != 0) ? -3L : 0L))) + -4L)) - 60720, Words.get32(b, ((int) (l1 + ((l15 << 2) & 0xffffffffL))) - 60720));
-      final long t79 = l0;
-      final long t80 = l5;
-      final long t81 = ((l14 & 65535) + Integer.MIN_VALUE > -2147483639) ? -3L : 0L;
-      final int t82 = l14 = (l2 + Integer.MIN_VALUE > -2147482649) ? 1 : 0;
-      final long t83 = t82 != 0 ? t81 : 0L;
-      final int t84 = l15;
-      Words.put32(b, ((int) ((t79 + (l5 = t80 + (t84 != 0 ? -3L : t83))) + -4L)) - 60720, Words.get32(b, ((int) (l1 + 52L)) - 60720));
+      final long t41 = l0;
+      final long t42 = l5;
+      final long t43 = ((l14 & 65535) + Integer.MIN_VALUE > -2147483639) ? -3L : 0L;
+      final int t44 = l14 = (l2 + Integer.MIN_VALUE > -2147482649) ? 1 : 0;
+      final long t45 = t44 != 0 ? t43 : 0L;
+      final int t46 = l15;
+      Words.put32(b, ((int) ((t41 + (l5 = t42 + (t46 != 0 ? -3L : t45))) + -4L)) - 60720, Words.get32(b, ((int) (l1 + 52L)) - 60720));
       Words.put32(b, ((int) ((l0 + (l5 = l5 - (l7 = (l2 + Integer.MIN_VALUE < -2147482648) ? 0L : 3L))) + -4L)) - 60720, Words.get32(b, ((int) (l1 + ((((int) ((l2 & 0xffffffffL) / 1000L)) << 2) & 0xffffffffL))) - 60720));
       l5 = l5 - l7;
       l7 = l8 + ((((l2 + Integer.MIN_VALUE > -2147483639) ? 2L : 1L) + (l17 & 0xffffffffL)) + (l14 & 0xffffffffL));
      }
      l10 = l10 + 2L;
      l8 = l8 + 4L;
-     if ((l11 = l11 + -1L) != 0L) { continue L66; }
-     break L66;
+     if ((l11 = l11 + -1L) != 0L) { continue L30; }
+     break L30;
     }
-    if ((l8 = l9 << 2L) == 0L) { break L64; }
-    L85: {
-     if (l8 + Long.MIN_VALUE >= (l7 + 4L) + Long.MIN_VALUE) { break L85; }
+    if ((l8 = l9 << 2L) == 0L) { break L28; }
+    L47: {
+     if (l8 + Long.MIN_VALUE >= (l7 + 4L) + Long.MIN_VALUE) { break L47; }
      Words.put32(b, ((int) ((l0 + l5) + -4L)) - 60720, Words.get32(b, ((int) l1) - 60720));
-     Words.put32(b, ((int) ((l0 + (l5 = ((l7 + Long.MIN_VALUE < l8 + Long.MIN_VALUE) ? -3L : 0L) + l5)) + -4L)) - 60720, Words.get32(b, ((int) (l12 + ((b[State.far((int) l8, 85525)] & 0xffL) << 2L))) - 60720));
+     Words.put32(b, ((int) ((l0 + (l5 = ((l7 + Long.MIN_VALUE < l8 + Long.MIN_VALUE) ? -3L : 0L) + l5)) + -4L)) - 60720, Words.get32(b, ((int) (l12 + ((b[State.far((int) l8, 85486)] & 0xffL) << 2L))) - 60720));
      l5 = l5 + -3L;
-     break L64;
+     break L28;
     }
-    L86: {
-     if ((l9 = (l7 + Long.MIN_VALUE > -9223372036854775807L) ? l7 : 1L) + Long.MIN_VALUE > (l10 = l8 & -8L) + Long.MIN_VALUE) { break L86; }
-     L87: {
-      if (l7 == 0L) { break L87; }
-      if (l7 + Long.MIN_VALUE >= l10 + Long.MIN_VALUE) { break L87; }
+    L48: {
+     if ((l9 = (l7 + Long.MIN_VALUE > -9223372036854775807L) ? l7 : 1L) + Long.MIN_VALUE > l8 + Long.MIN_VALUE) { break L48; }
+     L49: {
+      if (l7 == 0L) { break L49; }
+      if (l7 + Long.MIN_VALUE >= l8 + Long.MIN_VALUE) { break L49; }
       Words.put32(b, ((int) ((l0 + l5) + -4L)) - 60720, Words.get32(b, ((int) l1) - 60720));
       l5 = l5 + -3L;
      }
-     Words.put32(b, ((int) ((l0 + l5) + -4L)) - 60720, Words.get32(b, ((int) (l12 + ((b[State.far((int) l10, 85525)] & 0xffL) << 2L))) - 60720));
-     l9 = l10 | 1L;
-     l5 = l5 + -3L;
-    }
-    L88: {
-     if (l9 + Long.MIN_VALUE > l8 + Long.MIN_VALUE) { break L88; }
-     L89: {
-      if (l7 + Long.MIN_VALUE >= l8 + Long.MIN_VALUE) { break L89; }
-      if (l9 != l7) { break L89; }
-      Words.put32(b, ((int) ((l0 + l5) + -4L)) - 60720, Words.get32(b, ((int) l1) - 60720));
-      l5 = l5 + -3L;
-     }
-     Words.put32(b, ((int) ((l0 + l5) + -4L)) - 60720, Words.get32(b, ((int) (l12 + ((b[State.far((int) l8, 85525)] & 0xffL) << 2L))) - 60720));
+     Words.put32(b, ((int) ((l0 + l5) + -4L)) - 60720, Words.get32(b, ((int) (l12 + ((b[State.far((int) l8, 85486)] & 0xffL) << 2L))) - 60720));
      l9 = l8 | 1L;
      l5 = l5 + -3L;
     }
-    if (l9 + Long.MIN_VALUE > l8 + Long.MIN_VALUE) { break L64; }
-    L90: {
-     if (l7 + Long.MIN_VALUE >= l8 + Long.MIN_VALUE) { break L90; }
-     if (l9 != l7) { break L90; }
+    if (l9 + Long.MIN_VALUE > l8 + Long.MIN_VALUE) { break L28; }
+    L50: {
+     if (l7 + Long.MIN_VALUE >= l8 + Long.MIN_VALUE) { break L50; }
+     if (l9 != l7) { break L50; }
      Words.put32(b, ((int) ((l0 + l5) + -4L)) - 60720, Words.get32(b, ((int) l1) - 60720));
      l5 = l5 + -3L;
     }
-    Words.put32(b, ((int) ((l0 + l5) + -4L)) - 60720, Words.get32(b, ((int) (l12 + ((b[State.far((int) l8, 85525)] & 0xffL) << 2L))) - 60720));
+    Words.put32(b, ((int) ((l0 + l5) + -4L)) - 60720, Words.get32(b, ((int) (l12 + ((b[State.far((int) l8, 85486)] & 0xffL) << 2L))) - 60720));
     l5 = l5 + -3L;
    }
-   L91: {
-    L92: {
-     if (l4 + Long.MIN_VALUE < -9223372036854775798L) { break L92; }
+   L51: {
+    L52: {
+     if (l4 + Long.MIN_VALUE < -9223372036854775798L) { break L52; }
      l7 = l1 + 40L;
      l2 = 0;
      l8 = 0L;
-     L93: while (true) {
+     L53: while (true) {
       Words.put32(b, ((int) ((l0 + l5) + -4L)) - 60720, Words.get32(b, ((int) (l7 + ((b[((int) (l8 + 85470L)) - 60720] & 0xffL) << 2L))) - 60720));
-      final long t94 = l0;
-      final long t95 = ((l14 = ((l10 = (l9 = l4) - ((l4 = Long.divideUnsigned(l9, 10L)) * 10L)) != 0L) ? 1 : 0) != 0) ? -3L : 0L;
-      final int t96 = (l8 != 0L) ? 1 : 0;
-      Words.put32(b, ((int) ((t94 + (l5 = (t96 != 0 ? t95 : 0L) + l5)) + -4L)) - 60720, Words.get32(b, ((int) (l1 + (l10 << 2L))) - 60720));
-      final long t97 = l5;
-      final long t98 = ((l2 & 255) != 0) ? -3L : 0L;
-      final int t99 = l14;
-      l5 = t97 + (t99 != 0 ? -3L : t98);
+      final long t54 = l0;
+      final long t55 = ((l14 = ((l10 = (l9 = l4) - ((l4 = Long.divideUnsigned(l9, 10L)) * 10L)) != 0L) ? 1 : 0) != 0) ? -3L : 0L;
+      final int t56 = (l8 != 0L) ? 1 : 0;
+      Words.put32(b, ((int) ((t54 + (l5 = (t56 != 0 ? t55 : 0L) + l5)) + -4L)) - 60720, Words.get32(b, ((int) (l1 + (l10 << 2L))) - 60720));
+      final long t57 = l5;
+      final long t58 = ((l2 & 255) != 0) ? -3L : 0L;
+      final int t59 = l14;
+      l5 = t57 + (t59 != 0 ? -3L : t58);
       l8 = l8 + 1L;
       l2 = (int) l10;
-      if (l9 + Long.MIN_VALUE > -9223372036854775709L) { continue L93; }
-      break L93;
+      if (l9 + Long.MIN_VALUE > -9223372036854775709L) { continue L53; }
+      break L53;
      }
-     if (l8 == 0L) { break L92; }
+     if (l8 == 0L) { break L52; }
      Words.put32(b, ((int) ((l0 + l5) + -4L)) - 60720, Words.get32(b, ((int) (l7 + ((b[((int) (l8 + 85470L)) - 60720] & 0xffL) << 2L))) - 60720));
      l5 = l5 + -3L;
-     if ((l9 + -10L) + Long.MIN_VALUE >= -9223372036854775798L) { break L91; }
-     if (l8 == 1L) { exit = 5; break PART; }
-     exit = 6; break PART;
+     if ((l9 + -10L) + Long.MIN_VALUE >= -9223372036854775798L) { break L51; }
+     if (l8 == 1L) { exit = 4; break PART; }
+     exit = 5; break PART;
     }
-    if (l4 == 1L) { exit = 6; break PART; }
+    if (l4 == 1L) { exit = 5; break PART; }
    }
    Words.put32(b, ((int) ((l0 + l5) + -4L)) - 60720, Words.get32(b, ((int) (l1 + (l4 << 2L))) - 60720));
    l5 = l5 + -3L;
-   exit = 5; break PART;
+   exit = 4; break PART;
   }
  }
  m.kept[0] = l2;
@@ -3829,12 +3634,208 @@ static int f206_1(State m, long l0, long l1, int l2, long l4, long l5, long l6, 
  m.kept[7] = l10;
  m.kept[8] = l11;
  m.kept[9] = l12;
- m.kept[10] = l13;
- m.kept[11] = l14;
- m.kept[12] = l15;
- m.kept[13] = l16;
- m.kept[14] = l17;
- m.kept[15] = l18;
+ m.kept[10] = l14;
+ m.kept[11] = l15;
+ m.kept[12] = l16;
+ m.kept[13] = l17;
+ m.kept[14] = l18;
+ return exit;
+}
+
+static int f206_2(State m, long l0, long l1, int l2, long l5, long l6, long l7, long l8, long l9, long l10, long l11, long l12, long l13, int l14, int l15, int l16, int l17, int l18) {
+ final byte[] b = m.bytes;
+ int exit = 0;
+ PART: {
+  L105: {
+   L106: {
+    if (!(l9 == 0L)) { break L106; }
+    l5 = 235L;
+    break L105;
+   }
+   l12 = l1 + 40L;
+   l5 = 235L;
+   l8 = 0L;
+   l10 = l6 + 8L;
+   l11 = l9;
+   l7 = 0L;
+   L107: while (true) {
+    L108: {
+     if ((l2 = Words.get16(b, ((int) l10) - 60720) & 0xffff) == 0) { break L108; }
+     L109: {
+      if (l8 == 0L) { break L109; }
+      L110: {
+       if (l8 + Long.MIN_VALUE >= (l7 + 4L) + Long.MIN_VALUE) { break L110; }
+       Words.put32(b, ((int) ((l0 + l5) + -4L)) - 60720, Words.get32(b, ((int) l1) - 60720));
+       Words.put32(b, ((int) ((l0 + (l5 = ((l7 + Long.MIN_VALUE < l8 + Long.MIN_VALUE) ? -3L : 0L) + l5)) + -4L)) - 60720, Words.get32(b, ((int) (l12 + ((b[((int) (l8 + 85564L)) - 60720] & 0xffL) << 2L))) - 60720));
+       l5 = l5 + -3L;
+       break L109;
+      }
+      L111: {
+       if ((l6 = (l7 + Long.MIN_VALUE > -9223372036854775807L) ? l7 : 1L) + Long.MIN_VALUE > (l13 = l8 & -32L) + Long.MIN_VALUE) { break L111; }
+       L112: {
+        if (l7 == 0L) { break L112; }
+        if (l7 + Long.MIN_VALUE >= l13 + Long.MIN_VALUE) { break L112; }
+        Words.put32(b, ((int) ((l0 + l5) + -4L)) - 60720, Words.get32(b, ((int) l1) - 60720));
+        l5 = l5 + -3L;
+       }
+       Words.put32(b, ((int) ((l0 + l5) + -4L)) - 60720, Words.get32(b, ((int) (l12 + ((b[State.far((int) l13, 85564)] & 0xffL) << 2L))) - 60720));
+       l6 = l13 | 1L;
+       l5 = l5 + -3L;
+      }
+      L113: {
+       if (l6 + Long.MIN_VALUE > (l13 = l8 & -16L) + Long.MIN_VALUE) { break L113; }
+       L114: {
+        if (l7 + Long.MIN_VALUE >= l13 + Long.MIN_VALUE) { break L114; }
+        if (l6 != l7) { break L114; }
+        Words.put32(b, ((int) ((l0 + l5) + -4L)) - 60720, Words.get32(b, ((int) l1) - 60720));
+        l5 = l5 + -3L;
+       }
+       Words.put32(b, ((int) ((l0 + l5) + -4L)) - 60720, Words.get32(b, ((int) (l12 + ((b[State.far((int) l13, 85564)] & 0xffL) << 2L))) - 60720));
+       l6 = l13 | 1L;
+       l5 = l5 + -3L;
+      }
+      L115: {
+       if (l6 + Long.MIN_VALUE > (l13 = l8 & -8L) + Long.MIN_VALUE) { break L115; }
+       L116: {
+        if (l7 + Long.MIN_VALUE >= l13 + Long.MIN_VALUE) { break L116; }
+        if (l6 != l7) { break L116; }
+        Words.put32(b, ((int) ((l0 + l5) + -4L)) - 60720, Words.get32(b, ((int) l1) - 60720));
+        l5 = l5 + -3L;
+       }
+       Words.put32(b, ((int) ((l0 + l5) + -4L)) - 60720, Words.get32(b, ((int) (l12 + ((b[State.far((int) l13, 85564)] & 0xffL) << 2L))) - 60720));
+       l6 = l13 | 1L;
+       l5 = l5 + -3L;
+      }
+      L117: {
+       if (l6 + Long.MIN_VALUE > l8 + Long.MIN_VALUE) { break L117; }
+       L118: {
+        if (l7 + Long.MIN_VALUE >= l8 + Long.MIN_VALUE) { break L118; }
+        if (l6 != l7) { break L118; }
+        Words.put32(b, ((int) ((l0 + l5) + -4L)) - 60720, Words.get32(b, ((int) l1) - 60720));
+        l5 = l5 + -3L;
+       }
+       Words.put32(b, ((int) ((l0 + l5) + -4L)) - 60720, Words.get32(b, ((int) (l12 + ((b[((int) (l8 + 85564L)) - 60720] & 0xffL) << 2L))) - 60720));
+       l6 = l8 + 1L;
+       l5 = l5 + -3L;
+      }
+      if (l6 + Long.MIN_VALUE > l8 + Long.MIN_VALUE) { break L109; }
+      L119: {
+       if (l7 + Long.MIN_VALUE >= l8 + Long.MIN_VALUE) { break L119; }
+       if (l6 != l7) { break L119; }
+       Words.put32(b, ((int) ((l0 + l5) + -4L)) - 60720, Words.get32(b, ((int) l1) - 60720));
+       l5 = l5 + -3L;
+      }
+      Words.put32(b, ((int) ((l0 + l5) + -4L)) - 60720, Words.get32(b, ((int) (l12 + ((b[((int) (l8 + 85564L)) - 60720] & 0xffL) << 2L))) - 60720));
+      l5 = l5 + -3L;
+     }
+     Words.put32(b, ((int) (l7 = (l0 + l5) + -4L)) - 60720, Words.get32(b, ((int) (l1 + 40L)) - 60720));
+     Words.put32(b, ((int) l7) - 60720, Words.get32(b, ((int) (l1 + ((((l18 = (l14 = l2 - ((l15 = (int) ((l2 & 0xffffffffL) / 100L)) * 100)) - ((l17 = (int) (((l16 = l14 & 255) & 0xffffffffL) / 10L)) * 10)) << 2) & 0xffffffffL) & 252L))) - 60720));
+     Words.put32(b, ((int) ((l0 + (l5 = l5 + (l7 = ((l18 & 255) != 0) ? -3L : 0L))) + -4L)) - 60720, Words.get32(b, ((int) (l1 + 44L)) - 60720));
+     Words.put32(b, ((int) ((l0 + (l5 = l5 + (((l16 = (l16 + Integer.MIN_VALUE > -2147483639) ? 1 : 0) != 0) ? -3L : 0L))) + -4L)) - 60720, Words.get32(b, ((int) (l1 + ((l17 << 2) & 0xffffffffL))) - 60720));
+     final long t120 = l0;
+     final long t121 = l5;
+     final long t122 = ((l17 = (l2 + Integer.MIN_VALUE > -2147483549) ? 1 : 0) != 0) ? l7 : 0L;
+     final int t123 = l16;
+     Words.put32(b, ((int) ((t120 + (l5 = t121 + (t123 != 0 ? -3L : t122))) + -4L)) - 60720, Words.get32(b, ((int) (l1 + 48L)) - 60720));
+     Words.put32(b, ((int) ((l0 + (l5 = l5 + (((l15 = (int) ((l15 & 0xffffffffL) % 10L)) != 0) ? -3L : 0L))) + -4L)) - 60720, Words.get32(b, ((int) (l1 + ((l15 << 2) & 0xffffffffL))) - 60720));
+     final long t124 = l0;
+     final long t125 = l5;
+     final long t126 = ((l14 & 65535) + Integer.MIN_VALUE > -2147483639) ? -3L : 0L;
+     final int t127 = l14 = (l2 + Integer.MIN_VALUE > -2147482649) ? 1 : 0;
+     final long t128 = t127 != 0 ? t126 : 0L;
+     final int t129 = l15;
+     Words.put32(b, ((int) ((t124 + (l5 = t125 + (t129 != 0 ? -3L : t128))) + -4L)) - 60720, Words.get32(b, ((int) (l1 + 52L)) - 60720));
+     Words.put32(b, ((int) ((l0 + (l5 = l5 - (l7 = (l2 + Integer.MIN_VALUE < -2147482648) ? 0L : 3L))) + -4L)) - 60720, Words.get32(b, ((int) (l1 + ((((int) ((l2 & 0xffffffffL) / 1000L)) << 2) & 0xffffffffL))) - 60720));
+     l5 = l5 - l7;
+     l7 = l8 + ((((l2 + Integer.MIN_VALUE > -2147483639) ? 2L : 1L) + (l17 & 0xffffffffL)) + (l14 & 0xffffffffL));
+    }
+    l10 = l10 + 2L;
+    l8 = l8 + 4L;
+    if ((l11 = l11 + -1L) != 0L) { continue L107; }
+    break L107;
+   }
+   if ((l8 = l9 << 2L) == 0L) { break L105; }
+   L130: {
+    if (l8 + Long.MIN_VALUE >= (l7 + 4L) + Long.MIN_VALUE) { break L130; }
+    Words.put32(b, ((int) ((l0 + l5) + -4L)) - 60720, Words.get32(b, ((int) l1) - 60720));
+    Words.put32(b, ((int) ((l0 + (l5 = ((l7 + Long.MIN_VALUE < l8 + Long.MIN_VALUE) ? -3L : 0L) + l5)) + -4L)) - 60720, Words.get32(b, ((int) (l12 + ((b[State.far((int) l8, 85564)] & 0xffL) << 2L))) - 60720));
+    l5 = l5 + -3L;
+    break L105;
+   }
+   L131: {
+    if ((l9 = (l7 + Long.MIN_VALUE > -9223372036854775807L) ? l7 : 1L) + Long.MIN_VALUE > (l10 = l8 & -32L) + Long.MIN_VALUE) { break L131; }
+    L132: {
+     if (l7 == 0L) { break L132; }
+     if (l7 + Long.MIN_VALUE >= l10 + Long.MIN_VALUE) { break L132; }
+     Words.put32(b, ((int) ((l0 + l5) + -4L)) - 60720, Words.get32(b, ((int) l1) - 60720));
+     l5 = l5 + -3L;
+    }
+    Words.put32(b, ((int) ((l0 + l5) + -4L)) - 60720, Words.get32(b, ((int) (l12 + ((b[State.far((int) l10, 85564)] & 0xffL) << 2L))) - 60720));
+    l9 = l10 | 1L;
+    l5 = l5 + -3L;
+   }
+   L133: {
+    if (l9 + Long.MIN_VALUE > (l10 = l8 & -16L) + Long.MIN_VALUE) { break L133; }
+    L134: {
+     if (l7 + Long.MIN_VALUE >= l10 + Long.MIN_VALUE) { break L134; }
+     if (l9 != l7) { break L134; }
+     Words.put32(b, ((int) ((l0 + l5) + -4L)) - 60720, Words.get32(b, ((int) l1) - 60720));
+     l5 = l5 + -3L;
+    }
+    Words.put32(b, ((int) ((l0 + l5) + -4L)) - 60720, Words.get32(b, ((int) (l12 + ((b[State.far((int) l10, 85564)] & 0xffL) << 2L))) - 60720));
+    l9 = l10 | 1L;
+    l5 = l5 + -3L;
+   }
+   L135: {
+    if (l9 + Long.MIN_VALUE > (l10 = l8 & -8L) + Long.MIN_VALUE) { break L135; }
+    L136: {
+     if (l7 + Long.MIN_VALUE >= l10 + Long.MIN_VALUE) { break L136; }
+     if (l9 != l7) { break L136; }
+     Words.put32(b, ((int) ((l0 + l5) + -4L)) - 60720, Words.get32(b, ((int) l1) - 60720));
+     l5 = l5 + -3L;
+    }
+    Words.put32(b, ((int) ((l0 + l5) + -4L)) - 60720, Words.get32(b, ((int) (l12 + ((b[State.far((int) l10, 85564)] & 0xffL) << 2L))) - 60720));
+    l9 = l10 | 1L;
+    l5 = l5 + -3L;
+   }
+   L137: {
+    if (l9 + Long.MIN_VALUE > l8 + Long.MIN_VALUE) { break L137; }
+    L138: {
+     if (l7 + Long.MIN_VALUE >= l8 + Long.MIN_VALUE) { break L138; }
+     if (l9 != l7) { break L138; }
+     Words.put32(b, ((int) ((l0 + l5) + -4L)) - 60720, Words.get32(b, ((int) l1) - 60720));
+     l5 = l5 + -3L;
+    }
+    Words.put32(b, ((int) ((l0 + l5) + -4L)) - 60720, Words.get32(b, ((int) (l12 + ((b[State.far((int) l8, 85564)] & 0xffL) << 2L))) - 60720));
+    l9 = l8 | 1L;
+    l5 = l5 + -3L;
+   }
+   if (l9 + Long.MIN_VALUE > l8 + Long.MIN_VALUE) { break L105; }
+   L139: {
+    if (l7 + Long.MIN_VALUE >= l8 + Long.MIN_VALUE) { break L139; }
+    if (l9 != l7) { break L139; }
+    Words.put32(b, ((int) ((l0 + l5) + -4L)) - 60720, Words.get32(b, ((int) l1) - 60720));
+    l5 = l5 + -3L;
+   }
+   Words.put32(b, ((int) ((l0 + l5) + -4L)) - 60720, Words.get32(b, ((int) (l12 + ((b[State.far((int) l8, 85564)] & 0xffL) << 2L))) - 60720));
+   l5 = l5 + -3L;
+  }
+ }
+ m.kept[0] = l2;
+ m.kept[1] = l5;
+ m.kept[2] = l6;
+ m.kept[3] = l7;
+ m.kept[4] = l8;
+ m.kept[5] = l9;
+ m.kept[6] = l10;
+ m.kept[7] = l11;
+ m.kept[8] = l12;
+ m.kept[9] = l13;
+ m.kept[10] = l14;
+ m.kept[11] = l15;
+ m.kept[12] = l16;
+ m.kept[13] = l17;
+ m.kept[14] = l18;
  return exit;
 }
 
@@ -3865,30 +3866,223 @@ static long f206(State m, long l0, long l1, int l2, int l3, long l4, long l5) {
           L10: {
            if ((l6 = m.g0 - 32L) < 16L) { break L10; }
            l1 = Words.get64(b, ((int) l1) - 60712);
-           final int x100 = f206_1(m, l0, l1, l2, l4, l5, l6, l7, l8, l9, l10, l11, l12, l13, l14, l15, l16, l17, l18);
-           l2 = (int) m.kept[0];
-           l4 = m.kept[1];
-           l5 = m.kept[2];
-           l6 = m.kept[3];
-           l7 = m.kept[4];
-           l8 = m.kept[5];
-           l9 = m.kept[6];
-           l10 = m.kept[7];
-           l11 = m.kept[8];
-           l12 = m.kept[9];
-           l13 = m.kept[10];
-           l14 = (int) m.kept[11];
-           l15 = (int) m.kept[12];
-           l16 = (int) m.kept[13];
-           l17 = (int) m.kept[14];
-           l18 = (int) m.kept[15];
-           switch (x100) {
-           case 1: break L2;
-           case 2: break L3;
-           case 3: break L4;
-           case 4: break L5;
-           case 5: break L6;
-           case 6: break L7;
+           L11: {
+            final int x60 = f206_1(m, l0, l1, l2, l4, l5, l6, l7, l8, l9, l10, l11, l12, l14, l15, l16, l17, l18);
+            l2 = (int) m.kept[0];
+            l4 = m.kept[1];
+            l5 = m.kept[2];
+            l6 = m.kept[3];
+            l7 = m.kept[4];
+            l8 = m.kept[5];
+            l9 = m.kept[6];
+            l10 = m.kept[7];
+            l11 = m.kept[8];
+            l12 = m.kept[9];
+            l14 = (int) m.kept[10];
+            l15 = (int) m.kept[11];
+            l16 = (int) m.kept[12];
+            l17 = (int) m.kept[13];
+            l18 = (int) m.kept[14];
+            switch (x60) {
+            case 1: break L11;
+            case 2: break L2;
+            case 3: break L3;
+            case 4: break L4;
+            case 5: break L5;
+            }
+            Words.put16(b, ((int) l6) - 60696, (short) 0);
+            l9 = 0L;
+            Words.put64(b, ((int) l6) - 60704, 0L);
+            Words.put64(b, ((int) l6) - 60712, 0L);
+            L61: {
+             if (l5 == 0L) { break L61; }
+             l7 = (l4 >>> 42L) | (l5 << 22L);
+             l8 = l5 >>> 4L;
+             l5 = l6 + 8L;
+             l9 = 0L;
+             L62: while (true) {
+              Words.put16(b, ((int) (l5 + 6L)) - 60720, (short) Long.divideUnsigned(l4 = (((l7 = (((l8 = ((l8 - ((l10 = Long.divideUnsigned(l8, 152587890625L)) * 152587890625L)) << 26L) | (l7 & 67108863L)) - ((l8 = Long.divideUnsigned(l8, 152587890625L)) * 152587890625L)) << 26L) | ((l4 >>> 16L) & 67108863L)) - ((l7 = Long.divideUnsigned(l7, 152587890625L)) * 152587890625L)) << 16L) | (l4 & 65535L), 1000000000000L));
+              Words.put16(b, ((int) (l5 + 4L)) - 60720, (short) ((int) ((((int) (l11 = Long.divideUnsigned(l4, 100000000L))) & 0xffffffffL) % 10000L)));
+              Words.put16(b, ((int) (l5 + 2L)) - 60720, (short) (l14 = (int) (((l2 = (int) (l4 - (l11 * 100000000L))) & 0xffffffffL) / 10000L)));
+              Words.put16(b, ((int) l5) - 60720, (short) (l2 - (l14 * 10000)));
+              l7 = ((l4 = (l11 = l10 << 52L) + (l7 + (l8 << 26L))) >>> 42L) | ((l10 = (l10 >>> 12L) + ((l4 + Long.MIN_VALUE < l11 + Long.MIN_VALUE) ? 1L : 0L)) << 22L);
+              l8 = l10 >>> 4L;
+              l5 = l5 + 8L;
+              l9 = l9 + 4L;
+              if (l10 != 0L) { continue L62; }
+              break L62;
+             }
+            }
+            L63: {
+             if (l4 + Long.MIN_VALUE < -9223372036854765808L) { break L63; }
+             l5 = (l6 + 8L) + (l9 << 1L);
+             L64: while (true) {
+              Words.put16(b, ((int) l5) - 60720, (short) ((l8 = l4) - ((l4 = Long.divideUnsigned(l8, 10000L)) * 10000L)));
+              l5 = l5 + 2L;
+              l9 = l9 + 1L;
+              if (l8 + Long.MIN_VALUE > -9223372036754775809L) { continue L64; }
+              break L64;
+             }
+            }
+            L65: {
+             L66: {
+              if (!(l9 == 0L)) { break L66; }
+              l5 = 235L;
+              break L65;
+             }
+             l12 = l1 + 40L;
+             l5 = 235L;
+             l8 = 0L;
+             l10 = l6 + 8L;
+             l11 = l9;
+             l7 = 0L;
+             L67: while (true) {
+              L68: {
+               if ((l2 = Words.get16(b, ((int) l10) - 60720) & 0xffff) == 0) { break L68; }
+               L69: {
+                if (l8 == 0L) { break L69; }
+                L70: {
+                 if (l8 + Long.MIN_VALUE >= (l7 + 4L) + Long.MIN_VALUE) { break L70; }
+                 Words.put32(b, ((int) ((l0 + l5) + -4L)) - 60720, Words.get32(b, ((int) l1) - 60720));
+                 Words.put32(b, ((int) ((l0 + (l5 = ((l7 + Long.MIN_VALUE < l8 + Long.MIN_VALUE) ? -3L : 0L) + l5)) + -4L)) - 60720, Words.get32(b, ((int) (l12 + ((b[((int) (l8 + 85525L)) - 60720] & 0xffL) << 2L))) - 60720));
+                 l5 = l5 + -3L;
+                 break L69;
+                }
+                L71: {
+                 if ((l6 = (l7 + Long.MIN_VALUE > -9223372036854775807L) ? l7 : 1L) + Long.MIN_VALUE > (l13 = l8 & -8L) + Long.MIN_VALUE) { break L71; }
+                 L72: {
+                  if (l7 == 0L) { break L72; }
+                  if (l7 + Long.MIN_VALUE >= l13 + Long.MIN_VALUE) { break L72; }
+                  Words.put32(b, ((int) ((l0 + l5) + -4L)) - 60720, Words.get32(b, ((int) l1) - 60720));
+                  l5 = l5 + -3L;
+                 }
+                 Words.put32(b, ((int) ((l0 + l5) + -4L)) - 60720, Words.get32(b, ((int) (l12 + ((b[State.far((int) l13, 85525)] & 0xffL) << 2L))) - 60720));
+                 l6 = l13 | 1L;
+                 l5 = l5 + -3L;
+                }
+                L73: {
+                 if (l6 + Long.MIN_VALUE > l8 + Long.MIN_VALUE) { break L73; }
+                 L74: {
+                  if (l7 + Long.MIN_VALUE >= l8 + Long.MIN_VALUE) { break L74; }
+                  if (l6 != l7) { break L74; }
+                  Words.put32(b, ((int) ((l0 + l5) + -4L)) - 60720, Words.get32(b, ((int) l1) - 60720));
+                  l5 = l5 + -3L;
+                 }
+                 Words.put32(b, ((int) ((l0 + l5) + -4L)) - 60720, Words.get32(b, ((int) (l12 + ((b[((int) (l8 + 85525L)) - 60720] & 0xffL) << 2L))) - 60720));
+                 l6 = l8 + 1L;
+                 l5 = l5 + -3L;
+                }
+                if (l6 + Long.MIN_VALUE > l8 + Long.MIN_VALUE) { break L69; }
+                L75: {
+                 if (l7 + Long.MIN_VALUE >= l8 + Long.MIN_VALUE) { break L75; }
+                 if (l6 != l7) { break L75; }
+                 Words.put32(b, ((int) ((l0 + l5) + -4L)) - 60720, Words.get32(b, ((int) l1) - 60720));
+                 l5 = l5 + -3L;
+                }
+                Words.put32(b, ((int) ((l0 + l5) + -4L)) - 60720, Words.get32(b, ((int) (l12 + ((b[((int) (l8 + 85525L)) - 60720] & 0xffL) << 2L))) - 60720));
+                l5 = l5 + -3L;
+               }
+               Words.put32(b, ((int) (l7 = (l0 + l5) + -4L)) - 60720, Words.get32(b, ((int) (l1 + 40L)) - 60720));
+               Words.put32(b, ((int) l7) - 60720, Words.get32(b, ((int) (l1 + ((((l18 = (l14 = l2 - ((l15 = (int) ((l2 & 0xffffffffL) / 100L)) * 100)) - ((l17 = (int) (((l16 = l14 & 255) & 0xffffffffL) / 10L)) * 10)) << 2) & 0xffffffffL) & 252L))) - 60720));
+               Words.put32(b, ((int) ((l0 + (l5 = l5 + (l7 = ((l18 & 255) != 0) ? -3L : 0L))) + -4L)) - 60720, Words.get32(b, ((int) (l1 + 44L)) - 60720));
+               Words.put32(b, ((int) ((l0 + (l5 = l5 + (((l16 = (l16 + Integer.MIN_VALUE > -2147483639) ? 1 : 0) != 0) ? -3L : 0L))) + -4L)) - 60720, Words.get32(b, ((int) (l1 + ((l17 << 2) & 0xffffffffL))) - 60720));
+               final long t76 = l0;
+               final long t77 = l5;
+               final long t78 = ((l17 = (l2 + Integer.MIN_VALUE > -2147483549) ? 1 : 0) != 0) ? l7 : 0L;
+               final int t79 = l16;
+               Words.put32(b, ((int) ((t76 + (l5 = t77 + (t79 != 0 ? -3L : t78))) + -4L)) - 60720, Words.get32(b, ((int) (l1 + 48L)) - 60720));
+               Words.put32(b, ((int) ((l0 + (l5 = l5 + (((l15 = (int) ((l15 & 0xffffffffL) % 10L)) != 0) ? -3L : 0L))) + -4L)) - 60720, Words.get32(b, ((int) (l1 + ((l15 << 2) & 0xffffffffL))) - 60720));
+               final long t80 = l0;
+               final long t81 = l5;
+               final long t82 = ((l14 & 65535) + Integer.MIN_VALUE > -2147483639) ? -3L : 0L;
+               final int t83 = l14 = (l2 + Integer.MIN_VALUE > -2147482649) ? 1 : 0;
+               final long t84 = t83 != 0 ? t82 : 0L;
+               final int t85 = l15;
+               Words.put32(b, ((int) ((t80 + (l5 = t81 + (t85 != 0 ? -3L : t84))) + -4L)) - 60720, Words.get32(b, ((int) (l1 + 52L)) - 60720));
+               Words.put32(b, ((int) ((l0 + (l5 = l5 - (l7 = (l2 + Integer.MIN_VALUE < -2147482648) ? 0L : 3L))) + -4L)) - 60720, Words.get32(b, ((int) (l1 + ((((int) ((l2 & 0xffffffffL) / 1000L)) << 2) & 0xffffffffL))) - 60720));
+               l5 = l5 - l7;
+               l7 = l8 + ((((l2 + Integer.MIN_VALUE > -2147483639) ? 2L : 1L) + (l17 & 0xffffffffL)) + (l14 & 0xffffffffL));
+              }
+              l10 = l10 + 2L;
+              l8 = l8 + 4L;
+              if ((l11 = l11 + -1L) != 0L) { continue L67; }
+              break L67;
+             }
+             if ((l8 = l9 << 2L) == 0L) { break L65; }
+             L86: {
+              if (l8 + Long.MIN_VALUE >= (l7 + 4L) + Long.MIN_VALUE) { break L86; }
+              Words.put32(b, ((int) ((l0 + l5) + -4L)) - 60720, Words.get32(b, ((int) l1) - 60720));
+              Words.put32(b, ((int) ((l0 + (l5 = ((l7 + Long.MIN_VALUE < l8 + Long.MIN_VALUE) ? -3L : 0L) + l5)) + -4L)) - 60720, Words.get32(b, ((int) (l12 + ((b[State.far((int) l8, 85525)] & 0xffL) << 2L))) - 60720));
+              l5 = l5 + -3L;
+              break L65;
+             }
+             L87: {
+              if ((l9 = (l7 + Long.MIN_VALUE > -9223372036854775807L) ? l7 : 1L) + Long.MIN_VALUE > (l10 = l8 & -8L) + Long.MIN_VALUE) { break L87; }
+              L88: {
+               if (l7 == 0L) { break L88; }
+               if (l7 + Long.MIN_VALUE >= l10 + Long.MIN_VALUE) { break L88; }
+               Words.put32(b, ((int) ((l0 + l5) + -4L)) - 60720, Words.get32(b, ((int) l1) - 60720));
+               l5 = l5 + -3L;
+              }
+              Words.put32(b, ((int) ((l0 + l5) + -4L)) - 60720, Words.get32(b, ((int) (l12 + ((b[State.far((int) l10, 85525)] & 0xffL) << 2L))) - 60720));
+              l9 = l10 | 1L;
+              l5 = l5 + -3L;
+             }
+             L89: {
+              if (l9 + Long.MIN_VALUE > l8 + Long.MIN_VALUE) { break L89; }
+              L90: {
+               if (l7 + Long.MIN_VALUE >= l8 + Long.MIN_VALUE) { break L90; }
+               if (l9 != l7) { break L90; }
+               Words.put32(b, ((int) ((l0 + l5) + -4L)) - 60720, Words.get32(b, ((int) l1) - 60720));
+               l5 = l5 + -3L;
+              }
+              Words.put32(b, ((int) ((l0 + l5) + -4L)) - 60720, Words.get32(b, ((int) (l12 + ((b[State.far((int) l8, 85525)] & 0xffL) << 2L))) - 60720));
+              l9 = l8 | 1L;
+              l5 = l5 + -3L;
+             }
+             if (l9 + Long.MIN_VALUE > l8 + Long.MIN_VALUE) { break L65; }
+             L91: {
+              if (l7 + Long.MIN_VALUE >= l8 + Long.MIN_VALUE) { break L91; }
+              if (l9 != l7) { break L91; }
+              Words.put32(b, ((int) ((l0 + l5) + -4L)) - 60720, Words.get32(b, ((int) l1) - 60720));
+              l5 = l5 + -3L;
+             }
+             Words.put32(b, ((int) ((l0 + l5) + -4L)) - 60720, Words.get32(b, ((int) (l12 + ((b[State.far((int) l8, 85525)] & 0xffL) << 2L))) - 60720));
+             l5 = l5 + -3L;
+            }
+            L92: {
+             L93: {
+              if (l4 + Long.MIN_VALUE < -9223372036854775798L) { break L93; }
+              l7 = l1 + 40L;
+              l2 = 0;
+              l8 = 0L;
+              L94: while (true) {
+               Words.put32(b, ((int) ((l0 + l5) + -4L)) - 60720, Words.get32(b, ((int) (l7 + ((b[((int) (l8 + 85470L)) - 60720] & 0xffL) << 2L))) - 60720));
+               final long t95 = l0;
+               final long t96 = ((l14 = ((l10 = (l9 = l4) - ((l4 = Long.divideUnsigned(l9, 10L)) * 10L)) != 0L) ? 1 : 0) != 0) ? -3L : 0L;
+               final int t97 = (l8 != 0L) ? 1 : 0;
+               Words.put32(b, ((int) ((t95 + (l5 = (t97 != 0 ? t96 : 0L) + l5)) + -4L)) - 60720, Words.get32(b, ((int) (l1 + (l10 << 2L))) - 60720));
+               final long t98 = l5;
+               final long t99 = ((l2 & 255) != 0) ? -3L : 0L;
+               final int t100 = l14;
+               l5 = t98 + (t100 != 0 ? -3L : t99);
+               l8 = l8 + 1L;
+               l2 = (int) l10;
+               if (l9 + Long.MIN_VALUE > -9223372036854775709L) { continue L94; }
+               break L94;
+              }
+              if (l8 == 0L) { break L93; }
+              Words.put32(b, ((int) ((l0 + l5) + -4L)) - 60720, Words.get32(b, ((int) (l7 + ((b[((int) (l8 + 85470L)) - 60720] & 0xffL) << 2L))) - 60720));
+              l5 = l5 + -3L;
+              if ((l9 + -10L) + Long.MIN_VALUE >= -9223372036854775798L) { break L92; }
+              if (l8 == 1L) { break L6; }
+              break L7;
+             }
+             if (l4 == 1L) { break L7; }
+            }
+            Words.put32(b, ((int) ((l0 + l5) + -4L)) - 60720, Words.get32(b, ((int) (l1 + (l4 << 2L))) - 60720));
+            l5 = l5 + -3L;
+            break L6;
            }
            Words.put16(b, ((int) l6) - 60696, (short) 0);
            l9 = 0L;
@@ -3924,180 +4118,22 @@ static long f206(State m, long l0, long l1, int l2, int l3, long l4, long l5) {
              break L104;
             }
            }
-           L105: {
-            L106: {
-             if (!(l9 == 0L)) { break L106; }
-             l5 = 235L;
-             break L105;
-            }
-            l12 = l1 + 40L;
-            l5 = 235L;
-            l8 = 0L;
-            l10 = l6 + 8L;
-            l11 = l9;
-            l7 = 0L;
-            L107: while (true) {
-             L108: {
-              if ((l2 = Words.get16(b, ((int) l10) - 60720) & 0xffff) == 0) { break L108; }
-              L109: {
-               if (l8 == 0L) { break L109; }
-               L110: {
-                if (l8 + Long.MIN_VALUE >= (l7 + 4L) + Long.MIN_VALUE) { break L110; }
-                Words.put32(b, ((int) ((l0 + l5) + -4L)) - 60720, Words.get32(b, ((int) l1) - 60720));
-                Words.put32(b, ((int) ((l0 + (l5 = ((l7 + Long.MIN_VALUE < l8 + Long.MIN_VALUE) ? -3L : 0L) + l5)) + -4L)) - 60720, Words.get32(b, ((int) (l12 + ((b[((int) (l8 + 85564L)) - 60720] & 0xffL) << 2L))) - 60720));
-                l5 = l5 + -3L;
-                break L109;
-               }
-               L111: {
-                if ((l6 = (l7 + Long.MIN_VALUE > -9223372036854775807L) ? l7 : 1L) + Long.MIN_VALUE > (l13 = l8 & -32L) + Long.MIN_VALUE) { break L111; }
-                L112: {
-                 if (l7 == 0L) { break L112; }
-                 if (l7 + Long.MIN_VALUE >= l13 + Long.MIN_VALUE) { break L112; }
-                 Words.put32(b, ((int) ((l0 + l5) + -4L)) - 60720, Words.get32(b, ((int) l1) - 60720));
-                 l5 = l5 + -3L;
-                }
-                Words.put32(b, ((int) ((l0 + l5) + -4L)) - 60720, Words.get32(b, ((int) (l12 + ((b[State.far((int) l13, 85564)] & 0xffL) << 2L))) - 60720));
-                l6 = l13 | 1L;
-                l5 = l5 + -3L;
-               }
-               L113: {
-                if (l6 + Long.MIN_VALUE > (l13 = l8 & -16L) + Long.MIN_VALUE) { break L113; }
-                L114: {
-                 if (l7 + Long.MIN_VALUE >= l13 + Long.MIN_VALUE) { break L114; }
-                 if (l6 != l7) { break L114; }
-                 Words.put32(b, ((int) ((l0 + l5) + -4L)) - 60720, Words.get32(b, ((int) l1) - 60720));
-                 l5 = l5 + -3L;
-                }
-                Words.put32(b, ((int) ((l0 + l5) + -4L)) - 60720, Words.get32(b, ((int) (l12 + ((b[State.far((int) l13, 85564)] & 0xffL) << 2L))) - 60720));
-                l6 = l13 | 1L;
-                l5 = l5 + -3L;
-               }
-               L115: {
-                if (l6 + Long.MIN_VALUE > (l13 = l8 & -8L) + Long.MIN_VALUE) { break L115; }
-                L116: {
-                 if (l7 + Long.MIN_VALUE >= l13 + Long.MIN_VALUE) { break L116; }
-                 if (l6 != l7) { break L116; }
-                 Words.put32(b, ((int) ((l0 + l5) + -4L)) - 60720, Words.get32(b, ((int) l1) - 60720));
-                 l5 = l5 + -3L;
-                }
-                Words.put32(b, ((int) ((l0 + l5) + -4L)) - 60720, Words.get32(b, ((int) (l12 + ((b[State.far((int) l13, 85564)] & 0xffL) << 2L))) - 60720));
-                l6 = l13 | 1L;
-                l5 = l5 + -3L;
-               }
-               L117: {
-                if (l6 + Long.MIN_VALUE > l8 + Long.MIN_VALUE) { break L117; }
-                L118: {
-                 if (l7 + Long.MIN_VALUE >= l8 + Long.MIN_VALUE) { break L118; }
-                 if (l6 != l7) { break L118; }
-                 Words.put32(b, ((int) ((l0 + l5) + -4L)) - 60720, Words.get32(b, ((int) l1) - 60720));
-                 l5 = l5 + -3L;
-                }
-                Words.put32(b, ((int) ((l0 + l5) + -4L)) - 60720, Words.get32(b, ((int) (l12 + ((b[((int) (l8 + 85564L)) - 60720] & 0xffL) << 2L))) - 60720));
-                l6 = l8 + 1L;
-                l5 = l5 + -3L;
-               }
-               if (l6 + Long.MIN_VALUE > l8 + Long.MIN_VALUE) { break L109; }
-               L119: {
-                if (l7 + Long.MIN_VALUE >= l8 + Long.MIN_VALUE) { break L119; }
-                if (l6 != l7) { break L119; }
-                Words.put32(b, ((int) ((l0 + l5) + -4L)) - 60720, Words.get32(b, ((int) l1) - 60720));
-                l5 = l5 + -3L;
-               }
-               Words.put32(b, ((int) ((l0 + l5) + -4L)) - 60720, Words.get32(b, ((int) (l12 + ((b[((int) (l8 + 85564L)) - 60720] & 0xffL) << 2L))) - 60720));
-               l5 = l5 + -3L;
-              }
-              Words.put32(b, ((int) (l7 = (l0 + l5) + -4L)) - 60720, Words.get32(b, ((int) (l1 + 40L)) - 60720));
-              Words.put32(b, ((int) l7) - 60720, Words.get32(b, ((int) (l1 + ((((l18 = (l14 = l2 - ((l15 = (int) ((l2 & 0xffffffffL) / 100L)) * 100)) - ((l17 = (int) (((l16 = l14 & 255) & 0xffffffffL) / 10L)) * 10)) << 2) & 0xffffffffL) & 252L))) - 60720));
-              Words.put32(b, ((int) ((l0 + (l5 = l5 + (l7 = ((l18 & 255) != 0) ? -3L : 0L))) + -4L)) - 60720, Words.get32(b, ((int) (l1 + 44L)) - 60720));
-              Words.put32(b, ((int) ((l0 + (l5 = l5 + (((l16 = (l16 + Integer.MIN_VALUE > -2147483639) ? 1 : 0) != 0) ? -3L : 0L))) + -4L)) - 60720, Words.get32(b, ((int) (l1 + ((l17 << 2) & 0xffffffffL))) - 60720));
-              final long t120 = l0;
-              final long t121 = l5;
-              final long t122 = ((l17 = (l2 + Integer.MIN_VALUE > -2147483549) ? 1 : 0) != 0) ? l7 : 0L;
-              final int t123 = l16;
-              Words.put32(b, ((int) ((t120 + (l5 = t121 + (t123 != 0 ? -3L : t122))) + -4L)) - 60720, Words.get32(b, ((int) (l1 + 48L)) - 60720));
-              Words.put32(b, ((int) ((l0 + (l5 = l5 + (((l15 = (int) ((l15 & 0xffffffffL) % 10L)) != 0) ? -3L : 0L))) + -4L)) - 60720, Words.get32(b, ((int) (l1 + ((l15 << 2) & 0xffffffffL))) - 60720));
-              final long t124 = l0;
-              final long t125 = l5;
-              final long t126 = ((l14 & 65535) + Integer.MIN_VALUE > -2147483639) ? -3L : 0L;
-              final int t127 = l14 = (l2 + Integer.MIN_VALUE > -2147482649) ? 1 : 0;
-              final long t128 = t127 != 0 ? t126 : 0L;
-              final int t129 = l15;
-              Words.put32(b, ((int) ((t124 + (l5 = t125 + (t129 != 0 ? -3L : t128))) + -4L)) - 60720, Words.get32(b, ((int) (l1 + 52L)) - 60720));
-              Words.put32(b, ((int) ((l0 + (l5 = l5 - (l7 = (l2 + Integer.MIN_VALUE < -2147482648) ? 0L : 3L))) + -4L)) - 60720, Words.get32(b, ((int) (l1 + ((((int) ((l2 & 0xffffffffL) / 1000L)) << 2) & 0xffffffffL))) - 60720));
-              l5 = l5 - l7;
-              l7 = l8 + ((((l2 + Integer.MIN_VALUE > -2147483639) ? 2L : 1L) + (l17 & 0xffffffffL)) + (l14 & 0xffffffffL));
-             }
-             l10 = l10 + 2L;
-             l8 = l8 + 4L;
-             if ((l11 = l11 + -1L) != 0L) { continue L107; }
-             break L107;
-            }
-            if ((l8 = l9 << 2L) == 0L) { break L105; }
-            L130: {
-             if (l8 + Long.MIN_VALUE >= (l7 + 4L) + Long.MIN_VALUE) { break L130; }
-             Words.put32(b, ((int) ((l0 + l5) + -4L)) - 60720, Words.get32(b, ((int) l1) - 60720));
-             Words.put32(b, ((int) ((l0 + (l5 = ((l7 + Long.MIN_VALUE < l8 + Long.MIN_VALUE) ? -3L : 0L) + l5)) + -4L)) - 60720, Words.get32(b, ((int) (l12 + ((b[State.far((int) l8, 85564)] & 0xffL) << 2L))) - 60720));
-             l5 = l5 + -3L;
-             break L105;
-            }
-            L131: {
-             if ((l9 = (l7 + Long.MIN_VALUE > -9223372036854775807L) ? l7 : 1L) + Long.MIN_VALUE > (l10 = l8 & -32L) + Long.MIN_VALUE) { break L131; }
-             L132: {
-              if (l7 == 0L) { break L132; }
-              if (l7 + Long.MIN_VALUE >= l10 + Long.MIN_VALUE) { break L132; }
-              Words.put32(b, ((int) ((l0 + l5) + -4L)) - 60720, Words.get32(b, ((int) l1) - 60720));
-              l5 = l5 + -3L;
-             }
-             Words.put32(b, ((int) ((l0 + l5) + -4L)) - 60720, Words.get32(b, ((int) (l12 + ((b[State.far((int) l10, 85564)] & 0xffL) << 2L))) - 60720));
-             l9 = l10 | 1L;
-             l5 = l5 + -3L;
-            }
-            L133: {
-             if (l9 + Long.MIN_VALUE > (l10 = l8 & -16L) + Long.MIN_VALUE) { break L133; }
-             L134: {
-              if (l7 + Long.MIN_VALUE >= l10 + Long.MIN_VALUE) { break L134; }
-              if (l9 != l7) { break L134; }
-              Words.put32(b, ((int) ((l0 + l5) + -4L)) - 60720, Words.get32(b, ((int) l1) - 60720));
-              l5 = l5 + -3L;
-             }
-             Words.put32(b, ((int) ((l0 + l5) + -4L)) - 60720, Words.get32(b, ((int) (l12 + ((b[State.far((int) l10, 85564)] & 0xffL) << 2L))) - 60720));
-             l9 = l10 | 1L;
-             l5 = l5 + -3L;
-            }
-            L135: {
-             if (l9 + Long.MIN_VALUE > (l10 = l8 & -8L) + Long.MIN_VALUE) { break L135; }
-             L136: {
-              if (l7 + Long.MIN_VALUE >= l10 + Long.MIN_VALUE) { break L136; }
-              if (l9 != l7) { break L136; }
-              Words.put32(b, ((int) ((l0 + l5) + -4L)) - 60720, Words.get32(b, ((int) l1) - 60720));
-              l5 = l5 + -3L;
-             }
-             Words.put32(b, ((int) ((l0 + l5) + -4L)) - 60720, Words.get32(b, ((int) (l12 + ((b[State.far((int) l10, 85564)] & 0xffL) << 2L))) - 60720));
-             l9 = l10 | 1L;
-             l5 = l5 + -3L;
-            }
-            L137: {
-             if (l9 + Long.MIN_VALUE > l8 + Long.MIN_VALUE) { break L137; }
-             L138: {
-              if (l7 + Long.MIN_VALUE >= l8 + Long.MIN_VALUE) { break L138; }
-              if (l9 != l7) { break L138; }
-              Words.put32(b, ((int) ((l0 + l5) + -4L)) - 60720, Words.get32(b, ((int) l1) - 60720));
-              l5 = l5 + -3L;
-             }
-             Words.put32(b, ((int) ((l0 + l5) + -4L)) - 60720, Words.get32(b, ((int) (l12 + ((b[State.far((int) l8, 85564)] & 0xffL) << 2L))) - 60720));
-             l9 = l8 | 1L;
-             l5 = l5 + -3L;
-            }
-            if (l9 + Long.MIN_VALUE > l8 + Long.MIN_VALUE) { break L105; }
-            L139: {
-             if (l7 + Long.MIN_VALUE >= l8 + Long.MIN_VALUE) { break L139; }
-             if (l9 != l7) { break L139; }
-             Words.put32(b, ((int) ((l0 + l5) + -4L)) - 60720, Words.get32(b, ((int) l1) - 60720));
-             l5 = l5 + -3L;
-            }
-            Words.put32(b, ((int) ((l0 + l5) + -4L)) - 60720, Words.get32(b, ((int) (l12 + ((b[State.far((int) l8, 85564)] & 0xffL) << 2L))) - 60720));
-            l5 = l5 + -3L;
-           }
+           f206_2(m, l0, l1, l2, l5, l6, l7, l8, l9, l10, l11, l12, l13, l14, l15, l16, l17, l18);
+           l2 = (int) m.kept[0];
+           l5 = m.kept[1];
+           l6 = m.kept[2];
+           l7 = m.kept[3];
+           l8 = m.kept[4];
+           l9 = m.kept[5];
+           l10 = m.kept[6];
+           l11 = m.kept[7];
+           l12 = m.kept[8];
+           l13 = m.kept[9];
+           l14 = (int) m.kept[10];
+           l15 = (int) m.kept[11];
+           l16 = (int) m.kept[12];
+           l17 = (int) m.kept[13];
+           l18 = (int) m.kept[14];
            L140: {
             L141: {
              if (l4 + Long.MIN_VALUE < -9223372036854775798L) { break L141; }

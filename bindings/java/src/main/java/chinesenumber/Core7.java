@@ -1722,17 +1722,208 @@ static int f265(State m, long l0, long l1, int l2, long l3) {
  return l2;
 }
 
-static int f267_1(State m, long l0, int l3, int l4, int l5, long l6, long l9, long l10, long l11, long l13, long l14, long l15, long l16, long l17, long l18, long l19, long l34, long l35, long l36, long l37, long l38, long l39, long l40, long l41, int l46, int l48, int l50, int l51, int l52, int l53, int l54, int l55, int l56) {
+static int f267_1(State m, long l0, long l1, int l2, int l3, int l4, long l6, long l7, long l8, long l9, long l10, long l11, long l12, long l20, long l29, long l30, long l31, long l32, long l33, long l34, long l35, long l36, long l37, long l38, long l39, long l40, long l41, int l42, int l43, int l44, int l47, int l48, int l50, int l53, int l54) {
  final byte[] b = m.bytes;
  int exit = 0;
  PART: {
-  L33: {
-   L34: {
-    L35: {
+  L13: {
+   L14: {
+    L15: {
+     L16: {
+      if ((b[((int) l10) - 60096] & 0xff) != 1) { break L16; }
+      l32 = Words.get64(b, ((int) l10) - 60048);
+      l31 = Words.get64(b, ((int) l10) - 60056);
+      l33 = Words.get64(b, ((int) l10) - 60064);
+      l34 = Words.get64(b, ((int) l10) - 60072);
+      l35 = Words.get64(b, ((int) l10) - 60080);
+      l36 = Words.get64(b, ((int) l10) - 60088);
+      L17: {
+       if ((l53 & 1) == 0) { break L17; }
+       Words.put64(b, ((int) l10) - 60056, l32);
+       Words.put64(b, ((int) l10) - 60064, l31);
+       Words.put64(b, ((int) l10) - 60072, l33);
+       Words.put64(b, ((int) l10) - 60080, l34);
+       Words.put64(b, ((int) l10) - 60088, l35);
+       Words.put64(b, ((int) l10) - 60096, l36);
+       if (Core5.f162(m, l30, l10 + 624L) != 0) { break L13; }
+      }
+      b[((int) l10) - 60256] = (byte) l48;
+      b[((int) l10) - 60257] = (byte) l50;
+      Words.put32(b, ((int) l10) - 60261, l47);
+      b[((int) l10) - 60262] = (byte) l43;
+      b[((int) l10) - 60263] = (byte) l44;
+      b[((int) l10) - 60264] = (byte) l2;
+      l9 = l34;
+      l0 = l33;
+      L18: {
+       L19: while (true) {
+        if (l0 == 0L) { break L18; }
+        l42 = (l4 = (int) b[((int) l9) - 60720]) & 255;
+        l11 = 1L;
+        L20: {
+         if (l4 > -1) { break L20; }
+         l3 = (b[((int) l9) - 60719] & 0xff) & 63;
+         L21: {
+          if (l4 + Integer.MIN_VALUE > 2147483615) { break L21; }
+          l42 = ((l42 << 6) & 1984) | l3;
+          l11 = 2L;
+          break L20;
+         }
+         l54 = (b[((int) l9) - 60718] & 0xff) & 63;
+         L22: {
+          if (l4 + Integer.MIN_VALUE > 2147483631) { break L22; }
+          l42 = ((l3 << 6) | ((l42 << 12) & 61440)) | l54;
+          l11 = 3L;
+          break L20;
+         }
+         l42 = ((l54 << 6) | ((l3 << 12) | ((l42 << 18) & 1835008))) | ((b[((int) l9) - 60717] & 0xff) & 63);
+         l11 = 4L;
+        }
+        if ((l42 + -48) + Integer.MIN_VALUE < -2147483638) { break L15; }
+        l0 = l0 - l11;
+        l9 = l9 + l11;
+        if ((l42 + -65296) + Integer.MIN_VALUE > -2147483639) { continue L19; }
+        break L15;
+       }
+      }
+      Words.put64(b, ((int) l10) - 60328, l32);
+      Words.put64(b, ((int) l10) - 60336, l31);
+      Words.put64(b, ((int) l10) - 60344, l33);
+      Words.put64(b, ((int) l10) - 60352, l34);
+      Words.put64(b, ((int) l10) - 60368, l36);
+      Words.put64(b, ((int) l10) - 60360, l35);
+      m.fill((int) (l10 + 624L), 0, (int) 120L);
+      Core3.f103(m, l10 + 624L, l12, l1, l12 + l35, l1 - l35, l2, l44);
+      Words.put64(b, ((int) l10) - 60216, b[((int) l10) - 60096] & 0xffL);
+      Words.put64(b, ((int) l10) - 60208, b[((int) l10) - 60088] & 0xffL);
+      m.copy((int) l29, (int) l20, (int) 104L);
+      if (Core6.f187(m, l10 + 456L, l12, l1, l10 + 352L, l10 + 504L) != 0) { break L15; }
+      break L14;
+     }
+     Core2.f39(m, l10 + 152L, l31, l32);
+     Words.put64(b, ((int) l8) - 60720, l9 = Words.get64(b, ((int) l10) - 60552));
+     l42 = (l9 + Long.MIN_VALUE > l7 + Long.MIN_VALUE) ? 6 : 0;
+     exit = 1; break PART;
+    }
+    l9 = l33 + l35;
+    l37 = l31;
+    l38 = l32;
+    L23: while (true) {
+     Words.put64(b, ((int) l10) - 60048, 0L);
+     Words.put64(b, ((int) l10) - 60056, 0L);
+     Words.put64(b, ((int) l10) - 60064, 0L);
+     Words.put64(b, ((int) l10) - 60072, 0L);
+     Words.put64(b, ((int) l10) - 60080, 0L);
+     Words.put64(b, ((int) l10) - 60088, 0L);
+     Words.put64(b, ((int) l10) - 60096, 0L);
+     Core3.f102(m, l10 + 624L, l12, l1, l37, l38, l2, l44);
+     l42 = 0;
+     if ((b[((int) l10) - 60096] & 0xff) != 1) { break L13; }
+     l37 = Words.get64(b, ((int) l10) - 60056);
+     l39 = Words.get64(b, ((int) l10) - 60064);
+     l40 = Words.get64(b, ((int) l10) - 60072);
+     l6 = Words.get64(b, ((int) l10) - 60080);
+     l41 = Words.get64(b, ((int) l10) - 60088);
+     Words.put64(b, ((int) l10) - 60224, l38 = Words.get64(b, ((int) l10) - 60048));
+     Words.put64(b, ((int) l10) - 60232, l37);
+     Words.put64(b, ((int) l10) - 60240, l39);
+     Words.put64(b, ((int) l10) - 60248, l40);
+     Words.put64(b, ((int) l10) - 60256, l6);
+     Words.put64(b, ((int) l10) - 60264, l41);
+     if (Core5.f162(m, l9, l10 + 456L) == 0) { break L13; }
+     b[((int) l10) - 60536] = (byte) l48;
+     b[((int) l10) - 60537] = (byte) l50;
+     Words.put32(b, ((int) l10) - 60541, l47);
+     b[((int) l10) - 60542] = (byte) l43;
+     b[((int) l10) - 60543] = (byte) l44;
+     b[((int) l10) - 60544] = (byte) l2;
+     l9 = l40;
+     l0 = l39;
+     L24: {
+      L25: {
+       L26: while (true) {
+        if (l0 == 0L) { break L25; }
+        l42 = (l4 = (int) b[((int) l9) - 60720]) & 255;
+        l11 = 1L;
+        L27: {
+         if (l4 > -1) { break L27; }
+         l3 = (b[((int) l9) - 60719] & 0xff) & 63;
+         L28: {
+          if (l4 + Integer.MIN_VALUE > 2147483615) { break L28; }
+          l42 = ((l42 << 6) & 1984) | l3;
+          l11 = 2L;
+          break L27;
+         }
+         l54 = (b[((int) l9) - 60718] & 0xff) & 63;
+         L29: {
+          if (l4 + Integer.MIN_VALUE > 2147483631) { break L29; }
+          l42 = ((l3 << 6) | ((l42 << 12) & 61440)) | l54;
+          l11 = 3L;
+          break L27;
+         }
+         l42 = ((l54 << 6) | ((l3 << 12) | ((l42 << 18) & 1835008))) | ((b[((int) l9) - 60717] & 0xff) & 63);
+         l11 = 4L;
+        }
+        if ((l42 + -48) + Integer.MIN_VALUE < -2147483638) { break L24; }
+        l0 = l0 - l11;
+        l9 = l9 + l11;
+        if ((l42 + -65296) + Integer.MIN_VALUE >= -2147483638) { continue L26; }
+        break L24;
+       }
+      }
+      Words.put64(b, ((int) l10) - 60328, l38);
+      Words.put64(b, ((int) l10) - 60336, l37);
+      Words.put64(b, ((int) l10) - 60344, l39);
+      Words.put64(b, ((int) l10) - 60352, l40);
+      Words.put64(b, ((int) l10) - 60368, l41);
+      Words.put64(b, ((int) l10) - 60360, l6);
+      m.fill((int) (l10 + 624L), 0, (int) 120L);
+      Core3.f103(m, l10 + 624L, l12, l1, l12 + l6, l1 - l6, l2, l44);
+      Words.put64(b, ((int) l10) - 60216, b[((int) l10) - 60096] & 0xffL);
+      Words.put64(b, ((int) l10) - 60208, b[((int) l10) - 60088] & 0xffL);
+      m.copy((int) l29, (int) l20, (int) 104L);
+      if (Core6.f187(m, l10 + 176L, l12, l1, l10 + 352L, l10 + 504L) == 0) { break L14; }
+     }
+     l9 = l39 + l6;
+     continue L23;
+    }
+   }
+   l42 = 1;
+  }
+ }
+ m.kept[0] = l0;
+ m.kept[1] = l3;
+ m.kept[2] = l4;
+ m.kept[3] = l6;
+ m.kept[4] = l9;
+ m.kept[5] = l11;
+ m.kept[6] = l31;
+ m.kept[7] = l32;
+ m.kept[8] = l33;
+ m.kept[9] = l34;
+ m.kept[10] = l35;
+ m.kept[11] = l36;
+ m.kept[12] = l37;
+ m.kept[13] = l38;
+ m.kept[14] = l39;
+ m.kept[15] = l40;
+ m.kept[16] = l41;
+ m.kept[17] = l42;
+ m.kept[18] = l54;
+ return exit;
+}
+
+static int f267_2(State m, long l0, int l3, int l4, int l5, long l6, long l9, long l10, long l11, long l13, long l14, long l15, long l16, long l17, long l18, long l19, long l34, long l35, long l36, long l37, long l38, long l39, long l40, long l41, int l46, int l48, int l50, int l51, int l52, int l53, int l54, int l55, int l56) {
+ final byte[] b = m.bytes;
+ int exit = 0;
+ PART: {
+  L34: {
+   L35: {
+    L36: {
      switch (l3) {
-     case 1: break L34;
-     case 2: break L33;
-     default: break L35;
+     case 1: break L35;
+     case 2: break L34;
+     default: break L36;
      }
     }
     Words.put32(b, ((int) l15) - 60720, Words.get32(b, ((int) l10) - 60440));
@@ -1747,28 +1938,28 @@ static int f267_1(State m, long l0, int l3, int l4, int l5, long l6, long l9, lo
     Words.put64(b, ((int) l10) - 60408, l9);
     Words.put64(b, ((int) l10) - 60416, l39);
     if (Core6.f188(m, l10 + 322L, l36, l35, l10 + 296L, l37, l40) == 0) { exit = 1; break PART; }
-    L36: {
-     if (((int) (byte) l5) > -1) { break L36; }
+    L37: {
+     if (((int) (byte) l5) > -1) { break L37; }
      Words.put32(b, ((int) l14) - 60720, Words.get32(b, ((int) l10) - 60440));
      Words.put16(b, ((int) l14) - 60716, (short) (Words.get16(b, ((int) l10) - 60436) & 0xffff));
      b[((int) l10) - 60095] = (byte) l53;
      b[((int) l10) - 60096] = (byte) l54;
      Words.put64(b, ((int) l10) - 60080, l9);
      Words.put64(b, ((int) l10) - 60088, l39);
-     if ((Core6.f189(m, l36, l35, l10 + 624L, l37, l40) & 1) == 0) { break L36; }
+     if ((Core6.f189(m, l36, l35, l10 + 624L, l37, l40) & 1) == 0) { break L37; }
      Words.put32(b, ((int) l10) - 60256, 0);
      Words.put64(b, ((int) l10) - 60264, 0L);
      Core3.f104(m, l10 + 456L, l53, l10 + 280L);
      if ((b[((int) l10) - 60264] & 0xff) != 1) { exit = 2; break PART; }
      l11 = Words.get64(b, ((int) l10) - 60260);
-     L37: {
-      L38: {
-       L39: {
+     L38: {
+      L39: {
+       L40: {
         switch ((int) (b[((int) l10) - 60262] & 0xffL)) {
         case 1: case 2: case 3: case 5: case 7: case 8: exit = 2; break PART;
-        case 4: break L38;
-        case 6: break L37;
-        default: break L39;
+        case 4: break L39;
+        case 6: break L38;
+        default: break L40;
         }
        }
        if (Core6.f194(m, l39, l9) != 0) { exit = 2; break PART; }
@@ -1791,8 +1982,8 @@ static int f267_1(State m, long l0, int l3, int l4, int l5, long l6, long l9, lo
        Words.put64(b, ((int) l10) - 60088, 0L);
        Words.put64(b, ((int) l10) - 60096, 0L);
        l11 = 85469L;
-       L40: {
-        if (Core3.f110(m, l39, l9) != 0) { break L40; }
+       L41: {
+        if (Core3.f110(m, l39, l9) != 0) { break L41; }
         Core3.f114(m, l10 + 624L, 21, l39, l9);
         l11 = ((l4 = (((b[((int) l10) - 60096] & 0xff) & 255) == 1) ? 1 : 0) != 0) ? 85469L : 79940L;
         l6 = l4 & 0xffffffffL;
@@ -1803,18 +1994,18 @@ static int f267_1(State m, long l0, int l3, int l4, int l5, long l6, long l9, lo
       b[((int) l10) - 60392] = (byte) (b[((int) l10) - 60261] & 0xff);
       Words.put16(b, ((int) l10) - 60391, (short) l11);
       if (Core6.f195(m, l54, l36, l35, l39, l9) != 0) { exit = 2; break PART; }
-      L41: {
-       if (l9 == 0L) { break L41; }
-       if ((l4 = (int) b[((int) l39) - 60720]) > -1) { break L41; }
-       if (l4 + Integer.MIN_VALUE < 2147483616) { break L41; }
+      L42: {
+       if (l9 == 0L) { break L42; }
+       if ((l4 = (int) b[((int) l39) - 60720]) > -1) { break L42; }
+       if (l4 + Integer.MIN_VALUE < 2147483616) { break L42; }
        l3 = l4 & 255;
        l55 = (b[((int) l39) - 60719] & 0xff) & 63;
        l56 = (b[((int) l39) - 60718] & 0xff) & 63;
-       L42: {
-        L43: {
-         if (l4 + Integer.MIN_VALUE > 2147483631) { break L43; }
+       L43: {
+        L44: {
+         if (l4 + Integer.MIN_VALUE > 2147483631) { break L44; }
          l4 = ((l55 << 6) | ((l3 << 12) & 61440)) | l56;
-         break L42;
+         break L43;
         }
         l4 = ((l56 << 6) | ((l55 << 12) | ((l3 << 18) & 1835008))) | ((b[((int) l39) - 60717] & 0xff) & 63);
        }
@@ -1824,22 +2015,22 @@ static int f267_1(State m, long l0, int l3, int l4, int l5, long l6, long l9, lo
       Core3.f106(m, l10 + 40L, l54, l37, l40, l10 + 328L);
       if ((b[((int) l10) - 60680] & 0xff) != 1) { exit = 2; break PART; }
       l4 = b[((int) l10) - 60679] & 0xff;
-      L44: {
-       if ((l54 & 255) != 2) { break L44; }
+      L45: {
+       if ((l54 & 255) != 2) { break L45; }
        Words.put64(b, ((int) l10) - 60080, 0L);
        Words.put64(b, ((int) l10) - 60088, 0L);
        Words.put64(b, ((int) l10) - 60096, 0L);
        Core3.f114(m, l10 + 624L, 22, l37, l40);
-       if ((b[((int) l10) - 60096] & 0xff) != 1) { break L44; }
+       if ((b[((int) l10) - 60096] & 0xff) != 1) { break L45; }
        Core2.f39(m, l10 + 152L, l37, l40 - Words.get64(b, ((int) l10) - 60080));
       }
       l0 = l11 >>> 8L;
       l3 = (int) l11;
-      L45: {
-       L46: {
-        if ((l4 & 255) + Integer.MIN_VALUE > -2147483639) { break L46; }
+      L46: {
+       L47: {
+        if ((l4 & 255) + Integer.MIN_VALUE > -2147483639) { break L47; }
         Core2.f39(m, l10 + 152L, 85360L, 1L);
-        break L45;
+        break L46;
        }
        Core2.f39(m, l10 + 152L, 79940L, 0L);
       }
@@ -1855,19 +2046,19 @@ static int f267_1(State m, long l0, int l3, int l4, int l5, long l6, long l9, lo
       Core2.f38(m, l10 + 24L, l10 + 624L, l10 + 352L);
       Core2.f39(m, l10 + 152L, Words.get64(b, ((int) l10) - 60696), Words.get64(b, ((int) l10) - 60688));
       Core6.f200(m, l10 + 152L, l3);
-      L47: {
-       if (((1 << l53) & -1064961) != 0) { break L47; }
+      L48: {
+       if (((1 << l53) & -1064961) != 0) { break L48; }
        Core6.f200(m, l10 + 152L, l54);
       }
       Words.put64(b, ((int) l10) - 60080, 0L);
       Words.put64(b, ((int) l10) - 60088, 0L);
       Words.put64(b, ((int) l10) - 60096, 0L);
-      L48: {
-       L49: {
-        if (Core3.f110(m, l39, l9) == 0) { break L49; }
+      L49: {
+       L50: {
+        if (Core3.f110(m, l39, l9) == 0) { break L50; }
         l9 = 85469L;
         l11 = 1L;
-        break L48;
+        break L49;
        }
        Core3.f114(m, l10 + 624L, 21, l39, l9);
        l9 = ((l4 = (((b[((int) l10) - 60096] & 0xff) & 255) == 1) ? 1 : 0) != 0) ? 85469L : 79940L;
@@ -1892,8 +2083,8 @@ static int f267_1(State m, long l0, int l3, int l4, int l5, long l6, long l9, lo
      Words.put64(b, ((int) l10) - 60352, 0L);
      Words.put64(b, ((int) l10) - 60360, 0L);
      Words.put64(b, ((int) l10) - 60368, 0L);
-     L50: {
-      if (l53 != 26) { break L50; }
+     L51: {
+      if (l53 != 26) { break L51; }
       Core4.f124(m, l10 + 352L, 82828L, 2L, 82788L, 1L, l9, l11);
       if ((b[((int) l10) - 60368] & 0xff) != 1) { exit = 2; break PART; }
       l6 = Words.get64(b, ((int) l10) - 60360);
@@ -1901,39 +2092,39 @@ static int f267_1(State m, long l0, int l3, int l4, int l5, long l6, long l9, lo
       Words.put64(b, ((int) l10) - 60080, 0L);
       Words.put64(b, ((int) l10) - 60088, 0L);
       Words.put64(b, ((int) l10) - 60096, 0L);
-      L51: {
-       L52: {
-        L53: {
-         if (l0 == 0L) { break L53; }
-         if ((l4 = (int) b[((int) l6) - 60720]) > -1) { break L53; }
-         if (l4 + Integer.MIN_VALUE < 2147483616) { break L53; }
+      L52: {
+       L53: {
+        L54: {
+         if (l0 == 0L) { break L54; }
+         if ((l4 = (int) b[((int) l6) - 60720]) > -1) { break L54; }
+         if (l4 + Integer.MIN_VALUE < 2147483616) { break L54; }
          l3 = l4 & 255;
          l54 = (b[((int) l6) - 60719] & 0xff) & 63;
          l53 = (b[((int) l6) - 60718] & 0xff) & 63;
-         L54: {
-          L55: {
-           if (l4 + Integer.MIN_VALUE > 2147483631) { break L55; }
+         L55: {
+          L56: {
+           if (l4 + Integer.MIN_VALUE > 2147483631) { break L56; }
            l4 = ((l54 << 6) | ((l3 << 12) & 61440)) | l53;
-           break L54;
+           break L55;
           }
           l4 = ((l53 << 6) | ((l54 << 12) | ((l3 << 18) & 1835008))) | ((b[((int) l6) - 60717] & 0xff) & 63);
          }
-         if (l11 == 0L) { break L51; }
-         if (l4 != 23567) { break L52; }
-         break L51;
+         if (l11 == 0L) { break L52; }
+         if (l4 != 23567) { break L53; }
+         break L52;
         }
-        if (l11 == 0L) { break L51; }
+        if (l11 == 0L) { break L52; }
        }
-       L56: {
-        L57: {
-         if ((l4 = (int) b[((int) l9) - 60720]) <= -1) { break L57; }
-         l11 = 1L;
-         break L56;
-        }
+       L57: {
         L58: {
-         if (l4 + Integer.MIN_VALUE >= 2147483616) { break L58; }
+         if ((l4 = (int) b[((int) l9) - 60720]) <= -1) { break L58; }
+         l11 = 1L;
+         break L57;
+        }
+        L59: {
+         if (l4 + Integer.MIN_VALUE >= 2147483616) { break L59; }
          l11 = 2L;
-         break L56;
+         break L57;
         }
         l11 = (l4 + Integer.MIN_VALUE < 2147483632) ? 3L : 4L;
        }
@@ -1945,16 +2136,16 @@ static int f267_1(State m, long l0, int l3, int l4, int l5, long l6, long l9, lo
       exit = 2; break PART;
      }
      if (l11 == 0L) { exit = 2; break PART; }
-     L59: {
-      L60: {
-       if ((l4 = (int) b[((int) l9) - 60720]) <= -1) { break L60; }
-       l11 = 1L;
-       break L59;
-      }
+     L60: {
       L61: {
-       if (l4 + Integer.MIN_VALUE >= 2147483616) { break L61; }
+       if ((l4 = (int) b[((int) l9) - 60720]) <= -1) { break L61; }
+       l11 = 1L;
+       break L60;
+      }
+      L62: {
+       if (l4 + Integer.MIN_VALUE >= 2147483616) { break L62; }
        l11 = 2L;
-       break L59;
+       break L60;
       }
       l11 = (l4 + Integer.MIN_VALUE < 2147483632) ? 3L : 4L;
      }
@@ -1978,7 +2169,7 @@ static int f267_1(State m, long l0, int l3, int l4, int l5, long l6, long l9, lo
     l54 = 0;
     l9 = 0L;
     l53 = 0;
-    L62: while (true) {
+    L63: while (true) {
      Words.put64(b, ((int) l10) - 60248, l11 = l39);
      Words.put64(b, ((int) l10) - 60256, l0 = l38);
      b[((int) l10) - 60257] = (byte) l53;
@@ -1991,19 +2182,19 @@ static int f267_1(State m, long l0, int l3, int l4, int l5, long l6, long l9, lo
      l38 = Words.get64(b, ((int) l10) - 60352);
      l53 = b[((int) l10) - 60353] & 0xff;
      l54 = b[((int) l10) - 60354] & 0xff;
-     L63: {
-      L64: {
-       L65: {
+     L64: {
+      L65: {
+       L66: {
         switch ((int) (b[((int) l9) - 60720] & 0xffL)) {
-        case 1: break L64;
-        case 2: case 3: break L63;
-        default: break L65;
+        case 1: break L65;
+        case 2: case 3: break L64;
+        default: break L66;
         }
        }
-       L66: {
-        if ((b[((int) (l9 + 1L)) - 60720] & 0xff) != 9) { break L66; }
+       L67: {
+        if ((b[((int) (l9 + 1L)) - 60720] & 0xff) != 9) { break L67; }
         Core2.f39(m, l10 + 152L, l0, l11 - l39);
-        break L63;
+        break L64;
        }
        Words.put64(b, ((int) l10) - 60072, 0L);
        Words.put64(b, ((int) l10) - 60080, 0L);
@@ -2015,61 +2206,61 @@ static int f267_1(State m, long l0, int l3, int l4, int l5, long l6, long l9, lo
        Core3.f111(m, l10 + 624L, l9, l41);
        l9 = l41 = Words.get64(b, ((int) l10) - 60096);
        l0 = l34 = Words.get64(b, ((int) l10) - 60088);
-       L67: {
-        L68: while (true) {
-         if (l0 == 0L) { break L67; }
+       L68: {
+        L69: while (true) {
+         if (l0 == 0L) { break L68; }
          l4 = (l3 = (int) b[((int) l9) - 60720]) & 255;
          l11 = 1L;
-         L69: {
-          if (l3 > -1) { break L69; }
+         L70: {
+          if (l3 > -1) { break L70; }
           l55 = (b[((int) l9) - 60719] & 0xff) & 63;
-          L70: {
-           if (l3 + Integer.MIN_VALUE > 2147483615) { break L70; }
+          L71: {
+           if (l3 + Integer.MIN_VALUE > 2147483615) { break L71; }
            l4 = ((l4 << 6) & 1984) | l55;
            l11 = 2L;
-           break L69;
+           break L70;
           }
           l56 = (b[((int) l9) - 60718] & 0xff) & 63;
-          L71: {
-           if (l3 + Integer.MIN_VALUE > 2147483631) { break L71; }
+          L72: {
+           if (l3 + Integer.MIN_VALUE > 2147483631) { break L72; }
            l4 = ((l55 << 6) | ((l4 << 12) & 61440)) | l56;
            l11 = 3L;
-           break L69;
+           break L70;
           }
           l4 = ((l56 << 6) | ((l55 << 12) | ((l4 << 18) & 1835008))) | ((b[((int) l9) - 60717] & 0xff) & 63);
           l11 = 4L;
          }
-         L72: {
-          if ((l4 + -48) + Integer.MIN_VALUE < -2147483638) { break L72; }
+         L73: {
+          if ((l4 + -48) + Integer.MIN_VALUE < -2147483638) { break L73; }
           l0 = l0 - l11;
           l9 = l9 + l11;
-          if ((l4 + -65296) + Integer.MIN_VALUE > -2147483639) { continue L68; }
+          if ((l4 + -65296) + Integer.MIN_VALUE > -2147483639) { continue L69; }
          }
-         break L68;
+         break L69;
         }
         Core2.f39(m, l10 + 152L, l41, l34);
-        break L63;
+        break L64;
        }
-       L73: {
-        if ((Core6.f190(m, 1, l41, l34) & 1) != 0) { break L73; }
+       L74: {
+        if ((Core6.f190(m, 1, l41, l34) & 1) != 0) { break L74; }
         Core2.f39(m, l10 + 152L, l41, l34);
-        break L63;
+        break L64;
        }
-       final int t74 = Core6.f201(m, l10 + 152L, 1, l41, l34);
-       break L63;
+       final int t75 = Core6.f201(m, l10 + 152L, 1, l41, l34);
+       break L64;
       }
       Core2.f39(m, l10 + 152L, l0, l11 - l39);
      }
      l9 = (Words.get32(b, ((int) l10) - 60360) & 0xffffffffL) | ((Words.get16(b, ((int) (l10 + 364L)) - 60720) & 0xffffL) << 32L);
-     if ((l6 = l6 + 1L) != l40) { continue L62; }
+     if ((l6 = l6 + 1L) != l40) { continue L63; }
      exit = 2; break PART;
     }
    }
    m.fill((int) (l10 + 624L), 0, (int) 112L);
    Core2.f59(m, l10 + 624L, l9, l11, l0, l6);
    if ((b[((int) l10) - 60096] & 0xff) != 1) { exit = 1; break PART; }
-   L75: {
-    if (l52 != 0) { break L75; }
+   L76: {
+    if (l52 != 0) { break L76; }
     Words.put32(b, ((int) l19) - 60720, Words.get32(b, ((int) l10) - 60440));
     Words.put16(b, ((int) l19) - 60716, (short) (Words.get16(b, ((int) l10) - 60436) & 0xffff));
     Words.put64(b, ((int) l18) - 60720, Words.get64(b, ((int) l10) - 60456));
@@ -2089,34 +2280,34 @@ static int f267_1(State m, long l0, int l3, int l4, int l5, long l6, long l9, lo
     Words.put64(b, ((int) l10) - 60296, l0);
     if (Core3.f107(m, l10 + 352L) != 0) { exit = 1; break PART; }
    }
-   L76: {
-    if (Core6.f191(m, l9, l11, l0, l6) == 0) { break L76; }
+   L77: {
+    if (Core6.f191(m, l9, l11, l0, l6) == 0) { break L77; }
     if (Core6.f192(m, l51, l9, l11, l0, l6) == 0) { exit = 1; break PART; }
    }
    Core2.f60(m, l10 + 96L, l9, l11, l0, l6);
    if ((Core6.f205(m, l10 + 152L, l51, l9, l11, Words.get64(b, ((int) l10) - 60624), Words.get64(b, ((int) l10) - 60616)) & 1) == 0) { exit = 1; break PART; }
    Words.put32(b, ((int) l10) - 60368, 0);
-   L77: {
-    L78: {
-     if (l55 + Integer.MIN_VALUE > -2147483521) { break L78; }
+   L78: {
+    L79: {
+     if (l55 + Integer.MIN_VALUE > -2147483521) { break L79; }
      b[((int) l10) - 60368] = (byte) l55;
      l39 = 1L;
-     break L77;
+     break L78;
     }
-    L79: {
-     if (l55 + Integer.MIN_VALUE > -2147481601) { break L79; }
+    L80: {
+     if (l55 + Integer.MIN_VALUE > -2147481601) { break L80; }
      b[((int) l10) - 60367] = (byte) ((l55 & 63) | 128);
      b[((int) l10) - 60368] = (byte) ((l55 >>> 6) | 192);
      l39 = 2L;
-     break L77;
+     break L78;
     }
-    L80: {
-     if (l55 + Integer.MIN_VALUE > -2147418113) { break L80; }
+    L81: {
+     if (l55 + Integer.MIN_VALUE > -2147418113) { break L81; }
      b[((int) l10) - 60366] = (byte) ((l55 & 63) | 128);
      b[((int) l10) - 60368] = (byte) ((l55 >>> 12) | 224);
      b[((int) l10) - 60367] = (byte) (((l55 >>> 6) & 63) | 128);
      l39 = 3L;
-     break L77;
+     break L78;
     }
     b[((int) l10) - 60365] = (byte) ((l55 & 63) | 128);
     b[((int) l10) - 60368] = (byte) ((l55 >>> 18) + -16);
@@ -2136,9 +2327,9 @@ static int f267_1(State m, long l0, int l3, int l4, int l5, long l6, long l9, lo
    Words.put64(b, ((int) l10) - 60096, 0L);
    Core2.f62(m, l10 + 624L, l9, l11, 1);
    l9 = 79940L;
-   L81: {
-    if ((b[((int) l10) - 60096] & 0xff) != 0) { break L81; }
-    if (((b[((int) l10) - 60048] & 0xff) & 255) != 2) { break L81; }
+   L82: {
+    if ((b[((int) l10) - 60096] & 0xff) != 0) { break L82; }
+    if (((b[((int) l10) - 60048] & 0xff) & 255) != 2) { break L82; }
     Words.put64(b, ((int) l10) - 60040, 0L);
     Words.put64(b, ((int) l10) - 60048, 0L);
     Words.put64(b, ((int) l10) - 60056, 0L);
@@ -2312,176 +2503,35 @@ static int f267(State m, long l0, long l1, int l2, int l3, int l4, int l5, long 
     Words.put64(b, ((int) l10) - 60088, 0L);
     Words.put64(b, ((int) l10) - 60096, 0L);
     Core3.f102(m, l10 + 624L, l12, l1, l31, l32, l2, l44);
-    L13: {
-     L14: {
-      L15: {
-       L16: {
-        if ((b[((int) l10) - 60096] & 0xff) != 1) { break L16; }
-        l32 = Words.get64(b, ((int) l10) - 60048);
-        l31 = Words.get64(b, ((int) l10) - 60056);
-        l33 = Words.get64(b, ((int) l10) - 60064);
-        l34 = Words.get64(b, ((int) l10) - 60072);
-        l35 = Words.get64(b, ((int) l10) - 60080);
-        l36 = Words.get64(b, ((int) l10) - 60088);
-        L17: {
-         if ((l53 & 1) == 0) { break L17; }
-         Words.put64(b, ((int) l10) - 60056, l32);
-         Words.put64(b, ((int) l10) - 60064, l31);
-         Words.put64(b, ((int) l10) - 60072, l33);
-         Words.put64(b, ((int) l10) - 60080, l34);
-         Words.put64(b, ((int) l10) - 60088, l35);
-         Words.put64(b, ((int) l10) - 60096, l36);
-         if (Core5.f162(m, l30, l10 + 624L) != 0) { break L13; }
-        }
-        b[((int) l10) - 60256] = (byte) l48;
-        b[((int) l10) - 60257] = (byte) l50;
-        Words.put32(b, ((int) l10) - 60261, l47);
-        b[((int) l10) - 60262] = (byte) l43;
-        b[((int) l10) - 60263] = (byte) l44;
-        b[((int) l10) - 60264] = (byte) l2;
-        l9 = l34;
-        l0 = l33;
-        L18: {
-         L19: while (true) {
-          if (l0 == 0L) { break L18; }
-          l42 = (l4 = (int) b[((int) l9) - 60720]) & 255;
-          l11 = 1L;
-          L20: {
-           if (l4 > -1) { break L20; }
-           l3 = (b[((int) l9) - 60719] & 0xff) & 63;
-           L21: {
-            if (l4 + Integer.MIN_VALUE > 2147483615) { break L21; }
-            l42 = ((l42 << 6) & 1984) | l3;
-            l11 = 2L;
-            break L20;
-           }
-           l54 = (b[((int) l9) - 60718] & 0xff) & 63;
-           L22: {
-            if (l4 + Integer.MIN_VALUE > 2147483631) { break L22; }
-            l42 = ((l3 << 6) | ((l42 << 12) & 61440)) | l54;
-            l11 = 3L;
-            break L20;
-           }
-           l42 = ((l54 << 6) | ((l3 << 12) | ((l42 << 18) & 1835008))) | ((b[((int) l9) - 60717] & 0xff) & 63);
-           l11 = 4L;
-          }
-          if ((l42 + -48) + Integer.MIN_VALUE < -2147483638) { break L15; }
-          l0 = l0 - l11;
-          l9 = l9 + l11;
-          if ((l42 + -65296) + Integer.MIN_VALUE > -2147483639) { continue L19; }
-          break L15;
-         }
-        }
-        Words.put64(b, ((int) l10) - 60328, l32);
-        Words.put64(b, ((int) l10) - 60336, l31);
-        Words.put64(b, ((int) l10) - 60344, l33);
-        Words.put64(b, ((int) l10) - 60352, l34);
-        Words.put64(b, ((int) l10) - 60368, l36);
-        Words.put64(b, ((int) l10) - 60360, l35);
-        m.fill((int) (l10 + 624L), 0, (int) 120L);
-        Core3.f103(m, l10 + 624L, l12, l1, l12 + l35, l1 - l35, l2, l44);
-        Words.put64(b, ((int) l10) - 60216, b[((int) l10) - 60096] & 0xffL);
-        Words.put64(b, ((int) l10) - 60208, b[((int) l10) - 60088] & 0xffL);
-        m.copy((int) l29, (int) l20, (int) 104L);
-        if (Core6.f187(m, l10 + 456L, l12, l1, l10 + 352L, l10 + 504L) != 0) { break L15; }
-        break L14;
-       }
-       Core2.f39(m, l10 + 152L, l31, l32);
-       Words.put64(b, ((int) l8) - 60720, l9 = Words.get64(b, ((int) l10) - 60552));
-       l42 = (l9 + Long.MIN_VALUE > l7 + Long.MIN_VALUE) ? 6 : 0;
-       break L2;
-      }
-      l9 = l33 + l35;
-      l37 = l31;
-      l38 = l32;
-      L23: while (true) {
-       Words.put64(b, ((int) l10) - 60048, 0L);
-       Words.put64(b, ((int) l10) - 60056, 0L);
-       Words.put64(b, ((int) l10) - 60064, 0L);
-       Words.put64(b, ((int) l10) - 60072, 0L);
-       Words.put64(b, ((int) l10) - 60080, 0L);
-       Words.put64(b, ((int) l10) - 60088, 0L);
-       Words.put64(b, ((int) l10) - 60096, 0L);
-       Core3.f102(m, l10 + 624L, l12, l1, l37, l38, l2, l44);
-       l42 = 0;
-       if ((b[((int) l10) - 60096] & 0xff) != 1) { break L13; }
-       l37 = Words.get64(b, ((int) l10) - 60056);
-       l39 = Words.get64(b, ((int) l10) - 60064);
-       l40 = Words.get64(b, ((int) l10) - 60072);
-       l6 = Words.get64(b, ((int) l10) - 60080);
-       l41 = Words.get64(b, ((int) l10) - 60088);
-       Words.put64(b, ((int) l10) - 60224, l38 = Words.get64(b, ((int) l10) - 60048));
-       Words.put64(b, ((int) l10) - 60232, l37);
-       Words.put64(b, ((int) l10) - 60240, l39);
-       Words.put64(b, ((int) l10) - 60248, l40);
-       Words.put64(b, ((int) l10) - 60256, l6);
-       Words.put64(b, ((int) l10) - 60264, l41);
-       if (Core5.f162(m, l9, l10 + 456L) == 0) { break L13; }
-       b[((int) l10) - 60536] = (byte) l48;
-       b[((int) l10) - 60537] = (byte) l50;
-       Words.put32(b, ((int) l10) - 60541, l47);
-       b[((int) l10) - 60542] = (byte) l43;
-       b[((int) l10) - 60543] = (byte) l44;
-       b[((int) l10) - 60544] = (byte) l2;
-       l9 = l40;
-       l0 = l39;
-       L24: {
-        L25: {
-         L26: while (true) {
-          if (l0 == 0L) { break L25; }
-          l42 = (l4 = (int) b[((int) l9) - 60720]) & 255;
-          l11 = 1L;
-          L27: {
-           if (l4 > -1) { break L27; }
-           l3 = (b[((int) l9) - 60719] & 0xff) & 63;
-           L28: {
-            if (l4 + Integer.MIN_VALUE > 2147483615) { break L28; }
-            l42 = ((l42 << 6) & 1984) | l3;
-            l11 = 2L;
-            break L27;
-           }
-           l54 = (b[((int) l9) - 60718] & 0xff) & 63;
-           L29: {
-            if (l4 + Integer.MIN_VALUE > 2147483631) { break L29; }
-            l42 = ((l3 << 6) | ((l42 << 12) & 61440)) | l54;
-            l11 = 3L;
-            break L27;
-           }
-           l42 = ((l54 << 6) | ((l3 << 12) | ((l42 << 18) & 1835008))) | ((b[((int) l9) - 60717] & 0xff) & 63);
-           l11 = 4L;
-          }
-          if ((l42 + -48) + Integer.MIN_VALUE < -2147483638) { break L24; }
-          l0 = l0 - l11;
-          l9 = l9 + l11;
-          if ((l42 + -65296) + Integer.MIN_VALUE >= -2147483638) { continue L26; }
-          break L24;
-         }
-        }
-        Words.put64(b, ((int) l10) - 60328, l38);
-        Words.put64(b, ((int) l10) - 60336, l37);
-        Words.put64(b, ((int) l10) - 60344, l39);
-        Words.put64(b, ((int) l10) - 60352, l40);
-        Words.put64(b, ((int) l10) - 60368, l41);
-        Words.put64(b, ((int) l10) - 60360, l6);
-        m.fill((int) (l10 + 624L), 0, (int) 120L);
-        Core3.f103(m, l10 + 624L, l12, l1, l12 + l6, l1 - l6, l2, l44);
-        Words.put64(b, ((int) l10) - 60216, b[((int) l10) - 60096] & 0xffL);
-        Words.put64(b, ((int) l10) - 60208, b[((int) l10) - 60088] & 0xffL);
-        m.copy((int) l29, (int) l20, (int) 104L);
-        if (Core6.f187(m, l10 + 176L, l12, l1, l10 + 352L, l10 + 504L) == 0) { break L14; }
-       }
-       l9 = l39 + l6;
-       continue L23;
-      }
-     }
-     l42 = 1;
+    final int x30 = f267_1(m, l0, l1, l2, l3, l4, l6, l7, l8, l9, l10, l11, l12, l20, l29, l30, l31, l32, l33, l34, l35, l36, l37, l38, l39, l40, l41, l42, l43, l44, l47, l48, l50, l53, l54);
+    l0 = m.kept[0];
+    l3 = (int) m.kept[1];
+    l4 = (int) m.kept[2];
+    l6 = m.kept[3];
+    l9 = m.kept[4];
+    l11 = m.kept[5];
+    l31 = m.kept[6];
+    l32 = m.kept[7];
+    l33 = m.kept[8];
+    l34 = m.kept[9];
+    l35 = m.kept[10];
+    l36 = m.kept[11];
+    l37 = m.kept[12];
+    l38 = m.kept[13];
+    l39 = m.kept[14];
+    l40 = m.kept[15];
+    l41 = m.kept[16];
+    l42 = (int) m.kept[17];
+    l54 = (int) m.kept[18];
+    switch (x30) {
+    case 1: break L2;
     }
     Core2.f39(m, l10 + 152L, l36 + (l9 = ((l53 & 1) != 0) ? l30 : 0L), l35 - l9);
-    L30: {
-     L31: {
-      if ((l42 & 1) == 0) { break L31; }
+    L31: {
+     L32: {
+      if ((l42 & 1) == 0) { break L32; }
       Core2.f39(m, l10 + 152L, l34, l33);
-      break L30;
+      break L31;
      }
      b[((int) l10) - 60425] = (byte) l48;
      b[((int) l10) - 60426] = (byte) l50;
@@ -2535,10 +2585,10 @@ static int f267(State m, long l0, long l1, int l2, int l3, int l4, int l5, long 
      Words.put64(b, ((int) l10) - 60128, l0);
      Words.put64(b, ((int) l21) - 60712, Words.get64(b, ((int) l10) - 60488));
      Words.put64(b, ((int) l21) - 60720, Words.get64(b, ((int) l10) - 60496));
-     L32: {
-      if (Core6.f187(m, l10 + 287L, l12, l1, l10 + 176L, l10 + 504L) == 0) { break L32; }
-      if ((l4 & 255) == 0) { break L32; }
-      final int x82 = f267_1(m, l0, l3, l4, l5, l6, l9, l10, l11, l13, l14, l15, l16, l17, l18, l19, l34, l35, l36, l37, l38, l39, l40, l41, l46, l48, l50, l51, l52, l53, l54, l55, l56);
+     L33: {
+      if (Core6.f187(m, l10 + 287L, l12, l1, l10 + 176L, l10 + 504L) == 0) { break L33; }
+      if ((l4 & 255) == 0) { break L33; }
+      final int x83 = f267_2(m, l0, l3, l4, l5, l6, l9, l10, l11, l13, l14, l15, l16, l17, l18, l19, l34, l35, l36, l37, l38, l39, l40, l41, l46, l48, l50, l51, l52, l53, l54, l55, l56);
       l0 = m.kept[0];
       l3 = (int) m.kept[1];
       l4 = (int) m.kept[2];
@@ -2555,9 +2605,9 @@ static int f267(State m, long l0, long l1, int l2, int l3, int l4, int l5, long 
       l54 = (int) m.kept[13];
       l55 = (int) m.kept[14];
       l56 = (int) m.kept[15];
-      switch (x82) {
-      case 1: break L32;
-      case 2: break L30;
+      switch (x83) {
+      case 1: break L33;
+      case 2: break L31;
       }
       b[((int) l10) - 60390] = (byte) l52;
       Words.put16(b, ((int) l10) - 60392, (short) l46);
@@ -2567,85 +2617,85 @@ static int f267(State m, long l0, long l1, int l2, int l3, int l4, int l5, long 
       Words.put64(b, ((int) l10) - 60248, l34);
       Words.put64(b, ((int) l10) - 60256, l35);
       Words.put64(b, ((int) l10) - 60264, l36);
-      if (Core5.f166(m, l43, l10 + 328L, l10 + 456L) == 0) { break L32; }
-      L83: {
-       if (Core5.f167(m, l34, l33) != 0) { break L83; }
+      if (Core5.f166(m, l43, l10 + 328L, l10 + 456L) == 0) { break L33; }
+      L84: {
+       if (Core5.f167(m, l34, l33) != 0) { break L84; }
        l4 = Core5.f168(m, l34, l33);
-       L84: {
-        if (l45 != 0) { break L84; }
-        if (l4 != 0) { break L32; }
+       L85: {
+        if (l45 != 0) { break L85; }
+        if (l4 != 0) { break L33; }
         l9 = l34;
         l0 = l33;
-        L85: {
-         L86: while (true) {
-          if (l0 == 0L) { break L85; }
+        L86: {
+         L87: while (true) {
+          if (l0 == 0L) { break L86; }
           l4 = (l3 = (int) b[((int) l9) - 60720]) & 255;
           l11 = 1L;
-          L87: {
-           if (l3 > -1) { break L87; }
+          L88: {
+           if (l3 > -1) { break L88; }
            l54 = (b[((int) l9) - 60719] & 0xff) & 63;
-           L88: {
-            if (l3 + Integer.MIN_VALUE > 2147483615) { break L88; }
+           L89: {
+            if (l3 + Integer.MIN_VALUE > 2147483615) { break L89; }
             l4 = ((l4 << 6) & 1984) | l54;
             l11 = 2L;
-            break L87;
+            break L88;
            }
            l53 = (b[((int) l9) - 60718] & 0xff) & 63;
-           L89: {
-            if (l3 + Integer.MIN_VALUE > 2147483631) { break L89; }
+           L90: {
+            if (l3 + Integer.MIN_VALUE > 2147483631) { break L90; }
             l4 = ((l54 << 6) | ((l4 << 12) & 61440)) | l53;
             l11 = 3L;
-            break L87;
+            break L88;
            }
            l4 = ((l53 << 6) | ((l54 << 12) | ((l4 << 18) & 1835008))) | ((b[((int) l9) - 60717] & 0xff) & 63);
            l11 = 4L;
           }
           l0 = l0 - l11;
           l9 = l9 + l11;
-          if (l4 != 21448) { continue L86; }
-          break L32;
+          if (l4 != 21448) { continue L87; }
+          break L33;
          }
         }
-        if ((Core6.f201(m, l10 + 152L, l43, l34, l33) & 1) != 0) { break L30; }
-        break L32;
+        if ((Core6.f201(m, l10 + 152L, l43, l34, l33) & 1) != 0) { break L31; }
+        break L33;
        }
-       L90: {
-        if (l4 == 0) { break L90; }
+       L91: {
+        if (l4 == 0) { break L91; }
         l9 = l34;
         l0 = l33;
-        L91: while (true) {
-         if (l0 == 0L) { break L32; }
+        L92: while (true) {
+         if (l0 == 0L) { break L33; }
          l4 = (l3 = (int) b[((int) l9) - 60720]) & 255;
          l11 = 1L;
-         L92: {
-          if (l3 > -1) { break L92; }
+         L93: {
+          if (l3 > -1) { break L93; }
           l54 = (b[((int) l9) - 60719] & 0xff) & 63;
-          L93: {
-           if (l3 + Integer.MIN_VALUE > 2147483615) { break L93; }
+          L94: {
+           if (l3 + Integer.MIN_VALUE > 2147483615) { break L94; }
            l4 = ((l4 << 6) & 1984) | l54;
            l11 = 2L;
-           break L92;
+           break L93;
           }
           l53 = (b[((int) l9) - 60718] & 0xff) & 63;
-          L94: {
-           if (l3 + Integer.MIN_VALUE > 2147483631) { break L94; }
+          L95: {
+           if (l3 + Integer.MIN_VALUE > 2147483631) { break L95; }
            l4 = ((l54 << 6) | ((l4 << 12) & 61440)) | l53;
            l11 = 3L;
-           break L92;
+           break L93;
           }
           l4 = ((l53 << 6) | ((l54 << 12) | ((l4 << 18) & 1835008))) | ((b[((int) l9) - 60717] & 0xff) & 63);
           l11 = 4L;
          }
          Core2.f48(m, l10 + 144L, l4);
-         L95: {
-          if ((b[((int) l10) - 60576] & 0xff) != 1) { break L95; }
-          if (((b[((int) l10) - 60575] & 0xff) & 255) != 0) { break L90; }
+         L96: {
+          if ((b[((int) l10) - 60576] & 0xff) != 1) { break L96; }
+          if (((b[((int) l10) - 60575] & 0xff) & 255) != 0) { break L91; }
          }
-         if (l4 == 38646) { break L90; }
+         if (l4 == 38646) { break L91; }
          l9 = l9 + l11;
          l0 = l0 - l11;
-         if (l4 != 12295) { continue L91; }
-         break L91;
+         if (l4 != 12295) { continue L92; }
+         break L92;
         }
        }
        Words.put64(b, ((int) l10) - 60040, 0L);
@@ -2663,34 +2713,34 @@ static int f267(State m, long l0, long l1, int l2, int l3, int l4, int l5, long 
        Words.put64(b, ((int) l10) - 60344, Words.get64(b, ((int) l20) - 60696));
        Words.put64(b, ((int) l10) - 60336, Words.get64(b, ((int) l20) - 60688));
        Words.put64(b, ((int) l10) - 60328, Words.get64(b, ((int) l20) - 60680));
-       if ((b[((int) l10) - 60096] & 0xff) != 0) { break L32; }
+       if ((b[((int) l10) - 60096] & 0xff) != 0) { break L33; }
        m.fill((int) (l10 + 624L), 0, (int) 80L);
        Core2.f38(m, l10 + 128L, l10 + 624L, l10 + 352L);
        Core2.f39(m, l10 + 152L, Words.get64(b, ((int) l10) - 60592), Words.get64(b, ((int) l10) - 60584));
-       break L30;
+       break L31;
       }
-      if ((l49 & 1) == 0) { break L32; }
-      if (l33 == 0L) { break L30; }
+      if ((l49 & 1) == 0) { break L33; }
+      if (l33 == 0L) { break L31; }
       l54 = 0;
       l11 = l33;
-      L96: while (true) {
+      L97: while (true) {
        l4 = (l3 = (int) b[((int) l34) - 60720]) & 255;
        l9 = 1L;
-       L97: {
-        if (l3 > -1) { break L97; }
+       L98: {
+        if (l3 > -1) { break L98; }
         l53 = (b[((int) l34) - 60719] & 0xff) & 63;
-        L98: {
-         if (l3 + Integer.MIN_VALUE > 2147483615) { break L98; }
+        L99: {
+         if (l3 + Integer.MIN_VALUE > 2147483615) { break L99; }
          l4 = ((l4 << 6) & 1984) | l53;
          l9 = 2L;
-         break L97;
+         break L98;
         }
         l55 = (b[((int) l34) - 60718] & 0xff) & 63;
-        L99: {
-         if (l3 + Integer.MIN_VALUE > 2147483631) { break L99; }
+        L100: {
+         if (l3 + Integer.MIN_VALUE > 2147483631) { break L100; }
          l4 = ((l53 << 6) | ((l4 << 12) & 61440)) | l55;
          l9 = 3L;
-         break L97;
+         break L98;
         }
         l4 = ((l55 << 6) | ((l53 << 12) | ((l4 << 18) & 1835008))) | ((b[((int) l34) - 60717] & 0xff) & 63);
         l9 = 4L;
@@ -2698,27 +2748,27 @@ static int f267(State m, long l0, long l1, int l2, int l3, int l4, int l5, long 
        l11 = l11 - l9;
        l34 = l34 + l9;
        l3 = 0;
-       L100: {
-        if ((l54 & 1) != 0) { break L100; }
-        L101: {
-         if (l4 == 65296) { break L101; }
-         if (l4 != 48) { break L100; }
-        }
-        if (l11 == 0L) { break L100; }
-        l3 = (l53 = (int) b[((int) l34) - 60720]) & 255;
+       L101: {
+        if ((l54 & 1) != 0) { break L101; }
         L102: {
-         if (l53 > -1) { break L102; }
+         if (l4 == 65296) { break L102; }
+         if (l4 != 48) { break L101; }
+        }
+        if (l11 == 0L) { break L101; }
+        l3 = (l53 = (int) b[((int) l34) - 60720]) & 255;
+        L103: {
+         if (l53 > -1) { break L103; }
          l55 = (b[((int) l34) - 60719] & 0xff) & 63;
-         L103: {
-          if (l53 + Integer.MIN_VALUE > 2147483615) { break L103; }
+         L104: {
+          if (l53 + Integer.MIN_VALUE > 2147483615) { break L104; }
           l3 = ((l3 << 6) & 1984) | l55;
-          break L102;
+          break L103;
          }
          l56 = (b[((int) l34) - 60718] & 0xff) & 63;
-         L104: {
-          if (l53 + Integer.MIN_VALUE > 2147483631) { break L104; }
+         L105: {
+          if (l53 + Integer.MIN_VALUE > 2147483631) { break L105; }
           l3 = ((l55 << 6) | ((l3 << 12) & 61440)) | l56;
-          break L102;
+          break L103;
          }
          l3 = ((l56 << 6) | ((l55 << 12) | ((l3 << 18) & 1835008))) | ((b[((int) l34) - 60717] & 0xff) & 63);
         }
@@ -2726,16 +2776,16 @@ static int f267(State m, long l0, long l1, int l2, int l3, int l4, int l5, long 
        }
        Core5.f171(m, l10 + 112L, l3, l4);
        Core2.f39(m, l10 + 152L, Words.get64(b, ((int) l10) - 60608), Words.get64(b, ((int) l10) - 60600));
-       L105: {
-        L106: {
-         if (((l54 | l3) & 1) == 0) { break L106; }
+       L106: {
+        L107: {
+         if (((l54 | l3) & 1) == 0) { break L107; }
          l54 = l54 & (l3 ^ 1);
-         break L105;
+         break L106;
         }
         l54 = (((l4 + -48) + Integer.MIN_VALUE < -2147483638) | ((l4 + -65296) + Integer.MIN_VALUE < -2147483638)) ? 1 : 0;
        }
-       if (!(l11 == 0L)) { continue L96; }
-       break L30;
+       if (!(l11 == 0L)) { continue L97; }
+       break L31;
       }
      }
      Core2.f39(m, l10 + 152L, l34, l33);
@@ -2746,8 +2796,8 @@ static int f267(State m, long l0, long l1, int l2, int l3, int l4, int l5, long 
    }
   }
   m.g0 = l10 + 752L;
-  final int t107 = l42;
-  return t107;
+  final int t108 = l42;
+  return t108;
  }
  throw State.trap();
 }
