@@ -22,7 +22,7 @@ NAME, MODULE = "chinese-number-proved", "chinesenumber"
 MOST_OF_METHOD = 8000
 # The compiler runs for a few seconds, in which compiling itself well does not pay off.
 BRIEF = ("-J-XX:TieredStopAtLevel=1", "-J-XX:+UseSerialGC")
-DOCUMENTED = ("-quiet", "-notimestamp", "-Xdoclint:all,-missing", "-Xwerror", "-encoding", "UTF-8")
+DOCUMENTED = ("-quiet", "-notimestamp", "-Xdoclint:all,-missing", "-encoding", "UTF-8")
 DATE = (1980, 1, 1, 0, 0, 0)
 MANIFEST = """\
 Manifest-Version: 1.0
@@ -67,7 +67,8 @@ class ClassFile:
         self.data, self.at, self.names = data, 8, {}
         self.read_pool()
         self.at += 6
-        self.at += 2 * self.number(2)
+        interfaces = self.number(2)
+        self.at += 2 * interfaces
         self.methods(is_code=False)
         self.sizes = self.methods(is_code=True)
 

@@ -23,9 +23,8 @@ abstract class State {
     final long[] kept = new long[25];
 
     State(int length) {
-        byte[] constants = Base64.getDecoder().decode(CONSTANTS);
         bytes = new byte[length];
-        System.arraycopy(constants, 0, bytes, FIRST - BASE, constants.length);
+        System.arraycopy(CONSTANTS, 0, bytes, FIRST - BASE, CONSTANTS.length);
     }
 
     static IllegalStateException trap() {
@@ -54,7 +53,7 @@ abstract class State {
         }
     }
 
-    private static final String CONSTANTS =
+    private static final byte[] CONSTANTS = Base64.getDecoder().decode(
         "lnMAAAEBCQAhcQAAAAAAACFxAAAAAAAAIXEAAAAAAAAhcQAAAAAAACyEAAABBQAAhoAAAAEBBAAhcQAAAAAAACFxAAAA"
             + "AAAAIXEAAAAAAAAhcQAAAAAAACFxAAAAAAAAIXEAAAAAAADfTgAAAQQAABFsAAABDAAABFEAAAEGAAAhcQAAAAAAAEaW"
             + "AAABAQYA0okAAAEIAAAhcQAAAAAAACFxAAAAAAAAQ1EAAAEHAABwTwAAAQMAACFxAAAAAAAAuk4AAAELAAAhcQAAAAAA"
@@ -389,5 +388,5 @@ abstract class State {
             + "APBEAQAAAAAA6kQBAAAAAAD2RAEAAAAAAAJFAQAAAAAADkUBAAAAAAAWRQEAAAAAAB5FAQAAAAAAKEUBAAAAAAAwRQEA"
             + "AAAAADpFAQAAAAAAPkUBAAAAAABCRQEAAAAAAE5FAQAAAAAAWEUBAAAAAABiRQEAAAAAAGxFAQAAAAAAckUBAAAAAAB6"
             + "RQEAAAAAAIhFAQAAAAAAkkUBAAAAAACYRQEAAAAAAKRFAQAAAAAArEUBAAAAAAC0RQEAAAAAALhFAQAAAAAAvkUBAAAA"
-            + "AADIRQEAAAAAANJFAQAAAAAA3EUBAAAAAAA=";
+            + "AADIRQEAAAAAANJFAQAAAAAA3EUBAAAAAAA=");
 }
