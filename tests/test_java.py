@@ -217,7 +217,7 @@ def binaries_of(folder, count):
 
 
 # For random modules, so that their functions have parts and are in several classes.
-SMALL = {"MOST_OF_METHOD": 400, "LEAST_OF_PART": 40, "MOST_OF_CLASS": 2000}
+SMALL = {"MOST_OF_METHOD": 400, "MOST_OF_PART": 400, "LEAST_OF_PART": 40, "MOST_OF_CLASS": 2000}
 
 
 def translator(old="", new=""):

@@ -26,9 +26,9 @@ HEAD = """\
 package chinesenumber;
 
 """
-# About how many bytes of Java's code a method may have, and a block that becomes a part; how many bytes
-# of the module go into a class.
-MOST_OF_METHOD, LEAST_OF_PART, MOST_OF_CLASS = 5000, 300, 56000
+# About how many bytes of Java's code a method may have, and a block that becomes a part, of which a third
+# and two thirds more were seen; how many bytes of the module go into a class.
+MOST_OF_METHOD, MOST_OF_PART, LEAST_OF_PART, MOST_OF_CLASS = 5000, 4000, 300, 56000
 # About how many bytes of Java's code an instruction becomes, where that is not 3.
 COSTS = {
     "local.get": 2, "local.set": 2, "local.tee": 4, "i32.wrap_i64": 1, "block": 0, "loop": 0, "br_if": 5,
@@ -450,7 +450,7 @@ class Core:
             for node in nodes:
                 if node.body is None:
                     continue
-                if LEAST_OF_PART <= cost(node) <= MOST_OF_METHOD:
+                if LEAST_OF_PART <= cost(node) <= MOST_OF_PART:
                     yield node
                 else:
                     yield from blocks(node.body)
