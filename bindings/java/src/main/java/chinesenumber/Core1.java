@@ -5347,1467 +5347,1388 @@ static void f25(State m, long l0, long l1, long l2, long l3) {
  throw State.trap();
 }
 
-static int f26_1(State m, long l9, long l10, long l11, long l12, long l13, long l14, long l15, int l16, int l17, int l18, int l19, int l20, int l21, int l22, int l23, int l24, int l25) {
+static int f26_1(State m, long l11, long l12, long l13, long l14, long l15, int l16, int l17, int l18, int l19, int l20, int l21, int l22, int l23, int l24, int l25) {
  final byte[] b = m.bytes;
  int exit = 0;
  PART: {
-  L40: {
-   L41: {
-    L42: {
-     L43: {
-      L44: {
-       L45: {
-        L46: {
-         L47: {
-          L48: {
-           L49: {
-            L50: {
-             L51: {
-              L52: {
-               L53: {
-                L54: {
-                 L55: {
-                  switch (l16) {
-                  case 1: break L54;
-                  case 2: exit = 1; break PART;
-                  default: break L55;
-                  }
-                 }
-                 if (Words.get32(b, State.far((int) (l14 = (((l17 * 3227) >>> 7) & 0xffffffffL) & 504L), 65536)) != l17) { exit = 2; break PART; }
-                 if (((b[((int) (l14 + 65540L)) - 60720] & 0xff) & 255) != 1) { exit = 2; break PART; }
-                 l15 = b[((int) (l14 + 65542L)) - 60720] & 0xffL;
-                 l21 = b[((int) (l14 + 65541L)) - 60720] & 0xff;
-                 L56: {
-                  L57: {
-                   L58: {
-                    L59: {
-                     L60: {
-                      L61: {
-                       L62: {
-                        L63: {
-                         L64: {
-                          L65: {
-                           L66: {
-                            L67: {
-                             L68: {
-                              L69: {
-                               L70: {
-                                L71: {
-                                 L72: {
-                                  L73: {
-                                   L74: {
-                                    L75: {
-                                     L76: {
-                                      L77: {
-                                       L78: {
-                                        L79: {
-                                         L80: {
-                                          L81: {
-                                           L82: {
-                                            L83: {
-                                             switch (l20) {
-                                             case 1: break L72;
-                                             case 2: break L71;
-                                             case 3: break L70;
-                                             case 4: break L69;
-                                             case 5: break L83;
-                                             case 6: break L82;
-                                             case 7: break L81;
-                                             case 8: break L80;
-                                             case 9: break L79;
-                                             case 10: break L78;
-                                             case 11: break L77;
-                                             case 12: break L76;
-                                             case 13: break L68;
-                                             case 14: break L66;
-                                             case 15: break L64;
-                                             case 16: break L58;
-                                             case 17: break L67;
-                                             case 18: break L56;
-                                             case 19: exit = 2; break PART;
-                                             default: break L73;
-                                             }
-                                            }
-                                            L84: {
-                                             if (((1 << l21) & 261375) != 0) { break L84; }
-                                             if (l21 == 8) { break L57; }
-                                             exit = 3; break PART;
-                                            }
-                                            L85: {
-                                             if ((l21 + -5) + Integer.MIN_VALUE < -2147483635) { break L85; }
-                                             l22 = 0;
-                                             switch (l21) {
-                                             case 2: break L62;
-                                             case 3: break L60;
-                                             case 4: exit = 4; break PART;
-                                             default: break L85;
-                                             }
-                                            }
-                                            l22 = 0;
-                                            l20 = 6;
-                                            switch (l21) {
-                                            case 5: exit = 5; break PART;
-                                            case 6: break L75;
-                                            case 7: exit = 6; break PART;
-                                            default: exit = 2; break PART;
-                                            }
-                                           }
-                                           L86: {
-                                            if ((l21 + -6) + Integer.MIN_VALUE < -2147483636) { break L86; }
-                                            l23 = 3;
-                                            l24 = 10;
-                                            l25 = l21;
-                                            switch (l21) {
-                                            case 1: break L65;
-                                            case 2: case 3: case 4: break L86;
-                                            case 5: exit = 2; break PART;
-                                            default: exit = 7; break PART;
-                                            }
-                                           }
-                                           l22 = 1;
-                                           if (((1 << l21) & 261948) != 0) { exit = 2; break PART; }
-                                           if (l21 != 6) { exit = 6; break PART; }
-                                           break L75;
-                                          }
-                                          L87: {
-                                           if ((l21 + -6) + Integer.MIN_VALUE < -2147483636) { break L87; }
-                                           l23 = 3;
-                                           l25 = 4;
-                                           l24 = 10;
-                                           L88: {
-                                            switch (l21) {
-                                            case 1: break L65;
-                                            case 2: case 3: case 4: break L87;
-                                            case 5: exit = 2; break PART;
-                                            default: break L88;
-                                            }
-                                           }
-                                           l18 = 3;
-                                           l22 = (l19 & 1) ^ 3;
-                                           exit = 8; break PART;
-                                          }
-                                          l22 = 1;
-                                          l20 = 8;
-                                          if (((1 << l21) & 261980) != 0) { exit = 2; break PART; }
-                                          if (l21 != 5) { exit = 6; break PART; }
-                                          exit = 5; break PART;
-                                         }
-                                         l22 = 1;
-                                         l23 = 3;
-                                         l25 = 5;
-                                         l24 = 10;
-                                         L89: {
-                                          switch (l21) {
-                                          case 1: break L65;
-                                          case 2: case 3: case 4: case 5: case 6: case 8: case 9: case 10: case 11: case 12: case 13: case 14: case 15: case 16: case 17: exit = 2; break PART;
-                                          case 7: exit = 6; break PART;
-                                          default: break L89;
-                                          }
-                                         }
-                                         l18 = (l19 & 1) | 2;
-                                         l22 = 5;
-                                         exit = 8; break PART;
-                                        }
-                                        if (l21 != 1) { exit = 2; break PART; }
-                                        l24 = 11;
-                                        l25 = l19;
-                                        l23 = l18;
-                                        break L65;
-                                       }
-                                       L90: {
-                                        switch (l18) {
-                                        case 1: break L63;
-                                        case 2: break L61;
-                                        case 3: exit = 9; break PART;
-                                        default: break L90;
-                                        }
-                                       }
-                                       L91: {
-                                        L92: {
-                                         L93: {
-                                          L94: {
-                                           L95: {
-                                            switch (l19) {
-                                            case 1: break L92;
-                                            case 2: case 3: break L94;
-                                            case 4: break L93;
-                                            case 5: break L91;
-                                            default: break L95;
-                                            }
-                                           }
-                                           l22 = 0;
-                                           l20 = 6;
-                                           switch (l21) {
-                                           case 5: exit = 5; break PART;
-                                           case 6: break L75;
-                                           case 7: exit = 6; break PART;
-                                           default: exit = 2; break PART;
-                                           }
-                                          }
-                                          l22 = 0;
-                                          l20 = 8;
-                                          if (((1 << l21) & 261983) != 0) { exit = 2; break PART; }
-                                          if (l21 != 5) { exit = 6; break PART; }
-                                          exit = 5; break PART;
-                                         }
-                                         if (l21 != 5) { exit = 2; break PART; }
-                                         exit = 10; break PART;
-                                        }
-                                        l22 = 0;
-                                        if (((1 << l21) & 261951) != 0) { exit = 2; break PART; }
-                                        if (l21 != 6) { exit = 6; break PART; }
-                                        break L75;
-                                       }
-                                       if (l21 != 7) { exit = 2; break PART; }
-                                       l22 = 0;
-                                       exit = 6; break PART;
-                                      }
-                                      L96: {
-                                       L97: {
-                                        L98: {
-                                         L99: {
-                                          switch (l18) {
-                                          case 1: break L97;
-                                          case 2: break L98;
-                                          case 3: break L99;
-                                          default: break L96;
-                                          }
-                                         }
-                                         L100: {
-                                          if ((l21 + -5) + Integer.MIN_VALUE < -2147483635) { break L100; }
-                                          l22 = l19;
-                                          switch (l21) {
-                                          case 2: break L62;
-                                          case 3: break L60;
-                                          case 4: break L59;
-                                          default: break L100;
-                                          }
-                                         }
-                                         L101: {
-                                          L102: {
-                                           L103: {
-                                            L104: {
-                                             L105: {
-                                              switch (l19) {
-                                              case 1: break L102;
-                                              case 2: case 3: break L104;
-                                              case 4: break L103;
-                                              case 5: break L101;
-                                              default: break L105;
-                                              }
-                                             }
-                                             l22 = 0;
-                                             l20 = 6;
-                                             switch (l21) {
-                                             case 5: exit = 5; break PART;
-                                             case 6: break L75;
-                                             case 7: exit = 6; break PART;
-                                             default: exit = 2; break PART;
-                                             }
-                                            }
-                                            l22 = 0;
-                                            l20 = 8;
-                                            if (((1 << l21) & 261983) != 0) { exit = 2; break PART; }
-                                            if (l21 != 5) { exit = 6; break PART; }
-                                            exit = 5; break PART;
-                                           }
-                                           if (l21 == 5) { exit = 10; break PART; }
-                                           exit = 2; break PART;
-                                          }
-                                          l22 = 0;
-                                          if (((1 << l21) & 261951) != 0) { exit = 2; break PART; }
-                                          if (l21 != 6) { exit = 6; break PART; }
-                                          break L75;
-                                         }
-                                         if (l21 != 7) { exit = 2; break PART; }
-                                         l22 = 0;
-                                         exit = 6; break PART;
-                                        }
-                                        L106: {
-                                         if ((l21 + -4) + Integer.MIN_VALUE < -2147483634) { break L106; }
-                                         l22 = l19;
-                                         switch (l21) {
-                                         case 2: break L62;
-                                         case 3: break L60;
-                                         default: break L106;
-                                         }
-                                        }
-                                        L107: {
-                                         L108: {
-                                          L109: {
-                                           L110: {
-                                            L111: {
-                                             switch (l19) {
-                                             case 1: break L108;
-                                             case 2: case 3: break L110;
-                                             case 4: break L109;
-                                             case 5: break L107;
-                                             default: break L111;
-                                             }
-                                            }
-                                            l22 = 0;
-                                            l20 = 6;
-                                            switch (l21) {
-                                            case 5: exit = 5; break PART;
-                                            case 6: break L75;
-                                            case 7: exit = 6; break PART;
-                                            default: exit = 2; break PART;
-                                            }
-                                           }
-                                           l22 = 0;
-                                           l20 = 8;
-                                           if (((1 << l21) & 261983) != 0) { exit = 2; break PART; }
-                                           if (l21 != 5) { exit = 6; break PART; }
-                                           exit = 5; break PART;
-                                          }
-                                          if (l21 == 5) { exit = 10; break PART; }
-                                          exit = 2; break PART;
-                                         }
-                                         l22 = 0;
-                                         if (((1 << l21) & 261951) != 0) { exit = 2; break PART; }
-                                         if (l21 != 6) { exit = 6; break PART; }
-                                         break L75;
-                                        }
-                                        if (l21 != 7) { exit = 2; break PART; }
-                                        l22 = 0;
-                                        exit = 6; break PART;
-                                       }
-                                       L112: {
-                                        if ((l21 + -5) + Integer.MIN_VALUE < -2147483635) { break L112; }
-                                        l22 = l19;
-                                        switch (l21) {
-                                        case 2: break L62;
-                                        case 3: case 4: exit = 2; break PART;
-                                        default: break L112;
-                                        }
-                                       }
-                                       L113: {
-                                        L114: {
-                                         L115: {
-                                          L116: {
-                                           L117: {
-                                            switch (l19) {
-                                            case 1: break L114;
-                                            case 2: case 3: break L116;
-                                            case 4: break L115;
-                                            case 5: break L113;
-                                            default: break L117;
-                                            }
-                                           }
-                                           l22 = 0;
-                                           l20 = 6;
-                                           switch (l21) {
-                                           case 5: exit = 5; break PART;
-                                           case 6: break L75;
-                                           case 7: exit = 6; break PART;
-                                           default: exit = 2; break PART;
-                                           }
-                                          }
-                                          l22 = 0;
-                                          l20 = 8;
-                                          if (((1 << l21) & 261983) != 0) { exit = 2; break PART; }
-                                          if (l21 != 5) { exit = 6; break PART; }
-                                          exit = 5; break PART;
-                                         }
-                                         if (l21 == 5) { exit = 10; break PART; }
-                                         exit = 2; break PART;
-                                        }
-                                        l22 = 0;
-                                        if (((1 << l21) & 261951) != 0) { exit = 2; break PART; }
-                                        if (l21 != 6) { exit = 6; break PART; }
-                                        break L75;
-                                       }
-                                       if (l21 != 7) { exit = 2; break PART; }
-                                       l22 = 0;
-                                       exit = 6; break PART;
-                                      }
-                                      L118: {
-                                       L119: {
-                                        L120: {
-                                         L121: {
-                                          L122: {
-                                           switch (l19) {
-                                           case 1: break L119;
-                                           case 2: case 3: break L121;
-                                           case 4: break L120;
-                                           case 5: break L118;
-                                           default: break L122;
-                                           }
-                                          }
-                                          l22 = 0;
-                                          l20 = 6;
-                                          switch (l21) {
-                                          case 5: exit = 5; break PART;
-                                          case 6: break L75;
-                                          case 7: exit = 6; break PART;
-                                          default: exit = 2; break PART;
-                                          }
-                                         }
-                                         l22 = 0;
-                                         l20 = 8;
-                                         if (((1 << l21) & 261983) != 0) { exit = 2; break PART; }
-                                         if (l21 != 5) { exit = 6; break PART; }
-                                         exit = 5; break PART;
-                                        }
-                                        if (l21 == 5) { exit = 10; break PART; }
-                                        exit = 2; break PART;
-                                       }
-                                       l22 = 0;
-                                       if (((1 << l21) & 261951) != 0) { exit = 2; break PART; }
-                                       if (l21 != 6) { exit = 6; break PART; }
-                                       break L75;
-                                      }
-                                      if (l21 != 7) { exit = 2; break PART; }
-                                      l22 = 0;
-                                      exit = 6; break PART;
-                                     }
-                                     L123: {
-                                      L124: {
-                                       L125: {
-                                        L126: {
-                                         switch (l18) {
-                                         case 1: break L124;
-                                         case 2: break L125;
-                                         case 3: break L126;
-                                         default: break L123;
-                                         }
-                                        }
-                                        L127: {
-                                         if ((l21 + -2) + Integer.MIN_VALUE < -2147483632) { break L127; }
-                                         l18 = 1;
-                                         l20 = 9;
-                                         l23 = 2;
-                                         l24 = 10;
-                                         l25 = l19;
-                                         l22 = l19;
-                                         switch (l21) {
-                                         case 1: break L65;
-                                         default: exit = 11; break PART;
-                                         }
-                                        }
-                                        L128: {
-                                         L129: {
-                                          L130: {
-                                           L131: {
-                                            L132: {
-                                             switch (l19) {
-                                             case 1: break L129;
-                                             case 2: case 3: break L131;
-                                             case 4: break L130;
-                                             case 5: break L128;
-                                             default: break L132;
-                                             }
-                                            }
-                                            l22 = 1;
-                                            l20 = 6;
-                                            switch (l21 + -2) {
-                                            case 3: exit = 5; break PART;
-                                            case 4: break L75;
-                                            case 5: exit = 6; break PART;
-                                            default: exit = 2; break PART;
-                                            }
-                                           }
-                                           l22 = 1;
-                                           l20 = 8;
-                                           if (((1 << l21) & 261980) != 0) { exit = 2; break PART; }
-                                           if (l21 != 5) { exit = 6; break PART; }
-                                           exit = 5; break PART;
-                                          }
-                                          if (l21 != 5) { exit = 2; break PART; }
-                                          exit = 12; break PART;
-                                         }
-                                         l22 = 1;
-                                         if (((1 << l21) & 261948) != 0) { exit = 2; break PART; }
-                                         if (l21 != 6) { exit = 6; break PART; }
-                                         break L75;
-                                        }
-                                        if (l21 != 7) { exit = 2; break PART; }
-                                        l22 = 1;
-                                        exit = 6; break PART;
-                                       }
-                                       L133: {
-                                        if ((l21 + -2) + Integer.MIN_VALUE < -2147483632) { break L133; }
-                                        l20 = 9;
-                                        l24 = 10;
-                                        l25 = l19;
-                                        l23 = l21;
-                                        l22 = l19;
-                                        l18 = l21;
-                                        switch (l21) {
-                                        case 1: break L65;
-                                        default: exit = 11; break PART;
-                                        }
-                                       }
-                                       L134: {
-                                        L135: {
-                                         L136: {
-                                          L137: {
-                                           L138: {
-                                            switch (l19) {
-                                            case 1: break L135;
-                                            case 2: case 3: break L137;
-                                            case 4: break L136;
-                                            case 5: break L134;
-                                            default: break L138;
-                                            }
-                                           }
-                                           l22 = 1;
-                                           l20 = 6;
-                                           switch (l21 + -2) {
-                                           case 3: exit = 5; break PART;
-                                           case 4: break L75;
-                                           case 5: exit = 6; break PART;
-                                           default: exit = 2; break PART;
-                                           }
-                                          }
-                                          l22 = 1;
-                                          l20 = 8;
-                                          if (((1 << l21) & 261980) != 0) { exit = 2; break PART; }
-                                          if (l21 != 5) { exit = 6; break PART; }
-                                          exit = 5; break PART;
-                                         }
-                                         if (l21 == 5) { exit = 12; break PART; }
-                                         exit = 2; break PART;
-                                        }
-                                        l22 = 1;
-                                        if (((1 << l21) & 261948) != 0) { exit = 2; break PART; }
-                                        if (l21 != 6) { exit = 6; break PART; }
-                                        break L75;
-                                       }
-                                       if (l21 != 7) { exit = 2; break PART; }
-                                       l22 = 1;
-                                       exit = 6; break PART;
-                                      }
-                                      L139: {
-                                       if ((l21 + -2) + Integer.MIN_VALUE < -2147483632) { break L139; }
-                                       l23 = 0;
-                                       l24 = 10;
-                                       l25 = l19;
-                                       switch (l21) {
-                                       case 1: break L65;
-                                       default: exit = 2; break PART;
-                                       }
-                                      }
-                                      L140: {
-                                       L141: {
-                                        L142: {
-                                         L143: {
-                                          L144: {
-                                           switch (l19) {
-                                           case 1: break L141;
-                                           case 2: case 3: break L143;
-                                           case 4: break L142;
-                                           case 5: break L140;
-                                           default: break L144;
-                                           }
-                                          }
-                                          l22 = 1;
-                                          l20 = 6;
-                                          switch (l21 + -2) {
-                                          case 3: exit = 5; break PART;
-                                          case 4: break L75;
-                                          case 5: exit = 6; break PART;
-                                          default: exit = 2; break PART;
-                                          }
-                                         }
-                                         l22 = 1;
-                                         l20 = 8;
-                                         if (((1 << l21) & 261980) != 0) { exit = 2; break PART; }
-                                         if (l21 != 5) { exit = 6; break PART; }
-                                         exit = 5; break PART;
-                                        }
-                                        if (l21 == 5) { exit = 12; break PART; }
-                                        exit = 2; break PART;
-                                       }
-                                       l22 = 1;
-                                       if (((1 << l21) & 261948) != 0) { exit = 2; break PART; }
-                                       if (l21 == 6) { break L75; }
-                                       exit = 6; break PART;
-                                      }
-                                      if (l21 != 7) { exit = 2; break PART; }
-                                      l22 = 1;
-                                      exit = 6; break PART;
-                                     }
-                                     L145: {
-                                      L146: {
-                                       L147: {
-                                        L148: {
-                                         switch (l19) {
-                                         case 1: break L145;
-                                         case 2: case 3: break L147;
-                                         case 4: break L146;
-                                         case 5: break L74;
-                                         default: break L148;
-                                         }
-                                        }
-                                        l22 = 1;
-                                        l20 = 6;
-                                        switch (l21) {
-                                        case 5: exit = 5; break PART;
-                                        case 6: break L75;
-                                        case 7: exit = 6; break PART;
-                                        default: exit = 2; break PART;
-                                        }
-                                       }
-                                       l22 = 1;
-                                       l20 = 8;
-                                       if (((1 << l21) & 261983) != 0) { exit = 2; break PART; }
-                                       if (l21 != 5) { exit = 6; break PART; }
-                                       exit = 5; break PART;
-                                      }
-                                      if (l21 == 5) { exit = 12; break PART; }
-                                      exit = 2; break PART;
-                                     }
-                                     l22 = 1;
-                                     if (((1 << l21) & 261951) != 0) { exit = 2; break PART; }
-                                     if (l21 != 6) { exit = 6; break PART; }
-                                    }
-                                    l13 = ((l11 + l13) + l12) * 100000000L;
-                                    exit = 13; break PART;
-                                   }
-                                   if (l21 != 7) { exit = 2; break PART; }
-                                   l22 = 1;
-                                   exit = 6; break PART;
-                                  }
-                                  l24 = 5;
-                                  l25 = 0;
-                                  l20 = 1;
-                                  l23 = 0;
-                                  l22 = 0;
-                                  l18 = 0;
-                                  switch (l21) {
-                                  case 1: break L65;
-                                  case 2: case 3: case 4: case 5: case 6: case 7: case 8: case 9: case 10: case 12: case 13: case 14: case 15: case 16: case 17: exit = 2; break PART;
-                                  case 11: exit = 11; break PART;
-                                  default: break L49;
-                                  }
-                                 }
-                                 if (l21 != 12) { exit = 2; break PART; }
-                                 exit = 14; break PART;
-                                }
-                                if (l21 != 13) { exit = 2; break PART; }
-                                exit = 15; break PART;
-                               }
-                               if ((l21 + -2) + Integer.MIN_VALUE < -2147483632) { exit = 2; break PART; }
-                               l25 = 0;
-                               l24 = 5;
-                               l23 = 0;
-                               switch (l21) {
-                               case 1: break L65;
-                               default: break L49;
+  L54: {
+   L55: {
+    switch (l16) {
+    case 1: break L54;
+    case 2: exit = 1; break PART;
+    default: break L55;
+    }
+   }
+   if (Words.get32(b, State.far((int) (l14 = (((l17 * 3227) >>> 7) & 0xffffffffL) & 504L), 65536)) != l17) { exit = 2; break PART; }
+   if (((b[((int) (l14 + 65540L)) - 60720] & 0xff) & 255) != 1) { exit = 2; break PART; }
+   l15 = b[((int) (l14 + 65542L)) - 60720] & 0xffL;
+   l21 = b[((int) (l14 + 65541L)) - 60720] & 0xff;
+   L56: {
+    L57: {
+     L58: {
+      L59: {
+       L60: {
+        L61: {
+         L62: {
+          L63: {
+           L64: {
+            L65: {
+             L66: {
+              L67: {
+               L68: {
+                L69: {
+                 L70: {
+                  L71: {
+                   L72: {
+                    L73: {
+                     L74: {
+                      L75: {
+                       L76: {
+                        L77: {
+                         L78: {
+                          L79: {
+                           L80: {
+                            L81: {
+                             L82: {
+                              L83: {
+                               switch (l20) {
+                               case 1: break L72;
+                               case 2: break L71;
+                               case 3: break L70;
+                               case 4: break L69;
+                               case 5: break L83;
+                               case 6: break L82;
+                               case 7: break L81;
+                               case 8: break L80;
+                               case 9: break L79;
+                               case 10: break L78;
+                               case 11: break L77;
+                               case 12: break L76;
+                               case 13: break L68;
+                               case 14: break L66;
+                               case 15: break L64;
+                               case 16: break L58;
+                               case 17: break L67;
+                               case 18: break L56;
+                               case 19: exit = 2; break PART;
+                               default: break L73;
                                }
                               }
-                              if (l21 != 7) { exit = 2; break PART; }
-                              l22 = 1;
-                              exit = 6; break PART;
+                              L84: {
+                               if (((1 << l21) & 261375) != 0) { break L84; }
+                               if (l21 == 8) { break L57; }
+                               exit = 3; break PART;
+                              }
+                              L85: {
+                               if ((l21 + -5) + Integer.MIN_VALUE < -2147483635) { break L85; }
+                               l22 = 0;
+                               switch (l21) {
+                               case 2: break L62;
+                               case 3: break L60;
+                               case 4: exit = 4; break PART;
+                               default: break L85;
+                               }
+                              }
+                              l22 = 0;
+                              l20 = 6;
+                              switch (l21) {
+                              case 5: exit = 5; break PART;
+                              case 6: break L75;
+                              case 7: exit = 6; break PART;
+                              default: exit = 2; break PART;
+                              }
                              }
-                             l24 = 16;
-                             l25 = 0;
-                             l20 = 19;
-                             l23 = 0;
-                             l22 = 0;
-                             l18 = 0;
-                             L149: {
+                             L86: {
+                              if ((l21 + -6) + Integer.MIN_VALUE < -2147483636) { break L86; }
+                              l23 = 3;
+                              l24 = 10;
+                              l25 = l21;
                               switch (l21) {
                               case 1: break L65;
-                              case 2: case 3: case 4: case 5: case 6: case 7: case 8: case 9: case 11: case 12: case 13: case 14: case 15: case 16: case 17: exit = 2; break PART;
-                              case 10: exit = 11; break PART;
-                              default: break L149;
+                              case 2: case 3: case 4: break L86;
+                              case 5: exit = 2; break PART;
+                              default: exit = 7; break PART;
                               }
-                             }
-                             l22 = l19 & 1;
-                             exit = 16; break PART;
-                            }
-                            l24 = 18;
-                            l25 = 0;
-                            l20 = 19;
-                            if (((1 << l21) & 261117) != 0) { exit = 2; break PART; }
-                            l23 = 0;
-                            if (l21 == 1) { break L65; }
-                            break L53;
-                           }
-                           if (l21 != 1) { exit = 2; break PART; }
-                           l25 = l19 & 1;
-                           l23 = 0;
-                           l24 = 15;
-                          }
-                          l11 = l15;
-                          l20 = l24;
-                          l22 = l25;
-                          l18 = l23;
-                          exit = 11; break PART;
-                         }
-                         if ((l19 & 1) == 0) { break L56; }
-                         if (((1 << l21) & 261375) != 0) { exit = 2; break PART; }
-                         if (l21 == 8) { break L57; }
-                         exit = 3; break PART;
-                        }
-                        l22 = l19;
-                        if (l21 != 2) { exit = 2; break PART; }
-                       }
-                       l12 = (l11 * 10L) + l12;
-                       exit = 17; break PART;
-                      }
-                      l22 = l19;
-                      if (l21 != 3) { exit = 2; break PART; }
-                     }
-                     l12 = (l11 * 100L) + l12;
-                     l18 = 2;
-                     exit = 18; break PART;
-                    }
-                    l22 = (l19 == 3) ? 5 : l19;
-                    exit = 4; break PART;
-                   }
-                   if (l21 != 8) { exit = 2; break PART; }
-                  }
-                  l13 = (l11 * 10L) + l13;
-                  exit = 19; break PART;
-                 }
-                 if (l21 != 9) { exit = 2; break PART; }
-                 exit = 3; break PART;
-                }
-                if (l9 == 0L) { exit = 2; break PART; }
-                L150: {
-                 L151: {
-                  if ((l22 = (int) b[((int) l10) - 60720]) <= -1) { break L151; }
-                  l15 = 1L;
-                  break L150;
-                 }
-                 L152: {
-                  if (l22 + Integer.MIN_VALUE >= 2147483616) { break L152; }
-                  l15 = 2L;
-                  break L150;
-                 }
-                 l15 = (l22 + Integer.MIN_VALUE < 2147483632) ? 3L : 4L;
-                }
-                if (Words.get32(b, State.far((int) (l14 = (((l17 * 3227) >>> 7) & 0xffffffffL) & 504L), 65536)) != l17) { exit = 2; break PART; }
-                if (((b[((int) (l14 + 65540L)) - 60720] & 0xff) & 255) != 1) { exit = 2; break PART; }
-                l9 = l9 - l15;
-                l10 = l10 + l15;
-                l15 = b[((int) (l14 + 65542L)) - 60720] & 0xffL;
-                l21 = b[((int) (l14 + 65541L)) - 60720] & 0xff;
-                L153: {
-                 L154: {
-                  L155: {
-                   L156: {
-                    L157: {
-                     L158: {
-                      L159: {
-                       L160: {
-                        L161: {
-                         L162: {
-                          L163: {
-                           L164: {
-                            L165: {
-                             L166: {
-                              L167: {
-                               L168: {
-                                L169: {
-                                 switch (l20) {
-                                 case 1: break L158;
-                                 case 2: break L157;
-                                 case 3: break L156;
-                                 case 4: break L155;
-                                 case 5: break L169;
-                                 case 6: break L168;
-                                 case 7: break L167;
-                                 case 8: break L166;
-                                 case 9: break L165;
-                                 case 10: break L164;
-                                 case 11: break L163;
-                                 case 12: break L162;
-                                 case 13: break L154;
-                                 case 14: break L52;
-                                 case 15: break L50;
-                                 case 16: break L42;
-                                 case 17: break L153;
-                                 case 18: break L40;
-                                 case 19: exit = 2; break PART;
-                                 default: break L159;
-                                 }
-                                }
-                                L170: {
-                                 if (((1 << l21) & 261375) != 0) { break L170; }
-                                 if (l21 != 8) { exit = 3; break PART; }
-                                 break L41;
-                                }
-                                L171: {
-                                 if ((l21 + -5) + Integer.MIN_VALUE < -2147483635) { break L171; }
-                                 l22 = 0;
-                                 switch (l21) {
-                                 case 2: break L47;
-                                 case 3: break L45;
-                                 case 4: break L43;
-                                 default: break L171;
-                                 }
-                                }
-                                l20 = 6;
-                                l22 = 0;
-                                switch (l21) {
-                                case 5: exit = 20; break PART;
-                                case 6: break L161;
-                                case 7: exit = 21; break PART;
-                                default: exit = 2; break PART;
-                                }
-                               }
-                               L172: {
-                                if ((l21 + -6) + Integer.MIN_VALUE < -2147483636) { break L172; }
-                                l24 = 10;
-                                l25 = 3;
-                                l23 = l21;
-                                L173: {
-                                 switch (l21) {
-                                 case 1: break L51;
-                                 case 2: case 3: case 4: break L172;
-                                 case 5: exit = 2; break PART;
-                                 default: break L173;
-                                 }
-                                }
-                                l22 = 1;
-                                l18 = (l19 & 1) | 2;
-                                exit = 8; break PART;
-                               }
-                               l22 = 1;
-                               if (((1 << l21) & 261948) != 0) { exit = 2; break PART; }
-                               if (l21 != 6) { exit = 21; break PART; }
-                               break L161;
-                              }
-                              L174: {
-                               if ((l21 + -6) + Integer.MIN_VALUE < -2147483636) { break L174; }
-                               l24 = 10;
-                               l23 = 4;
-                               l25 = 3;
-                               L175: {
-                                switch (l21) {
-                                case 1: break L51;
-                                case 2: case 3: case 4: break L174;
-                                case 5: exit = 2; break PART;
-                                default: break L175;
-                                }
-                               }
-                               l18 = 3;
-                               l22 = (l19 & 1) ^ 3;
-                               exit = 8; break PART;
-                              }
-                              l20 = 8;
-                              l22 = 1;
-                              if (((1 << l21) & 261980) != 0) { exit = 2; break PART; }
-                              if (l21 != 5) { exit = 21; break PART; }
-                              exit = 20; break PART;
                              }
                              l22 = 1;
+                             if (((1 << l21) & 261948) != 0) { exit = 2; break PART; }
+                             if (l21 != 6) { exit = 6; break PART; }
+                             break L75;
+                            }
+                            L87: {
+                             if ((l21 + -6) + Integer.MIN_VALUE < -2147483636) { break L87; }
+                             l23 = 3;
+                             l25 = 4;
                              l24 = 10;
-                             l23 = 5;
-                             l25 = 3;
-                             L176: {
+                             L88: {
                               switch (l21) {
-                              case 1: break L51;
-                              case 2: case 3: case 4: case 5: case 6: case 8: case 9: case 10: case 11: case 12: case 13: case 14: case 15: case 16: case 17: exit = 2; break PART;
-                              case 7: exit = 21; break PART;
-                              default: break L176;
+                              case 1: break L65;
+                              case 2: case 3: case 4: break L87;
+                              case 5: exit = 2; break PART;
+                              default: break L88;
                               }
                              }
-                             l18 = (l19 & 1) | 2;
-                             l22 = 5;
+                             l18 = 3;
+                             l22 = (l19 & 1) ^ 3;
                              exit = 8; break PART;
                             }
-                            if (l21 != 1) { exit = 2; break PART; }
-                            l24 = 11;
-                            l25 = l18;
-                            l23 = l19;
-                            break L51;
+                            l22 = 1;
+                            l20 = 8;
+                            if (((1 << l21) & 261980) != 0) { exit = 2; break PART; }
+                            if (l21 != 5) { exit = 6; break PART; }
+                            exit = 5; break PART;
                            }
-                           L177: {
-                            switch (l18) {
-                            case 1: break L48;
-                            case 2: break L46;
-                            case 3: break L44;
-                            default: break L177;
+                           l22 = 1;
+                           l23 = 3;
+                           l25 = 5;
+                           l24 = 10;
+                           L89: {
+                            switch (l21) {
+                            case 1: break L65;
+                            case 2: case 3: case 4: case 5: case 6: case 8: case 9: case 10: case 11: case 12: case 13: case 14: case 15: case 16: case 17: exit = 2; break PART;
+                            case 7: exit = 6; break PART;
+                            default: break L89;
                             }
                            }
-                           L178: {
-                            L179: {
-                             L180: {
-                              L181: {
-                               L182: {
-                                switch (l19) {
-                                case 1: break L179;
-                                case 2: case 3: break L181;
-                                case 4: break L180;
-                                case 5: break L178;
-                                default: break L182;
-                                }
-                               }
-                               l20 = 6;
-                               l22 = 0;
-                               switch (l21) {
-                               case 5: exit = 20; break PART;
-                               case 6: break L161;
-                               case 7: exit = 21; break PART;
-                               default: exit = 2; break PART;
-                               }
-                              }
-                              l20 = 8;
-                              l22 = 0;
-                              if (((1 << l21) & 261983) != 0) { exit = 2; break PART; }
-                              if (l21 != 5) { exit = 21; break PART; }
-                              exit = 20; break PART;
-                             }
-                             if (l21 != 5) { exit = 2; break PART; }
-                             exit = 22; break PART;
-                            }
-                            l22 = 0;
-                            if (((1 << l21) & 261951) != 0) { exit = 2; break PART; }
-                            if (l21 != 6) { exit = 21; break PART; }
-                            break L161;
-                           }
-                           if (l21 != 7) { exit = 2; break PART; }
-                           l22 = 0;
-                           exit = 21; break PART;
+                           l18 = (l19 & 1) | 2;
+                           l22 = 5;
+                           exit = 8; break PART;
                           }
-                          L183: {
-                           L184: {
-                            L185: {
-                             L186: {
-                              switch (l18) {
-                              case 1: break L184;
-                              case 2: break L185;
-                              case 3: break L186;
-                              default: break L183;
+                          if (l21 != 1) { exit = 2; break PART; }
+                          l24 = 11;
+                          l25 = l19;
+                          l23 = l18;
+                          break L65;
+                         }
+                         L90: {
+                          switch (l18) {
+                          case 1: break L63;
+                          case 2: break L61;
+                          case 3: exit = 9; break PART;
+                          default: break L90;
+                          }
+                         }
+                         L91: {
+                          L92: {
+                           L93: {
+                            L94: {
+                             L95: {
+                              switch (l19) {
+                              case 1: break L92;
+                              case 2: case 3: break L94;
+                              case 4: break L93;
+                              case 5: break L91;
+                              default: break L95;
                               }
                              }
-                             L187: {
-                              if ((l21 + -5) + Integer.MIN_VALUE < -2147483635) { break L187; }
-                              l22 = l19;
-                              L188: {
-                               switch (l21) {
-                               case 2: break L47;
-                               case 3: break L45;
-                               case 4: break L188;
-                               default: break L187;
-                               }
-                              }
-                              l22 = (l19 == 3) ? 5 : l19;
-                              break L43;
-                             }
-                             L189: {
-                              L190: {
-                               L191: {
-                                L192: {
-                                 L193: {
-                                  switch (l19) {
-                                  case 1: break L190;
-                                  case 2: case 3: break L192;
-                                  case 4: break L191;
-                                  case 5: break L189;
-                                  default: break L193;
-                                  }
-                                 }
-                                 l20 = 6;
-                                 l22 = 0;
-                                 switch (l21) {
-                                 case 5: exit = 20; break PART;
-                                 case 6: break L161;
-                                 case 7: exit = 21; break PART;
-                                 default: exit = 2; break PART;
-                                 }
-                                }
-                                l20 = 8;
-                                l22 = 0;
-                                if (((1 << l21) & 261983) != 0) { exit = 2; break PART; }
-                                if (l21 != 5) { exit = 21; break PART; }
-                                exit = 20; break PART;
-                               }
-                               if (l21 == 5) { exit = 22; break PART; }
-                               exit = 2; break PART;
-                              }
-                              l22 = 0;
-                              if (((1 << l21) & 261951) != 0) { exit = 2; break PART; }
-                              if (l21 != 6) { exit = 21; break PART; }
-                              break L161;
-                             }
-                             if (l21 != 7) { exit = 2; break PART; }
                              l22 = 0;
-                             exit = 21; break PART;
-                            }
-                            L194: {
-                             if ((l21 + -4) + Integer.MIN_VALUE < -2147483634) { break L194; }
-                             l22 = l19;
+                             l20 = 6;
                              switch (l21) {
-                             case 2: break L47;
-                             case 3: break L45;
-                             default: break L194;
+                             case 5: exit = 5; break PART;
+                             case 6: break L75;
+                             case 7: exit = 6; break PART;
+                             default: exit = 2; break PART;
                              }
                             }
-                            L195: {
-                             L196: {
-                              L197: {
-                               L198: {
-                                L199: {
-                                 switch (l19) {
-                                 case 1: break L196;
-                                 case 2: case 3: break L198;
-                                 case 4: break L197;
-                                 case 5: break L195;
-                                 default: break L199;
-                                 }
-                                }
-                                l20 = 6;
-                                l22 = 0;
-                                switch (l21) {
-                                case 5: exit = 20; break PART;
-                                case 6: break L161;
-                                case 7: exit = 21; break PART;
-                                default: exit = 2; break PART;
-                                }
-                               }
-                               l20 = 8;
-                               l22 = 0;
-                               if (((1 << l21) & 261983) != 0) { exit = 2; break PART; }
-                               if (l21 != 5) { exit = 21; break PART; }
-                               exit = 20; break PART;
-                              }
-                              if (l21 == 5) { exit = 22; break PART; }
-                              exit = 2; break PART;
-                             }
-                             l22 = 0;
-                             if (((1 << l21) & 261951) != 0) { exit = 2; break PART; }
-                             if (l21 != 6) { exit = 21; break PART; }
-                             break L161;
-                            }
-                            if (l21 != 7) { exit = 2; break PART; }
                             l22 = 0;
-                            exit = 21; break PART;
+                            l20 = 8;
+                            if (((1 << l21) & 261983) != 0) { exit = 2; break PART; }
+                            if (l21 != 5) { exit = 6; break PART; }
+                            exit = 5; break PART;
                            }
-                           L200: {
-                            if ((l21 + -5) + Integer.MIN_VALUE < -2147483635) { break L200; }
+                           if (l21 != 5) { exit = 2; break PART; }
+                           exit = 10; break PART;
+                          }
+                          l22 = 0;
+                          if (((1 << l21) & 261951) != 0) { exit = 2; break PART; }
+                          if (l21 != 6) { exit = 6; break PART; }
+                          break L75;
+                         }
+                         if (l21 != 7) { exit = 2; break PART; }
+                         l22 = 0;
+                         exit = 6; break PART;
+                        }
+                        L96: {
+                         L97: {
+                          L98: {
+                           L99: {
+                            switch (l18) {
+                            case 1: break L97;
+                            case 2: break L98;
+                            case 3: break L99;
+                            default: break L96;
+                            }
+                           }
+                           L100: {
+                            if ((l21 + -5) + Integer.MIN_VALUE < -2147483635) { break L100; }
                             l22 = l19;
                             switch (l21) {
-                            case 2: break L47;
-                            case 3: case 4: exit = 2; break PART;
-                            default: break L200;
+                            case 2: break L62;
+                            case 3: break L60;
+                            case 4: break L59;
+                            default: break L100;
                             }
                            }
-                           L201: {
-                            L202: {
-                             L203: {
-                              L204: {
-                               L205: {
+                           L101: {
+                            L102: {
+                             L103: {
+                              L104: {
+                               L105: {
                                 switch (l19) {
-                                case 1: break L202;
-                                case 2: case 3: break L204;
-                                case 4: break L203;
-                                case 5: break L201;
-                                default: break L205;
+                                case 1: break L102;
+                                case 2: case 3: break L104;
+                                case 4: break L103;
+                                case 5: break L101;
+                                default: break L105;
                                 }
                                }
-                               l20 = 6;
                                l22 = 0;
+                               l20 = 6;
                                switch (l21) {
-                               case 5: exit = 20; break PART;
-                               case 6: break L161;
-                               case 7: exit = 21; break PART;
+                               case 5: exit = 5; break PART;
+                               case 6: break L75;
+                               case 7: exit = 6; break PART;
                                default: exit = 2; break PART;
                                }
                               }
-                              l20 = 8;
                               l22 = 0;
+                              l20 = 8;
                               if (((1 << l21) & 261983) != 0) { exit = 2; break PART; }
-                              if (l21 != 5) { exit = 21; break PART; }
-                              exit = 20; break PART;
+                              if (l21 != 5) { exit = 6; break PART; }
+                              exit = 5; break PART;
                              }
-                             if (l21 == 5) { exit = 22; break PART; }
+                             if (l21 == 5) { exit = 10; break PART; }
                              exit = 2; break PART;
                             }
                             l22 = 0;
                             if (((1 << l21) & 261951) != 0) { exit = 2; break PART; }
-                            if (l21 != 6) { exit = 21; break PART; }
-                            break L161;
+                            if (l21 != 6) { exit = 6; break PART; }
+                            break L75;
                            }
                            if (l21 != 7) { exit = 2; break PART; }
                            l22 = 0;
-                           exit = 21; break PART;
+                           exit = 6; break PART;
                           }
-                          L206: {
-                           L207: {
-                            L208: {
-                             L209: {
-                              L210: {
+                          L106: {
+                           if ((l21 + -4) + Integer.MIN_VALUE < -2147483634) { break L106; }
+                           l22 = l19;
+                           switch (l21) {
+                           case 2: break L62;
+                           case 3: break L60;
+                           default: break L106;
+                           }
+                          }
+                          L107: {
+                           L108: {
+                            L109: {
+                             L110: {
+                              L111: {
                                switch (l19) {
-                               case 1: break L207;
-                               case 2: case 3: break L209;
-                               case 4: break L208;
-                               case 5: break L206;
-                               default: break L210;
+                               case 1: break L108;
+                               case 2: case 3: break L110;
+                               case 4: break L109;
+                               case 5: break L107;
+                               default: break L111;
                                }
                               }
-                              l20 = 6;
                               l22 = 0;
+                              l20 = 6;
                               switch (l21) {
-                              case 5: exit = 20; break PART;
-                              case 6: break L161;
-                              case 7: exit = 21; break PART;
+                              case 5: exit = 5; break PART;
+                              case 6: break L75;
+                              case 7: exit = 6; break PART;
                               default: exit = 2; break PART;
                               }
                              }
-                             l20 = 8;
                              l22 = 0;
+                             l20 = 8;
                              if (((1 << l21) & 261983) != 0) { exit = 2; break PART; }
-                             if (l21 != 5) { exit = 21; break PART; }
-                             exit = 20; break PART;
+                             if (l21 != 5) { exit = 6; break PART; }
+                             exit = 5; break PART;
                             }
-                            if (l21 == 5) { exit = 22; break PART; }
+                            if (l21 == 5) { exit = 10; break PART; }
                             exit = 2; break PART;
                            }
                            l22 = 0;
                            if (((1 << l21) & 261951) != 0) { exit = 2; break PART; }
-                           if (l21 != 6) { exit = 21; break PART; }
-                           break L161;
+                           if (l21 != 6) { exit = 6; break PART; }
+                           break L75;
                           }
                           if (l21 != 7) { exit = 2; break PART; }
                           l22 = 0;
-                          exit = 21; break PART;
+                          exit = 6; break PART;
                          }
-                         L211: {
-                          L212: {
-                           L213: {
-                            L214: {
-                             switch (l18) {
-                             case 1: break L212;
-                             case 2: break L213;
-                             case 3: break L214;
-                             default: break L211;
+                         L112: {
+                          if ((l21 + -5) + Integer.MIN_VALUE < -2147483635) { break L112; }
+                          l22 = l19;
+                          switch (l21) {
+                          case 2: break L62;
+                          case 3: case 4: exit = 2; break PART;
+                          default: break L112;
+                          }
+                         }
+                         L113: {
+                          L114: {
+                           L115: {
+                            L116: {
+                             L117: {
+                              switch (l19) {
+                              case 1: break L114;
+                              case 2: case 3: break L116;
+                              case 4: break L115;
+                              case 5: break L113;
+                              default: break L117;
+                              }
                              }
-                            }
-                            L215: {
-                             if ((l21 + -2) + Integer.MIN_VALUE < -2147483632) { break L215; }
-                             l18 = 1;
-                             l20 = 9;
-                             l24 = 10;
-                             l25 = 2;
-                             l23 = l19;
-                             l22 = l19;
+                             l22 = 0;
+                             l20 = 6;
                              switch (l21) {
-                             case 1: break L51;
-                             default: exit = 11; break PART;
+                             case 5: exit = 5; break PART;
+                             case 6: break L75;
+                             case 7: exit = 6; break PART;
+                             default: exit = 2; break PART;
                              }
                             }
-                            L216: {
-                             L217: {
-                              L218: {
-                               L219: {
-                                L220: {
-                                 switch (l19) {
-                                 case 1: break L217;
-                                 case 2: case 3: break L219;
-                                 case 4: break L218;
-                                 case 5: break L216;
-                                 default: break L220;
-                                 }
-                                }
-                                l20 = 6;
-                                l22 = 1;
-                                switch (l21 + -2) {
-                                case 3: exit = 20; break PART;
-                                case 4: break L161;
-                                case 5: exit = 21; break PART;
-                                default: exit = 2; break PART;
-                                }
-                               }
-                               l20 = 8;
-                               l22 = 1;
-                               if (((1 << l21) & 261980) != 0) { exit = 2; break PART; }
-                               if (l21 != 5) { exit = 21; break PART; }
-                               exit = 20; break PART;
-                              }
-                              if (l21 != 5) { exit = 2; break PART; }
-                              exit = 23; break PART;
-                             }
-                             l22 = 1;
-                             if (((1 << l21) & 261948) != 0) { exit = 2; break PART; }
-                             if (l21 != 6) { exit = 21; break PART; }
-                             break L161;
-                            }
-                            if (l21 != 7) { exit = 2; break PART; }
-                            l22 = 1;
-                            exit = 21; break PART;
+                            l22 = 0;
+                            l20 = 8;
+                            if (((1 << l21) & 261983) != 0) { exit = 2; break PART; }
+                            if (l21 != 5) { exit = 6; break PART; }
+                            exit = 5; break PART;
                            }
-                           L221: {
-                            if ((l21 + -2) + Integer.MIN_VALUE < -2147483632) { break L221; }
-                            l20 = 9;
-                            l24 = 10;
-                            l25 = l21;
-                            l23 = l19;
-                            l22 = l19;
-                            l18 = l21;
-                            switch (l21) {
-                            case 1: break L51;
-                            default: exit = 11; break PART;
-                            }
-                           }
-                           L222: {
-                            L223: {
-                             L224: {
-                              L225: {
-                               L226: {
-                                switch (l19) {
-                                case 1: break L223;
-                                case 2: case 3: break L225;
-                                case 4: break L224;
-                                case 5: break L222;
-                                default: break L226;
-                                }
-                               }
-                               l20 = 6;
-                               l22 = 1;
-                               switch (l21 + -2) {
-                               case 3: exit = 20; break PART;
-                               case 4: break L161;
-                               case 5: exit = 21; break PART;
-                               default: exit = 2; break PART;
-                               }
-                              }
-                              l20 = 8;
-                              l22 = 1;
-                              if (((1 << l21) & 261980) != 0) { exit = 2; break PART; }
-                              if (l21 != 5) { exit = 21; break PART; }
-                              exit = 20; break PART;
-                             }
-                             if (l21 == 5) { exit = 23; break PART; }
-                             exit = 2; break PART;
-                            }
-                            l22 = 1;
-                            if (((1 << l21) & 261948) != 0) { exit = 2; break PART; }
-                            if (l21 != 6) { exit = 21; break PART; }
-                            break L161;
-                           }
-                           if (l21 != 7) { exit = 2; break PART; }
-                           l22 = 1;
-                           exit = 21; break PART;
+                           if (l21 == 5) { exit = 10; break PART; }
+                           exit = 2; break PART;
                           }
-                          L227: {
-                           if ((l21 + -2) + Integer.MIN_VALUE < -2147483632) { break L227; }
-                           l24 = 10;
-                           l25 = 0;
-                           l23 = l19;
-                           switch (l21) {
-                           case 1: break L51;
-                           default: exit = 2; break PART;
-                           }
-                          }
-                          L228: {
-                           L229: {
-                            L230: {
-                             L231: {
-                              L232: {
-                               switch (l19) {
-                               case 1: break L229;
-                               case 2: case 3: break L231;
-                               case 4: break L230;
-                               case 5: break L228;
-                               default: break L232;
-                               }
-                              }
-                              l20 = 6;
-                              l22 = 1;
-                              switch (l21 + -2) {
-                              case 3: exit = 20; break PART;
-                              case 4: break L161;
-                              case 5: exit = 21; break PART;
-                              default: exit = 2; break PART;
-                              }
-                             }
-                             l20 = 8;
-                             l22 = 1;
-                             if (((1 << l21) & 261980) != 0) { exit = 2; break PART; }
-                             if (l21 != 5) { exit = 21; break PART; }
-                             exit = 20; break PART;
-                            }
-                            if (l21 == 5) { exit = 23; break PART; }
-                            exit = 2; break PART;
-                           }
-                           l22 = 1;
-                           if (((1 << l21) & 261948) != 0) { exit = 2; break PART; }
-                           if (l21 == 6) { break L161; }
-                           exit = 21; break PART;
-                          }
-                          if (l21 != 7) { exit = 2; break PART; }
-                          l22 = 1;
-                          exit = 21; break PART;
+                          l22 = 0;
+                          if (((1 << l21) & 261951) != 0) { exit = 2; break PART; }
+                          if (l21 != 6) { exit = 6; break PART; }
+                          break L75;
                          }
-                         L233: {
-                          L234: {
-                           L235: {
-                            L236: {
+                         if (l21 != 7) { exit = 2; break PART; }
+                         l22 = 0;
+                         exit = 6; break PART;
+                        }
+                        L118: {
+                         L119: {
+                          L120: {
+                           L121: {
+                            L122: {
                              switch (l19) {
-                             case 1: break L233;
-                             case 2: case 3: break L235;
-                             case 4: break L234;
-                             case 5: break L160;
-                             default: break L236;
+                             case 1: break L119;
+                             case 2: case 3: break L121;
+                             case 4: break L120;
+                             case 5: break L118;
+                             default: break L122;
                              }
                             }
+                            l22 = 0;
                             l20 = 6;
-                            l22 = 1;
                             switch (l21) {
-                            case 5: exit = 20; break PART;
-                            case 6: break L161;
-                            case 7: exit = 21; break PART;
+                            case 5: exit = 5; break PART;
+                            case 6: break L75;
+                            case 7: exit = 6; break PART;
                             default: exit = 2; break PART;
                             }
                            }
+                           l22 = 0;
                            l20 = 8;
-                           l22 = 1;
                            if (((1 << l21) & 261983) != 0) { exit = 2; break PART; }
-                           if (l21 != 5) { exit = 21; break PART; }
-                           exit = 20; break PART;
+                           if (l21 != 5) { exit = 6; break PART; }
+                           exit = 5; break PART;
                           }
-                          if (l21 == 5) { exit = 23; break PART; }
+                          if (l21 == 5) { exit = 10; break PART; }
+                          exit = 2; break PART;
+                         }
+                         l22 = 0;
+                         if (((1 << l21) & 261951) != 0) { exit = 2; break PART; }
+                         if (l21 != 6) { exit = 6; break PART; }
+                         break L75;
+                        }
+                        if (l21 != 7) { exit = 2; break PART; }
+                        l22 = 0;
+                        exit = 6; break PART;
+                       }
+                       L123: {
+                        L124: {
+                         L125: {
+                          L126: {
+                           switch (l18) {
+                           case 1: break L124;
+                           case 2: break L125;
+                           case 3: break L126;
+                           default: break L123;
+                           }
+                          }
+                          L127: {
+                           if ((l21 + -2) + Integer.MIN_VALUE < -2147483632) { break L127; }
+                           l18 = 1;
+                           l20 = 9;
+                           l23 = 2;
+                           l24 = 10;
+                           l25 = l19;
+                           l22 = l19;
+                           switch (l21) {
+                           case 1: break L65;
+                           default: exit = 11; break PART;
+                           }
+                          }
+                          L128: {
+                           L129: {
+                            L130: {
+                             L131: {
+                              L132: {
+                               switch (l19) {
+                               case 1: break L129;
+                               case 2: case 3: break L131;
+                               case 4: break L130;
+                               case 5: break L128;
+                               default: break L132;
+                               }
+                              }
+                              l22 = 1;
+                              l20 = 6;
+                              switch (l21 + -2) {
+                              case 3: exit = 5; break PART;
+                              case 4: break L75;
+                              case 5: exit = 6; break PART;
+                              default: exit = 2; break PART;
+                              }
+                             }
+                             l22 = 1;
+                             l20 = 8;
+                             if (((1 << l21) & 261980) != 0) { exit = 2; break PART; }
+                             if (l21 != 5) { exit = 6; break PART; }
+                             exit = 5; break PART;
+                            }
+                            if (l21 != 5) { exit = 2; break PART; }
+                            exit = 12; break PART;
+                           }
+                           l22 = 1;
+                           if (((1 << l21) & 261948) != 0) { exit = 2; break PART; }
+                           if (l21 != 6) { exit = 6; break PART; }
+                           break L75;
+                          }
+                          if (l21 != 7) { exit = 2; break PART; }
+                          l22 = 1;
+                          exit = 6; break PART;
+                         }
+                         L133: {
+                          if ((l21 + -2) + Integer.MIN_VALUE < -2147483632) { break L133; }
+                          l20 = 9;
+                          l24 = 10;
+                          l25 = l19;
+                          l23 = l21;
+                          l22 = l19;
+                          l18 = l21;
+                          switch (l21) {
+                          case 1: break L65;
+                          default: exit = 11; break PART;
+                          }
+                         }
+                         L134: {
+                          L135: {
+                           L136: {
+                            L137: {
+                             L138: {
+                              switch (l19) {
+                              case 1: break L135;
+                              case 2: case 3: break L137;
+                              case 4: break L136;
+                              case 5: break L134;
+                              default: break L138;
+                              }
+                             }
+                             l22 = 1;
+                             l20 = 6;
+                             switch (l21 + -2) {
+                             case 3: exit = 5; break PART;
+                             case 4: break L75;
+                             case 5: exit = 6; break PART;
+                             default: exit = 2; break PART;
+                             }
+                            }
+                            l22 = 1;
+                            l20 = 8;
+                            if (((1 << l21) & 261980) != 0) { exit = 2; break PART; }
+                            if (l21 != 5) { exit = 6; break PART; }
+                            exit = 5; break PART;
+                           }
+                           if (l21 == 5) { exit = 12; break PART; }
+                           exit = 2; break PART;
+                          }
+                          l22 = 1;
+                          if (((1 << l21) & 261948) != 0) { exit = 2; break PART; }
+                          if (l21 != 6) { exit = 6; break PART; }
+                          break L75;
+                         }
+                         if (l21 != 7) { exit = 2; break PART; }
+                         l22 = 1;
+                         exit = 6; break PART;
+                        }
+                        L139: {
+                         if ((l21 + -2) + Integer.MIN_VALUE < -2147483632) { break L139; }
+                         l23 = 0;
+                         l24 = 10;
+                         l25 = l19;
+                         switch (l21) {
+                         case 1: break L65;
+                         default: exit = 2; break PART;
+                         }
+                        }
+                        L140: {
+                         L141: {
+                          L142: {
+                           L143: {
+                            L144: {
+                             switch (l19) {
+                             case 1: break L141;
+                             case 2: case 3: break L143;
+                             case 4: break L142;
+                             case 5: break L140;
+                             default: break L144;
+                             }
+                            }
+                            l22 = 1;
+                            l20 = 6;
+                            switch (l21 + -2) {
+                            case 3: exit = 5; break PART;
+                            case 4: break L75;
+                            case 5: exit = 6; break PART;
+                            default: exit = 2; break PART;
+                            }
+                           }
+                           l22 = 1;
+                           l20 = 8;
+                           if (((1 << l21) & 261980) != 0) { exit = 2; break PART; }
+                           if (l21 != 5) { exit = 6; break PART; }
+                           exit = 5; break PART;
+                          }
+                          if (l21 == 5) { exit = 12; break PART; }
                           exit = 2; break PART;
                          }
                          l22 = 1;
-                         if (((1 << l21) & 261951) != 0) { exit = 2; break PART; }
-                         if (l21 != 6) { exit = 21; break PART; }
+                         if (((1 << l21) & 261948) != 0) { exit = 2; break PART; }
+                         if (l21 == 6) { break L75; }
+                         exit = 6; break PART;
                         }
-                        l13 = ((l11 + l13) + l12) * 100000000L;
-                        exit = 13; break PART;
+                        if (l21 != 7) { exit = 2; break PART; }
+                        l22 = 1;
+                        exit = 6; break PART;
                        }
-                       if (l21 != 7) { exit = 2; break PART; }
+                       L145: {
+                        L146: {
+                         L147: {
+                          L148: {
+                           switch (l19) {
+                           case 1: break L145;
+                           case 2: case 3: break L147;
+                           case 4: break L146;
+                           case 5: break L74;
+                           default: break L148;
+                           }
+                          }
+                          l22 = 1;
+                          l20 = 6;
+                          switch (l21) {
+                          case 5: exit = 5; break PART;
+                          case 6: break L75;
+                          case 7: exit = 6; break PART;
+                          default: exit = 2; break PART;
+                          }
+                         }
+                         l22 = 1;
+                         l20 = 8;
+                         if (((1 << l21) & 261983) != 0) { exit = 2; break PART; }
+                         if (l21 != 5) { exit = 6; break PART; }
+                         exit = 5; break PART;
+                        }
+                        if (l21 == 5) { exit = 12; break PART; }
+                        exit = 2; break PART;
+                       }
                        l22 = 1;
-                       exit = 21; break PART;
+                       if (((1 << l21) & 261951) != 0) { exit = 2; break PART; }
+                       if (l21 != 6) { exit = 6; break PART; }
                       }
-                      l24 = 5;
-                      l25 = 0;
-                      l20 = 1;
-                      l23 = 0;
-                      l22 = 0;
-                      l18 = 0;
-                      switch (l21) {
-                      case 1: break L51;
-                      case 2: case 3: case 4: case 5: case 6: case 7: case 8: case 9: case 10: case 12: case 13: case 14: case 15: case 16: case 17: exit = 2; break PART;
-                      case 11: exit = 11; break PART;
-                      default: break L49;
-                      }
+                      l13 = ((l11 + l13) + l12) * 100000000L;
+                      exit = 13; break PART;
                      }
-                     if (l21 == 12) { exit = 14; break PART; }
-                     exit = 2; break PART;
+                     if (l21 != 7) { exit = 2; break PART; }
+                     l22 = 1;
+                     exit = 6; break PART;
                     }
-                    if (l21 == 13) { exit = 15; break PART; }
-                    exit = 2; break PART;
+                    l24 = 5;
+                    l25 = 0;
+                    l20 = 1;
+                    l23 = 0;
+                    l22 = 0;
+                    l18 = 0;
+                    switch (l21) {
+                    case 1: break L65;
+                    case 2: case 3: case 4: case 5: case 6: case 7: case 8: case 9: case 10: case 12: case 13: case 14: case 15: case 16: case 17: exit = 2; break PART;
+                    case 11: exit = 11; break PART;
+                    default: exit = 14; break PART;
+                    }
                    }
-                   if ((l21 + -2) + Integer.MIN_VALUE < -2147483632) { exit = 2; break PART; }
-                   l24 = 5;
-                   l25 = 0;
-                   l23 = 0;
-                   switch (l21) {
-                   case 1: break L51;
-                   default: break L49;
-                   }
+                   if (l21 != 12) { exit = 2; break PART; }
+                   exit = 15; break PART;
                   }
-                  if (l21 != 7) { exit = 2; break PART; }
-                  l22 = 1;
-                  exit = 21; break PART;
+                  if (l21 != 13) { exit = 2; break PART; }
+                  exit = 16; break PART;
                  }
-                 l24 = 16;
+                 if ((l21 + -2) + Integer.MIN_VALUE < -2147483632) { exit = 2; break PART; }
                  l25 = 0;
-                 l20 = 19;
+                 l24 = 5;
                  l23 = 0;
-                 l22 = 0;
-                 l18 = 0;
-                 L237: {
-                  switch (l21) {
-                  case 1: break L51;
-                  case 2: case 3: case 4: case 5: case 6: case 7: case 8: case 9: case 11: case 12: case 13: case 14: case 15: case 16: case 17: exit = 2; break PART;
-                  case 10: exit = 11; break PART;
-                  default: break L237;
-                  }
+                 switch (l21) {
+                 case 1: break L65;
+                 default: exit = 14; break PART;
                  }
-                 l22 = l19 & 1;
-                 exit = 16; break PART;
                 }
-                l24 = 18;
-                l25 = 0;
-                l20 = 19;
-                if (((1 << l21) & 261117) != 0) { exit = 2; break PART; }
-                l23 = 0;
-                if (l21 == 1) { break L51; }
+                if (l21 != 7) { exit = 2; break PART; }
+                l22 = 1;
+                exit = 6; break PART;
                }
+               l24 = 16;
+               l25 = 0;
+               l20 = 19;
+               l23 = 0;
                l22 = 0;
                l18 = 0;
-               exit = 11; break PART;
+               L149: {
+                switch (l21) {
+                case 1: break L65;
+                case 2: case 3: case 4: case 5: case 6: case 7: case 8: case 9: case 11: case 12: case 13: case 14: case 15: case 16: case 17: exit = 2; break PART;
+                case 10: exit = 11; break PART;
+                default: break L149;
+                }
+               }
+               l22 = l19 & 1;
+               exit = 17; break PART;
               }
-              if (l21 != 1) { exit = 2; break PART; }
-              l23 = l19 & 1;
-              l24 = 15;
+              l24 = 18;
               l25 = 0;
+              l20 = 19;
+              if (((1 << l21) & 261117) != 0) { exit = 2; break PART; }
+              l23 = 0;
+              if (l21 == 1) { break L65; }
+              exit = 18; break PART;
              }
-             l11 = l15;
-             l20 = l24;
-             l22 = l23;
-             l18 = l25;
-             exit = 11; break PART;
+             if (l21 != 1) { exit = 2; break PART; }
+             l25 = l19 & 1;
+             l23 = 0;
+             l24 = 15;
             }
-            if ((l19 & 1) == 0) { break L40; }
-            if (((1 << l21) & 261375) != 0) { exit = 2; break PART; }
-            if (l21 != 8) { exit = 3; break PART; }
-            break L41;
+            l11 = l15;
+            l20 = l24;
+            l22 = l25;
+            l18 = l23;
+            exit = 11; break PART;
            }
-           l22 = 0;
-           l20 = 4;
-           l18 = 0;
-           exit = 11; break PART;
+           if ((l19 & 1) == 0) { break L56; }
+           if (((1 << l21) & 261375) != 0) { exit = 2; break PART; }
+           if (l21 == 8) { break L57; }
+           exit = 3; break PART;
           }
           l22 = l19;
           if (l21 != 2) { exit = 2; break PART; }
          }
          l12 = (l11 * 10L) + l12;
-         exit = 17; break PART;
+         exit = 19; break PART;
         }
         l22 = l19;
         if (l21 != 3) { exit = 2; break PART; }
        }
        l12 = (l11 * 100L) + l12;
        l18 = 2;
-       exit = 18; break PART;
+       exit = 20; break PART;
       }
-      l22 = l19;
-      if (l21 != 4) { exit = 2; break PART; }
+      l22 = (l19 == 3) ? 5 : l19;
+      exit = 4; break PART;
      }
-     l12 = (l11 * 1000L) + l12;
-     l18 = 3;
-     exit = 18; break PART;
+     if (l21 != 8) { exit = 2; break PART; }
     }
-    if (l21 != 8) { exit = 2; break PART; }
+    l13 = (l11 * 10L) + l13;
+    exit = 21; break PART;
    }
-   l13 = (l11 * 10L) + l13;
-   exit = 19; break PART;
+   if (l21 != 9) { exit = 2; break PART; }
+   exit = 3; break PART;
   }
  }
- m.kept[0] = l9;
- m.kept[1] = l10;
- m.kept[2] = l11;
- m.kept[3] = l12;
- m.kept[4] = l13;
- m.kept[5] = l14;
- m.kept[6] = l15;
- m.kept[7] = l18;
- m.kept[8] = l20;
- m.kept[9] = l21;
- m.kept[10] = l22;
- m.kept[11] = l23;
- m.kept[12] = l24;
- m.kept[13] = l25;
+ m.kept[0] = l11;
+ m.kept[1] = l12;
+ m.kept[2] = l13;
+ m.kept[3] = l14;
+ m.kept[4] = l15;
+ m.kept[5] = l18;
+ m.kept[6] = l20;
+ m.kept[7] = l21;
+ m.kept[8] = l22;
+ m.kept[9] = l23;
+ m.kept[10] = l24;
+ m.kept[11] = l25;
  return exit;
 }
 
-static int f26_2(State m, long l2, long l3, long l4, long l5, long l7, long l8, long l9, long l10, long l11, long l12, long l13, long l14, int l16, int l17, int l18, int l19, int l20, int l21, int l22) {
+static int f26_2(State m, long l11, long l12, long l13, int l18, int l19, int l20, int l21, int l22, int l23, int l24, int l25) {
+ int exit = 0;
+ PART: {
+  L154: {
+   L155: {
+    L156: {
+     L157: {
+      L158: {
+       L159: {
+        L160: {
+         L161: {
+          L162: {
+           L163: {
+            L164: {
+             L165: {
+              L166: {
+               L167: {
+                L168: {
+                 L169: {
+                  L170: {
+                   switch (l20) {
+                   case 1: break L159;
+                   case 2: break L158;
+                   case 3: break L157;
+                   case 4: break L156;
+                   case 5: break L170;
+                   case 6: break L169;
+                   case 7: break L168;
+                   case 8: break L167;
+                   case 9: break L166;
+                   case 10: break L165;
+                   case 11: break L164;
+                   case 12: break L163;
+                   case 13: break L155;
+                   case 14: exit = 1; break PART;
+                   case 15: exit = 2; break PART;
+                   case 16: exit = 3; break PART;
+                   case 17: break L154;
+                   case 18: exit = 4; break PART;
+                   case 19: exit = 5; break PART;
+                   default: break L160;
+                   }
+                  }
+                  L171: {
+                   if (((1 << l21) & 261375) != 0) { break L171; }
+                   if (l21 != 8) { exit = 6; break PART; }
+                   exit = 7; break PART;
+                  }
+                  L172: {
+                   if ((l21 + -5) + Integer.MIN_VALUE < -2147483635) { break L172; }
+                   l22 = 0;
+                   switch (l21) {
+                   case 2: exit = 8; break PART;
+                   case 3: exit = 9; break PART;
+                   case 4: exit = 10; break PART;
+                   default: break L172;
+                   }
+                  }
+                  l20 = 6;
+                  l22 = 0;
+                  switch (l21) {
+                  case 5: exit = 11; break PART;
+                  case 6: break L162;
+                  case 7: exit = 12; break PART;
+                  default: exit = 5; break PART;
+                  }
+                 }
+                 L173: {
+                  if ((l21 + -6) + Integer.MIN_VALUE < -2147483636) { break L173; }
+                  l24 = 10;
+                  l25 = 3;
+                  l23 = l21;
+                  L174: {
+                   switch (l21) {
+                   case 1: exit = 13; break PART;
+                   case 2: case 3: case 4: break L173;
+                   case 5: exit = 5; break PART;
+                   default: break L174;
+                   }
+                  }
+                  l22 = 1;
+                  l18 = (l19 & 1) | 2;
+                  exit = 14; break PART;
+                 }
+                 l22 = 1;
+                 if (((1 << l21) & 261948) != 0) { exit = 5; break PART; }
+                 if (l21 != 6) { exit = 12; break PART; }
+                 break L162;
+                }
+                L175: {
+                 if ((l21 + -6) + Integer.MIN_VALUE < -2147483636) { break L175; }
+                 l24 = 10;
+                 l23 = 4;
+                 l25 = 3;
+                 L176: {
+                  switch (l21) {
+                  case 1: exit = 13; break PART;
+                  case 2: case 3: case 4: break L175;
+                  case 5: exit = 5; break PART;
+                  default: break L176;
+                  }
+                 }
+                 l18 = 3;
+                 l22 = (l19 & 1) ^ 3;
+                 exit = 14; break PART;
+                }
+                l20 = 8;
+                l22 = 1;
+                if (((1 << l21) & 261980) != 0) { exit = 5; break PART; }
+                if (l21 != 5) { exit = 12; break PART; }
+                exit = 11; break PART;
+               }
+               l22 = 1;
+               l24 = 10;
+               l23 = 5;
+               l25 = 3;
+               L177: {
+                switch (l21) {
+                case 1: exit = 13; break PART;
+                case 2: case 3: case 4: case 5: case 6: case 8: case 9: case 10: case 11: case 12: case 13: case 14: case 15: case 16: case 17: exit = 5; break PART;
+                case 7: exit = 12; break PART;
+                default: break L177;
+                }
+               }
+               l18 = (l19 & 1) | 2;
+               l22 = 5;
+               exit = 14; break PART;
+              }
+              if (l21 != 1) { exit = 5; break PART; }
+              l24 = 11;
+              l25 = l18;
+              l23 = l19;
+              exit = 13; break PART;
+             }
+             L178: {
+              switch (l18) {
+              case 1: exit = 15; break PART;
+              case 2: exit = 16; break PART;
+              case 3: exit = 17; break PART;
+              default: break L178;
+              }
+             }
+             L179: {
+              L180: {
+               L181: {
+                L182: {
+                 L183: {
+                  switch (l19) {
+                  case 1: break L180;
+                  case 2: case 3: break L182;
+                  case 4: break L181;
+                  case 5: break L179;
+                  default: break L183;
+                  }
+                 }
+                 l20 = 6;
+                 l22 = 0;
+                 switch (l21) {
+                 case 5: exit = 11; break PART;
+                 case 6: break L162;
+                 case 7: exit = 12; break PART;
+                 default: exit = 5; break PART;
+                 }
+                }
+                l20 = 8;
+                l22 = 0;
+                if (((1 << l21) & 261983) != 0) { exit = 5; break PART; }
+                if (l21 != 5) { exit = 12; break PART; }
+                exit = 11; break PART;
+               }
+               if (l21 != 5) { exit = 5; break PART; }
+               exit = 18; break PART;
+              }
+              l22 = 0;
+              if (((1 << l21) & 261951) != 0) { exit = 5; break PART; }
+              if (l21 != 6) { exit = 12; break PART; }
+              break L162;
+             }
+             if (l21 != 7) { exit = 5; break PART; }
+             l22 = 0;
+             exit = 12; break PART;
+            }
+            L184: {
+             L185: {
+              L186: {
+               L187: {
+                switch (l18) {
+                case 1: break L185;
+                case 2: break L186;
+                case 3: break L187;
+                default: break L184;
+                }
+               }
+               L188: {
+                if ((l21 + -5) + Integer.MIN_VALUE < -2147483635) { break L188; }
+                l22 = l19;
+                L189: {
+                 switch (l21) {
+                 case 2: exit = 8; break PART;
+                 case 3: exit = 9; break PART;
+                 case 4: break L189;
+                 default: break L188;
+                 }
+                }
+                l22 = (l19 == 3) ? 5 : l19;
+                exit = 10; break PART;
+               }
+               L190: {
+                L191: {
+                 L192: {
+                  L193: {
+                   L194: {
+                    switch (l19) {
+                    case 1: break L191;
+                    case 2: case 3: break L193;
+                    case 4: break L192;
+                    case 5: break L190;
+                    default: break L194;
+                    }
+                   }
+                   l20 = 6;
+                   l22 = 0;
+                   switch (l21) {
+                   case 5: exit = 11; break PART;
+                   case 6: break L162;
+                   case 7: exit = 12; break PART;
+                   default: exit = 5; break PART;
+                   }
+                  }
+                  l20 = 8;
+                  l22 = 0;
+                  if (((1 << l21) & 261983) != 0) { exit = 5; break PART; }
+                  if (l21 != 5) { exit = 12; break PART; }
+                  exit = 11; break PART;
+                 }
+                 if (l21 == 5) { exit = 18; break PART; }
+                 exit = 5; break PART;
+                }
+                l22 = 0;
+                if (((1 << l21) & 261951) != 0) { exit = 5; break PART; }
+                if (l21 != 6) { exit = 12; break PART; }
+                break L162;
+               }
+               if (l21 != 7) { exit = 5; break PART; }
+               l22 = 0;
+               exit = 12; break PART;
+              }
+              L195: {
+               if ((l21 + -4) + Integer.MIN_VALUE < -2147483634) { break L195; }
+               l22 = l19;
+               switch (l21) {
+               case 2: exit = 8; break PART;
+               case 3: exit = 9; break PART;
+               default: break L195;
+               }
+              }
+              L196: {
+               L197: {
+                L198: {
+                 L199: {
+                  L200: {
+                   switch (l19) {
+                   case 1: break L197;
+                   case 2: case 3: break L199;
+                   case 4: break L198;
+                   case 5: break L196;
+                   default: break L200;
+                   }
+                  }
+                  l20 = 6;
+                  l22 = 0;
+                  switch (l21) {
+                  case 5: exit = 11; break PART;
+                  case 6: break L162;
+                  case 7: exit = 12; break PART;
+                  default: exit = 5; break PART;
+                  }
+                 }
+                 l20 = 8;
+                 l22 = 0;
+                 if (((1 << l21) & 261983) != 0) { exit = 5; break PART; }
+                 if (l21 != 5) { exit = 12; break PART; }
+                 exit = 11; break PART;
+                }
+                if (l21 == 5) { exit = 18; break PART; }
+                exit = 5; break PART;
+               }
+               l22 = 0;
+               if (((1 << l21) & 261951) != 0) { exit = 5; break PART; }
+               if (l21 != 6) { exit = 12; break PART; }
+               break L162;
+              }
+              if (l21 != 7) { exit = 5; break PART; }
+              l22 = 0;
+              exit = 12; break PART;
+             }
+             L201: {
+              if ((l21 + -5) + Integer.MIN_VALUE < -2147483635) { break L201; }
+              l22 = l19;
+              switch (l21) {
+              case 2: exit = 8; break PART;
+              case 3: case 4: exit = 5; break PART;
+              default: break L201;
+              }
+             }
+             L202: {
+              L203: {
+               L204: {
+                L205: {
+                 L206: {
+                  switch (l19) {
+                  case 1: break L203;
+                  case 2: case 3: break L205;
+                  case 4: break L204;
+                  case 5: break L202;
+                  default: break L206;
+                  }
+                 }
+                 l20 = 6;
+                 l22 = 0;
+                 switch (l21) {
+                 case 5: exit = 11; break PART;
+                 case 6: break L162;
+                 case 7: exit = 12; break PART;
+                 default: exit = 5; break PART;
+                 }
+                }
+                l20 = 8;
+                l22 = 0;
+                if (((1 << l21) & 261983) != 0) { exit = 5; break PART; }
+                if (l21 != 5) { exit = 12; break PART; }
+                exit = 11; break PART;
+               }
+               if (l21 == 5) { exit = 18; break PART; }
+               exit = 5; break PART;
+              }
+              l22 = 0;
+              if (((1 << l21) & 261951) != 0) { exit = 5; break PART; }
+              if (l21 != 6) { exit = 12; break PART; }
+              break L162;
+             }
+             if (l21 != 7) { exit = 5; break PART; }
+             l22 = 0;
+             exit = 12; break PART;
+            }
+            L207: {
+             L208: {
+              L209: {
+               L210: {
+                L211: {
+                 switch (l19) {
+                 case 1: break L208;
+                 case 2: case 3: break L210;
+                 case 4: break L209;
+                 case 5: break L207;
+                 default: break L211;
+                 }
+                }
+                l20 = 6;
+                l22 = 0;
+                switch (l21) {
+                case 5: exit = 11; break PART;
+                case 6: break L162;
+                case 7: exit = 12; break PART;
+                default: exit = 5; break PART;
+                }
+               }
+               l20 = 8;
+               l22 = 0;
+               if (((1 << l21) & 261983) != 0) { exit = 5; break PART; }
+               if (l21 != 5) { exit = 12; break PART; }
+               exit = 11; break PART;
+              }
+              if (l21 == 5) { exit = 18; break PART; }
+              exit = 5; break PART;
+             }
+             l22 = 0;
+             if (((1 << l21) & 261951) != 0) { exit = 5; break PART; }
+             if (l21 != 6) { exit = 12; break PART; }
+             break L162;
+            }
+            if (l21 != 7) { exit = 5; break PART; }
+            l22 = 0;
+            exit = 12; break PART;
+           }
+           L212: {
+            L213: {
+             L214: {
+              L215: {
+               switch (l18) {
+               case 1: break L213;
+               case 2: break L214;
+               case 3: break L215;
+               default: break L212;
+               }
+              }
+              L216: {
+               if ((l21 + -2) + Integer.MIN_VALUE < -2147483632) { break L216; }
+               l18 = 1;
+               l20 = 9;
+               l24 = 10;
+               l25 = 2;
+               l23 = l19;
+               l22 = l19;
+               switch (l21) {
+               case 1: exit = 13; break PART;
+               default: exit = 19; break PART;
+               }
+              }
+              L217: {
+               L218: {
+                L219: {
+                 L220: {
+                  L221: {
+                   switch (l19) {
+                   case 1: break L218;
+                   case 2: case 3: break L220;
+                   case 4: break L219;
+                   case 5: break L217;
+                   default: break L221;
+                   }
+                  }
+                  l20 = 6;
+                  l22 = 1;
+                  switch (l21 + -2) {
+                  case 3: exit = 11; break PART;
+                  case 4: break L162;
+                  case 5: exit = 12; break PART;
+                  default: exit = 5; break PART;
+                  }
+                 }
+                 l20 = 8;
+                 l22 = 1;
+                 if (((1 << l21) & 261980) != 0) { exit = 5; break PART; }
+                 if (l21 != 5) { exit = 12; break PART; }
+                 exit = 11; break PART;
+                }
+                if (l21 != 5) { exit = 5; break PART; }
+                exit = 20; break PART;
+               }
+               l22 = 1;
+               if (((1 << l21) & 261948) != 0) { exit = 5; break PART; }
+               if (l21 != 6) { exit = 12; break PART; }
+               break L162;
+              }
+              if (l21 != 7) { exit = 5; break PART; }
+              l22 = 1;
+              exit = 12; break PART;
+             }
+             L222: {
+              if ((l21 + -2) + Integer.MIN_VALUE < -2147483632) { break L222; }
+              l20 = 9;
+              l24 = 10;
+              l25 = l21;
+              l23 = l19;
+              l22 = l19;
+              l18 = l21;
+              switch (l21) {
+              case 1: exit = 13; break PART;
+              default: exit = 19; break PART;
+              }
+             }
+             L223: {
+              L224: {
+               L225: {
+                L226: {
+                 L227: {
+                  switch (l19) {
+                  case 1: break L224;
+                  case 2: case 3: break L226;
+                  case 4: break L225;
+                  case 5: break L223;
+                  default: break L227;
+                  }
+                 }
+                 l20 = 6;
+                 l22 = 1;
+                 switch (l21 + -2) {
+                 case 3: exit = 11; break PART;
+                 case 4: break L162;
+                 case 5: exit = 12; break PART;
+                 default: exit = 5; break PART;
+                 }
+                }
+                l20 = 8;
+                l22 = 1;
+                if (((1 << l21) & 261980) != 0) { exit = 5; break PART; }
+                if (l21 != 5) { exit = 12; break PART; }
+                exit = 11; break PART;
+               }
+               if (l21 == 5) { exit = 20; break PART; }
+               exit = 5; break PART;
+              }
+              l22 = 1;
+              if (((1 << l21) & 261948) != 0) { exit = 5; break PART; }
+              if (l21 != 6) { exit = 12; break PART; }
+              break L162;
+             }
+             if (l21 != 7) { exit = 5; break PART; }
+             l22 = 1;
+             exit = 12; break PART;
+            }
+            L228: {
+             if ((l21 + -2) + Integer.MIN_VALUE < -2147483632) { break L228; }
+             l24 = 10;
+             l25 = 0;
+             l23 = l19;
+             switch (l21) {
+             case 1: exit = 13; break PART;
+             default: exit = 5; break PART;
+             }
+            }
+            L229: {
+             L230: {
+              L231: {
+               L232: {
+                L233: {
+                 switch (l19) {
+                 case 1: break L230;
+                 case 2: case 3: break L232;
+                 case 4: break L231;
+                 case 5: break L229;
+                 default: break L233;
+                 }
+                }
+                l20 = 6;
+                l22 = 1;
+                switch (l21 + -2) {
+                case 3: exit = 11; break PART;
+                case 4: break L162;
+                case 5: exit = 12; break PART;
+                default: exit = 5; break PART;
+                }
+               }
+               l20 = 8;
+               l22 = 1;
+               if (((1 << l21) & 261980) != 0) { exit = 5; break PART; }
+               if (l21 != 5) { exit = 12; break PART; }
+               exit = 11; break PART;
+              }
+              if (l21 == 5) { exit = 20; break PART; }
+              exit = 5; break PART;
+             }
+             l22 = 1;
+             if (((1 << l21) & 261948) != 0) { exit = 5; break PART; }
+             if (l21 == 6) { break L162; }
+             exit = 12; break PART;
+            }
+            if (l21 != 7) { exit = 5; break PART; }
+            l22 = 1;
+            exit = 12; break PART;
+           }
+           L234: {
+            L235: {
+             L236: {
+              L237: {
+               switch (l19) {
+               case 1: break L234;
+               case 2: case 3: break L236;
+               case 4: break L235;
+               case 5: break L161;
+               default: break L237;
+               }
+              }
+              l20 = 6;
+              l22 = 1;
+              switch (l21) {
+              case 5: exit = 11; break PART;
+              case 6: break L162;
+              case 7: exit = 12; break PART;
+              default: exit = 5; break PART;
+              }
+             }
+             l20 = 8;
+             l22 = 1;
+             if (((1 << l21) & 261983) != 0) { exit = 5; break PART; }
+             if (l21 != 5) { exit = 12; break PART; }
+             exit = 11; break PART;
+            }
+            if (l21 == 5) { exit = 20; break PART; }
+            exit = 5; break PART;
+           }
+           l22 = 1;
+           if (((1 << l21) & 261951) != 0) { exit = 5; break PART; }
+           if (l21 != 6) { exit = 12; break PART; }
+          }
+          l13 = ((l11 + l13) + l12) * 100000000L;
+          exit = 21; break PART;
+         }
+         if (l21 != 7) { exit = 5; break PART; }
+         l22 = 1;
+         exit = 12; break PART;
+        }
+        l24 = 5;
+        l25 = 0;
+        l20 = 1;
+        l23 = 0;
+        l22 = 0;
+        l18 = 0;
+        switch (l21) {
+        case 1: exit = 13; break PART;
+        case 2: case 3: case 4: case 5: case 6: case 7: case 8: case 9: case 10: case 12: case 13: case 14: case 15: case 16: case 17: exit = 5; break PART;
+        case 11: exit = 19; break PART;
+        default: exit = 22; break PART;
+        }
+       }
+       if (l21 == 12) { exit = 23; break PART; }
+       exit = 5; break PART;
+      }
+      if (l21 == 13) { exit = 24; break PART; }
+      exit = 5; break PART;
+     }
+     if ((l21 + -2) + Integer.MIN_VALUE < -2147483632) { exit = 5; break PART; }
+     l24 = 5;
+     l25 = 0;
+     l23 = 0;
+     switch (l21) {
+     case 1: exit = 13; break PART;
+     default: exit = 22; break PART;
+     }
+    }
+    if (l21 != 7) { exit = 5; break PART; }
+    l22 = 1;
+    exit = 12; break PART;
+   }
+   l24 = 16;
+   l25 = 0;
+   l20 = 19;
+   l23 = 0;
+   l22 = 0;
+   l18 = 0;
+   L238: {
+    switch (l21) {
+    case 1: exit = 13; break PART;
+    case 2: case 3: case 4: case 5: case 6: case 7: case 8: case 9: case 11: case 12: case 13: case 14: case 15: case 16: case 17: exit = 5; break PART;
+    case 10: exit = 19; break PART;
+    default: break L238;
+    }
+   }
+   l22 = l19 & 1;
+   exit = 25; break PART;
+  }
+ }
+ m.kept[0] = l13;
+ m.kept[1] = l18;
+ m.kept[2] = l20;
+ m.kept[3] = l22;
+ m.kept[4] = l23;
+ m.kept[5] = l24;
+ m.kept[6] = l25;
+ return exit;
+}
+
+static int f26_3(State m, long l2, long l3, long l4, long l5, long l7, long l8, long l9, long l10, long l11, long l12, long l13, long l14, int l16, int l17, int l18, int l19, int l20, int l21, int l22) {
  final byte[] b = m.bytes;
  int exit = 0;
  PART: {
-  L250: while (true) {
-   L251: {
-    if ((b[((int) (l9 = (l4 + 416L) + l5)) - 60720] & 0xff) != 1) { break L251; }
-    if (l8 + Long.MIN_VALUE < (l7 = Words.get64(b, ((int) (l9 + 8L)) - 60720)) + Long.MIN_VALUE) { break L251; }
+  L251: while (true) {
+   L252: {
+    if ((b[((int) (l9 = (l4 + 416L) + l5)) - 60720] & 0xff) != 1) { break L252; }
+    if (l8 + Long.MIN_VALUE < (l7 = Words.get64(b, ((int) (l9 + 8L)) - 60720)) + Long.MIN_VALUE) { break L252; }
     l17 = Words.get32(b, ((int) (l9 + 20L)) - 60720);
     l16 = b[((int) (l9 + 16L)) - 60720] & 0xff;
     Words.put64(b, ((int) l4) - 60416, 0L);
@@ -6854,14 +6775,14 @@ static int f26_2(State m, long l2, long l3, long l4, long l5, long l7, long l8, 
     Words.put64(b, ((int) l4) - 60624, 0L);
     Words.put64(b, ((int) l4) - 60616, 0L);
     l13 = (l20 & 0xffffffffL) & 255L;
-    L252: {
-     L253: {
-      L254: {
-       L255: {
+    L253: {
+     L254: {
+      L255: {
+       L256: {
         switch (l16) {
-        case 1: break L254;
-        case 2: break L253;
-        default: break L255;
+        case 1: break L255;
+        case 2: break L254;
+        default: break L256;
         }
        }
        Words.put64(b, ((int) l4) - 60496, l11);
@@ -6869,24 +6790,24 @@ static int f26_2(State m, long l2, long l3, long l4, long l5, long l7, long l8, 
        b[((int) l4) - 60512] = (byte) l18;
        b[((int) l4) - 60520] = (byte) l19;
        f23(m, l4 + 368L, l4 + 200L, l17);
-       if ((b[((int) l4) - 60352] & 0xff) != 1) { break L251; }
+       if ((b[((int) l4) - 60352] & 0xff) != 1) { break L252; }
        l19 = b[((int) l4) - 60344] & 0xff;
        l18 = b[((int) l4) - 60336] & 0xff;
        l20 = b[((int) l4) - 60328] & 0xff;
        l11 = Words.get64(b, ((int) l4) - 60320);
-       break L252;
+       break L253;
       }
-      if (l9 == 0L) { break L251; }
-      L256: {
-       L257: {
-        if ((l20 = (int) b[((int) l10) - 60720]) <= -1) { break L257; }
-        l14 = 1L;
-        break L256;
-       }
+      if (l9 == 0L) { break L252; }
+      L257: {
        L258: {
-        if (l20 + Integer.MIN_VALUE >= 2147483616) { break L258; }
+        if ((l20 = (int) b[((int) l10) - 60720]) <= -1) { break L258; }
+        l14 = 1L;
+        break L257;
+       }
+       L259: {
+        if (l20 + Integer.MIN_VALUE >= 2147483616) { break L259; }
         l14 = 2L;
-        break L256;
+        break L257;
        }
        l14 = (l20 + Integer.MIN_VALUE < 2147483632) ? 3L : 4L;
       }
@@ -6895,26 +6816,26 @@ static int f26_2(State m, long l2, long l3, long l4, long l5, long l7, long l8, 
       b[((int) l4) - 60616] = (byte) l18;
       b[((int) l4) - 60624] = (byte) l19;
       f23(m, l4 + 48L, l4 + 96L, l17);
-      if ((b[((int) l4) - 60672] & 0xff) != 1) { break L251; }
+      if ((b[((int) l4) - 60672] & 0xff) != 1) { break L252; }
       l10 = l10 + l14;
       l9 = l9 - l14;
       l19 = b[((int) l4) - 60664] & 0xff;
       l18 = b[((int) l4) - 60656] & 0xff;
       l20 = b[((int) l4) - 60648] & 0xff;
       l11 = Words.get64(b, ((int) l4) - 60640);
-      break L252;
+      break L253;
      }
-     if (l9 == 0L) { break L251; }
-     L259: {
-      L260: {
-       if ((l22 = (int) b[((int) l10) - 60720]) <= -1) { break L260; }
-       l13 = 1L;
-       break L259;
-      }
+     if (l9 == 0L) { break L252; }
+     L260: {
       L261: {
-       if (l22 + Integer.MIN_VALUE >= 2147483616) { break L261; }
+       if ((l22 = (int) b[((int) l10) - 60720]) <= -1) { break L261; }
+       l13 = 1L;
+       break L260;
+      }
+      L262: {
+       if (l22 + Integer.MIN_VALUE >= 2147483616) { break L262; }
        l13 = 2L;
-       break L259;
+       break L260;
       }
       l13 = (l22 + Integer.MIN_VALUE < 2147483632) ? 3L : 4L;
      }
@@ -6926,55 +6847,55 @@ static int f26_2(State m, long l2, long l3, long l4, long l5, long l7, long l8, 
     b[((int) l4) - 60712] = (byte) l19;
     Words.put64(b, ((int) l4) - 60696, (l20 & 0xffffffffL) & 255L);
     f18(m, l4 + 240L, l4 + 8L, l10, l9, -1L);
-    L262: {
-     if (Words.get64(b, ((int) l4) - 60432) != 0L) { break L262; }
+    L263: {
+     if (Words.get64(b, ((int) l4) - 60432) != 0L) { break L263; }
      l20 = 1;
      if (l12 != 0L) { exit = 1; break PART; }
-     if (((1 << (b[((int) l4) - 60472] & 0xff)) & 1475) != 0) { break L251; }
+     if (((1 << (b[((int) l4) - 60472] & 0xff)) & 1475) != 0) { break L252; }
      exit = 1; break PART;
     }
-    if (l12 == 0L) { break L251; }
+    if (l12 == 0L) { break L252; }
     l9 = (Words.get64(b, ((int) l4) - 60384) + ((l16 != 2) ? 1L : 0L)) + Words.get64(b, ((int) l4) - 60448);
     l10 = 2L;
-    L263: {
-     L264: {
-      L265: {
+    L264: {
+     L265: {
+      L266: {
        switch (l16) {
-       case 1: break L265;
-       case 2: break L264;
-       default: break L263;
+       case 1: break L266;
+       case 2: break L265;
+       default: break L264;
        }
       }
       l10 = 1L;
-      break L263;
+      break L264;
      }
      l10 = (l7 == l8) ? 1L : 0L;
     }
     l20 = 1;
     if ((l10 = l10 + l8) + Long.MIN_VALUE < l9 + Long.MIN_VALUE) { exit = 1; break PART; }
-    if (l9 != l10) { break L251; }
+    if (l9 != l10) { break L252; }
     l18 = (l19 = (int) b[((int) (l9 = Words.get64(b, ((int) l4) - 60440))) - 60720]) & 255;
-    L266: {
-     if (l19 > -1) { break L266; }
+    L267: {
+     if (l19 > -1) { break L267; }
      l22 = (b[((int) l9) - 60719] & 0xff) & 63;
-     L267: {
-      if (l19 + Integer.MIN_VALUE > 2147483615) { break L267; }
+     L268: {
+      if (l19 + Integer.MIN_VALUE > 2147483615) { break L268; }
       l18 = ((l18 << 6) & 1984) | l22;
-      break L266;
+      break L267;
      }
      l21 = (b[((int) l9) - 60718] & 0xff) & 63;
-     L268: {
-      if (l19 + Integer.MIN_VALUE > 2147483631) { break L268; }
+     L269: {
+      if (l19 + Integer.MIN_VALUE > 2147483631) { break L269; }
       l18 = ((l22 << 6) | ((l18 << 12) & 61440)) | l21;
-      break L266;
+      break L267;
      }
      l18 = ((l21 << 6) | ((l22 << 12) | ((l18 << 18) & 1835008))) | ((b[((int) l9) - 60717] & 0xff) & 63);
     }
     Words.put32(b, ((int) l4) - 60416, l18);
     if (f29(m, 66564L, 29L, l4 + 304L) == 0) { exit = 1; break PART; }
    }
-   if ((l5 = l5 + 24L) != 336L) { continue L250; }
-   break L250;
+   if ((l5 = l5 + 24L) != 336L) { continue L251; }
+   break L251;
   }
  }
  m.kept[0] = l5;
@@ -6994,14 +6915,14 @@ static int f26_2(State m, long l2, long l3, long l4, long l5, long l7, long l8, 
  return exit;
 }
 
-static int f26_3(State m, long l2, long l3, long l4, long l5, long l7, long l8, long l9, long l10, long l11, long l13, int l16, int l17, int l18, int l19, int l20, int l21, int l22, int l24) {
+static int f26_4(State m, long l2, long l3, long l4, long l5, long l7, long l8, long l9, long l10, long l11, long l13, int l16, int l17, int l18, int l19, int l20, int l21, int l22, int l24) {
  final byte[] b = m.bytes;
  int exit = 0;
  PART: {
-  L271: while (true) {
-   L272: {
-    if ((b[((int) (l9 = (l4 + 416L) + l5)) - 60720] & 0xff) != 1) { break L272; }
-    if (l8 + Long.MIN_VALUE < (l7 = Words.get64(b, ((int) (l9 + 8L)) - 60720)) + Long.MIN_VALUE) { break L272; }
+  L272: while (true) {
+   L273: {
+    if ((b[((int) (l9 = (l4 + 416L) + l5)) - 60720] & 0xff) != 1) { break L273; }
+    if (l8 + Long.MIN_VALUE < (l7 = Words.get64(b, ((int) (l9 + 8L)) - 60720)) + Long.MIN_VALUE) { break L273; }
     l17 = Words.get32(b, ((int) (l9 + 20L)) - 60720);
     l16 = b[((int) (l9 + 16L)) - 60720] & 0xff;
     Words.put64(b, ((int) l4) - 60480, 0L);
@@ -7032,14 +6953,14 @@ static int f26_3(State m, long l2, long l3, long l4, long l5, long l7, long l8, 
     Words.put64(b, ((int) l4) - 60672, 0L);
     Words.put32(b, ((int) l4) - 60664, 0);
     Words.put16(b, ((int) l4) - 60616, (short) 0);
-    L273: {
-     L274: {
-      L275: {
-       L276: {
+    L274: {
+     L275: {
+      L276: {
+       L277: {
         switch (l16) {
-        case 1: break L275;
-        case 2: break L274;
-        default: break L276;
+        case 1: break L276;
+        case 2: break L275;
+        default: break L277;
         }
        }
        b[((int) l4) - 60512] = (byte) l20;
@@ -7048,25 +6969,25 @@ static int f26_3(State m, long l2, long l3, long l4, long l5, long l7, long l8, 
        Words.put32(b, ((int) l4) - 60518, l22);
        Words.put16(b, ((int) l4) - 60520, (short) l21);
        f22(m, l4 + 368L, l4 + 200L, l17);
-       if ((b[((int) l4) - 60352] & 0xff) != 1) { break L272; }
+       if ((b[((int) l4) - 60352] & 0xff) != 1) { break L273; }
        l22 = Words.get32(b, ((int) l4) - 60348);
        l19 = b[((int) l4) - 60344] & 0xff;
        l18 = b[((int) l4) - 60343] & 0xff;
        l20 = b[((int) l4) - 60342] & 0xff;
        l21 = b[((int) l4) - 60350] & 0xff;
-       break L273;
+       break L274;
       }
-      if (l9 == 0L) { break L272; }
-      L277: {
-       L278: {
-        if ((l24 = (int) b[((int) l10) - 60720]) <= -1) { break L278; }
-        l13 = 1L;
-        break L277;
-       }
+      if (l9 == 0L) { break L273; }
+      L278: {
        L279: {
-        if (l24 + Integer.MIN_VALUE >= 2147483616) { break L279; }
+        if ((l24 = (int) b[((int) l10) - 60720]) <= -1) { break L279; }
+        l13 = 1L;
+        break L278;
+       }
+       L280: {
+        if (l24 + Integer.MIN_VALUE >= 2147483616) { break L280; }
         l13 = 2L;
-        break L277;
+        break L278;
        }
        l13 = (l24 + Integer.MIN_VALUE < 2147483632) ? 3L : 4L;
       }
@@ -7076,7 +6997,7 @@ static int f26_3(State m, long l2, long l3, long l4, long l5, long l7, long l8, 
       Words.put32(b, ((int) l4) - 60622, l22);
       Words.put16(b, ((int) l4) - 60624, (short) l21);
       f22(m, l4 + 48L, l4 + 96L, l17);
-      if ((b[((int) l4) - 60672] & 0xff) != 1) { break L272; }
+      if ((b[((int) l4) - 60672] & 0xff) != 1) { break L273; }
       l10 = l10 + l13;
       l9 = l9 - l13;
       l22 = Words.get32(b, ((int) l4) - 60668);
@@ -7084,19 +7005,19 @@ static int f26_3(State m, long l2, long l3, long l4, long l5, long l7, long l8, 
       l18 = b[((int) l4) - 60663] & 0xff;
       l20 = b[((int) l4) - 60662] & 0xff;
       l21 = b[((int) l4) - 60670] & 0xff;
-      break L273;
+      break L274;
      }
-     if (l9 == 0L) { break L272; }
-     L280: {
-      L281: {
-       if ((l24 = (int) b[((int) l10) - 60720]) <= -1) { break L281; }
-       l13 = 1L;
-       break L280;
-      }
+     if (l9 == 0L) { break L273; }
+     L281: {
       L282: {
-       if (l24 + Integer.MIN_VALUE >= 2147483616) { break L282; }
+       if ((l24 = (int) b[((int) l10) - 60720]) <= -1) { break L282; }
+       l13 = 1L;
+       break L281;
+      }
+      L283: {
+       if (l24 + Integer.MIN_VALUE >= 2147483616) { break L283; }
        l13 = 2L;
-       break L280;
+       break L281;
       }
       l13 = (l24 + Integer.MIN_VALUE < 2147483632) ? 3L : 4L;
      }
@@ -7109,47 +7030,47 @@ static int f26_3(State m, long l2, long l3, long l4, long l5, long l7, long l8, 
     Words.put32(b, ((int) l4) - 60710, l22);
     Words.put16(b, ((int) l4) - 60712, (short) (l21 & 255));
     f16(m, l4 + 136L, l4 + 8L, l10, l9, -1L);
-    L283: {
-     if (Words.get64(b, ((int) l4) - 60552) != 0L) { break L283; }
+    L284: {
+     if (Words.get64(b, ((int) l4) - 60552) != 0L) { break L284; }
      l20 = 1;
      if (l11 != 0L) { exit = 1; break PART; }
-     if (((b[((int) l4) - 60584] & 0xff) & 255) != 3) { break L272; }
+     if (((b[((int) l4) - 60584] & 0xff) & 255) != 3) { break L273; }
      exit = 1; break PART;
     }
-    if (l11 == 0L) { break L272; }
+    if (l11 == 0L) { break L273; }
     l9 = (Words.get64(b, ((int) l4) - 60464) + ((l16 != 2) ? 1L : 0L)) + Words.get64(b, ((int) l4) - 60568);
     l10 = 2L;
-    L284: {
-     L285: {
-      L286: {
+    L285: {
+     L286: {
+      L287: {
        switch (l16) {
-       case 1: break L286;
-       case 2: break L285;
-       default: break L284;
+       case 1: break L287;
+       case 2: break L286;
+       default: break L285;
        }
       }
       l10 = 1L;
-      break L284;
+      break L285;
      }
      l10 = (l7 == l8) ? 1L : 0L;
     }
     l20 = 1;
     if ((l10 = l10 + l8) + Long.MIN_VALUE < l9 + Long.MIN_VALUE) { exit = 1; break PART; }
-    if (l9 != l10) { break L272; }
+    if (l9 != l10) { break L273; }
     l18 = (l19 = (int) b[((int) (l9 = Words.get64(b, ((int) l4) - 60560))) - 60720]) & 255;
-    L287: {
-     if (l19 > -1) { break L287; }
+    L288: {
+     if (l19 > -1) { break L288; }
      l22 = (b[((int) l9) - 60719] & 0xff) & 63;
-     L288: {
-      if (l19 + Integer.MIN_VALUE > 2147483615) { break L288; }
+     L289: {
+      if (l19 + Integer.MIN_VALUE > 2147483615) { break L289; }
       l18 = ((l18 << 6) & 1984) | l22;
-      break L287;
+      break L288;
      }
      l21 = (b[((int) l9) - 60718] & 0xff) & 63;
-     L289: {
-      if (l19 + Integer.MIN_VALUE > 2147483631) { break L289; }
+     L290: {
+      if (l19 + Integer.MIN_VALUE > 2147483631) { break L290; }
       l18 = ((l22 << 6) | ((l18 << 12) & 61440)) | l21;
-      break L287;
+      break L288;
      }
      l18 = ((l21 << 6) | ((l22 << 12) | ((l18 << 18) & 1835008))) | ((b[((int) l9) - 60717] & 0xff) & 63);
     }
@@ -7157,7 +7078,7 @@ static int f26_3(State m, long l2, long l3, long l4, long l5, long l7, long l8, 
     if (f29(m, 66492L, 18L, l4 + 240L) == 0) { exit = 1; break PART; }
    }
    if ((l5 = l5 + 24L) == 336L) { exit = 2; break PART; }
-   continue L271;
+   continue L272;
   }
  }
  m.kept[0] = l5;
@@ -7176,14 +7097,14 @@ static int f26_3(State m, long l2, long l3, long l4, long l5, long l7, long l8, 
  return exit;
 }
 
-static int f26_4(State m, long l2, long l3, long l4, long l5, long l6, long l7, long l8, long l9, long l10, long l11, long l12, long l13, long l14, int l16, int l17, int l18, int l19, int l20, int l21, int l22) {
+static int f26_5(State m, long l2, long l3, long l4, long l5, long l6, long l7, long l8, long l9, long l10, long l11, long l12, long l13, long l14, int l16, int l17, int l18, int l19, int l20, int l21, int l22) {
  final byte[] b = m.bytes;
  int exit = 0;
  PART: {
-  L293: while (true) {
-   L294: {
-    if ((b[((int) (l9 = (l4 + 416L) + l5)) - 60720] & 0xff) != 1) { break L294; }
-    if (l11 + Long.MIN_VALUE < (l7 = Words.get64(b, ((int) (l9 + 8L)) - 60720)) + Long.MIN_VALUE) { break L294; }
+  L294: while (true) {
+   L295: {
+    if ((b[((int) (l9 = (l4 + 416L) + l5)) - 60720] & 0xff) != 1) { break L295; }
+    if (l11 + Long.MIN_VALUE < (l7 = Words.get64(b, ((int) (l9 + 8L)) - 60720)) + Long.MIN_VALUE) { break L295; }
     l17 = Words.get32(b, ((int) (l9 + 20L)) - 60720);
     l16 = b[((int) (l9 + 16L)) - 60720] & 0xff;
     Words.put64(b, ((int) l4) - 60416, 0L);
@@ -7214,20 +7135,20 @@ static int f26_4(State m, long l2, long l3, long l4, long l5, long l6, long l7, 
     f14(m, l4 + 304L, l4 + 200L, l2, l3, l7);
     l9 = Words.get64(b, ((int) l4) - 60360);
     l10 = Words.get64(b, ((int) l4) - 60368);
-    L295: {
-     L296: {
-      L297: {
-       L298: {
-        L299: {
-         L300: {
-          L301: {
-           L302: {
-            L303: {
-             L304: {
+    L296: {
+     L297: {
+      L298: {
+       L299: {
+        L300: {
+         L301: {
+          L302: {
+           L303: {
+            L304: {
+             L305: {
               switch (l16) {
-              case 1: break L303;
-              case 2: break L302;
-              default: break L304;
+              case 1: break L304;
+              case 2: break L303;
+              default: break L305;
               }
              }
              Words.put64(b, ((int) l4) - 60312, 0L);
@@ -7236,35 +7157,35 @@ static int f26_4(State m, long l2, long l3, long l4, long l5, long l6, long l7, 
              Words.put64(b, ((int) l4) - 60336, 0L);
              Words.put64(b, ((int) l4) - 60344, 0L);
              Words.put64(b, ((int) l4) - 60352, 0L);
-             L305: {
-              if (l17 + Integer.MIN_VALUE > -2147483521) { break L305; }
-              if ((l17 + -9) + Integer.MIN_VALUE < -2147483643) { break L296; }
-              if (l17 != 32) { break L297; }
-              break L296;
-             }
-             if ((l17 + -8192) + Integer.MIN_VALUE < -2147483637) { break L296; }
              L306: {
-              if (l17 > 8231) { break L306; }
-              if (l17 == 133) { break L296; }
-              if (l17 == 160) { break L296; }
-              if (l17 != 5760) { break L297; }
-              break L296;
+              if (l17 + Integer.MIN_VALUE > -2147483521) { break L306; }
+              if ((l17 + -9) + Integer.MIN_VALUE < -2147483643) { break L297; }
+              if (l17 != 32) { break L298; }
+              break L297;
              }
-             if ((l20 = l17 + -8232) + Integer.MIN_VALUE > -2147483593) { break L298; }
-             if (((1L << (l20 & 0xffffffffL)) & 36028797018964099L) == 0L) { break L298; }
-             break L296;
+             if ((l17 + -8192) + Integer.MIN_VALUE < -2147483637) { break L297; }
+             L307: {
+              if (l17 > 8231) { break L307; }
+              if (l17 == 133) { break L297; }
+              if (l17 == 160) { break L297; }
+              if (l17 != 5760) { break L298; }
+              break L297;
+             }
+             if ((l20 = l17 + -8232) + Integer.MIN_VALUE > -2147483593) { break L299; }
+             if (((1L << (l20 & 0xffffffffL)) & 36028797018964099L) == 0L) { break L299; }
+             break L297;
             }
-            if (l9 == 0L) { break L294; }
-            L307: {
-             L308: {
-              if ((l20 = (int) b[((int) l10) - 60720]) <= -1) { break L308; }
-              l14 = 1L;
-              break L307;
-             }
+            if (l9 == 0L) { break L295; }
+            L308: {
              L309: {
-              if (l20 + Integer.MIN_VALUE >= 2147483616) { break L309; }
+              if ((l20 = (int) b[((int) l10) - 60720]) <= -1) { break L309; }
+              l14 = 1L;
+              break L308;
+             }
+             L310: {
+              if (l20 + Integer.MIN_VALUE >= 2147483616) { break L310; }
               l14 = 2L;
-              break L307;
+              break L308;
              }
              l14 = (l20 + Integer.MIN_VALUE < 2147483632) ? 3L : 4L;
             }
@@ -7276,35 +7197,35 @@ static int f26_4(State m, long l2, long l3, long l4, long l5, long l6, long l7, 
             Words.put64(b, ((int) l4) - 60352, 0L);
             l9 = l9 - l14;
             l10 = l10 + l14;
-            L310: {
-             if (l17 + Integer.MIN_VALUE > -2147483521) { break L310; }
-             if ((l17 + -9) + Integer.MIN_VALUE < -2147483643) { break L299; }
-             if (l17 != 32) { break L300; }
-             break L299;
-            }
-            if ((l17 + -8192) + Integer.MIN_VALUE < -2147483637) { break L299; }
             L311: {
-             if (l17 > 8231) { break L311; }
-             if (l17 == 133) { break L299; }
-             if (l17 == 160) { break L299; }
-             if (l17 != 5760) { break L300; }
-             break L299;
+             if (l17 + Integer.MIN_VALUE > -2147483521) { break L311; }
+             if ((l17 + -9) + Integer.MIN_VALUE < -2147483643) { break L300; }
+             if (l17 != 32) { break L301; }
+             break L300;
             }
-            if ((l20 = l17 + -8232) + Integer.MIN_VALUE > -2147483593) { break L301; }
-            if (((1L << (l20 & 0xffffffffL)) & 36028797018964099L) == 0L) { break L301; }
-            break L299;
+            if ((l17 + -8192) + Integer.MIN_VALUE < -2147483637) { break L300; }
+            L312: {
+             if (l17 > 8231) { break L312; }
+             if (l17 == 133) { break L300; }
+             if (l17 == 160) { break L300; }
+             if (l17 != 5760) { break L301; }
+             break L300;
+            }
+            if ((l20 = l17 + -8232) + Integer.MIN_VALUE > -2147483593) { break L302; }
+            if (((1L << (l20 & 0xffffffffL)) & 36028797018964099L) == 0L) { break L302; }
+            break L300;
            }
-           if (l9 == 0L) { break L294; }
-           L312: {
-            L313: {
-             if ((l20 = (int) b[((int) l10) - 60720]) <= -1) { break L313; }
-             l14 = 1L;
-             break L312;
-            }
+           if (l9 == 0L) { break L295; }
+           L313: {
             L314: {
-             if (l20 + Integer.MIN_VALUE >= 2147483616) { break L314; }
+             if ((l20 = (int) b[((int) l10) - 60720]) <= -1) { break L314; }
+             l14 = 1L;
+             break L313;
+            }
+            L315: {
+             if (l20 + Integer.MIN_VALUE >= 2147483616) { break L315; }
              l14 = 2L;
-             break L312;
+             break L313;
             }
             l14 = (l20 + Integer.MIN_VALUE < 2147483632) ? 3L : 4L;
            }
@@ -7315,36 +7236,36 @@ static int f26_4(State m, long l2, long l3, long l4, long l5, long l6, long l7, 
            Words.put64(b, ((int) l4) - 60672, Words.get64(b, ((int) l4) - 60416));
            l9 = l9 - l14;
            l10 = l10 + l14;
-           break L295;
+           break L296;
           }
-          if (l17 == 12288) { break L299; }
+          if (l17 == 12288) { break L300; }
          }
          f21(m, l4 + 368L, l4 + 304L, l17);
-         if ((b[((int) l4) - 60352] & 0xff) != 1) { break L294; }
+         if ((b[((int) l4) - 60352] & 0xff) != 1) { break L295; }
          Words.put64(b, ((int) l4) - 60640, Words.get64(b, ((int) l6) - 60688));
          Words.put64(b, ((int) l4) - 60648, Words.get64(b, ((int) l6) - 60696));
          Words.put64(b, ((int) l4) - 60656, Words.get64(b, ((int) l6) - 60704));
          Words.put64(b, ((int) l4) - 60664, Words.get64(b, ((int) l6) - 60712));
          Words.put64(b, ((int) l4) - 60672, Words.get64(b, ((int) l6) - 60720));
-         break L295;
+         break L296;
         }
         Words.put64(b, ((int) l4) - 60640, Words.get64(b, ((int) l4) - 60384));
         Words.put64(b, ((int) l4) - 60648, Words.get64(b, ((int) l4) - 60392));
         Words.put64(b, ((int) l4) - 60656, Words.get64(b, ((int) l4) - 60400));
         Words.put64(b, ((int) l4) - 60664, Words.get64(b, ((int) l4) - 60408));
         Words.put64(b, ((int) l4) - 60672, Words.get64(b, ((int) l4) - 60416));
-        break L295;
+        break L296;
        }
-       if (l17 == 12288) { break L296; }
+       if (l17 == 12288) { break L297; }
       }
       f21(m, l4 + 368L, l4 + 304L, l17);
-      if ((b[((int) l4) - 60352] & 0xff) != 1) { break L294; }
+      if ((b[((int) l4) - 60352] & 0xff) != 1) { break L295; }
       Words.put64(b, ((int) l4) - 60640, Words.get64(b, ((int) l6) - 60688));
       Words.put64(b, ((int) l4) - 60648, Words.get64(b, ((int) l6) - 60696));
       Words.put64(b, ((int) l4) - 60656, Words.get64(b, ((int) l6) - 60704));
       Words.put64(b, ((int) l4) - 60664, Words.get64(b, ((int) l6) - 60712));
       Words.put64(b, ((int) l4) - 60672, Words.get64(b, ((int) l6) - 60720));
-      break L295;
+      break L296;
      }
      Words.put64(b, ((int) l4) - 60640, Words.get64(b, ((int) l4) - 60384));
      Words.put64(b, ((int) l4) - 60648, Words.get64(b, ((int) l4) - 60392));
@@ -7353,50 +7274,50 @@ static int f26_4(State m, long l2, long l3, long l4, long l5, long l6, long l7, 
      Words.put64(b, ((int) l4) - 60672, Words.get64(b, ((int) l4) - 60416));
     }
     f14(m, l4 + 240L, l4 + 48L, l10, l9, -1L);
-    L315: {
-     if (Words.get64(b, ((int) l4) - 60424) != 0L) { break L315; }
+    L316: {
+     if (Words.get64(b, ((int) l4) - 60424) != 0L) { break L316; }
      l20 = 1;
      if (l12 != 0L) { exit = 1; break PART; }
-     if ((l18 = b[((int) l4) - 60472] & 0xff) + Integer.MIN_VALUE < -2147483631) { break L294; }
+     if ((l18 = b[((int) l4) - 60472] & 0xff) + Integer.MIN_VALUE < -2147483631) { break L295; }
      switch (l18 + -17) {
-     case 1: break L294;
+     case 1: break L295;
      default: exit = 1; break PART;
      }
     }
-    if (l12 == 0L) { break L294; }
+    if (l12 == 0L) { break L295; }
     l9 = (Words.get64(b, ((int) l4) - 60376) + ((l16 != 2) ? 1L : 0L)) + Words.get64(b, ((int) l4) - 60440);
     l10 = 2L;
-    L316: {
-     L317: {
-      L318: {
+    L317: {
+     L318: {
+      L319: {
        switch (l16) {
-       case 1: break L318;
-       case 2: break L317;
-       default: break L316;
+       case 1: break L319;
+       case 2: break L318;
+       default: break L317;
        }
       }
       l10 = 1L;
-      break L316;
+      break L317;
      }
      l10 = (l7 == l11) ? 1L : 0L;
     }
     l20 = 1;
     if ((l10 = l10 + l11) + Long.MIN_VALUE < l9 + Long.MIN_VALUE) { exit = 1; break PART; }
-    if (l9 != l10) { break L294; }
+    if (l9 != l10) { break L295; }
     l18 = (l19 = (int) b[((int) (l9 = Words.get64(b, ((int) l4) - 60432))) - 60720]) & 255;
-    L319: {
-     if (l19 > -1) { break L319; }
+    L320: {
+     if (l19 > -1) { break L320; }
      l22 = (b[((int) l9) - 60719] & 0xff) & 63;
-     L320: {
-      if (l19 + Integer.MIN_VALUE > 2147483615) { break L320; }
+     L321: {
+      if (l19 + Integer.MIN_VALUE > 2147483615) { break L321; }
       l18 = ((l18 << 6) & 1984) | l22;
-      break L319;
+      break L320;
      }
      l21 = (b[((int) l9) - 60718] & 0xff) & 63;
-     L321: {
-      if (l19 + Integer.MIN_VALUE > 2147483631) { break L321; }
+     L322: {
+      if (l19 + Integer.MIN_VALUE > 2147483631) { break L322; }
       l18 = ((l22 << 6) | ((l18 << 12) & 61440)) | l21;
-      break L319;
+      break L320;
      }
      l18 = ((l21 << 6) | ((l22 << 12) | ((l18 << 18) & 1835008))) | ((b[((int) l9) - 60717] & 0xff) & 63);
     }
@@ -7404,7 +7325,7 @@ static int f26_4(State m, long l2, long l3, long l4, long l5, long l6, long l7, 
     if (f29(m, 66048L, 47L, l4 + 304L) == 0) { exit = 1; break PART; }
    }
    if ((l5 = l5 + 24L) == 336L) { exit = 2; break PART; }
-   continue L293;
+   continue L294;
   }
  }
  m.kept[0] = l5;
@@ -7422,14 +7343,14 @@ static int f26_4(State m, long l2, long l3, long l4, long l5, long l6, long l7, 
  return exit;
 }
 
-static int f26_5(State m, long l2, long l3, long l4, long l5, long l6, long l7, long l8, long l9, long l10, long l11, long l12, long l13, long l14, int l16, int l17, int l18, int l19, int l20, int l21, int l22) {
+static int f26_6(State m, long l2, long l3, long l4, long l5, long l6, long l7, long l8, long l9, long l10, long l11, long l12, long l13, long l14, int l16, int l17, int l18, int l19, int l20, int l21, int l22) {
  final byte[] b = m.bytes;
  int exit = 0;
  PART: {
-  L325: while (true) {
-   L326: {
-    if ((b[((int) (l9 = (l4 + 416L) + l5)) - 60720] & 0xff) != 1) { break L326; }
-    if (l11 + Long.MIN_VALUE < (l7 = Words.get64(b, ((int) (l9 + 8L)) - 60720)) + Long.MIN_VALUE) { break L326; }
+  L326: while (true) {
+   L327: {
+    if ((b[((int) (l9 = (l4 + 416L) + l5)) - 60720] & 0xff) != 1) { break L327; }
+    if (l11 + Long.MIN_VALUE < (l7 = Words.get64(b, ((int) (l9 + 8L)) - 60720)) + Long.MIN_VALUE) { break L327; }
     l17 = Words.get32(b, ((int) (l9 + 20L)) - 60720);
     l16 = b[((int) (l9 + 16L)) - 60720] & 0xff;
     Words.put64(b, ((int) l4) - 60416, 0L);
@@ -7460,20 +7381,20 @@ static int f26_5(State m, long l2, long l3, long l4, long l5, long l6, long l7, 
     f12(m, l4 + 304L, l4 + 200L, l2, l3, l7);
     l9 = Words.get64(b, ((int) l4) - 60360);
     l10 = Words.get64(b, ((int) l4) - 60368);
-    L327: {
-     L328: {
-      L329: {
-       L330: {
-        L331: {
-         L332: {
-          L333: {
-           L334: {
-            L335: {
-             L336: {
+    L328: {
+     L329: {
+      L330: {
+       L331: {
+        L332: {
+         L333: {
+          L334: {
+           L335: {
+            L336: {
+             L337: {
               switch (l16) {
-              case 1: break L335;
-              case 2: break L334;
-              default: break L336;
+              case 1: break L336;
+              case 2: break L335;
+              default: break L337;
               }
              }
              Words.put64(b, ((int) l4) - 60312, 0L);
@@ -7482,35 +7403,35 @@ static int f26_5(State m, long l2, long l3, long l4, long l5, long l6, long l7, 
              Words.put64(b, ((int) l4) - 60336, 0L);
              Words.put64(b, ((int) l4) - 60344, 0L);
              Words.put64(b, ((int) l4) - 60352, 0L);
-             L337: {
-              if (l17 + Integer.MIN_VALUE > -2147483521) { break L337; }
-              if ((l17 + -9) + Integer.MIN_VALUE < -2147483643) { break L328; }
-              if (l17 != 32) { break L329; }
-              break L328;
-             }
-             if ((l17 + -8192) + Integer.MIN_VALUE < -2147483637) { break L328; }
              L338: {
-              if (l17 > 8231) { break L338; }
-              if (l17 == 133) { break L328; }
-              if (l17 == 160) { break L328; }
-              if (l17 != 5760) { break L329; }
-              break L328;
+              if (l17 + Integer.MIN_VALUE > -2147483521) { break L338; }
+              if ((l17 + -9) + Integer.MIN_VALUE < -2147483643) { break L329; }
+              if (l17 != 32) { break L330; }
+              break L329;
              }
-             if ((l20 = l17 + -8232) + Integer.MIN_VALUE > -2147483593) { break L330; }
-             if (((1L << (l20 & 0xffffffffL)) & 36028797018964099L) == 0L) { break L330; }
-             break L328;
+             if ((l17 + -8192) + Integer.MIN_VALUE < -2147483637) { break L329; }
+             L339: {
+              if (l17 > 8231) { break L339; }
+              if (l17 == 133) { break L329; }
+              if (l17 == 160) { break L329; }
+              if (l17 != 5760) { break L330; }
+              break L329;
+             }
+             if ((l20 = l17 + -8232) + Integer.MIN_VALUE > -2147483593) { break L331; }
+             if (((1L << (l20 & 0xffffffffL)) & 36028797018964099L) == 0L) { break L331; }
+             break L329;
             }
-            if (l9 == 0L) { break L326; }
-            L339: {
-             L340: {
-              if ((l20 = (int) b[((int) l10) - 60720]) <= -1) { break L340; }
-              l14 = 1L;
-              break L339;
-             }
+            if (l9 == 0L) { break L327; }
+            L340: {
              L341: {
-              if (l20 + Integer.MIN_VALUE >= 2147483616) { break L341; }
+              if ((l20 = (int) b[((int) l10) - 60720]) <= -1) { break L341; }
+              l14 = 1L;
+              break L340;
+             }
+             L342: {
+              if (l20 + Integer.MIN_VALUE >= 2147483616) { break L342; }
               l14 = 2L;
-              break L339;
+              break L340;
              }
              l14 = (l20 + Integer.MIN_VALUE < 2147483632) ? 3L : 4L;
             }
@@ -7522,35 +7443,35 @@ static int f26_5(State m, long l2, long l3, long l4, long l5, long l6, long l7, 
             Words.put64(b, ((int) l4) - 60352, 0L);
             l9 = l9 - l14;
             l10 = l10 + l14;
-            L342: {
-             if (l17 + Integer.MIN_VALUE > -2147483521) { break L342; }
-             if ((l17 + -9) + Integer.MIN_VALUE < -2147483643) { break L331; }
-             if (l17 != 32) { break L332; }
-             break L331;
-            }
-            if ((l17 + -8192) + Integer.MIN_VALUE < -2147483637) { break L331; }
             L343: {
-             if (l17 > 8231) { break L343; }
-             if (l17 == 133) { break L331; }
-             if (l17 == 160) { break L331; }
-             if (l17 != 5760) { break L332; }
-             break L331;
+             if (l17 + Integer.MIN_VALUE > -2147483521) { break L343; }
+             if ((l17 + -9) + Integer.MIN_VALUE < -2147483643) { break L332; }
+             if (l17 != 32) { break L333; }
+             break L332;
             }
-            if ((l20 = l17 + -8232) + Integer.MIN_VALUE > -2147483593) { break L333; }
-            if (((1L << (l20 & 0xffffffffL)) & 36028797018964099L) == 0L) { break L333; }
-            break L331;
+            if ((l17 + -8192) + Integer.MIN_VALUE < -2147483637) { break L332; }
+            L344: {
+             if (l17 > 8231) { break L344; }
+             if (l17 == 133) { break L332; }
+             if (l17 == 160) { break L332; }
+             if (l17 != 5760) { break L333; }
+             break L332;
+            }
+            if ((l20 = l17 + -8232) + Integer.MIN_VALUE > -2147483593) { break L334; }
+            if (((1L << (l20 & 0xffffffffL)) & 36028797018964099L) == 0L) { break L334; }
+            break L332;
            }
-           if (l9 == 0L) { break L326; }
-           L344: {
-            L345: {
-             if ((l20 = (int) b[((int) l10) - 60720]) <= -1) { break L345; }
-             l14 = 1L;
-             break L344;
-            }
+           if (l9 == 0L) { break L327; }
+           L345: {
             L346: {
-             if (l20 + Integer.MIN_VALUE >= 2147483616) { break L346; }
+             if ((l20 = (int) b[((int) l10) - 60720]) <= -1) { break L346; }
+             l14 = 1L;
+             break L345;
+            }
+            L347: {
+             if (l20 + Integer.MIN_VALUE >= 2147483616) { break L347; }
              l14 = 2L;
-             break L344;
+             break L345;
             }
             l14 = (l20 + Integer.MIN_VALUE < 2147483632) ? 3L : 4L;
            }
@@ -7561,36 +7482,36 @@ static int f26_5(State m, long l2, long l3, long l4, long l5, long l6, long l7, 
            Words.put64(b, ((int) l4) - 60672, Words.get64(b, ((int) l4) - 60416));
            l9 = l9 - l14;
            l10 = l10 + l14;
-           break L327;
+           break L328;
           }
-          if (l17 == 12288) { break L331; }
+          if (l17 == 12288) { break L332; }
          }
          f21(m, l4 + 368L, l4 + 304L, l17);
-         if ((b[((int) l4) - 60352] & 0xff) != 1) { break L326; }
+         if ((b[((int) l4) - 60352] & 0xff) != 1) { break L327; }
          Words.put64(b, ((int) l4) - 60640, Words.get64(b, ((int) l6) - 60688));
          Words.put64(b, ((int) l4) - 60648, Words.get64(b, ((int) l6) - 60696));
          Words.put64(b, ((int) l4) - 60656, Words.get64(b, ((int) l6) - 60704));
          Words.put64(b, ((int) l4) - 60664, Words.get64(b, ((int) l6) - 60712));
          Words.put64(b, ((int) l4) - 60672, Words.get64(b, ((int) l6) - 60720));
-         break L327;
+         break L328;
         }
         Words.put64(b, ((int) l4) - 60640, Words.get64(b, ((int) l4) - 60384));
         Words.put64(b, ((int) l4) - 60648, Words.get64(b, ((int) l4) - 60392));
         Words.put64(b, ((int) l4) - 60656, Words.get64(b, ((int) l4) - 60400));
         Words.put64(b, ((int) l4) - 60664, Words.get64(b, ((int) l4) - 60408));
         Words.put64(b, ((int) l4) - 60672, Words.get64(b, ((int) l4) - 60416));
-        break L327;
+        break L328;
        }
-       if (l17 == 12288) { break L328; }
+       if (l17 == 12288) { break L329; }
       }
       f21(m, l4 + 368L, l4 + 304L, l17);
-      if ((b[((int) l4) - 60352] & 0xff) != 1) { break L326; }
+      if ((b[((int) l4) - 60352] & 0xff) != 1) { break L327; }
       Words.put64(b, ((int) l4) - 60640, Words.get64(b, ((int) l6) - 60688));
       Words.put64(b, ((int) l4) - 60648, Words.get64(b, ((int) l6) - 60696));
       Words.put64(b, ((int) l4) - 60656, Words.get64(b, ((int) l6) - 60704));
       Words.put64(b, ((int) l4) - 60664, Words.get64(b, ((int) l6) - 60712));
       Words.put64(b, ((int) l4) - 60672, Words.get64(b, ((int) l6) - 60720));
-      break L327;
+      break L328;
      }
      Words.put64(b, ((int) l4) - 60640, Words.get64(b, ((int) l4) - 60384));
      Words.put64(b, ((int) l4) - 60648, Words.get64(b, ((int) l4) - 60392));
@@ -7599,50 +7520,50 @@ static int f26_5(State m, long l2, long l3, long l4, long l5, long l6, long l7, 
      Words.put64(b, ((int) l4) - 60672, Words.get64(b, ((int) l4) - 60416));
     }
     f12(m, l4 + 240L, l4 + 48L, l10, l9, -1L);
-    L347: {
-     if (Words.get64(b, ((int) l4) - 60424) != 0L) { break L347; }
+    L348: {
+     if (Words.get64(b, ((int) l4) - 60424) != 0L) { break L348; }
      l20 = 1;
      if (l12 != 0L) { exit = 1; break PART; }
-     if ((l18 = b[((int) l4) - 60472] & 0xff) + Integer.MIN_VALUE < -2147483631) { break L326; }
+     if ((l18 = b[((int) l4) - 60472] & 0xff) + Integer.MIN_VALUE < -2147483631) { break L327; }
      switch (l18 + -17) {
-     case 1: break L326;
+     case 1: break L327;
      default: exit = 1; break PART;
      }
     }
-    if (l12 == 0L) { break L326; }
+    if (l12 == 0L) { break L327; }
     l9 = (Words.get64(b, ((int) l4) - 60376) + ((l16 != 2) ? 1L : 0L)) + Words.get64(b, ((int) l4) - 60440);
     l10 = 2L;
-    L348: {
-     L349: {
-      L350: {
+    L349: {
+     L350: {
+      L351: {
        switch (l16) {
-       case 1: break L350;
-       case 2: break L349;
-       default: break L348;
+       case 1: break L351;
+       case 2: break L350;
+       default: break L349;
        }
       }
       l10 = 1L;
-      break L348;
+      break L349;
      }
      l10 = (l7 == l11) ? 1L : 0L;
     }
     l20 = 1;
     if ((l10 = l10 + l11) + Long.MIN_VALUE < l9 + Long.MIN_VALUE) { exit = 1; break PART; }
-    if (l9 != l10) { break L326; }
+    if (l9 != l10) { break L327; }
     l18 = (l19 = (int) b[((int) (l9 = Words.get64(b, ((int) l4) - 60432))) - 60720]) & 255;
-    L351: {
-     if (l19 > -1) { break L351; }
+    L352: {
+     if (l19 > -1) { break L352; }
      l22 = (b[((int) l9) - 60719] & 0xff) & 63;
-     L352: {
-      if (l19 + Integer.MIN_VALUE > 2147483615) { break L352; }
+     L353: {
+      if (l19 + Integer.MIN_VALUE > 2147483615) { break L353; }
       l18 = ((l18 << 6) & 1984) | l22;
-      break L351;
+      break L352;
      }
      l21 = (b[((int) l9) - 60718] & 0xff) & 63;
-     L353: {
-      if (l19 + Integer.MIN_VALUE > 2147483631) { break L353; }
+     L354: {
+      if (l19 + Integer.MIN_VALUE > 2147483631) { break L354; }
       l18 = ((l22 << 6) | ((l18 << 12) & 61440)) | l21;
-      break L351;
+      break L352;
      }
      l18 = ((l21 << 6) | ((l22 << 12) | ((l18 << 18) & 1835008))) | ((b[((int) l9) - 60717] & 0xff) & 63);
     }
@@ -7650,7 +7571,7 @@ static int f26_5(State m, long l2, long l3, long l4, long l5, long l6, long l7, 
     if (f29(m, 66048L, 47L, l4 + 304L) == 0) { exit = 1; break PART; }
    }
    if ((l5 = l5 + 24L) == 336L) { exit = 2; break PART; }
-   continue L325;
+   continue L326;
   }
  }
  m.kept[0] = l5;
@@ -7668,14 +7589,14 @@ static int f26_5(State m, long l2, long l3, long l4, long l5, long l6, long l7, 
  return exit;
 }
 
-static int f26_6(State m, long l2, long l3, long l4, long l5, long l7, long l8, long l9, long l10, long l11, long l12, long l13, long l14, int l16, int l17, int l18, int l19, int l20, int l22) {
+static int f26_7(State m, long l2, long l3, long l4, long l5, long l7, long l8, long l9, long l10, long l11, long l12, long l13, long l14, int l16, int l17, int l18, int l19, int l20, int l22) {
  final byte[] b = m.bytes;
  int exit = 0;
  PART: {
-  L357: while (true) {
-   L358: {
-    if ((b[((int) (l9 = (l4 + 416L) + l5)) - 60720] & 0xff) != 1) { break L358; }
-    if (l8 + Long.MIN_VALUE < (l7 = Words.get64(b, ((int) (l9 + 8L)) - 60720)) + Long.MIN_VALUE) { break L358; }
+  L358: while (true) {
+   L359: {
+    if ((b[((int) (l9 = (l4 + 416L) + l5)) - 60720] & 0xff) != 1) { break L359; }
+    if (l8 + Long.MIN_VALUE < (l7 = Words.get64(b, ((int) (l9 + 8L)) - 60720)) + Long.MIN_VALUE) { break L359; }
     l17 = Words.get32(b, ((int) (l9 + 20L)) - 60720);
     l16 = b[((int) (l9 + 16L)) - 60720] & 0xff;
     Words.put64(b, ((int) l4) - 60416, 0L);
@@ -7714,41 +7635,41 @@ static int f26_6(State m, long l2, long l3, long l4, long l5, long l7, long l8, 
     Words.put64(b, ((int) l4) - 60648, 0L);
     Words.put64(b, ((int) l4) - 60640, 0L);
     Words.put64(b, ((int) l4) - 60632, 0L);
-    L359: {
-     L360: {
-      L361: {
-       L362: {
+    L360: {
+     L361: {
+      L362: {
+       L363: {
         switch (l16) {
-        case 1: break L361;
-        case 2: break L360;
-        default: break L362;
+        case 1: break L362;
+        case 2: break L361;
+        default: break L363;
         }
        }
        f20(m, l4 + 368L, l4 + 304L, l17);
-       if ((b[((int) l4) - 60352] & 0xff) != 1) { break L358; }
+       if ((b[((int) l4) - 60352] & 0xff) != 1) { break L359; }
        Words.put64(b, ((int) l4) - 60488, Words.get64(b, ((int) l11) - 60688));
        Words.put64(b, ((int) l4) - 60496, Words.get64(b, ((int) l11) - 60696));
        Words.put64(b, ((int) l4) - 60504, Words.get64(b, ((int) l11) - 60704));
        Words.put64(b, ((int) l4) - 60512, Words.get64(b, ((int) l11) - 60712));
        Words.put64(b, ((int) l4) - 60520, Words.get64(b, ((int) l11) - 60720));
-       break L359;
+       break L360;
       }
-      if (l9 == 0L) { break L358; }
-      L363: {
-       L364: {
-        if ((l20 = (int) b[((int) l10) - 60720]) <= -1) { break L364; }
-        l14 = 1L;
-        break L363;
-       }
+      if (l9 == 0L) { break L359; }
+      L364: {
        L365: {
-        if (l20 + Integer.MIN_VALUE >= 2147483616) { break L365; }
+        if ((l20 = (int) b[((int) l10) - 60720]) <= -1) { break L365; }
+        l14 = 1L;
+        break L364;
+       }
+       L366: {
+        if (l20 + Integer.MIN_VALUE >= 2147483616) { break L366; }
         l14 = 2L;
-        break L363;
+        break L364;
        }
        l14 = (l20 + Integer.MIN_VALUE < 2147483632) ? 3L : 4L;
       }
       f20(m, l4 + 48L, l4 + 304L, l17);
-      if ((b[((int) l4) - 60672] & 0xff) != 1) { break L358; }
+      if ((b[((int) l4) - 60672] & 0xff) != 1) { break L359; }
       Words.put64(b, ((int) l4) - 60488, Words.get64(b, ((int) l13) - 60688));
       Words.put64(b, ((int) l4) - 60496, Words.get64(b, ((int) l13) - 60696));
       Words.put64(b, ((int) l4) - 60504, Words.get64(b, ((int) l13) - 60704));
@@ -7756,19 +7677,19 @@ static int f26_6(State m, long l2, long l3, long l4, long l5, long l7, long l8, 
       Words.put64(b, ((int) l4) - 60520, Words.get64(b, ((int) l13) - 60720));
       l10 = l10 + l14;
       l9 = l9 - l14;
-      break L359;
+      break L360;
      }
-     if (l9 == 0L) { break L358; }
-     L366: {
-      L367: {
-       if ((l20 = (int) b[((int) l10) - 60720]) <= -1) { break L367; }
-       l14 = 1L;
-       break L366;
-      }
+     if (l9 == 0L) { break L359; }
+     L367: {
       L368: {
-       if (l20 + Integer.MIN_VALUE >= 2147483616) { break L368; }
+       if ((l20 = (int) b[((int) l10) - 60720]) <= -1) { break L368; }
+       l14 = 1L;
+       break L367;
+      }
+      L369: {
+       if (l20 + Integer.MIN_VALUE >= 2147483616) { break L369; }
        l14 = 2L;
-       break L366;
+       break L367;
       }
       l14 = (l20 + Integer.MIN_VALUE < 2147483632) ? 3L : 4L;
      }
@@ -7781,49 +7702,49 @@ static int f26_6(State m, long l2, long l3, long l4, long l5, long l7, long l8, 
      l10 = l10 + l14;
     }
     f10(m, l4 + 240L, l4 + 200L, l10, l9, -1L);
-    L369: {
-     L370: {
-      L371: {
-       L372: {
-        if (Words.get64(b, ((int) l4) - 60424) != 0L) { break L372; }
-        if (l12 != 0L) { break L371; }
-        if ((l9 = Words.get64(b, ((int) l4) - 60479) >>> 56L) + Long.MIN_VALUE < -9223372036854775791L) { break L358; }
+    L370: {
+     L371: {
+      L372: {
+       L373: {
+        if (Words.get64(b, ((int) l4) - 60424) != 0L) { break L373; }
+        if (l12 != 0L) { break L372; }
+        if ((l9 = Words.get64(b, ((int) l4) - 60479) >>> 56L) + Long.MIN_VALUE < -9223372036854775791L) { break L359; }
         switch (((int) l9) + -17) {
-        case 1: break L358;
-        default: break L371;
+        case 1: break L359;
+        default: break L372;
         }
        }
-       if (l12 == 0L) { break L358; }
+       if (l12 == 0L) { break L359; }
        l9 = (Words.get64(b, ((int) l4) - 60376) + ((l16 != 2) ? 1L : 0L)) + Words.get64(b, ((int) l4) - 60440);
        l10 = 2L;
-       L373: {
-        L374: {
-         L375: {
+       L374: {
+        L375: {
+         L376: {
           switch (l16) {
-          case 1: break L375;
-          case 2: break L374;
-          default: break L373;
+          case 1: break L376;
+          case 2: break L375;
+          default: break L374;
           }
          }
          l10 = 1L;
-         break L373;
+         break L374;
         }
         l10 = (l7 == l8) ? 1L : 0L;
        }
-       if ((l10 = l10 + l8) + Long.MIN_VALUE < l9 + Long.MIN_VALUE) { break L371; }
-       if (l9 != l10) { break L358; }
+       if ((l10 = l10 + l8) + Long.MIN_VALUE < l9 + Long.MIN_VALUE) { break L372; }
+       if (l9 != l10) { break L359; }
        l20 = (l18 = (int) b[((int) (l9 = Words.get64(b, ((int) l4) - 60432))) - 60720]) & 255;
-       if (l18 > -1) { break L369; }
+       if (l18 > -1) { break L370; }
        l19 = (b[((int) l9) - 60719] & 0xff) & 63;
-       L376: {
-        if (l18 + Integer.MIN_VALUE > 2147483615) { break L376; }
+       L377: {
+        if (l18 + Integer.MIN_VALUE > 2147483615) { break L377; }
         l20 = ((l20 << 6) & 1984) | l19;
-        break L369;
+        break L370;
        }
        l22 = (b[((int) l9) - 60718] & 0xff) & 63;
-       if (l18 + Integer.MIN_VALUE > 2147483631) { break L370; }
+       if (l18 + Integer.MIN_VALUE > 2147483631) { break L371; }
        l20 = ((l19 << 6) | ((l20 << 12) & 61440)) | l22;
-       break L369;
+       break L370;
       }
       l20 = 1;
       exit = 1; break PART;
@@ -7831,12 +7752,12 @@ static int f26_6(State m, long l2, long l3, long l4, long l5, long l7, long l8, 
      l20 = ((l22 << 6) | ((l19 << 12) | ((l20 << 18) & 1835008))) | ((b[((int) l9) - 60717] & 0xff) & 63);
     }
     Words.put32(b, ((int) l4) - 60416, l20);
-    if (f29(m, 66048L, 34L, l4 + 304L) != 0) { break L358; }
+    if (f29(m, 66048L, 34L, l4 + 304L) != 0) { break L359; }
     l20 = 1;
     exit = 1; break PART;
    }
-   if ((l5 = l5 + 24L) != 336L) { continue L357; }
-   break L357;
+   if ((l5 = l5 + 24L) != 336L) { continue L358; }
+   break L358;
   }
  }
  m.kept[0] = l5;
@@ -8001,60 +7922,182 @@ static void f26(State m, long l0, int l1, long l2, long l3) {
                                   L37: {
                                    L38: {
                                     L39: {
-                                     final int x238 = f26_1(m, l9, l10, l11, l12, l13, l14, l15, l16, l17, l18, l19, l20, l21, l22, l23, l24, l25);
-                                     l9 = m.kept[0];
-                                     l10 = m.kept[1];
-                                     l11 = m.kept[2];
-                                     l12 = m.kept[3];
-                                     l13 = m.kept[4];
-                                     l14 = m.kept[5];
-                                     l15 = m.kept[6];
-                                     l18 = (int) m.kept[7];
-                                     l20 = (int) m.kept[8];
-                                     l21 = (int) m.kept[9];
-                                     l22 = (int) m.kept[10];
-                                     l23 = (int) m.kept[11];
-                                     l24 = (int) m.kept[12];
-                                     l25 = (int) m.kept[13];
-                                     switch (x238) {
-                                     case 1: break L39;
-                                     case 2: break L13;
-                                     case 3: break L31;
-                                     case 4: break L28;
-                                     case 5: break L17;
-                                     case 6: break L21;
-                                     case 7: break L37;
-                                     case 8: break L36;
-                                     case 9: break L38;
-                                     case 10: break L18;
-                                     case 11: break L14;
-                                     case 12: break L19;
-                                     case 13: break L22;
-                                     case 14: break L23;
-                                     case 15: break L24;
-                                     case 16: break L25;
-                                     case 17: break L27;
-                                     case 18: break L26;
-                                     case 19: break L30;
-                                     case 20: break L32;
-                                     case 21: break L35;
-                                     case 22: break L33;
-                                     case 23: break L34;
+                                     L40: {
+                                      L41: {
+                                       L42: {
+                                        L43: {
+                                         L44: {
+                                          L45: {
+                                           L46: {
+                                            L47: {
+                                             L48: {
+                                              L49: {
+                                               L50: {
+                                                L51: {
+                                                 L52: {
+                                                  L53: {
+                                                   final int x150 = f26_1(m, l11, l12, l13, l14, l15, l16, l17, l18, l19, l20, l21, l22, l23, l24, l25);
+                                                   l11 = m.kept[0];
+                                                   l12 = m.kept[1];
+                                                   l13 = m.kept[2];
+                                                   l14 = m.kept[3];
+                                                   l15 = m.kept[4];
+                                                   l18 = (int) m.kept[5];
+                                                   l20 = (int) m.kept[6];
+                                                   l21 = (int) m.kept[7];
+                                                   l22 = (int) m.kept[8];
+                                                   l23 = (int) m.kept[9];
+                                                   l24 = (int) m.kept[10];
+                                                   l25 = (int) m.kept[11];
+                                                   switch (x150) {
+                                                   case 1: break L39;
+                                                   case 2: break L13;
+                                                   case 3: break L31;
+                                                   case 4: break L28;
+                                                   case 5: break L17;
+                                                   case 6: break L21;
+                                                   case 7: break L37;
+                                                   case 8: break L36;
+                                                   case 9: break L38;
+                                                   case 10: break L18;
+                                                   case 11: break L14;
+                                                   case 12: break L19;
+                                                   case 13: break L22;
+                                                   case 14: break L49;
+                                                   case 15: break L23;
+                                                   case 16: break L24;
+                                                   case 17: break L25;
+                                                   case 18: break L53;
+                                                   case 19: break L27;
+                                                   case 20: break L26;
+                                                   case 21: break L30;
+                                                   }
+                                                   if (l9 == 0L) { break L13; }
+                                                   L151: {
+                                                    L152: {
+                                                     if ((l22 = (int) b[((int) l10) - 60720]) <= -1) { break L152; }
+                                                     l15 = 1L;
+                                                     break L151;
+                                                    }
+                                                    L153: {
+                                                     if (l22 + Integer.MIN_VALUE >= 2147483616) { break L153; }
+                                                     l15 = 2L;
+                                                     break L151;
+                                                    }
+                                                    l15 = (l22 + Integer.MIN_VALUE < 2147483632) ? 3L : 4L;
+                                                   }
+                                                   if (Words.get32(b, State.far((int) (l14 = (((l17 * 3227) >>> 7) & 0xffffffffL) & 504L), 65536)) != l17) { break L13; }
+                                                   if (((b[((int) (l14 + 65540L)) - 60720] & 0xff) & 255) != 1) { break L13; }
+                                                   l9 = l9 - l15;
+                                                   l10 = l10 + l15;
+                                                   l15 = b[((int) (l14 + 65542L)) - 60720] & 0xffL;
+                                                   l21 = b[((int) (l14 + 65541L)) - 60720] & 0xff;
+                                                   final int x239 = f26_2(m, l11, l12, l13, l18, l19, l20, l21, l22, l23, l24, l25);
+                                                   l13 = m.kept[0];
+                                                   l18 = (int) m.kept[1];
+                                                   l20 = (int) m.kept[2];
+                                                   l22 = (int) m.kept[3];
+                                                   l23 = (int) m.kept[4];
+                                                   l24 = (int) m.kept[5];
+                                                   l25 = (int) m.kept[6];
+                                                   switch (x239) {
+                                                   case 1: break L52;
+                                                   case 2: break L50;
+                                                   case 3: break L42;
+                                                   case 4: break L40;
+                                                   case 5: break L13;
+                                                   case 6: break L31;
+                                                   case 7: break L41;
+                                                   case 8: break L47;
+                                                   case 9: break L45;
+                                                   case 10: break L43;
+                                                   case 11: break L32;
+                                                   case 12: break L35;
+                                                   case 13: break L51;
+                                                   case 14: break L36;
+                                                   case 15: break L48;
+                                                   case 16: break L46;
+                                                   case 17: break L44;
+                                                   case 18: break L33;
+                                                   case 19: break L14;
+                                                   case 20: break L34;
+                                                   case 21: break L22;
+                                                   case 22: break L49;
+                                                   case 23: break L23;
+                                                   case 24: break L24;
+                                                   case 25: break L25;
+                                                   }
+                                                   l24 = 18;
+                                                   l25 = 0;
+                                                   l20 = 19;
+                                                   if (((1 << l21) & 261117) != 0) { break L13; }
+                                                   l23 = 0;
+                                                   if (l21 == 1) { break L51; }
+                                                  }
+                                                  l22 = 0;
+                                                  l18 = 0;
+                                                  break L14;
+                                                 }
+                                                 if (l21 != 1) { break L13; }
+                                                 l23 = l19 & 1;
+                                                 l24 = 15;
+                                                 l25 = 0;
+                                                }
+                                                l11 = l15;
+                                                l20 = l24;
+                                                l22 = l23;
+                                                l18 = l25;
+                                                break L14;
+                                               }
+                                               if ((l19 & 1) == 0) { break L40; }
+                                               if (((1 << l21) & 261375) != 0) { break L13; }
+                                               if (l21 != 8) { break L31; }
+                                               break L41;
+                                              }
+                                              l22 = 0;
+                                              l20 = 4;
+                                              l18 = 0;
+                                              break L14;
+                                             }
+                                             l22 = l19;
+                                             if (l21 != 2) { break L13; }
+                                            }
+                                            l12 = (l11 * 10L) + l12;
+                                            break L27;
+                                           }
+                                           l22 = l19;
+                                           if (l21 != 3) { break L13; }
+                                          }
+                                          l12 = (l11 * 100L) + l12;
+                                          l18 = 2;
+                                          break L26;
+                                         }
+                                         l22 = l19;
+                                         if (l21 != 4) { break L13; }
+                                        }
+                                        l12 = (l11 * 1000L) + l12;
+                                        l18 = 3;
+                                        break L26;
+                                       }
+                                       if (l21 != 8) { break L13; }
+                                      }
+                                      l13 = (l11 * 10L) + l13;
+                                      break L30;
                                      }
                                      if (l21 == 9) { break L31; }
                                      break L13;
                                     }
                                     if (l9 == 0L) { break L13; }
-                                    L239: {
-                                     L240: {
-                                      if ((l22 = (int) b[((int) l10) - 60720]) <= -1) { break L240; }
-                                      l14 = 1L;
-                                      break L239;
-                                     }
+                                    L240: {
                                      L241: {
-                                      if (l22 + Integer.MIN_VALUE >= 2147483616) { break L241; }
+                                      if ((l22 = (int) b[((int) l10) - 60720]) <= -1) { break L241; }
+                                      l14 = 1L;
+                                      break L240;
+                                     }
+                                     L242: {
+                                      if (l22 + Integer.MIN_VALUE >= 2147483616) { break L242; }
                                       l14 = 2L;
-                                      break L239;
+                                      break L240;
                                      }
                                      l14 = (l22 + Integer.MIN_VALUE < 2147483632) ? 3L : 4L;
                                     }
@@ -8153,8 +8196,8 @@ static void f26(State m, long l0, int l1, long l2, long l3) {
            b[((int) l4) - 60351] = (byte) l22;
            b[((int) l4) - 60352] = (byte) l20;
            f8(m, l4 + 240L, l4 + 368L, l10, l9, -1L);
-           L242: {
-            if (Words.get64(b, ((int) l4) - 60432) != 0L) { break L242; }
+           L243: {
+            if (Words.get64(b, ((int) l4) - 60432) != 0L) { break L243; }
             l20 = 1;
             if (l6 != 0L) { break L1; }
             if ((l18 = b[((int) l4) - 60480] & 0xff) + Integer.MIN_VALUE < -2147483631) { break L13; }
@@ -8166,17 +8209,17 @@ static void f26(State m, long l0, int l1, long l2, long l3) {
            if (l6 == 0L) { break L13; }
            l9 = (Words.get64(b, ((int) l4) - 60384) + ((l16 != 2) ? 1L : 0L)) + Words.get64(b, ((int) l4) - 60448);
            l10 = 2L;
-           L243: {
-            L244: {
-             L245: {
+           L244: {
+            L245: {
+             L246: {
               switch (l16) {
-              case 1: break L245;
-              case 2: break L244;
-              default: break L243;
+              case 1: break L246;
+              case 2: break L245;
+              default: break L244;
               }
              }
              l10 = 1L;
-             break L243;
+             break L244;
             }
             l10 = (l7 == l8) ? 1L : 0L;
            }
@@ -8184,19 +8227,19 @@ static void f26(State m, long l0, int l1, long l2, long l3) {
            if ((l10 = l10 + l8) + Long.MIN_VALUE < l9 + Long.MIN_VALUE) { break L1; }
            if (l9 != l10) { break L13; }
            l18 = (l19 = (int) b[((int) (l9 = Words.get64(b, ((int) l4) - 60440))) - 60720]) & 255;
-           L246: {
-            if (l19 > -1) { break L246; }
+           L247: {
+            if (l19 > -1) { break L247; }
             l22 = (b[((int) l9) - 60719] & 0xff) & 63;
-            L247: {
-             if (l19 + Integer.MIN_VALUE > 2147483615) { break L247; }
+            L248: {
+             if (l19 + Integer.MIN_VALUE > 2147483615) { break L248; }
              l18 = ((l18 << 6) & 1984) | l22;
-             break L246;
+             break L247;
             }
             l21 = (b[((int) l9) - 60718] & 0xff) & 63;
-            L248: {
-             if (l19 + Integer.MIN_VALUE > 2147483631) { break L248; }
+            L249: {
+             if (l19 + Integer.MIN_VALUE > 2147483631) { break L249; }
              l18 = ((l22 << 6) | ((l18 << 12) & 61440)) | l21;
-             break L246;
+             break L247;
             }
             l18 = ((l21 << 6) | ((l22 << 12) | ((l18 << 18) & 1835008))) | ((b[((int) l9) - 60717] & 0xff) & 63);
            }
@@ -8236,8 +8279,8 @@ static void f26(State m, long l0, int l1, long l2, long l3) {
        l5 = b[((int) l4) - 60568] & 0xffL;
        l16 = b[((int) l4) - 60584] & 0xff;
        l12 = Words.get64(b, ((int) l4) - 60536);
-       L249: {
-        if (((1 << (l17 = b[((int) l4) - 60576] & 0xff)) & 6716) == 0) { break L249; }
+       L250: {
+        if (((1 << (l17 = b[((int) l4) - 60576] & 0xff)) & 6716) == 0) { break L250; }
         if (l12 == 0L) { break L2; }
        }
        Words.put64(b, ((int) l4) - 59608, l7);
@@ -8250,7 +8293,7 @@ static void f26(State m, long l0, int l1, long l2, long l3) {
        f28(m, l4 + 752L, l4 + 1320L);
        m.copy((int) (l4 + 416L), (int) (l4 + 752L), (int) 336L);
        l5 = 0L;
-       final int x269 = f26_2(m, l2, l3, l4, l5, l7, l8, l9, l10, l11, l12, l13, l14, l16, l17, l18, l19, l20, l21, l22);
+       final int x270 = f26_3(m, l2, l3, l4, l5, l7, l8, l9, l10, l11, l12, l13, l14, l16, l17, l18, l19, l20, l21, l22);
        l5 = m.kept[0];
        l7 = m.kept[1];
        l9 = m.kept[2];
@@ -8265,7 +8308,7 @@ static void f26(State m, long l0, int l1, long l2, long l3) {
        l20 = (int) m.kept[11];
        l21 = (int) m.kept[12];
        l22 = (int) m.kept[13];
-       switch (x269) {
+       switch (x270) {
        case 1: break L1;
        }
        l17 = 0;
@@ -8296,8 +8339,8 @@ static void f26(State m, long l0, int l1, long l2, long l3) {
       Words.put64(b, ((int) l4) - 59344, 0L);
       f16(m, l4 + 1320L, l4 + 1376L, l2, l3, -1L);
       l18 = b[((int) l4) - 59400] & 0xff;
-      L270: {
-       if ((l11 = Words.get64(b, ((int) l4) - 59368)) != 0L) { break L270; }
+      L271: {
+       if ((l11 = Words.get64(b, ((int) l4) - 59368)) != 0L) { break L271; }
        l16 = 0;
        l17 = 0;
        if ((l18 & 255) == 3) { break L1; }
@@ -8312,7 +8355,7 @@ static void f26(State m, long l0, int l1, long l2, long l3) {
       f28(m, l4 + 752L, l4 + 304L);
       m.copy((int) (l4 + 416L), (int) (l4 + 752L), (int) 336L);
       l5 = 0L;
-      final int x290 = f26_3(m, l2, l3, l4, l5, l7, l8, l9, l10, l11, l13, l16, l17, l18, l19, l20, l21, l22, l24);
+      final int x291 = f26_4(m, l2, l3, l4, l5, l7, l8, l9, l10, l11, l13, l16, l17, l18, l19, l20, l21, l22, l24);
       l5 = m.kept[0];
       l7 = m.kept[1];
       l9 = m.kept[2];
@@ -8326,7 +8369,7 @@ static void f26(State m, long l0, int l1, long l2, long l3) {
       l21 = (int) m.kept[10];
       l22 = (int) m.kept[11];
       l24 = (int) m.kept[12];
-      switch (x290) {
+      switch (x291) {
       case 1: break L1;
       default: break L2;
       }
@@ -8359,12 +8402,12 @@ static void f26(State m, long l0, int l1, long l2, long l3) {
      Words.put64(b, ((int) l4) - 60592, 0L);
      f14(m, l4 + 136L, l4 + 96L, l2, l3, -1L);
      l12 = Words.get64(b, ((int) l4) - 60528);
-     L291: {
-      if ((l16 = b[((int) l4) - 60576] & 0xff) + Integer.MIN_VALUE < -2147483631) { break L291; }
-      L292: {
+     L292: {
+      if ((l16 = b[((int) l4) - 60576] & 0xff) + Integer.MIN_VALUE < -2147483631) { break L292; }
+      L293: {
        switch (l16 + -17) {
-       case 1: break L291;
-       default: break L292;
+       case 1: break L292;
+       default: break L293;
        }
       }
       if (l12 == 0L) { break L2; }
@@ -8377,7 +8420,7 @@ static void f26(State m, long l0, int l1, long l2, long l3) {
      l6 = l4 + 376L;
      l8 = l4 + 209L;
      l13 = (l4 + 200L) | 3L;
-     final int x322 = f26_4(m, l2, l3, l4, l5, l6, l7, l8, l9, l10, l11, l12, l13, l14, l16, l17, l18, l19, l20, l21, l22);
+     final int x323 = f26_5(m, l2, l3, l4, l5, l6, l7, l8, l9, l10, l11, l12, l13, l14, l16, l17, l18, l19, l20, l21, l22);
      l5 = m.kept[0];
      l7 = m.kept[1];
      l9 = m.kept[2];
@@ -8390,7 +8433,7 @@ static void f26(State m, long l0, int l1, long l2, long l3) {
      l20 = (int) m.kept[9];
      l21 = (int) m.kept[10];
      l22 = (int) m.kept[11];
-     switch (x322) {
+     switch (x323) {
      case 1: break L1;
      default: break L2;
      }
@@ -8423,12 +8466,12 @@ static void f26(State m, long l0, int l1, long l2, long l3) {
     Words.put64(b, ((int) l4) - 60592, 0L);
     f12(m, l4 + 136L, l4 + 96L, l2, l3, -1L);
     l12 = Words.get64(b, ((int) l4) - 60528);
-    L323: {
-     if ((l16 = b[((int) l4) - 60576] & 0xff) + Integer.MIN_VALUE < -2147483631) { break L323; }
-     L324: {
+    L324: {
+     if ((l16 = b[((int) l4) - 60576] & 0xff) + Integer.MIN_VALUE < -2147483631) { break L324; }
+     L325: {
       switch (l16 + -17) {
-      case 1: break L323;
-      default: break L324;
+      case 1: break L324;
+      default: break L325;
       }
      }
      if (l12 == 0L) { break L2; }
@@ -8441,7 +8484,7 @@ static void f26(State m, long l0, int l1, long l2, long l3) {
     l6 = l4 + 376L;
     l8 = l4 + 209L;
     l13 = (l4 + 200L) | 3L;
-    final int x354 = f26_5(m, l2, l3, l4, l5, l6, l7, l8, l9, l10, l11, l12, l13, l14, l16, l17, l18, l19, l20, l21, l22);
+    final int x355 = f26_6(m, l2, l3, l4, l5, l6, l7, l8, l9, l10, l11, l12, l13, l14, l16, l17, l18, l19, l20, l21, l22);
     l5 = m.kept[0];
     l7 = m.kept[1];
     l9 = m.kept[2];
@@ -8454,7 +8497,7 @@ static void f26(State m, long l0, int l1, long l2, long l3) {
     l20 = (int) m.kept[9];
     l21 = (int) m.kept[10];
     l22 = (int) m.kept[11];
-    switch (x354) {
+    switch (x355) {
     case 1: break L1;
     default: break L2;
     }
@@ -8484,12 +8527,12 @@ static void f26(State m, long l0, int l1, long l2, long l3) {
    Words.put64(b, ((int) l4) - 60712, 0L);
    f10(m, l4 + 136L, l4 + 8L, l2, l3, -1L);
    l12 = Words.get64(b, ((int) l4) - 60528);
-   L355: {
-    if ((l7 = Words.get64(b, ((int) l4) - 60583) >>> 56L) + Long.MIN_VALUE < -9223372036854775791L) { break L355; }
-    L356: {
+   L356: {
+    if ((l7 = Words.get64(b, ((int) l4) - 60583) >>> 56L) + Long.MIN_VALUE < -9223372036854775791L) { break L356; }
+    L357: {
      switch (((int) l7) + -17) {
-     case 1: break L355;
-     default: break L356;
+     case 1: break L356;
+     default: break L357;
      }
     }
     if (l12 == 0L) { break L2; }
@@ -8501,7 +8544,7 @@ static void f26(State m, long l0, int l1, long l2, long l3) {
    m.copy((int) (l4 + 416L), (int) (l4 + 752L), (int) 336L);
    l11 = (l4 + 368L) + 8L;
    l13 = (l4 + 48L) + 8L;
-   final int x377 = f26_6(m, l2, l3, l4, l5, l7, l8, l9, l10, l11, l12, l13, l14, l16, l17, l18, l19, l20, l22);
+   final int x378 = f26_7(m, l2, l3, l4, l5, l7, l8, l9, l10, l11, l12, l13, l14, l16, l17, l18, l19, l20, l22);
    l5 = m.kept[0];
    l7 = m.kept[1];
    l9 = m.kept[2];
@@ -8513,7 +8556,7 @@ static void f26(State m, long l0, int l1, long l2, long l3) {
    l19 = (int) m.kept[8];
    l20 = (int) m.kept[9];
    l22 = (int) m.kept[10];
-   switch (x377) {
+   switch (x378) {
    case 1: break L1;
    }
   }
@@ -8522,25 +8565,25 @@ static void f26(State m, long l0, int l1, long l2, long l3) {
   l16 = 0;
   l17 = 0;
  }
- L378: {
-  L379: {
-   L380: {
-    if (l20 == 0) { break L380; }
-    if ((l1 & 255) != 4) { break L379; }
-    if (l3 + Long.MIN_VALUE < -9223372036854775793L) { break L379; }
-    if ((Words.get64(b, ((int) ((l5 = l2 + l3) + -15L)) - 60720) & -2199023255553L) != -8365856802762875674L) { break L379; }
-    if (Words.get64(b, ((int) (l5 + -8L)) - 60720) != -6514484650975052149L) { break L379; }
-    if (l16 != 0) { break L379; }
-    if (l17 != 38646) { break L379; }
+ L379: {
+  L380: {
+   L381: {
+    if (l20 == 0) { break L381; }
+    if ((l1 & 255) != 4) { break L380; }
+    if (l3 + Long.MIN_VALUE < -9223372036854775793L) { break L380; }
+    if ((Words.get64(b, ((int) ((l5 = l2 + l3) + -15L)) - 60720) & -2199023255553L) != -8365856802762875674L) { break L380; }
+    if (Words.get64(b, ((int) (l5 + -8L)) - 60720) != -6514484650975052149L) { break L380; }
+    if (l16 != 0) { break L380; }
+    if (l17 != 38646) { break L380; }
     Words.put64(b, ((int) l0) - 60704, 0L);
     Words.put64(b, ((int) l0) - 60712, 0L);
     Words.put64(b, ((int) l0) - 60720, 0L);
-    break L378;
+    break L379;
    }
    Words.put64(b, ((int) l0) - 60704, 0L);
    Words.put64(b, ((int) l0) - 60712, 0L);
    Words.put64(b, ((int) l0) - 60720, 0L);
-   break L378;
+   break L379;
   }
   Words.put64(b, ((int) l0) - 60720, 1L);
   Words.put32(b, ((int) (l0 + 20L)) - 60720, l17);

@@ -6,412 +6,388 @@ static int f38_1(State m, long l2, long l3, long l4, long l5, long l6, long l7, 
  final byte[] b = m.bytes;
  int exit = 0;
  PART: {
-  L8: {
-   L9: {
-    L10: {
-     L11: {
-      L12: {
-       L13: {
-        L14: {
-         L15: {
-          L16: {
-           L17: {
-            L18: {
-             L19: {
-              L20: {
-               L21: {
-                L22: {
-                 L23: {
-                  switch (l29 = b[((int) l2) - 60688] & 0xff) {
-                  case 1: break L18;
-                  case 2: break L22;
-                  case 3: break L23;
-                  default: break L21;
-                  }
-                 }
-                 final long t24 = 0L - l7;
-                 final long t25 = l7;
-                 final int t26 = l30 = (l6 < 0L) ? 1 : 0;
-                 l8 = t26 != 0 ? t24 : t25;
-                 final long t27 = 0L - (l6 + ((l7 != 0L) ? 1L : 0L));
-                 final long t28 = l6;
-                 final int t29 = l30;
-                 l7 = t29 != 0 ? t27 : t28;
-                 break L20;
-                }
-                l9 = 100L;
-                L30: {
-                 if (((l5 ^ 100L) | l4) == 0L) { break L30; }
-                 l2 = 0L;
-                 l10 = 1L;
-                 L31: while (true) {
-                  L32: {
-                   if (l10 != 37L) { break L32; }
-                   final long t33 = 0L - l7;
-                   final long t34 = l7;
-                   final int t35 = l30 = (l6 < 0L) ? 1 : 0;
-                   l8 = t35 != 0 ? t33 : t34;
-                   final long t36 = 0L - (l6 + ((l7 != 0L) ? 1L : 0L));
-                   final long t37 = l6;
-                   final int t38 = l30;
-                   l7 = t38 != 0 ? t36 : t37;
-                   l2 = l5;
-                   l9 = l4;
-                   break L10;
-                  }
-                  Core1.f3(m, l3 + 800L, l9, 0L, 10L, 0L);
-                  Core1.f3(m, l3 + 784L, l2, 0L, 0L, 10L);
-                  if ((((l9 = (l2 = Words.get64(b, ((int) l3) - 59920)) & -2L) ^ l5) | ((l2 = (Words.get64(b, ((int) l3) - 59912) + Words.get64(b, ((int) l3) - 59928)) + (((l2 + Words.get64(b, ((int) l3) - 59936)) + Long.MIN_VALUE < l2 + Long.MIN_VALUE) ? 1L : 0L)) ^ l4)) == 0L) { break L17; }
-                  Core1.f3(m, l3 + 768L, l9, 0L, 10L, 0L);
-                  Core1.f3(m, l3 + 752L, l2, 0L, 0L, 10L);
-                  l10 = l10 + 2L;
-                  if (!((((l9 = (l2 = Words.get64(b, ((int) l3) - 59952)) & -4L) ^ l5) | ((l2 = (Words.get64(b, ((int) l3) - 59944) + Words.get64(b, ((int) l3) - 59960)) + (((l2 + Words.get64(b, ((int) l3) - 59968)) + Long.MIN_VALUE < l2 + Long.MIN_VALUE) ? 1L : 0L)) ^ l4)) == 0L)) { continue L31; }
-                  break L31;
-                 }
-                 l10 = l10 + -1L;
-                 break L17;
-                }
-                final long t39 = 0L - l7;
-                final long t40 = l7;
-                final int t41 = l30 = (l6 < 0L) ? 1 : 0;
-                l8 = t41 != 0 ? t39 : t40;
-                final long t42 = 0L - (l6 + ((l7 != 0L) ? 1L : 0L));
-                final long t43 = l6;
-                final int t44 = l30;
-                l7 = t44 != 0 ? t42 : t43;
-                exit = 1; break PART;
-               }
-               l11 = 0L;
-               final long t45 = 0L - l7;
-               final long t46 = l7;
-               final int t47 = l30 = (l6 < 0L) ? 1 : 0;
-               l8 = t47 != 0 ? t45 : t46;
-               final long t48 = 0L - (l6 + ((l7 != 0L) ? 1L : 0L));
-               final long t49 = l6;
-               final int t50 = l30;
-               l7 = t50 != 0 ? t48 : t49;
-               l12 = 1L;
-               if (((l5 ^ 1L) | l4) == 0L) { break L19; }
-              }
-              l2 = l5;
-              l9 = l4;
-              break L8;
-             }
-             l13 = 80L;
-             exit = 2; break PART;
-            }
-            l14 = 10L;
-            l10 = 1L;
-            if (((l5 ^ 10L) | l4) == 0L) { break L17; }
-            l9 = 0L;
-            l2 = 0L;
-            L51: {
-             L52: while (true) {
-              Core1.f3(m, l3 + 736L, l14, 0L, 10L, 0L);
-              Core1.f3(m, l3 + 720L, l9, 0L, 0L, 10L);
-              if ((((l14 = (l9 = Words.get64(b, ((int) l3) - 59984)) & -2L) ^ l5) | ((l9 = (Words.get64(b, ((int) l3) - 59976) + Words.get64(b, ((int) l3) - 59992)) + (((l9 + Words.get64(b, ((int) l3) - 60000)) + Long.MIN_VALUE < l9 + Long.MIN_VALUE) ? 1L : 0L)) ^ l4)) == 0L) { break L51; }
-              if (l2 == 36L) { break L16; }
-              Core1.f3(m, l3 + 704L, l14, 0L, 10L, 0L);
-              Core1.f3(m, l3 + 688L, l9, 0L, 0L, 10L);
-              l2 = l2 + 2L;
-              if (!((((l14 = (l9 = Words.get64(b, ((int) l3) - 60016)) & -4L) ^ l5) | ((l9 = (Words.get64(b, ((int) l3) - 60008) + Words.get64(b, ((int) l3) - 60024)) + (((l9 + Words.get64(b, ((int) l3) - 60032)) + Long.MIN_VALUE < l9 + Long.MIN_VALUE) ? 1L : 0L)) ^ l4)) == 0L)) { continue L52; }
-              break L52;
-             }
-             l2 = l2 + -1L;
-            }
-            l10 = l2 + 2L;
-           }
-           final long t53 = 0L - l7;
-           final long t54 = l7;
-           final int t55 = l30 = (l6 < 0L) ? 1 : 0;
-           l15 = t55 != 0 ? t53 : t54;
-           final long t56 = 0L - (l6 + ((l7 != 0L) ? 1L : 0L));
-           final long t57 = l6;
-           final int t58 = l30;
-           l16 = t58 != 0 ? t56 : t57;
-           l13 = 0L;
-           L59: {
-            L60: while (true) {
-             final long t61 = l16;
-             final int t62 = ((l15 | l16) == 0L) ? 1 : 0;
-             final long t63 = (long) Long.numberOfLeadingZeros(l16);
-             final long t64 = ((long) Long.numberOfLeadingZeros(l15)) + 64L;
-             final int t65 = (l16 != 0L) ? 1 : 0;
-             final int t66 = ((l17 = 124L - (l2 = t65 != 0 ? t63 : t64)) + Long.MIN_VALUE > -9223372036854775681L) ? 1 : 0;
-             final int t67 = ((l18 = 0L - ((l2 + Long.MIN_VALUE > -9223372036854775684L) ? 1L : 0L)) != 0L) ? 1 : 0;
-             final int t68 = (l18 == 0L) ? 1 : 0;
-             l9 = ((l30 = t62 | (t68 != 0 ? t66 : t67)) != 0) ? 0L : t61;
-             l2 = l30 != 0 ? 0L : l15;
-             L69: {
-              if (l30 != 0) { break L69; }
-              if (((l17 ^ 127L) | l18) == 0L) { break L69; }
-              Core1.f4(m, l3 + 672L, l15, l16, 127 - ((int) l17));
-              l14 = Words.get64(b, ((int) l3) - 60040);
-              l2 = Words.get64(b, ((int) l3) - 60048);
-              L70: {
-               L71: {
-                if (((l9 = l17 + 1L) | (l19 = l18 + ((l9 == 0L) ? 1L : 0L))) == 0L) { break L71; }
-                Core1.f5(m, l3 + 656L, l15, l16, (int) l9);
-                l12 = 10L + -1L;
-                l20 = 0L - ((10L == 0L) ? 1L : 0L);
-                l17 = Words.get64(b, ((int) l3) - 60056);
-                l18 = Words.get64(b, ((int) l3) - 60064);
-                l21 = 0L;
-                L72: while (true) {
-                 l22 = l21;
-                 l21 = (l18 = ((l20 - (l23 = (l17 << 1L) | (l18 >>> 63L))) - ((l12 + Long.MIN_VALUE < (l17 = (l18 << 1L) | (l14 >>> 63L)) + Long.MIN_VALUE) ? 1L : 0L)) >> 63L) & 1L;
-                 l18 = l17 - (l11 = l18 & 10L);
-                 l17 = l23 - ((l17 + Long.MIN_VALUE < l11 + Long.MIN_VALUE) ? 1L : 0L);
-                 l14 = 0L | ((l14 << 1L) | (l2 >>> 63L));
-                 l30 = (l9 == 0L) ? 1 : 0;
-                 l2 = l22 | (l2 << 1L);
-                 l9 = l22 = l9 + -1L;
-                 if (!((l22 | (l19 = l19 - (l30 & 0xffffffffL))) == 0L)) { continue L72; }
-                 break L70;
+  L10: {
+   L11: {
+    L12: {
+     L13: {
+      L14: {
+       L15: {
+        L16: {
+         L17: {
+          L18: {
+           L19: {
+            L20: {
+             L21: {
+              L22: {
+               L23: {
+                switch (l29 = b[((int) l2) - 60688] & 0xff) {
+                case 1: break L18;
+                case 2: break L22;
+                case 3: break L23;
+                default: break L21;
                 }
                }
-               l21 = 0L;
+               final long t24 = 0L - l7;
+               final long t25 = l7;
+               final int t26 = l30 = (l6 < 0L) ? 1 : 0;
+               l8 = t26 != 0 ? t24 : t25;
+               final long t27 = 0L - (l6 + ((l7 != 0L) ? 1L : 0L));
+               final long t28 = l6;
+               final int t29 = l30;
+               l7 = t29 != 0 ? t27 : t28;
+               break L20;
               }
-              l9 = (l14 << 1L) | (l2 >>> 63L);
-              l2 = l21 | (l2 << 1L);
+              l9 = 100L;
+              L30: {
+               if (((l5 ^ 100L) | l4) == 0L) { break L30; }
+               l2 = 0L;
+               l10 = 1L;
+               L31: while (true) {
+                L32: {
+                 if (l10 != 37L) { break L32; }
+                 final long t33 = 0L - l7;
+                 final long t34 = l7;
+                 final int t35 = l30 = (l6 < 0L) ? 1 : 0;
+                 l8 = t35 != 0 ? t33 : t34;
+                 final long t36 = 0L - (l6 + ((l7 != 0L) ? 1L : 0L));
+                 final long t37 = l6;
+                 final int t38 = l30;
+                 l7 = t38 != 0 ? t36 : t37;
+                 l2 = l5;
+                 l9 = l4;
+                 break L10;
+                }
+                Core1.f3(m, l3 + 800L, l9, 0L, 10L, 0L);
+                Core1.f3(m, l3 + 784L, l2, 0L, 0L, 10L);
+                if ((((l9 = (l2 = Words.get64(b, ((int) l3) - 59920)) & -2L) ^ l5) | ((l2 = (Words.get64(b, ((int) l3) - 59912) + Words.get64(b, ((int) l3) - 59928)) + (((l2 + Words.get64(b, ((int) l3) - 59936)) + Long.MIN_VALUE < l2 + Long.MIN_VALUE) ? 1L : 0L)) ^ l4)) == 0L) { break L17; }
+                Core1.f3(m, l3 + 768L, l9, 0L, 10L, 0L);
+                Core1.f3(m, l3 + 752L, l2, 0L, 0L, 10L);
+                l10 = l10 + 2L;
+                if (!((((l9 = (l2 = Words.get64(b, ((int) l3) - 59952)) & -4L) ^ l5) | ((l2 = (Words.get64(b, ((int) l3) - 59944) + Words.get64(b, ((int) l3) - 59960)) + (((l2 + Words.get64(b, ((int) l3) - 59968)) + Long.MIN_VALUE < l2 + Long.MIN_VALUE) ? 1L : 0L)) ^ l4)) == 0L)) { continue L31; }
+                break L31;
+               }
+               l10 = l10 + -1L;
+               break L17;
+              }
+              final long t39 = 0L - l7;
+              final long t40 = l7;
+              final int t41 = l30 = (l6 < 0L) ? 1 : 0;
+              l8 = t41 != 0 ? t39 : t40;
+              final long t42 = 0L - (l6 + ((l7 != 0L) ? 1L : 0L));
+              final long t43 = l6;
+              final int t44 = l30;
+              l7 = t44 != 0 ? t42 : t43;
+              exit = 1; break PART;
              }
-             l18 = 0L;
-             Core1.f3(m, l3 + 640L, l2, l9, 10L, 0L);
-             if (((l15 - (l14 = Words.get64(b, ((int) l3) - 60080))) | ((l16 - Words.get64(b, ((int) l3) - 60072)) - ((l15 + Long.MIN_VALUE < l14 + Long.MIN_VALUE) ? 1L : 0L))) != 0L) { break L59; }
-             l15 = l2;
-             l16 = l9;
-             if ((l13 = l13 + 1L) != l10) { continue L60; }
-             break L60;
+             l11 = 0L;
+             final long t45 = 0L - l7;
+             final long t46 = l7;
+             final int t47 = l30 = (l6 < 0L) ? 1 : 0;
+             l8 = t47 != 0 ? t45 : t46;
+             final long t48 = 0L - (l6 + ((l7 != 0L) ? 1L : 0L));
+             final long t49 = l6;
+             final int t50 = l30;
+             l7 = t50 != 0 ? t48 : t49;
+             l12 = 1L;
+             if (((l5 ^ 1L) | l4) == 0L) { break L19; }
             }
-            l13 = l10;
+            l2 = l5;
+            l9 = l4;
+            exit = 2; break PART;
            }
-           l12 = 1L;
-           L73: {
-            L74: {
-             L75: {
-              switch ((int) (l13 & 4294967295L)) {
-              case 0: break L73;
-              case 1: break L74;
-              default: break L75;
+           l13 = 80L;
+           exit = 3; break PART;
+          }
+          l14 = 10L;
+          l10 = 1L;
+          if (((l5 ^ 10L) | l4) == 0L) { break L17; }
+          l9 = 0L;
+          l2 = 0L;
+          L51: {
+           L52: while (true) {
+            Core1.f3(m, l3 + 736L, l14, 0L, 10L, 0L);
+            Core1.f3(m, l3 + 720L, l9, 0L, 0L, 10L);
+            if ((((l14 = (l9 = Words.get64(b, ((int) l3) - 59984)) & -2L) ^ l5) | ((l9 = (Words.get64(b, ((int) l3) - 59976) + Words.get64(b, ((int) l3) - 59992)) + (((l9 + Words.get64(b, ((int) l3) - 60000)) + Long.MIN_VALUE < l9 + Long.MIN_VALUE) ? 1L : 0L)) ^ l4)) == 0L) { break L51; }
+            if (l2 == 36L) { break L16; }
+            Core1.f3(m, l3 + 704L, l14, 0L, 10L, 0L);
+            Core1.f3(m, l3 + 688L, l9, 0L, 0L, 10L);
+            l2 = l2 + 2L;
+            if (!((((l14 = (l9 = Words.get64(b, ((int) l3) - 60016)) & -4L) ^ l5) | ((l9 = (Words.get64(b, ((int) l3) - 60008) + Words.get64(b, ((int) l3) - 60024)) + (((l9 + Words.get64(b, ((int) l3) - 60032)) + Long.MIN_VALUE < l9 + Long.MIN_VALUE) ? 1L : 0L)) ^ l4)) == 0L)) { continue L52; }
+            break L52;
+           }
+           l2 = l2 + -1L;
+          }
+          l10 = l2 + 2L;
+         }
+         final long t53 = 0L - l7;
+         final long t54 = l7;
+         final int t55 = l30 = (l6 < 0L) ? 1 : 0;
+         l15 = t55 != 0 ? t53 : t54;
+         final long t56 = 0L - (l6 + ((l7 != 0L) ? 1L : 0L));
+         final long t57 = l6;
+         final int t58 = l30;
+         l16 = t58 != 0 ? t56 : t57;
+         l13 = 0L;
+         L59: {
+          L60: while (true) {
+           final long t61 = l16;
+           final int t62 = ((l15 | l16) == 0L) ? 1 : 0;
+           final long t63 = (long) Long.numberOfLeadingZeros(l16);
+           final long t64 = ((long) Long.numberOfLeadingZeros(l15)) + 64L;
+           final int t65 = (l16 != 0L) ? 1 : 0;
+           final int t66 = ((l17 = 124L - (l2 = t65 != 0 ? t63 : t64)) + Long.MIN_VALUE > -9223372036854775681L) ? 1 : 0;
+           final int t67 = ((l18 = 0L - ((l2 + Long.MIN_VALUE > -9223372036854775684L) ? 1L : 0L)) != 0L) ? 1 : 0;
+           final int t68 = (l18 == 0L) ? 1 : 0;
+           l9 = ((l30 = t62 | (t68 != 0 ? t66 : t67)) != 0) ? 0L : t61;
+           l2 = l30 != 0 ? 0L : l15;
+           L69: {
+            if (l30 != 0) { break L69; }
+            if (((l17 ^ 127L) | l18) == 0L) { break L69; }
+            Core1.f4(m, l3 + 672L, l15, l16, 127 - ((int) l17));
+            l14 = Words.get64(b, ((int) l3) - 60040);
+            l2 = Words.get64(b, ((int) l3) - 60048);
+            L70: {
+             L71: {
+              if (((l9 = l17 + 1L) | (l19 = l18 + ((l9 == 0L) ? 1L : 0L))) == 0L) { break L71; }
+              Core1.f5(m, l3 + 656L, l15, l16, (int) l9);
+              l12 = 10L + -1L;
+              l20 = 0L - ((10L == 0L) ? 1L : 0L);
+              l17 = Words.get64(b, ((int) l3) - 60056);
+              l18 = Words.get64(b, ((int) l3) - 60064);
+              l21 = 0L;
+              L72: while (true) {
+               l22 = l21;
+               l21 = (l18 = ((l20 - (l23 = (l17 << 1L) | (l18 >>> 63L))) - ((l12 + Long.MIN_VALUE < (l17 = (l18 << 1L) | (l14 >>> 63L)) + Long.MIN_VALUE) ? 1L : 0L)) >> 63L) & 1L;
+               l18 = l17 - (l11 = l18 & 10L);
+               l17 = l23 - ((l17 + Long.MIN_VALUE < l11 + Long.MIN_VALUE) ? 1L : 0L);
+               l14 = 0L | ((l14 << 1L) | (l2 >>> 63L));
+               l30 = (l9 == 0L) ? 1 : 0;
+               l2 = l22 | (l2 << 1L);
+               l9 = l22 = l9 + -1L;
+               if (!((l22 | (l19 = l19 - (l30 & 0xffffffffL))) == 0L)) { continue L72; }
+               break L70;
               }
              }
-             l30 = (int) l13;
-             l2 = 10L;
-             l14 = 1L;
-             l18 = 0L;
-             l9 = 0L;
-             L76: while (true) {
-              Core1.f3(m, l3 + 608L, ((l31 = l30 & 1) != 0) ? l2 : 1L, l31 != 0 ? l9 : 0L, l14, l18);
-              Core1.f3(m, l3 + 624L, l2, l9, l2, l9);
-              l31 = (l30 + Integer.MIN_VALUE > -2147483645) ? 1 : 0;
-              l9 = Words.get64(b, ((int) l3) - 60088);
-              l2 = Words.get64(b, ((int) l3) - 60096);
-              l18 = Words.get64(b, ((int) l3) - 60104);
-              l14 = Words.get64(b, ((int) l3) - 60112);
-              l30 = l30 >>> 1;
-              if (l31 != 0) { continue L76; }
-              break L76;
-             }
-             Core1.f3(m, l3 + 592L, l14, l18, l2, l9);
-             if (((l12 = Words.get64(b, ((int) l3) - 60128)) | (l18 = Words.get64(b, ((int) l3) - 60120))) != 0L) { break L73; }
-             exit = 3; break PART;
+             l21 = 0L;
             }
-            l12 = 10L;
+            l9 = (l14 << 1L) | (l2 >>> 63L);
+            l2 = l21 | (l2 << 1L);
            }
-           final long t77 = 0L - (l6 + ((l7 != 0L) ? 1L : 0L));
-           final long t78 = l6;
-           final int t79 = l30 = (l6 < 0L) ? 1 : 0;
-           final long t80 = l17 = t79 != 0 ? t77 : t78;
-           final long t81 = 0L - l12;
-           final long t82 = l12;
-           final int t83 = l31 = (l18 < 0L) ? 1 : 0;
-           final long t84 = l15 = t83 != 0 ? t81 : t82;
-           final long t85 = 0L - (l18 + ((l12 != 0L) ? 1L : 0L));
-           final long t86 = l18;
-           final int t87 = l31;
-           final int t88 = ((t84 | (l20 = t87 != 0 ? t85 : t86)) == 0L) ? 1 : 0;
-           final long t89 = l17;
-           final long t90 = 0L - l7;
-           final long t91 = l7;
-           final int t92 = l30;
-           final int t93 = t88 | (((t89 | (l21 = t92 != 0 ? t90 : t91)) == 0L) ? 1 : 0);
-           final long t94 = (long) Long.numberOfLeadingZeros(l20);
-           final long t95 = ((long) Long.numberOfLeadingZeros(l15)) + 64L;
-           final int t96 = (l20 != 0L) ? 1 : 0;
-           final long t97 = l2 = t96 != 0 ? t94 : t95;
-           final long t98 = (long) Long.numberOfLeadingZeros(l17);
-           final long t99 = ((long) Long.numberOfLeadingZeros(l21)) + 64L;
-           final int t100 = (l17 != 0L) ? 1 : 0;
-           final int t101 = ((l9 = t97 - (l14 = t100 != 0 ? t98 : t99)) + Long.MIN_VALUE > -9223372036854775681L) ? 1 : 0;
-           final int t102 = ((l19 = 0L - ((l2 + Long.MIN_VALUE < l14 + Long.MIN_VALUE) ? 1L : 0L)) != 0L) ? 1 : 0;
-           final int t103 = (l19 == 0L) ? 1 : 0;
-           l14 = ((l30 = t93 | (t103 != 0 ? t101 : t102)) != 0) ? 0L : t80;
-           l22 = l30 != 0 ? 0L : l21;
-           l7 = (l18 ^ l6) >> 63L;
-           if (l30 != 0) { break L14; }
-           if (((l9 ^ 127L) | l19) == 0L) { break L14; }
-           Core1.f4(m, l3 + 576L, l21, l17, 127 - ((int) l9));
-           l14 = Words.get64(b, ((int) l3) - 60136);
-           l2 = Words.get64(b, ((int) l3) - 60144);
-           L104: {
-            if (((l9 = l9 + 1L) | (l19 = l19 + ((l9 == 0L) ? 1L : 0L))) == 0L) { break L104; }
-            Core1.f5(m, l3 + 560L, l21, l17, (int) l9);
-            l16 = l15 + -1L;
-            l8 = l20 - ((l15 == 0L) ? 1L : 0L);
-            l22 = Words.get64(b, ((int) l3) - 60152);
-            l17 = Words.get64(b, ((int) l3) - 60160);
-            l21 = 0L;
-            L105: while (true) {
-             l23 = l21;
-             l22 = ((l21 = (l22 << 1L) | (l17 >>> 63L)) - ((l21 = ((l8 - l21) - ((l16 + Long.MIN_VALUE < (l17 = (l17 << 1L) | (l14 >>> 63L)) + Long.MIN_VALUE) ? 1L : 0L)) >> 63L) & l20)) - ((l17 + Long.MIN_VALUE < (l11 = l21 & l15) + Long.MIN_VALUE) ? 1L : 0L);
-             l21 = l21 & 1L;
-             l17 = l17 - l11;
-             l14 = 0L | ((l14 << 1L) | (l2 >>> 63L));
-             l30 = (l9 == 0L) ? 1 : 0;
-             l2 = l23 | (l2 << 1L);
-             l9 = l23 = l9 + -1L;
-             if (!((l23 | (l19 = l19 - (l30 & 0xffffffffL))) == 0L)) { continue L105; }
-             break L15;
+           l18 = 0L;
+           Core1.f3(m, l3 + 640L, l2, l9, 10L, 0L);
+           if (((l15 - (l14 = Words.get64(b, ((int) l3) - 60080))) | ((l16 - Words.get64(b, ((int) l3) - 60072)) - ((l15 + Long.MIN_VALUE < l14 + Long.MIN_VALUE) ? 1L : 0L))) != 0L) { break L59; }
+           l15 = l2;
+           l16 = l9;
+           if ((l13 = l13 + 1L) != l10) { continue L60; }
+           break L60;
+          }
+          l13 = l10;
+         }
+         l12 = 1L;
+         L73: {
+          L74: {
+           L75: {
+            switch ((int) (l13 & 4294967295L)) {
+            case 0: break L73;
+            case 1: break L74;
+            default: break L75;
             }
            }
-           l21 = 0L;
+           l30 = (int) l13;
+           l2 = 10L;
+           l14 = 1L;
+           l18 = 0L;
+           l9 = 0L;
+           L76: while (true) {
+            Core1.f3(m, l3 + 608L, ((l31 = l30 & 1) != 0) ? l2 : 1L, l31 != 0 ? l9 : 0L, l14, l18);
+            Core1.f3(m, l3 + 624L, l2, l9, l2, l9);
+            l31 = (l30 + Integer.MIN_VALUE > -2147483645) ? 1 : 0;
+            l9 = Words.get64(b, ((int) l3) - 60088);
+            l2 = Words.get64(b, ((int) l3) - 60096);
+            l18 = Words.get64(b, ((int) l3) - 60104);
+            l14 = Words.get64(b, ((int) l3) - 60112);
+            l30 = l30 >>> 1;
+            if (l31 != 0) { continue L76; }
+            break L76;
+           }
+           Core1.f3(m, l3 + 592L, l14, l18, l2, l9);
+           if (((l12 = Words.get64(b, ((int) l3) - 60128)) | (l18 = Words.get64(b, ((int) l3) - 60120))) != 0L) { break L73; }
+           exit = 4; break PART;
+          }
+          l12 = 10L;
+         }
+         final long t77 = 0L - (l6 + ((l7 != 0L) ? 1L : 0L));
+         final long t78 = l6;
+         final int t79 = l30 = (l6 < 0L) ? 1 : 0;
+         final long t80 = l17 = t79 != 0 ? t77 : t78;
+         final long t81 = 0L - l12;
+         final long t82 = l12;
+         final int t83 = l31 = (l18 < 0L) ? 1 : 0;
+         final long t84 = l15 = t83 != 0 ? t81 : t82;
+         final long t85 = 0L - (l18 + ((l12 != 0L) ? 1L : 0L));
+         final long t86 = l18;
+         final int t87 = l31;
+         final int t88 = ((t84 | (l20 = t87 != 0 ? t85 : t86)) == 0L) ? 1 : 0;
+         final long t89 = l17;
+         final long t90 = 0L - l7;
+         final long t91 = l7;
+         final int t92 = l30;
+         final int t93 = t88 | (((t89 | (l21 = t92 != 0 ? t90 : t91)) == 0L) ? 1 : 0);
+         final long t94 = (long) Long.numberOfLeadingZeros(l20);
+         final long t95 = ((long) Long.numberOfLeadingZeros(l15)) + 64L;
+         final int t96 = (l20 != 0L) ? 1 : 0;
+         final long t97 = l2 = t96 != 0 ? t94 : t95;
+         final long t98 = (long) Long.numberOfLeadingZeros(l17);
+         final long t99 = ((long) Long.numberOfLeadingZeros(l21)) + 64L;
+         final int t100 = (l17 != 0L) ? 1 : 0;
+         final int t101 = ((l9 = t97 - (l14 = t100 != 0 ? t98 : t99)) + Long.MIN_VALUE > -9223372036854775681L) ? 1 : 0;
+         final int t102 = ((l19 = 0L - ((l2 + Long.MIN_VALUE < l14 + Long.MIN_VALUE) ? 1L : 0L)) != 0L) ? 1 : 0;
+         final int t103 = (l19 == 0L) ? 1 : 0;
+         l14 = ((l30 = t93 | (t103 != 0 ? t101 : t102)) != 0) ? 0L : t80;
+         l22 = l30 != 0 ? 0L : l21;
+         l7 = (l18 ^ l6) >> 63L;
+         if (l30 != 0) { break L14; }
+         if (((l9 ^ 127L) | l19) == 0L) { break L14; }
+         Core1.f4(m, l3 + 576L, l21, l17, 127 - ((int) l9));
+         l14 = Words.get64(b, ((int) l3) - 60136);
+         l2 = Words.get64(b, ((int) l3) - 60144);
+         L104: {
+          if (((l9 = l9 + 1L) | (l19 = l19 + ((l9 == 0L) ? 1L : 0L))) == 0L) { break L104; }
+          Core1.f5(m, l3 + 560L, l21, l17, (int) l9);
+          l16 = l15 + -1L;
+          l8 = l20 - ((l15 == 0L) ? 1L : 0L);
+          l22 = Words.get64(b, ((int) l3) - 60152);
+          l17 = Words.get64(b, ((int) l3) - 60160);
+          l21 = 0L;
+          L105: while (true) {
+           l23 = l21;
+           l22 = ((l21 = (l22 << 1L) | (l17 >>> 63L)) - ((l21 = ((l8 - l21) - ((l16 + Long.MIN_VALUE < (l17 = (l17 << 1L) | (l14 >>> 63L)) + Long.MIN_VALUE) ? 1L : 0L)) >> 63L) & l20)) - ((l17 + Long.MIN_VALUE < (l11 = l21 & l15) + Long.MIN_VALUE) ? 1L : 0L);
+           l21 = l21 & 1L;
+           l17 = l17 - l11;
+           l14 = 0L | ((l14 << 1L) | (l2 >>> 63L));
+           l30 = (l9 == 0L) ? 1 : 0;
+           l2 = l23 | (l2 << 1L);
+           l9 = l23 = l9 + -1L;
+           if (!((l23 | (l19 = l19 - (l30 & 0xffffffffL))) == 0L)) { continue L105; }
            break L15;
           }
-          final long t106 = 0L - l7;
-          final long t107 = l7;
-          final int t108 = l30 = (l6 < 0L) ? 1 : 0;
-          l8 = t108 != 0 ? t106 : t107;
-          final long t109 = 0L - (l6 + ((l7 != 0L) ? 1L : 0L));
-          final long t110 = l6;
-          final int t111 = l30;
-          l7 = t111 != 0 ? t109 : t110;
-          l2 = l5;
-          l9 = l4;
-          break L13;
          }
-         l14 = (l14 << 1L) | (l2 >>> 63L);
-         l22 = l21 | (l2 << 1L);
+         l21 = 0L;
+         break L15;
         }
-        final long t112 = l4;
-        final int t113 = (((l12 | l18) == 0L) | ((l5 | l4) == 0L)) ? 1 : 0;
-        final long t114 = (long) Long.numberOfLeadingZeros(l18);
-        final long t115 = ((long) Long.numberOfLeadingZeros(l12)) + 64L;
-        final int t116 = (l18 != 0L) ? 1 : 0;
-        final long t117 = l2 = t116 != 0 ? t114 : t115;
-        final long t118 = (long) Long.numberOfLeadingZeros(l4);
-        final long t119 = ((long) Long.numberOfLeadingZeros(l5)) + 64L;
-        final int t120 = (l4 != 0L) ? 1 : 0;
-        final int t121 = ((l21 = t117 - (l9 = t120 != 0 ? t118 : t119)) + Long.MIN_VALUE > -9223372036854775681L) ? 1 : 0;
-        final int t122 = ((l17 = 0L - ((l2 + Long.MIN_VALUE < l9 + Long.MIN_VALUE) ? 1L : 0L)) != 0L) ? 1 : 0;
-        final int t123 = (l17 == 0L) ? 1 : 0;
-        l9 = ((l30 = t113 | (t123 != 0 ? t121 : t122)) != 0) ? 0L : t112;
-        l2 = l30 != 0 ? 0L : l5;
-        l6 = ((l14 ^ l7) - l7) - (((l14 = l22 ^ l7) + Long.MIN_VALUE < l7 + Long.MIN_VALUE) ? 1L : 0L);
-        l16 = l14 - l7;
-        L124: {
-         if (l30 != 0) { break L124; }
-         if (((l21 ^ 127L) | l17) == 0L) { break L124; }
-         Core1.f4(m, l3 + 544L, l5, l4, 127 - ((int) l21));
-         l14 = Words.get64(b, ((int) l3) - 60168);
-         l2 = Words.get64(b, ((int) l3) - 60176);
-         L125: {
-          L126: {
-           if (((l9 = l21 + 1L) | (l19 = l17 + ((l9 == 0L) ? 1L : 0L))) == 0L) { break L126; }
-           Core1.f5(m, l3 + 528L, l5, l4, (int) l9);
-           l20 = l12 + -1L;
-           l15 = l18 - ((l12 == 0L) ? 1L : 0L);
-           l22 = Words.get64(b, ((int) l3) - 60184);
-           l17 = Words.get64(b, ((int) l3) - 60192);
-           l21 = 0L;
-           L127: while (true) {
-            l23 = l21;
-            l22 = ((l21 = (l22 << 1L) | (l17 >>> 63L)) - ((l21 = ((l15 - l21) - ((l20 + Long.MIN_VALUE < (l17 = (l17 << 1L) | (l14 >>> 63L)) + Long.MIN_VALUE) ? 1L : 0L)) >> 63L) & l18)) - ((l17 + Long.MIN_VALUE < (l11 = l21 & l12) + Long.MIN_VALUE) ? 1L : 0L);
-            l21 = l21 & 1L;
-            l17 = l17 - l11;
-            l14 = 0L | ((l14 << 1L) | (l2 >>> 63L));
-            l30 = (l9 == 0L) ? 1 : 0;
-            l2 = l23 | (l2 << 1L);
-            l9 = l23 = l9 + -1L;
-            if (!((l23 | (l19 = l19 - (l30 & 0xffffffffL))) == 0L)) { continue L127; }
-            break L125;
-           }
-          }
-          l21 = 0L;
-         }
-         l9 = (l14 << 1L) | (l2 >>> 63L);
-         l2 = l21 | (l2 << 1L);
-        }
-        l11 = 0L;
-        final long t128 = 0L - l16;
-        final long t129 = l16;
-        final int t130 = l30 = (l6 < 0L) ? 1 : 0;
-        l8 = t130 != 0 ? t128 : t129;
-        final long t131 = 0L - (l6 + ((l16 != 0L) ? 1L : 0L));
-        final long t132 = l6;
-        final int t133 = l30;
-        l7 = t133 != 0 ? t131 : t132;
-        final int t134 = l29;
-        final int t135 = (l10 != l13) ? 1 : 0;
-        final int t136 = ((l29 & 254) == 2) ? 1 : 0;
-        switch (t136 != 0 ? t134 : t135) {
-        case 1: break L13;
-        case 2: break L10;
-        case 3: break L8;
-        default: break L12;
-        }
+        final long t106 = 0L - l7;
+        final long t107 = l7;
+        final int t108 = l30 = (l6 < 0L) ? 1 : 0;
+        l8 = t108 != 0 ? t106 : t107;
+        final long t109 = 0L - (l6 + ((l7 != 0L) ? 1L : 0L));
+        final long t110 = l6;
+        final int t111 = l30;
+        l7 = t111 != 0 ? t109 : t110;
+        l2 = l5;
+        l9 = l4;
+        break L13;
        }
-       l17 = 10L;
-       if (!(((l2 ^ 10L) | l9) == 0L)) { break L11; }
-       l24 = 1L;
-       l10 = 80L;
-       exit = 4; break PART;
+       l14 = (l14 << 1L) | (l2 >>> 63L);
+       l22 = l21 | (l2 << 1L);
       }
-      l12 = 1L;
-      if (!(((l2 ^ 1L) | l9) == 0L)) { break L8; }
-      l13 = 80L;
-      exit = 2; break PART;
-     }
-     l18 = 0L;
-     l14 = 0L;
-     L137: {
-      L138: while (true) {
-       Core1.f3(m, l3 + 448L, l17, 0L, 10L, 0L);
-       Core1.f3(m, l3 + 432L, l18, 0L, 0L, 10L);
-       if ((((l17 = (l18 = Words.get64(b, ((int) l3) - 60272)) & -2L) ^ l2) | ((l18 = (Words.get64(b, ((int) l3) - 60264) + Words.get64(b, ((int) l3) - 60280)) + (((l18 + Words.get64(b, ((int) l3) - 60288)) + Long.MIN_VALUE < l18 + Long.MIN_VALUE) ? 1L : 0L)) ^ l9)) == 0L) { break L137; }
-       if (l14 == 36L) { break L8; }
-       Core1.f3(m, l3 + 416L, l17, 0L, 10L, 0L);
-       Core1.f3(m, l3 + 400L, l18, 0L, 0L, 10L);
-       l14 = l14 + 2L;
-       if (!((((l17 = (l18 = Words.get64(b, ((int) l3) - 60304)) & -4L) ^ l2) | ((l18 = (Words.get64(b, ((int) l3) - 60296) + Words.get64(b, ((int) l3) - 60312)) + (((l18 + Words.get64(b, ((int) l3) - 60320)) + Long.MIN_VALUE < l18 + Long.MIN_VALUE) ? 1L : 0L)) ^ l9)) == 0L)) { continue L138; }
-       break L138;
+      final long t112 = l4;
+      final int t113 = (((l12 | l18) == 0L) | ((l5 | l4) == 0L)) ? 1 : 0;
+      final long t114 = (long) Long.numberOfLeadingZeros(l18);
+      final long t115 = ((long) Long.numberOfLeadingZeros(l12)) + 64L;
+      final int t116 = (l18 != 0L) ? 1 : 0;
+      final long t117 = l2 = t116 != 0 ? t114 : t115;
+      final long t118 = (long) Long.numberOfLeadingZeros(l4);
+      final long t119 = ((long) Long.numberOfLeadingZeros(l5)) + 64L;
+      final int t120 = (l4 != 0L) ? 1 : 0;
+      final int t121 = ((l21 = t117 - (l9 = t120 != 0 ? t118 : t119)) + Long.MIN_VALUE > -9223372036854775681L) ? 1 : 0;
+      final int t122 = ((l17 = 0L - ((l2 + Long.MIN_VALUE < l9 + Long.MIN_VALUE) ? 1L : 0L)) != 0L) ? 1 : 0;
+      final int t123 = (l17 == 0L) ? 1 : 0;
+      l9 = ((l30 = t113 | (t123 != 0 ? t121 : t122)) != 0) ? 0L : t112;
+      l2 = l30 != 0 ? 0L : l5;
+      l6 = ((l14 ^ l7) - l7) - (((l14 = l22 ^ l7) + Long.MIN_VALUE < l7 + Long.MIN_VALUE) ? 1L : 0L);
+      l16 = l14 - l7;
+      L124: {
+       if (l30 != 0) { break L124; }
+       if (((l21 ^ 127L) | l17) == 0L) { break L124; }
+       Core1.f4(m, l3 + 544L, l5, l4, 127 - ((int) l21));
+       l14 = Words.get64(b, ((int) l3) - 60168);
+       l2 = Words.get64(b, ((int) l3) - 60176);
+       L125: {
+        L126: {
+         if (((l9 = l21 + 1L) | (l19 = l17 + ((l9 == 0L) ? 1L : 0L))) == 0L) { break L126; }
+         Core1.f5(m, l3 + 528L, l5, l4, (int) l9);
+         l20 = l12 + -1L;
+         l15 = l18 - ((l12 == 0L) ? 1L : 0L);
+         l22 = Words.get64(b, ((int) l3) - 60184);
+         l17 = Words.get64(b, ((int) l3) - 60192);
+         l21 = 0L;
+         L127: while (true) {
+          l23 = l21;
+          l22 = ((l21 = (l22 << 1L) | (l17 >>> 63L)) - ((l21 = ((l15 - l21) - ((l20 + Long.MIN_VALUE < (l17 = (l17 << 1L) | (l14 >>> 63L)) + Long.MIN_VALUE) ? 1L : 0L)) >> 63L) & l18)) - ((l17 + Long.MIN_VALUE < (l11 = l21 & l12) + Long.MIN_VALUE) ? 1L : 0L);
+          l21 = l21 & 1L;
+          l17 = l17 - l11;
+          l14 = 0L | ((l14 << 1L) | (l2 >>> 63L));
+          l30 = (l9 == 0L) ? 1 : 0;
+          l2 = l23 | (l2 << 1L);
+          l9 = l23 = l9 + -1L;
+          if (!((l23 | (l19 = l19 - (l30 & 0xffffffffL))) == 0L)) { continue L127; }
+          break L125;
+         }
+        }
+        l21 = 0L;
+       }
+       l9 = (l14 << 1L) | (l2 >>> 63L);
+       l2 = l21 | (l2 << 1L);
       }
-      l14 = l14 + -1L;
+      l11 = 0L;
+      final long t128 = 0L - l16;
+      final long t129 = l16;
+      final int t130 = l30 = (l6 < 0L) ? 1 : 0;
+      l8 = t130 != 0 ? t128 : t129;
+      final long t131 = 0L - (l6 + ((l16 != 0L) ? 1L : 0L));
+      final long t132 = l6;
+      final int t133 = l30;
+      l7 = t133 != 0 ? t131 : t132;
+      final int t134 = l29;
+      final int t135 = (l10 != l13) ? 1 : 0;
+      final int t136 = ((l29 & 254) == 2) ? 1 : 0;
+      switch (t136 != 0 ? t134 : t135) {
+      case 1: break L13;
+      case 2: break L10;
+      case 3: exit = 2; break PART;
+      default: break L12;
+      }
      }
-     l24 = l14 + 2L;
-     l30 = 0;
-     break L9;
+     l17 = 10L;
+     if (!(((l2 ^ 10L) | l9) == 0L)) { break L11; }
+     l24 = 1L;
+     l10 = 80L;
+     exit = 5; break PART;
     }
-    l18 = 100L;
-    if (((l2 ^ 100L) | l9) == 0L) { exit = 1; break PART; }
-    l14 = 0L;
-    l24 = 1L;
-    L139: while (true) {
-     if (l24 == 37L) { break L8; }
-     Core1.f3(m, l3 + 512L, l18, 0L, 10L, 0L);
-     Core1.f3(m, l3 + 496L, l14, 0L, 0L, 10L);
-     l30 = 1;
-     if ((((l18 = (l14 = Words.get64(b, ((int) l3) - 60208)) & -2L) ^ l2) | ((l14 = (Words.get64(b, ((int) l3) - 60200) + Words.get64(b, ((int) l3) - 60216)) + (((l14 + Words.get64(b, ((int) l3) - 60224)) + Long.MIN_VALUE < l14 + Long.MIN_VALUE) ? 1L : 0L)) ^ l9)) == 0L) { break L9; }
-     Core1.f3(m, l3 + 480L, l18, 0L, 10L, 0L);
-     Core1.f3(m, l3 + 464L, l14, 0L, 0L, 10L);
-     l24 = l24 + 2L;
-     if (!((((l18 = (l14 = Words.get64(b, ((int) l3) - 60240)) & -4L) ^ l2) | ((l14 = (Words.get64(b, ((int) l3) - 60232) + Words.get64(b, ((int) l3) - 60248)) + (((l14 + Words.get64(b, ((int) l3) - 60256)) + Long.MIN_VALUE < l14 + Long.MIN_VALUE) ? 1L : 0L)) ^ l9)) == 0L)) { continue L139; }
-     break L139;
-    }
-    l24 = l24 + -1L;
+    l12 = 1L;
+    if (!(((l2 ^ 1L) | l9) == 0L)) { exit = 2; break PART; }
+    l13 = 80L;
+    exit = 3; break PART;
    }
-   if (l30 != 0) { exit = 5; break PART; }
-   l10 = 80L;
-   exit = 4; break PART;
+   l18 = 0L;
+   l14 = 0L;
+   L137: {
+    L138: while (true) {
+     Core1.f3(m, l3 + 448L, l17, 0L, 10L, 0L);
+     Core1.f3(m, l3 + 432L, l18, 0L, 0L, 10L);
+     if ((((l17 = (l18 = Words.get64(b, ((int) l3) - 60272)) & -2L) ^ l2) | ((l18 = (Words.get64(b, ((int) l3) - 60264) + Words.get64(b, ((int) l3) - 60280)) + (((l18 + Words.get64(b, ((int) l3) - 60288)) + Long.MIN_VALUE < l18 + Long.MIN_VALUE) ? 1L : 0L)) ^ l9)) == 0L) { break L137; }
+     if (l14 == 36L) { exit = 2; break PART; }
+     Core1.f3(m, l3 + 416L, l17, 0L, 10L, 0L);
+     Core1.f3(m, l3 + 400L, l18, 0L, 0L, 10L);
+     l14 = l14 + 2L;
+     if (!((((l17 = (l18 = Words.get64(b, ((int) l3) - 60304)) & -4L) ^ l2) | ((l18 = (Words.get64(b, ((int) l3) - 60296) + Words.get64(b, ((int) l3) - 60312)) + (((l18 + Words.get64(b, ((int) l3) - 60320)) + Long.MIN_VALUE < l18 + Long.MIN_VALUE) ? 1L : 0L)) ^ l9)) == 0L)) { continue L138; }
+     break L138;
+    }
+    l14 = l14 + -1L;
+   }
+   l24 = l14 + 2L;
+   l30 = 0;
+   exit = 6; break PART;
   }
  }
  m.kept[0] = l2;
@@ -711,36 +687,61 @@ static void f38(State m, long l0, long l1, long l2) {
      L5: {
       L6: {
        L7: {
-        final int x140 = f38_1(m, l2, l3, l4, l5, l6, l7, l8, l9, l10, l11, l12, l13, l14, l15, l16, l17, l18, l19, l20, l21, l22, l23, l24, l29, l30, l31);
-        l2 = m.kept[0];
-        l6 = m.kept[1];
-        l7 = m.kept[2];
-        l8 = m.kept[3];
-        l9 = m.kept[4];
-        l10 = m.kept[5];
-        l11 = m.kept[6];
-        l12 = m.kept[7];
-        l13 = m.kept[8];
-        l14 = m.kept[9];
-        l15 = m.kept[10];
-        l16 = m.kept[11];
-        l17 = m.kept[12];
-        l18 = m.kept[13];
-        l19 = m.kept[14];
-        l20 = m.kept[15];
-        l21 = m.kept[16];
-        l22 = m.kept[17];
-        l23 = m.kept[18];
-        l24 = m.kept[19];
-        l29 = (int) m.kept[20];
-        l30 = (int) m.kept[21];
-        l31 = (int) m.kept[22];
-        switch (x140) {
-        case 1: break L5;
-        case 2: break L4;
-        case 3: break L3;
-        case 4: break L6;
-        case 5: break L7;
+        L8: {
+         L9: {
+          final int x139 = f38_1(m, l2, l3, l4, l5, l6, l7, l8, l9, l10, l11, l12, l13, l14, l15, l16, l17, l18, l19, l20, l21, l22, l23, l24, l29, l30, l31);
+          l2 = m.kept[0];
+          l6 = m.kept[1];
+          l7 = m.kept[2];
+          l8 = m.kept[3];
+          l9 = m.kept[4];
+          l10 = m.kept[5];
+          l11 = m.kept[6];
+          l12 = m.kept[7];
+          l13 = m.kept[8];
+          l14 = m.kept[9];
+          l15 = m.kept[10];
+          l16 = m.kept[11];
+          l17 = m.kept[12];
+          l18 = m.kept[13];
+          l19 = m.kept[14];
+          l20 = m.kept[15];
+          l21 = m.kept[16];
+          l22 = m.kept[17];
+          l23 = m.kept[18];
+          l24 = m.kept[19];
+          l29 = (int) m.kept[20];
+          l30 = (int) m.kept[21];
+          l31 = (int) m.kept[22];
+          switch (x139) {
+          case 1: break L5;
+          case 2: break L8;
+          case 3: break L4;
+          case 4: break L3;
+          case 5: break L6;
+          case 6: break L9;
+          }
+          l18 = 100L;
+          if (((l2 ^ 100L) | l9) == 0L) { break L5; }
+          l14 = 0L;
+          l24 = 1L;
+          L140: while (true) {
+           if (l24 == 37L) { break L8; }
+           Core1.f3(m, l3 + 512L, l18, 0L, 10L, 0L);
+           Core1.f3(m, l3 + 496L, l14, 0L, 0L, 10L);
+           l30 = 1;
+           if ((((l18 = (l14 = Words.get64(b, ((int) l3) - 60208)) & -2L) ^ l2) | ((l14 = (Words.get64(b, ((int) l3) - 60200) + Words.get64(b, ((int) l3) - 60216)) + (((l14 + Words.get64(b, ((int) l3) - 60224)) + Long.MIN_VALUE < l14 + Long.MIN_VALUE) ? 1L : 0L)) ^ l9)) == 0L) { break L9; }
+           Core1.f3(m, l3 + 480L, l18, 0L, 10L, 0L);
+           Core1.f3(m, l3 + 464L, l14, 0L, 0L, 10L);
+           l24 = l24 + 2L;
+           if (!((((l18 = (l14 = Words.get64(b, ((int) l3) - 60240)) & -4L) ^ l2) | ((l14 = (Words.get64(b, ((int) l3) - 60232) + Words.get64(b, ((int) l3) - 60248)) + (((l14 + Words.get64(b, ((int) l3) - 60256)) + Long.MIN_VALUE < l14 + Long.MIN_VALUE) ? 1L : 0L)) ^ l9)) == 0L)) { continue L140; }
+           break L140;
+          }
+          l24 = l24 + -1L;
+         }
+         if (l30 != 0) { break L7; }
+         l10 = 80L;
+         break L6;
         }
         L141: {
          final int t142 = (l2 + Long.MIN_VALUE < -9223372036854775798L) ? 1 : 0;

@@ -3088,488 +3088,421 @@ static void f102(State m, long l0, long l1, long l2, long l3, long l4, int l5, i
  m.g0 = l7 + 128L;
 }
 
-static int f103_1(State m, long l0, long l1, long l2, long l3, long l4, int l5, int l6, long l7, long l8, long l9, long l10, long l11, long l12, long l13, long l14, long l15, long l16, long l17, long l18, long l19, long l20, long l21, int l22, int l23, int l24, int l25, int l26) {
+static int f103_1(State m, long l1, long l2, long l3, long l4, int l5, int l6, long l7, long l8, long l9, long l10, long l11, long l12, long l13, long l14, long l15, long l16, long l17, long l18, long l19, long l20, long l21, int l22, int l23, int l24, int l25, int l26) {
  final byte[] b = m.bytes;
  int exit = 0;
  PART: {
-  L58: {
-   L59: {
-    L60: {
-     L61: {
-      if ((l23 & 255) == 0) { break L61; }
-      L62: {
-       if ((l22 & 255) != 0) { break L62; }
-       l10 = l12;
-       l11 = l13;
-       l8 = l14;
-       break L60;
-      }
-      l10 = ((l22 = (l10 + Long.MIN_VALUE < l12 + Long.MIN_VALUE) ? 1 : 0) != 0) ? l10 : l12;
-      l11 = l22 != 0 ? l11 : l13;
-      l8 = l22 != 0 ? l8 : l14;
-      break L60;
-     }
-     if ((l22 & 255) != 1) { break L59; }
-    }
-    Words.put64(b, ((int) l7) - 60640, 0L);
-    Words.put64(b, ((int) l7) - 60648, 0L);
-    Words.put64(b, ((int) l7) - 60656, 0L);
-    L63: {
-     if (l2 == l10) { break L63; }
-     L64: {
-      if (((int) b[((int) (l1 + (l12 = (l13 = l2 - l10) + -1L))) - 60720]) > -1) { break L64; }
-      l12 = -2L;
-      L65: {
-       if ((b[((int) ((l14 = l1 + l13) + -2L)) - 60720] & 0xff) + Integer.MIN_VALUE > -2147483457) { break L65; }
-       l12 = ((b[((int) (l14 + -3L)) - 60720] & 0xff) + Integer.MIN_VALUE > -2147483457) ? -3L : -4L;
-      }
-      l12 = l12 + l13;
-     }
-     f115(m, l7 + 64L, l1, l2, l1 + l12, l2 - l12, l5, l6);
-     if ((b[((int) l7) - 60656] & 0xff) != 1) { break L63; }
-     if (Words.get64(b, ((int) l7) - 60640) != l10) { break L59; }
-    }
-    Words.put64(b, ((int) l0) - 60720, 1L);
-    Words.put64(b, ((int) (l0 + 32L)) - 60720, l10);
-    Words.put64(b, ((int) (l0 + 24L)) - 60720, l11);
-    Words.put64(b, ((int) (l0 + 16L)) - 60720, l8);
-    Words.put64(b, ((int) (l0 + 8L)) - 60720, 0L);
-    m.fill((int) (l0 + 40L), 0, (int) 80L);
-    break L58;
-   }
-   l11 = 0L;
-   Words.put64(b, ((int) l7) - 60640, 0L);
-   Words.put64(b, ((int) l7) - 60648, 0L);
-   Words.put64(b, ((int) l7) - 60656, 0L);
-   f115(m, l7 + 64L, l1, l2, l3, l4, l5, l6);
-   L66: {
-    L67: {
-     if ((l12 = b[((int) l7) - 60656] & 0xffL) == 1L) { break L67; }
-     l25 = 0;
-     l1 = 0L;
-     l9 = 0L;
-     l3 = 0L;
-     l10 = 0L;
-     l8 = 0L;
-     l4 = 0L;
-     l2 = 0L;
-     l13 = 0L;
-     l16 = 0L;
-     l15 = 0L;
-     l14 = 0L;
-     l17 = 0L;
-     break L66;
-    }
-    l10 = Words.get64(b, ((int) l7) - 60648);
-    l17 = 2L;
+  L66: {
+   L67: {
+    if ((l12 = b[((int) l7) - 60656] & 0xffL) == 1L) { break L67; }
     l25 = 0;
-    L68: {
-     L69: {
-      L70: {
-       if (!((l8 = Words.get64(b, ((int) l7) - 60640)) == 0L)) { break L70; }
-       l9 = 0L;
-       l12 = 1L;
-       l1 = l10;
-       l3 = 0L;
-       break L69;
-      }
-      l23 = (l22 = (int) b[((int) l10) - 60720]) & 255;
-      l14 = 1L;
-      L71: {
-       if (l22 > -1) { break L71; }
-       l24 = (b[((int) l10) - 60719] & 0xff) & 63;
-       L72: {
-        if (l22 + Integer.MIN_VALUE > 2147483615) { break L72; }
-        l23 = ((l23 << 6) & 1984) | l24;
-        l14 = 2L;
-        break L71;
-       }
-       l26 = (b[((int) l10) - 60718] & 0xff) & 63;
-       L73: {
-        if (l22 + Integer.MIN_VALUE > 2147483631) { break L73; }
-        l23 = ((l24 << 6) | ((l23 << 12) & 61440)) | l26;
-        l14 = 3L;
-        break L71;
-       }
-       l23 = ((l26 << 6) | ((l24 << 12) | ((l23 << 18) & 1835008))) | ((b[((int) l10) - 60717] & 0xff) & 63);
-       l14 = 4L;
-      }
-      l11 = l4 - l8;
-      l4 = -32L;
-      L74: {
-       L75: while (true) {
-        if ((l24 = Words.get32(b, ((int) (l4 + 82824L)) - 60720)) == l23) { break L74; }
-        l22 = (l4 != 0L) ? 1 : 0;
-        l4 = l4 + 4L;
-        if (l22 != 0) { continue L75; }
-        break L75;
-       }
-      }
-      l4 = 0L;
-      l12 = 1L;
-      L76: {
-       L77: {
-        L78: {
-         if (l24 != l23) { break L78; }
-         l4 = 0L;
-         Words.put64(b, ((int) l7) - 60640, 0L);
-         Words.put64(b, ((int) l7) - 60648, 0L);
-         Words.put64(b, ((int) l7) - 60656, 0L);
-         f115(m, l7 + 64L, l1, l2, l13 = l10 + l14, l18 = l8 - l14, l5, l6);
-         if ((b[((int) l7) - 60656] & 0xff) != 1) { break L78; }
-         l15 = Words.get64(b, ((int) l7) - 60648);
-         l14 = Words.get64(b, ((int) l7) - 60640);
-         Words.put64(b, ((int) l7) - 60600, 0L);
-         Words.put64(b, ((int) l7) - 60608, 0L);
-         Words.put64(b, ((int) l7) - 60616, 0L);
-         Words.put64(b, ((int) l7) - 60624, 0L);
-         Words.put64(b, ((int) l7) - 60632, 0L);
-         Words.put64(b, ((int) l7) - 60640, 0L);
-         Words.put64(b, ((int) l7) - 60648, 0L);
-         Words.put64(b, ((int) l7) - 60656, 0L);
-         Core2.f62(m, l7 + 64L, l3, l11, 1);
-         if ((b[((int) l7) - 60656] & 0xff) != 0) { break L76; }
-         if (((b[((int) l7) - 60608] & 0xff) & 255) == 3) { break L76; }
-         if (Words.get64(b, ((int) l7) - 60632) <= -1L) { break L76; }
-         Words.put64(b, ((int) l7) - 60664, l8);
-         Words.put64(b, ((int) l7) - 60672, l10);
-         Words.put64(b, ((int) l7) - 60680, l11);
-         Words.put64(b, ((int) l7) - 60688, l3);
-         Words.put64(b, ((int) l7) - 60696, l9);
-         Words.put64(b, ((int) l7) - 60704, l1);
-         l4 = 0L;
-         if (Core4.f116(m, l7 + 16L) != 0) { break L78; }
-         Words.put64(b, ((int) l7) - 60600, 0L);
-         Words.put64(b, ((int) l7) - 60608, 0L);
-         Words.put64(b, ((int) l7) - 60616, 0L);
-         Words.put64(b, ((int) l7) - 60624, 0L);
-         Words.put64(b, ((int) l7) - 60632, 0L);
-         Words.put64(b, ((int) l7) - 60640, 0L);
-         Words.put64(b, ((int) l7) - 60648, 0L);
-         Words.put64(b, ((int) l7) - 60656, 0L);
-         Core2.f62(m, l7 + 64L, l13, l16 = l18 - l14, 1);
-         if ((b[((int) l7) - 60656] & 0xff) != 0) { break L76; }
-         if (((b[((int) l7) - 60608] & 0xff) & 255) == 3) { break L76; }
-         if (Words.get64(b, ((int) l7) - 60632) <= -1L) { break L76; }
-         Words.put64(b, ((int) l7) - 60664, l14);
-         Words.put64(b, ((int) l7) - 60672, l15);
-         Words.put64(b, ((int) l7) - 60680, l16);
-         Words.put64(b, ((int) l7) - 60688, l13);
-         Words.put64(b, ((int) l7) - 60696, l2 = l2 - l18);
-         Words.put64(b, ((int) l7) - 60704, l1);
-         l4 = 0L;
-         if (Core4.f116(m, l7 + 16L) != 0) { break L78; }
-         l4 = 0L;
-         if (Core4.f117(m, l1, l9, l15, l14) != 0) { break L78; }
-         l4 = 0L;
-         if (Core4.f118(m, l1, l9) == 0) { break L77; }
-        }
-        l1 = l10;
-        l9 = l8;
-        l3 = 0L;
-        l11 = 0L;
-        l10 = 0L;
-        l8 = 0L;
-        break L68;
-       }
-       m.fill((int) (l7 + 64L), 0, (int) 112L);
-       L79: {
-        L80: {
-         L81: {
-          L82: {
-           if (l23 == 21040) { break L82; }
-           l4 = l3;
-           l19 = l11;
-           if (l23 != 33267) { break L81; }
-          }
-          if (l11 == 0L) { break L80; }
-          l24 = (l22 = (int) b[((int) l3) - 60720]) & 255;
-          l4 = 1L;
-          L83: {
-           if (l22 > -1) { break L83; }
-           l6 = (b[((int) l3) - 60719] & 0xff) & 63;
-           L84: {
-            if (l22 + Integer.MIN_VALUE > 2147483615) { break L84; }
-            l24 = ((l24 << 6) & 1984) | l6;
-            l4 = 2L;
-            break L83;
-           }
-           l5 = (b[((int) l3) - 60718] & 0xff) & 63;
-           L85: {
-            if (l22 + Integer.MIN_VALUE > 2147483631) { break L85; }
-            l24 = ((l6 << 6) | ((l24 << 12) & 61440)) | l5;
-            l4 = 3L;
-            break L83;
-           }
-           l24 = ((l5 << 6) | ((l6 << 12) | ((l24 << 18) & 1835008))) | ((b[((int) l3) - 60717] & 0xff) & 63);
-           l4 = 4L;
-          }
-          if (l14 == 0L) { break L80; }
-          l22 = (l6 = (int) b[((int) l15) - 60720]) & 255;
-          L86: {
-           if (l6 > -1) { break L86; }
-           l5 = (b[((int) l15) - 60719] & 0xff) & 63;
-           L87: {
-            if (l6 + Integer.MIN_VALUE > 2147483615) { break L87; }
-            l22 = ((l22 << 6) & 1984) | l5;
-            break L86;
-           }
-           l25 = (b[((int) l15) - 60718] & 0xff) & 63;
-           L88: {
-            if (l6 + Integer.MIN_VALUE > 2147483631) { break L88; }
-            l22 = ((l5 << 6) | ((l22 << 12) & 61440)) | l25;
-            break L86;
-           }
-           l22 = ((l25 << 6) | ((l5 << 12) | ((l22 << 18) & 1835008))) | ((b[((int) l15) - 60717] & 0xff) & 63);
-          }
-          if (l11 != l4) { break L80; }
-          if (l24 != 19968) { break L80; }
-          L89: {
-           if (l22 > 26375) { break L89; }
-           L90: {
-            switch (l22 + -26085) {
-            case 0: case 17: break L79;
-            case 1: case 2: case 3: case 4: case 5: case 6: case 7: case 8: case 9: case 10: case 11: case 12: case 13: case 14: case 15: case 16: break L80;
-            default: break L90;
-            }
-           }
-           if (l22 == 21495) { break L79; }
-           if (l22 == 26178) { break L79; }
-           break L80;
-          }
-          L91: {
-           if (l22 > 34398) { break L91; }
-           if (l22 == 26376) { break L79; }
-           if (l22 == 28857) { break L79; }
-           break L80;
-          }
-          if (l22 == 34399) { break L79; }
-          if (l22 == 40670) { break L79; }
-          break L80;
-         }
-         L92: {
-          L93: while (true) {
-           if ((l20 = l19) == 0L) { break L92; }
-           l22 = (l24 = (int) b[((int) l4) - 60720]) & 255;
-           l18 = 1L;
-           L94: {
-            if (l24 > -1) { break L94; }
-            l6 = (b[((int) l4) - 60719] & 0xff) & 63;
-            L95: {
-             if (l24 + Integer.MIN_VALUE > 2147483615) { break L95; }
-             l22 = ((l22 << 6) & 1984) | l6;
-             l18 = 2L;
-             break L94;
-            }
-            l5 = (b[((int) l4) - 60718] & 0xff) & 63;
-            L96: {
-             if (l24 + Integer.MIN_VALUE > 2147483631) { break L96; }
-             l22 = ((l6 << 6) | ((l22 << 12) & 61440)) | l5;
-             l18 = 3L;
-             break L94;
-            }
-            l22 = ((l5 << 6) | ((l6 << 12) | ((l22 << 18) & 1835008))) | ((b[((int) l4) - 60717] & 0xff) & 63);
-            l18 = 4L;
-           }
-           if ((l22 + -48) + Integer.MIN_VALUE < -2147483638) { break L92; }
-           l19 = l20 - l18;
-           l4 = l4 + l18;
-           if ((l22 + -65296) + Integer.MIN_VALUE > -2147483639) { continue L93; }
-           break L93;
-          }
-         }
-         l4 = l13;
-         l19 = l16;
-         L97: {
-          L98: while (true) {
-           if ((l21 = l19) == 0L) { break L97; }
-           l22 = (l24 = (int) b[((int) l4) - 60720]) & 255;
-           l18 = 1L;
-           L99: {
-            if (l24 > -1) { break L99; }
-            l6 = (b[((int) l4) - 60719] & 0xff) & 63;
-            L100: {
-             if (l24 + Integer.MIN_VALUE > 2147483615) { break L100; }
-             l22 = ((l22 << 6) & 1984) | l6;
-             l18 = 2L;
-             break L99;
-            }
-            l5 = (b[((int) l4) - 60718] & 0xff) & 63;
-            L101: {
-             if (l24 + Integer.MIN_VALUE > 2147483631) { break L101; }
-             l22 = ((l6 << 6) | ((l22 << 12) & 61440)) | l5;
-             l18 = 3L;
-             break L99;
-            }
-            l22 = ((l5 << 6) | ((l6 << 12) | ((l22 << 18) & 1835008))) | ((b[((int) l4) - 60717] & 0xff) & 63);
-            l18 = 4L;
-           }
-           if ((l22 + -48) + Integer.MIN_VALUE < -2147483638) { break L97; }
-           l19 = l21 - l18;
-           l4 = l4 + l18;
-           if ((l22 + -65296) + Integer.MIN_VALUE > -2147483639) { continue L98; }
-           break L98;
-          }
-         }
-         if ((l20 != 0L) ^ (l21 != 0L)) { break L79; }
-         if (Core4.f119(m, l3, l11) != 0) { break L79; }
-         if (Core4.f119(m, l13, l16) != 0) { break L79; }
-         L102: {
-          if (l16 == 0L) { break L102; }
-          l22 = (l24 = (int) b[((int) l13) - 60720]) & 255;
-          L103: {
-           if (l24 > -1) { break L103; }
-           l6 = (b[((int) l13) - 60719] & 0xff) & 63;
-           L104: {
-            if (l24 + Integer.MIN_VALUE > 2147483615) { break L104; }
-            l22 = ((l22 << 6) & 1984) | l6;
-            break L103;
-           }
-           l5 = (b[((int) l13) - 60718] & 0xff) & 63;
-           L105: {
-            L106: {
-             if (l24 + Integer.MIN_VALUE > 2147483631) { break L106; }
-             l22 = ((l6 << 6) | ((l22 << 12) & 61440)) | l5;
-             break L105;
-            }
-            l22 = ((l5 << 6) | ((l6 << 12) | ((l22 << 18) & 1835008))) | ((b[((int) l13) - 60717] & 0xff) & 63);
-           }
-           if (l22 == 27491) { break L79; }
-          }
-          L107: {
-           if (l22 > 35999) { break L107; }
-           L108: {
-            switch (l22 + -43) {
-            case 0: case 2: break L79;
-            case 1: break L102;
-            default: break L108;
-            }
-           }
-           if (l22 != 8722) { break L102; }
-           break L79;
-          }
-          L109: {
-           switch (l22 + -65291) {
-           case 0: case 2: break L79;
-           case 1: break L102;
-           default: break L109;
-           }
-          }
-          if (l22 == 36000) { break L79; }
-          if (l22 == 36127) { break L79; }
-         }
-         L110: {
-          if (l9 == 0L) { break L110; }
-          L111: {
-           if ((l22 = (int) b[((int) ((l4 = l1 + l9) + -1L)) - 60720]) >= 0) { break L111; }
-           l18 = -2L;
-           L112: {
-            if ((b[((int) (l4 + -2L)) - 60720] & 0xff) + Integer.MIN_VALUE > -2147483457) { break L112; }
-            l18 = ((b[((int) (l4 + -3L)) - 60720] & 0xff) + Integer.MIN_VALUE > -2147483457) ? -3L : -4L;
-           }
-           l22 = (l24 = (int) b[((int) (l4 = (l1 + l18) + l9)) - 60720]) & 255;
-           if (l24 > -1) { break L111; }
-           l6 = (b[((int) l4) - 60719] & 0xff) & 63;
-           L113: {
-            if (l24 + Integer.MIN_VALUE > 2147483615) { break L113; }
-            l22 = ((l22 << 6) & 1984) | l6;
-            break L111;
-           }
-           l5 = (b[((int) l4) - 60718] & 0xff) & 63;
-           L114: {
-            if (l24 + Integer.MIN_VALUE > 2147483631) { break L114; }
-            l22 = ((l6 << 6) | ((l22 << 12) & 61440)) | l5;
-            break L111;
-           }
-           l22 = ((l5 << 6) | ((l6 << 12) | ((l22 << 18) & 1835008))) | ((b[((int) l4) - 60717] & 0xff) & 63);
-          }
-          if (l22 == 64) { break L79; }
-          if ((l22 + -35) + Integer.MIN_VALUE < -2147483646) { break L79; }
-          if (l22 == 95) { break L79; }
-          if (l22 == 215) { break L79; }
-          if (l22 == 42) { break L79; }
-          if (l22 == 94) { break L79; }
-          if (l22 == 43) { break L79; }
-          if (l22 == 61) { break L79; }
-          if (l22 == 126) { break L79; }
-          if (l22 == 65306) { break L79; }
-          if (l22 == 58) { break L79; }
-          if (l22 == 46) { break L79; }
-          if ((l22 & -3) == 45) { break L79; }
-          if ((l22 + -48) + Integer.MIN_VALUE < -2147483638) { break L79; }
-          if ((l22 + -65296) + Integer.MIN_VALUE < -2147483638) { break L79; }
-         }
-         L115: {
-          if (l14 == 0L) { break L115; }
-          l22 = (l24 = (int) b[((int) l15) - 60720]) & 255;
-          L116: {
-           if (l24 > -1) { break L116; }
-           l6 = (b[((int) l15) - 60719] & 0xff) & 63;
-           L117: {
-            if (l24 + Integer.MIN_VALUE > 2147483615) { break L117; }
-            l22 = ((l22 << 6) & 1984) | l6;
-            break L116;
-           }
-           l5 = (b[((int) l15) - 60718] & 0xff) & 63;
-           L118: {
-            if (l24 + Integer.MIN_VALUE > 2147483631) { break L118; }
-            l22 = ((l6 << 6) | ((l22 << 12) & 61440)) | l5;
-            break L116;
-           }
-           l22 = ((l5 << 6) | ((l6 << 12) | ((l22 << 18) & 1835008))) | ((b[((int) l15) - 60717] & 0xff) & 63);
-          }
-          L119: {
-           switch (l22 + -42) {
-           case 0: case 1: case 3: case 5: case 16: case 19: case 50: case 52: case 53: case 84: break L79;
-           case 2: case 4: case 6: case 7: case 8: case 9: case 10: case 11: case 12: case 13: case 14: case 15: case 17: case 18: case 20: case 21: case 22: case 23: case 24: case 25: case 26: case 27: case 28: case 29: case 30: case 31: case 32: case 33: case 34: case 35: case 36: case 37: case 38: case 39: case 40: case 41: case 42: case 43: case 44: case 45: case 46: case 47: case 48: case 49: case 51: case 54: case 55: case 56: case 57: case 58: case 59: case 60: case 61: case 62: case 63: case 64: case 65: case 66: case 67: case 68: case 69: case 70: case 71: case 72: case 73: case 74: case 75: case 76: case 77: case 78: case 79: case 80: case 81: case 82: case 83: break L115;
-           default: break L119;
-           }
-          }
-          if (l22 == 65306) { break L79; }
-          if (l22 == 215) { break L79; }
-         }
-         Core2.f59(m, l7 + 64L, l3, l11, l13, l16);
-         if ((b[((int) l7) - 60656] & 0xff) != 1) { break L79; }
-        }
-        l12 = 1L;
-        l25 = l23;
-        l4 = l1;
-        l17 = 1L;
-        break L66;
-       }
-       l25 = 0;
-      }
-      l3 = 0L;
-      l1 = l10;
-      l9 = l8;
-     }
-     l11 = 0L;
-     l10 = 0L;
-     l8 = 0L;
-     l4 = 0L;
-    }
+    l1 = 0L;
+    l9 = 0L;
+    l3 = 0L;
+    l10 = 0L;
+    l8 = 0L;
+    l4 = 0L;
     l2 = 0L;
     l13 = 0L;
     l16 = 0L;
     l15 = 0L;
     l14 = 0L;
+    l17 = 0L;
+    break L66;
    }
-   Words.put64(b, ((int) l0) - 60720, l12);
-   Words.put64(b, ((int) (l0 + 112L)) - 60720, l14);
-   Words.put64(b, ((int) (l0 + 104L)) - 60720, l15);
-   Words.put64(b, ((int) (l0 + 96L)) - 60720, l16);
-   Words.put64(b, ((int) (l0 + 88L)) - 60720, l13);
-   Words.put64(b, ((int) (l0 + 80L)) - 60720, l2);
-   Words.put64(b, ((int) (l0 + 72L)) - 60720, l4);
-   Words.put32(b, ((int) (l0 + 68L)) - 60720, 0);
-   Words.put32(b, ((int) (l0 + 64L)) - 60720, l25);
-   Words.put64(b, ((int) (l0 + 56L)) - 60720, l8);
-   Words.put64(b, ((int) (l0 + 48L)) - 60720, l10);
-   Words.put64(b, ((int) (l0 + 40L)) - 60720, l11);
-   Words.put64(b, ((int) (l0 + 32L)) - 60720, l3);
-   Words.put64(b, ((int) (l0 + 24L)) - 60720, l9);
-   Words.put64(b, ((int) (l0 + 16L)) - 60720, l1);
-   Words.put64(b, ((int) (l0 + 8L)) - 60720, l17);
+   l10 = Words.get64(b, ((int) l7) - 60648);
+   l17 = 2L;
+   l25 = 0;
+   L68: {
+    L69: {
+     L70: {
+      if (!((l8 = Words.get64(b, ((int) l7) - 60640)) == 0L)) { break L70; }
+      l9 = 0L;
+      l12 = 1L;
+      l1 = l10;
+      l3 = 0L;
+      break L69;
+     }
+     l23 = (l22 = (int) b[((int) l10) - 60720]) & 255;
+     l14 = 1L;
+     L71: {
+      if (l22 > -1) { break L71; }
+      l24 = (b[((int) l10) - 60719] & 0xff) & 63;
+      L72: {
+       if (l22 + Integer.MIN_VALUE > 2147483615) { break L72; }
+       l23 = ((l23 << 6) & 1984) | l24;
+       l14 = 2L;
+       break L71;
+      }
+      l26 = (b[((int) l10) - 60718] & 0xff) & 63;
+      L73: {
+       if (l22 + Integer.MIN_VALUE > 2147483631) { break L73; }
+       l23 = ((l24 << 6) | ((l23 << 12) & 61440)) | l26;
+       l14 = 3L;
+       break L71;
+      }
+      l23 = ((l26 << 6) | ((l24 << 12) | ((l23 << 18) & 1835008))) | ((b[((int) l10) - 60717] & 0xff) & 63);
+      l14 = 4L;
+     }
+     l11 = l4 - l8;
+     l4 = -32L;
+     L74: {
+      L75: while (true) {
+       if ((l24 = Words.get32(b, ((int) (l4 + 82824L)) - 60720)) == l23) { break L74; }
+       l22 = (l4 != 0L) ? 1 : 0;
+       l4 = l4 + 4L;
+       if (l22 != 0) { continue L75; }
+       break L75;
+      }
+     }
+     l4 = 0L;
+     l12 = 1L;
+     L76: {
+      L77: {
+       L78: {
+        if (l24 != l23) { break L78; }
+        l4 = 0L;
+        Words.put64(b, ((int) l7) - 60640, 0L);
+        Words.put64(b, ((int) l7) - 60648, 0L);
+        Words.put64(b, ((int) l7) - 60656, 0L);
+        f115(m, l7 + 64L, l1, l2, l13 = l10 + l14, l18 = l8 - l14, l5, l6);
+        if ((b[((int) l7) - 60656] & 0xff) != 1) { break L78; }
+        l15 = Words.get64(b, ((int) l7) - 60648);
+        l14 = Words.get64(b, ((int) l7) - 60640);
+        Words.put64(b, ((int) l7) - 60600, 0L);
+        Words.put64(b, ((int) l7) - 60608, 0L);
+        Words.put64(b, ((int) l7) - 60616, 0L);
+        Words.put64(b, ((int) l7) - 60624, 0L);
+        Words.put64(b, ((int) l7) - 60632, 0L);
+        Words.put64(b, ((int) l7) - 60640, 0L);
+        Words.put64(b, ((int) l7) - 60648, 0L);
+        Words.put64(b, ((int) l7) - 60656, 0L);
+        Core2.f62(m, l7 + 64L, l3, l11, 1);
+        if ((b[((int) l7) - 60656] & 0xff) != 0) { break L76; }
+        if (((b[((int) l7) - 60608] & 0xff) & 255) == 3) { break L76; }
+        if (Words.get64(b, ((int) l7) - 60632) <= -1L) { break L76; }
+        Words.put64(b, ((int) l7) - 60664, l8);
+        Words.put64(b, ((int) l7) - 60672, l10);
+        Words.put64(b, ((int) l7) - 60680, l11);
+        Words.put64(b, ((int) l7) - 60688, l3);
+        Words.put64(b, ((int) l7) - 60696, l9);
+        Words.put64(b, ((int) l7) - 60704, l1);
+        l4 = 0L;
+        if (Core4.f116(m, l7 + 16L) != 0) { break L78; }
+        Words.put64(b, ((int) l7) - 60600, 0L);
+        Words.put64(b, ((int) l7) - 60608, 0L);
+        Words.put64(b, ((int) l7) - 60616, 0L);
+        Words.put64(b, ((int) l7) - 60624, 0L);
+        Words.put64(b, ((int) l7) - 60632, 0L);
+        Words.put64(b, ((int) l7) - 60640, 0L);
+        Words.put64(b, ((int) l7) - 60648, 0L);
+        Words.put64(b, ((int) l7) - 60656, 0L);
+        Core2.f62(m, l7 + 64L, l13, l16 = l18 - l14, 1);
+        if ((b[((int) l7) - 60656] & 0xff) != 0) { break L76; }
+        if (((b[((int) l7) - 60608] & 0xff) & 255) == 3) { break L76; }
+        if (Words.get64(b, ((int) l7) - 60632) <= -1L) { break L76; }
+        Words.put64(b, ((int) l7) - 60664, l14);
+        Words.put64(b, ((int) l7) - 60672, l15);
+        Words.put64(b, ((int) l7) - 60680, l16);
+        Words.put64(b, ((int) l7) - 60688, l13);
+        Words.put64(b, ((int) l7) - 60696, l2 = l2 - l18);
+        Words.put64(b, ((int) l7) - 60704, l1);
+        l4 = 0L;
+        if (Core4.f116(m, l7 + 16L) != 0) { break L78; }
+        l4 = 0L;
+        if (Core4.f117(m, l1, l9, l15, l14) != 0) { break L78; }
+        l4 = 0L;
+        if (Core4.f118(m, l1, l9) == 0) { break L77; }
+       }
+       l1 = l10;
+       l9 = l8;
+       l3 = 0L;
+       l11 = 0L;
+       l10 = 0L;
+       l8 = 0L;
+       break L68;
+      }
+      m.fill((int) (l7 + 64L), 0, (int) 112L);
+      L79: {
+       L80: {
+        L81: {
+         L82: {
+          if (l23 == 21040) { break L82; }
+          l4 = l3;
+          l19 = l11;
+          if (l23 != 33267) { break L81; }
+         }
+         if (l11 == 0L) { break L80; }
+         l24 = (l22 = (int) b[((int) l3) - 60720]) & 255;
+         l4 = 1L;
+         L83: {
+          if (l22 > -1) { break L83; }
+          l6 = (b[((int) l3) - 60719] & 0xff) & 63;
+          L84: {
+           if (l22 + Integer.MIN_VALUE > 2147483615) { break L84; }
+           l24 = ((l24 << 6) & 1984) | l6;
+           l4 = 2L;
+           break L83;
+          }
+          l5 = (b[((int) l3) - 60718] & 0xff) & 63;
+          L85: {
+           if (l22 + Integer.MIN_VALUE > 2147483631) { break L85; }
+           l24 = ((l6 << 6) | ((l24 << 12) & 61440)) | l5;
+           l4 = 3L;
+           break L83;
+          }
+          l24 = ((l5 << 6) | ((l6 << 12) | ((l24 << 18) & 1835008))) | ((b[((int) l3) - 60717] & 0xff) & 63);
+          l4 = 4L;
+         }
+         if (l14 == 0L) { break L80; }
+         l22 = (l6 = (int) b[((int) l15) - 60720]) & 255;
+         L86: {
+          if (l6 > -1) { break L86; }
+          l5 = (b[((int) l15) - 60719] & 0xff) & 63;
+          L87: {
+           if (l6 + Integer.MIN_VALUE > 2147483615) { break L87; }
+           l22 = ((l22 << 6) & 1984) | l5;
+           break L86;
+          }
+          l25 = (b[((int) l15) - 60718] & 0xff) & 63;
+          L88: {
+           if (l6 + Integer.MIN_VALUE > 2147483631) { break L88; }
+           l22 = ((l5 << 6) | ((l22 << 12) & 61440)) | l25;
+           break L86;
+          }
+          l22 = ((l25 << 6) | ((l5 << 12) | ((l22 << 18) & 1835008))) | ((b[((int) l15) - 60717] & 0xff) & 63);
+         }
+         if (l11 != l4) { break L80; }
+         if (l24 != 19968) { break L80; }
+         L89: {
+          if (l22 > 26375) { break L89; }
+          L90: {
+           switch (l22 + -26085) {
+           case 0: case 17: break L79;
+           case 1: case 2: case 3: case 4: case 5: case 6: case 7: case 8: case 9: case 10: case 11: case 12: case 13: case 14: case 15: case 16: break L80;
+           default: break L90;
+           }
+          }
+          if (l22 == 21495) { break L79; }
+          if (l22 == 26178) { break L79; }
+          break L80;
+         }
+         L91: {
+          if (l22 > 34398) { break L91; }
+          if (l22 == 26376) { break L79; }
+          if (l22 == 28857) { break L79; }
+          break L80;
+         }
+         if (l22 == 34399) { break L79; }
+         if (l22 == 40670) { break L79; }
+         break L80;
+        }
+        L92: {
+         L93: while (true) {
+          if ((l20 = l19) == 0L) { break L92; }
+          l22 = (l24 = (int) b[((int) l4) - 60720]) & 255;
+          l18 = 1L;
+          L94: {
+           if (l24 > -1) { break L94; }
+           l6 = (b[((int) l4) - 60719] & 0xff) & 63;
+           L95: {
+            if (l24 + Integer.MIN_VALUE > 2147483615) { break L95; }
+            l22 = ((l22 << 6) & 1984) | l6;
+            l18 = 2L;
+            break L94;
+           }
+           l5 = (b[((int) l4) - 60718] & 0xff) & 63;
+           L96: {
+            if (l24 + Integer.MIN_VALUE > 2147483631) { break L96; }
+            l22 = ((l6 << 6) | ((l22 << 12) & 61440)) | l5;
+            l18 = 3L;
+            break L94;
+           }
+           l22 = ((l5 << 6) | ((l6 << 12) | ((l22 << 18) & 1835008))) | ((b[((int) l4) - 60717] & 0xff) & 63);
+           l18 = 4L;
+          }
+          if ((l22 + -48) + Integer.MIN_VALUE < -2147483638) { break L92; }
+          l19 = l20 - l18;
+          l4 = l4 + l18;
+          if ((l22 + -65296) + Integer.MIN_VALUE > -2147483639) { continue L93; }
+          break L93;
+         }
+        }
+        l4 = l13;
+        l19 = l16;
+        L97: {
+         L98: while (true) {
+          if ((l21 = l19) == 0L) { break L97; }
+          l22 = (l24 = (int) b[((int) l4) - 60720]) & 255;
+          l18 = 1L;
+          L99: {
+           if (l24 > -1) { break L99; }
+           l6 = (b[((int) l4) - 60719] & 0xff) & 63;
+           L100: {
+            if (l24 + Integer.MIN_VALUE > 2147483615) { break L100; }
+            l22 = ((l22 << 6) & 1984) | l6;
+            l18 = 2L;
+            break L99;
+           }
+           l5 = (b[((int) l4) - 60718] & 0xff) & 63;
+           L101: {
+            if (l24 + Integer.MIN_VALUE > 2147483631) { break L101; }
+            l22 = ((l6 << 6) | ((l22 << 12) & 61440)) | l5;
+            l18 = 3L;
+            break L99;
+           }
+           l22 = ((l5 << 6) | ((l6 << 12) | ((l22 << 18) & 1835008))) | ((b[((int) l4) - 60717] & 0xff) & 63);
+           l18 = 4L;
+          }
+          if ((l22 + -48) + Integer.MIN_VALUE < -2147483638) { break L97; }
+          l19 = l21 - l18;
+          l4 = l4 + l18;
+          if ((l22 + -65296) + Integer.MIN_VALUE > -2147483639) { continue L98; }
+          break L98;
+         }
+        }
+        if ((l20 != 0L) ^ (l21 != 0L)) { break L79; }
+        if (Core4.f119(m, l3, l11) != 0) { break L79; }
+        if (Core4.f119(m, l13, l16) != 0) { break L79; }
+        L102: {
+         if (l16 == 0L) { break L102; }
+         l22 = (l24 = (int) b[((int) l13) - 60720]) & 255;
+         L103: {
+          if (l24 > -1) { break L103; }
+          l6 = (b[((int) l13) - 60719] & 0xff) & 63;
+          L104: {
+           if (l24 + Integer.MIN_VALUE > 2147483615) { break L104; }
+           l22 = ((l22 << 6) & 1984) | l6;
+           break L103;
+          }
+          l5 = (b[((int) l13) - 60718] & 0xff) & 63;
+          L105: {
+           L106: {
+            if (l24 + Integer.MIN_VALUE > 2147483631) { break L106; }
+            l22 = ((l6 << 6) | ((l22 << 12) & 61440)) | l5;
+            break L105;
+           }
+           l22 = ((l5 << 6) | ((l6 << 12) | ((l22 << 18) & 1835008))) | ((b[((int) l13) - 60717] & 0xff) & 63);
+          }
+          if (l22 == 27491) { break L79; }
+         }
+         L107: {
+          if (l22 > 35999) { break L107; }
+          L108: {
+           switch (l22 + -43) {
+           case 0: case 2: break L79;
+           case 1: break L102;
+           default: break L108;
+           }
+          }
+          if (l22 != 8722) { break L102; }
+          break L79;
+         }
+         L109: {
+          switch (l22 + -65291) {
+          case 0: case 2: break L79;
+          case 1: break L102;
+          default: break L109;
+          }
+         }
+         if (l22 == 36000) { break L79; }
+         if (l22 == 36127) { break L79; }
+        }
+        L110: {
+         if (l9 == 0L) { break L110; }
+         L111: {
+          if ((l22 = (int) b[((int) ((l4 = l1 + l9) + -1L)) - 60720]) >= 0) { break L111; }
+          l18 = -2L;
+          L112: {
+           if ((b[((int) (l4 + -2L)) - 60720] & 0xff) + Integer.MIN_VALUE > -2147483457) { break L112; }
+           l18 = ((b[((int) (l4 + -3L)) - 60720] & 0xff) + Integer.MIN_VALUE > -2147483457) ? -3L : -4L;
+          }
+          l22 = (l24 = (int) b[((int) (l4 = (l1 + l18) + l9)) - 60720]) & 255;
+          if (l24 > -1) { break L111; }
+          l6 = (b[((int) l4) - 60719] & 0xff) & 63;
+          L113: {
+           if (l24 + Integer.MIN_VALUE > 2147483615) { break L113; }
+           l22 = ((l22 << 6) & 1984) | l6;
+           break L111;
+          }
+          l5 = (b[((int) l4) - 60718] & 0xff) & 63;
+          L114: {
+           if (l24 + Integer.MIN_VALUE > 2147483631) { break L114; }
+           l22 = ((l6 << 6) | ((l22 << 12) & 61440)) | l5;
+           break L111;
+          }
+          l22 = ((l5 << 6) | ((l6 << 12) | ((l22 << 18) & 1835008))) | ((b[((int) l4) - 60717] & 0xff) & 63);
+         }
+         if (l22 == 64) { break L79; }
+         if ((l22 + -35) + Integer.MIN_VALUE < -2147483646) { break L79; }
+         if (l22 == 95) { break L79; }
+         if (l22 == 215) { break L79; }
+         if (l22 == 42) { break L79; }
+         if (l22 == 94) { break L79; }
+         if (l22 == 43) { break L79; }
+         if (l22 == 61) { break L79; }
+         if (l22 == 126) { break L79; }
+         if (l22 == 65306) { break L79; }
+         if (l22 == 58) { break L79; }
+         if (l22 == 46) { break L79; }
+         if ((l22 & -3) == 45) { break L79; }
+         if ((l22 + -48) + Integer.MIN_VALUE < -2147483638) { break L79; }
+         if ((l22 + -65296) + Integer.MIN_VALUE < -2147483638) { break L79; }
+        }
+        L115: {
+         if (l14 == 0L) { break L115; }
+         l22 = (l24 = (int) b[((int) l15) - 60720]) & 255;
+         L116: {
+          if (l24 > -1) { break L116; }
+          l6 = (b[((int) l15) - 60719] & 0xff) & 63;
+          L117: {
+           if (l24 + Integer.MIN_VALUE > 2147483615) { break L117; }
+           l22 = ((l22 << 6) & 1984) | l6;
+           break L116;
+          }
+          l5 = (b[((int) l15) - 60718] & 0xff) & 63;
+          L118: {
+           if (l24 + Integer.MIN_VALUE > 2147483631) { break L118; }
+           l22 = ((l6 << 6) | ((l22 << 12) & 61440)) | l5;
+           break L116;
+          }
+          l22 = ((l5 << 6) | ((l6 << 12) | ((l22 << 18) & 1835008))) | ((b[((int) l15) - 60717] & 0xff) & 63);
+         }
+         L119: {
+          switch (l22 + -42) {
+          case 0: case 1: case 3: case 5: case 16: case 19: case 50: case 52: case 53: case 84: break L79;
+          case 2: case 4: case 6: case 7: case 8: case 9: case 10: case 11: case 12: case 13: case 14: case 15: case 17: case 18: case 20: case 21: case 22: case 23: case 24: case 25: case 26: case 27: case 28: case 29: case 30: case 31: case 32: case 33: case 34: case 35: case 36: case 37: case 38: case 39: case 40: case 41: case 42: case 43: case 44: case 45: case 46: case 47: case 48: case 49: case 51: case 54: case 55: case 56: case 57: case 58: case 59: case 60: case 61: case 62: case 63: case 64: case 65: case 66: case 67: case 68: case 69: case 70: case 71: case 72: case 73: case 74: case 75: case 76: case 77: case 78: case 79: case 80: case 81: case 82: case 83: break L115;
+          default: break L119;
+          }
+         }
+         if (l22 == 65306) { break L79; }
+         if (l22 == 215) { break L79; }
+        }
+        Core2.f59(m, l7 + 64L, l3, l11, l13, l16);
+        if ((b[((int) l7) - 60656] & 0xff) != 1) { break L79; }
+       }
+       l12 = 1L;
+       l25 = l23;
+       l4 = l1;
+       l17 = 1L;
+       break L66;
+      }
+      l25 = 0;
+     }
+     l3 = 0L;
+     l1 = l10;
+     l9 = l8;
+    }
+    l11 = 0L;
+    l10 = 0L;
+    l8 = 0L;
+    l4 = 0L;
+   }
+   l2 = 0L;
+   l13 = 0L;
+   l16 = 0L;
+   l15 = 0L;
+   l14 = 0L;
   }
  }
  m.kept[0] = l1;
@@ -3983,32 +3916,99 @@ static void f103(State m, long l0, long l1, long l2, long l3, long l4, int l5, i
   l11 = 0L;
   l10 = 0L;
  }
- f103_1(m, l0, l1, l2, l3, l4, l5, l6, l7, l8, l9, l10, l11, l12, l13, l14, l15, l16, l17, l18, l19, l20, l21, l22, l23, l24, l25, l26);
- l1 = m.kept[0];
- l2 = m.kept[1];
- l3 = m.kept[2];
- l4 = m.kept[3];
- l5 = (int) m.kept[4];
- l6 = (int) m.kept[5];
- l8 = m.kept[6];
- l9 = m.kept[7];
- l10 = m.kept[8];
- l11 = m.kept[9];
- l12 = m.kept[10];
- l13 = m.kept[11];
- l14 = m.kept[12];
- l15 = m.kept[13];
- l16 = m.kept[14];
- l17 = m.kept[15];
- l18 = m.kept[16];
- l19 = m.kept[17];
- l20 = m.kept[18];
- l21 = m.kept[19];
- l22 = (int) m.kept[20];
- l23 = (int) m.kept[21];
- l24 = (int) m.kept[22];
- l25 = (int) m.kept[23];
- l26 = (int) m.kept[24];
+ L58: {
+  L59: {
+   L60: {
+    L61: {
+     if ((l23 & 255) == 0) { break L61; }
+     L62: {
+      if ((l22 & 255) != 0) { break L62; }
+      l10 = l12;
+      l11 = l13;
+      l8 = l14;
+      break L60;
+     }
+     l10 = ((l22 = (l10 + Long.MIN_VALUE < l12 + Long.MIN_VALUE) ? 1 : 0) != 0) ? l10 : l12;
+     l11 = l22 != 0 ? l11 : l13;
+     l8 = l22 != 0 ? l8 : l14;
+     break L60;
+    }
+    if ((l22 & 255) != 1) { break L59; }
+   }
+   Words.put64(b, ((int) l7) - 60640, 0L);
+   Words.put64(b, ((int) l7) - 60648, 0L);
+   Words.put64(b, ((int) l7) - 60656, 0L);
+   L63: {
+    if (l2 == l10) { break L63; }
+    L64: {
+     if (((int) b[((int) (l1 + (l12 = (l13 = l2 - l10) + -1L))) - 60720]) > -1) { break L64; }
+     l12 = -2L;
+     L65: {
+      if ((b[((int) ((l14 = l1 + l13) + -2L)) - 60720] & 0xff) + Integer.MIN_VALUE > -2147483457) { break L65; }
+      l12 = ((b[((int) (l14 + -3L)) - 60720] & 0xff) + Integer.MIN_VALUE > -2147483457) ? -3L : -4L;
+     }
+     l12 = l12 + l13;
+    }
+    f115(m, l7 + 64L, l1, l2, l1 + l12, l2 - l12, l5, l6);
+    if ((b[((int) l7) - 60656] & 0xff) != 1) { break L63; }
+    if (Words.get64(b, ((int) l7) - 60640) != l10) { break L59; }
+   }
+   Words.put64(b, ((int) l0) - 60720, 1L);
+   Words.put64(b, ((int) (l0 + 32L)) - 60720, l10);
+   Words.put64(b, ((int) (l0 + 24L)) - 60720, l11);
+   Words.put64(b, ((int) (l0 + 16L)) - 60720, l8);
+   Words.put64(b, ((int) (l0 + 8L)) - 60720, 0L);
+   m.fill((int) (l0 + 40L), 0, (int) 80L);
+   break L58;
+  }
+  l11 = 0L;
+  Words.put64(b, ((int) l7) - 60640, 0L);
+  Words.put64(b, ((int) l7) - 60648, 0L);
+  Words.put64(b, ((int) l7) - 60656, 0L);
+  f115(m, l7 + 64L, l1, l2, l3, l4, l5, l6);
+  f103_1(m, l1, l2, l3, l4, l5, l6, l7, l8, l9, l10, l11, l12, l13, l14, l15, l16, l17, l18, l19, l20, l21, l22, l23, l24, l25, l26);
+  l1 = m.kept[0];
+  l2 = m.kept[1];
+  l3 = m.kept[2];
+  l4 = m.kept[3];
+  l5 = (int) m.kept[4];
+  l6 = (int) m.kept[5];
+  l8 = m.kept[6];
+  l9 = m.kept[7];
+  l10 = m.kept[8];
+  l11 = m.kept[9];
+  l12 = m.kept[10];
+  l13 = m.kept[11];
+  l14 = m.kept[12];
+  l15 = m.kept[13];
+  l16 = m.kept[14];
+  l17 = m.kept[15];
+  l18 = m.kept[16];
+  l19 = m.kept[17];
+  l20 = m.kept[18];
+  l21 = m.kept[19];
+  l22 = (int) m.kept[20];
+  l23 = (int) m.kept[21];
+  l24 = (int) m.kept[22];
+  l25 = (int) m.kept[23];
+  l26 = (int) m.kept[24];
+  Words.put64(b, ((int) l0) - 60720, l12);
+  Words.put64(b, ((int) (l0 + 112L)) - 60720, l14);
+  Words.put64(b, ((int) (l0 + 104L)) - 60720, l15);
+  Words.put64(b, ((int) (l0 + 96L)) - 60720, l16);
+  Words.put64(b, ((int) (l0 + 88L)) - 60720, l13);
+  Words.put64(b, ((int) (l0 + 80L)) - 60720, l2);
+  Words.put64(b, ((int) (l0 + 72L)) - 60720, l4);
+  Words.put32(b, ((int) (l0 + 68L)) - 60720, 0);
+  Words.put32(b, ((int) (l0 + 64L)) - 60720, l25);
+  Words.put64(b, ((int) (l0 + 56L)) - 60720, l8);
+  Words.put64(b, ((int) (l0 + 48L)) - 60720, l10);
+  Words.put64(b, ((int) (l0 + 40L)) - 60720, l11);
+  Words.put64(b, ((int) (l0 + 32L)) - 60720, l3);
+  Words.put64(b, ((int) (l0 + 24L)) - 60720, l9);
+  Words.put64(b, ((int) (l0 + 16L)) - 60720, l1);
+  Words.put64(b, ((int) (l0 + 8L)) - 60720, l17);
+ }
  m.g0 = l7 + 176L;
 }
 
@@ -5087,511 +5087,333 @@ static int f108_2(State m, long l1, long l2, long l3, long l4, long l5, long l6,
  final byte[] b = m.bytes;
  int exit = 0;
  PART: {
-  L51: {
-   L52: {
-    L53: {
-     L54: {
-      L55: {
-       L56: {
-        L57: {
-         L58: while (true) {
-          if (l9 == 0L) { break L57; }
-          l13 = (l15 = (int) b[((int) l1) - 60720]) & 255;
-          l10 = 1L;
-          L59: {
-           if (l15 > -1) { break L59; }
-           l14 = (b[((int) l1) - 60719] & 0xff) & 63;
-           L60: {
-            if (l15 + Integer.MIN_VALUE > 2147483615) { break L60; }
-            l13 = ((l13 << 6) & 1984) | l14;
-            l10 = 2L;
-            break L59;
-           }
-           l16 = (b[((int) l1) - 60718] & 0xff) & 63;
-           L61: {
-            if (l15 + Integer.MIN_VALUE > 2147483631) { break L61; }
-            l13 = ((l14 << 6) | ((l13 << 12) & 61440)) | l16;
-            l10 = 3L;
-            break L59;
-           }
-           l13 = ((l16 << 6) | ((l14 << 12) | ((l13 << 18) & 1835008))) | ((b[((int) l1) - 60717] & 0xff) & 63);
-           l10 = 4L;
+  L52: {
+   L53: {
+    L54: {
+     L55: {
+      L56: {
+       L57: {
+        L58: while (true) {
+         if (l9 == 0L) { break L57; }
+         l13 = (l15 = (int) b[((int) l1) - 60720]) & 255;
+         l10 = 1L;
+         L59: {
+          if (l15 > -1) { break L59; }
+          l14 = (b[((int) l1) - 60719] & 0xff) & 63;
+          L60: {
+           if (l15 + Integer.MIN_VALUE > 2147483615) { break L60; }
+           l13 = ((l13 << 6) & 1984) | l14;
+           l10 = 2L;
+           break L59;
           }
-          Core2.f50(m, l2 + 72L, l13);
-          if ((l13 + -58) + Integer.MIN_VALUE > 2147483637) { break L56; }
-          l9 = l9 - l10;
-          l1 = l1 + l10;
-          if (((b[((int) l2) - 60648] & 0xff) & 255) == 1) { continue L58; }
-          break L56;
+          l16 = (b[((int) l1) - 60718] & 0xff) & 63;
+          L61: {
+           if (l15 + Integer.MIN_VALUE > 2147483631) { break L61; }
+           l13 = ((l14 << 6) | ((l13 << 12) & 61440)) | l16;
+           l10 = 3L;
+           break L59;
+          }
+          l13 = ((l16 << 6) | ((l14 << 12) | ((l13 << 18) & 1835008))) | ((b[((int) l1) - 60717] & 0xff) & 63);
+          l10 = 4L;
          }
+         Core2.f50(m, l2 + 72L, l13);
+         if ((l13 + -58) + Integer.MIN_VALUE > 2147483637) { break L56; }
+         l9 = l9 - l10;
+         l1 = l1 + l10;
+         if (((b[((int) l2) - 60648] & 0xff) & 255) == 1) { continue L58; }
+         break L56;
         }
-        if (l17 != 0) { break L56; }
-        L62: {
-         L63: {
-          if ((l18 = (int) b[((int) l5) - 60720]) > -1) { break L63; }
-          final long t64 = l6;
-          final long t65 = (l18 + Integer.MIN_VALUE < 2147483632) ? 3L : 4L;
-          final int t66 = (l18 + Integer.MIN_VALUE < 2147483616) ? 1 : 0;
-          if (t64 == (l1 = t66 != 0 ? 2L : t65)) { break L56; }
-          break L62;
-         }
-         l1 = 1L;
-         if (l6 == 1L) { break L56; }
+       }
+       if (l17 != 0) { break L56; }
+       L62: {
+        L63: {
+         if ((l18 = (int) b[((int) l5) - 60720]) > -1) { break L63; }
+         final long t64 = l6;
+         final long t65 = (l18 + Integer.MIN_VALUE < 2147483632) ? 3L : 4L;
+         final int t66 = (l18 + Integer.MIN_VALUE < 2147483616) ? 1 : 0;
+         if (t64 == (l1 = t66 != 0 ? 2L : t65)) { break L56; }
+         break L62;
         }
-        L67: {
-         L68: {
-          if ((l13 = (int) b[((int) (l9 = l5 + l1)) - 60720]) <= -1) { break L68; }
+        l1 = 1L;
+        if (l6 == 1L) { break L56; }
+       }
+       L67: {
+        L68: {
+         if ((l13 = (int) b[((int) (l9 = l5 + l1)) - 60720]) <= -1) { break L68; }
+         l10 = 1L;
+         break L67;
+        }
+        L69: {
+         if (l13 + Integer.MIN_VALUE >= 2147483616) { break L69; }
+         l10 = 2L;
+         break L67;
+        }
+        l10 = (l13 + Integer.MIN_VALUE < 2147483632) ? 3L : 4L;
+       }
+       l19 = l18 & 255;
+       L70: {
+        if (l6 == (l1 = l10 + l1)) { break L70; }
+        L71: {
+         L72: {
+          if ((l13 = (int) b[((int) (l9 + l10)) - 60720]) <= -1) { break L72; }
           l10 = 1L;
-          break L67;
+          break L71;
          }
-         L69: {
-          if (l13 + Integer.MIN_VALUE >= 2147483616) { break L69; }
+         L73: {
+          if (l13 + Integer.MIN_VALUE >= 2147483616) { break L73; }
           l10 = 2L;
-          break L67;
+          break L71;
          }
          l10 = (l13 + Integer.MIN_VALUE < 2147483632) ? 3L : 4L;
         }
-        l19 = l18 & 255;
-        L70: {
-         if (l6 == (l1 = l10 + l1)) { break L70; }
-         L71: {
-          L72: {
-           if ((l13 = (int) b[((int) (l9 + l10)) - 60720]) <= -1) { break L72; }
-           l10 = 1L;
-           break L71;
+        if (l6 == (l10 + l1)) { break L70; }
+        l13 = l18;
+        l9 = l6;
+        l10 = l5;
+        L74: while (true) {
+         l15 = l13 & 255;
+         l1 = 1L;
+         L75: {
+          if (((int) (byte) l13) > -1) { break L75; }
+          l14 = (b[((int) l10) - 60719] & 0xff) & 63;
+          L76: {
+           if ((l13 & 255) + Integer.MIN_VALUE > -2147483425) { break L76; }
+           l15 = ((l15 << 6) & 1984) | l14;
+           l1 = 2L;
+           break L75;
           }
-          L73: {
-           if (l13 + Integer.MIN_VALUE >= 2147483616) { break L73; }
-           l10 = 2L;
-           break L71;
+          l16 = (b[((int) l10) - 60718] & 0xff) & 63;
+          L77: {
+           if ((l13 & 255) + Integer.MIN_VALUE > -2147483409) { break L77; }
+           l15 = ((l14 << 6) | ((l15 << 12) & 61440)) | l16;
+           l1 = 3L;
+           break L75;
           }
-          l10 = (l13 + Integer.MIN_VALUE < 2147483632) ? 3L : 4L;
+          l15 = ((l16 << 6) | ((l14 << 12) | ((l15 << 18) & 1835008))) | ((b[((int) l10) - 60717] & 0xff) & 63);
+          l1 = 4L;
          }
-         if (l6 == (l10 + l1)) { break L70; }
-         l13 = l18;
-         l9 = l6;
-         l10 = l5;
-         L74: while (true) {
-          l15 = l13 & 255;
-          l1 = 1L;
-          L75: {
-           if (((int) (byte) l13) > -1) { break L75; }
+         Core2.f50(m, l2 + 64L, l15);
+         L78: {
+          if ((l9 = l9 - l1) == 0L) { break L78; }
+          l15 = (l13 = (int) b[((int) (l10 = l10 + l1)) - 60720]) & 255;
+          L79: {
+           if (l13 > -1) { break L79; }
            l14 = (b[((int) l10) - 60719] & 0xff) & 63;
-           L76: {
-            if ((l13 & 255) + Integer.MIN_VALUE > -2147483425) { break L76; }
+           L80: {
+            if (l13 + Integer.MIN_VALUE > 2147483615) { break L80; }
             l15 = ((l15 << 6) & 1984) | l14;
-            l1 = 2L;
-            break L75;
+            break L79;
            }
            l16 = (b[((int) l10) - 60718] & 0xff) & 63;
-           L77: {
-            if ((l13 & 255) + Integer.MIN_VALUE > -2147483409) { break L77; }
+           L81: {
+            if (l13 + Integer.MIN_VALUE > 2147483631) { break L81; }
             l15 = ((l14 << 6) | ((l15 << 12) & 61440)) | l16;
-            l1 = 3L;
-            break L75;
+            break L79;
            }
            l15 = ((l16 << 6) | ((l14 << 12) | ((l15 << 18) & 1835008))) | ((b[((int) l10) - 60717] & 0xff) & 63);
-           l1 = 4L;
           }
-          Core2.f50(m, l2 + 64L, l15);
-          L78: {
-           if ((l9 = l9 - l1) == 0L) { break L78; }
-           l15 = (l13 = (int) b[((int) (l10 = l10 + l1)) - 60720]) & 255;
-           L79: {
-            if (l13 > -1) { break L79; }
-            l14 = (b[((int) l10) - 60719] & 0xff) & 63;
-            L80: {
-             if (l13 + Integer.MIN_VALUE > 2147483615) { break L80; }
-             l15 = ((l15 << 6) & 1984) | l14;
-             break L79;
-            }
-            l16 = (b[((int) l10) - 60718] & 0xff) & 63;
-            L81: {
-             if (l13 + Integer.MIN_VALUE > 2147483631) { break L81; }
-             l15 = ((l14 << 6) | ((l15 << 12) & 61440)) | l16;
-             break L79;
-            }
-            l15 = ((l16 << 6) | ((l14 << 12) | ((l15 << 18) & 1835008))) | ((b[((int) l10) - 60717] & 0xff) & 63);
-           }
-           l16 = b[((int) l2) - 60655] & 0xff;
-           l14 = b[((int) l2) - 60656] & 0xff;
-           Core2.f50(m, l2 + 56L, l15);
-           if ((l14 & 1) == 0) { continue L74; }
-           if (((b[((int) l2) - 60664] & 0xff) & 255) != 1) { continue L74; }
-           if ((l16 & 255) + Integer.MIN_VALUE > ((b[((int) l2) - 60663] & 0xff) & 255) + Integer.MIN_VALUE) { break L56; }
-           continue L74;
-          }
-          break L74;
+          l16 = b[((int) l2) - 60655] & 0xff;
+          l14 = b[((int) l2) - 60656] & 0xff;
+          Core2.f50(m, l2 + 56L, l15);
+          if ((l14 & 1) == 0) { continue L74; }
+          if (((b[((int) l2) - 60664] & 0xff) & 255) != 1) { continue L74; }
+          if ((l16 & 255) + Integer.MIN_VALUE > ((b[((int) l2) - 60663] & 0xff) & 255) + Integer.MIN_VALUE) { break L56; }
+          continue L74;
          }
-         if (l18 > -1) { break L70; }
-         if (l18 + Integer.MIN_VALUE < 2147483616) { break L70; }
-         l13 = (b[((int) l5) - 60719] & 0xff) & 63;
-         l15 = (b[((int) l5) - 60718] & 0xff) & 63;
-         L82: {
-          L83: {
-           if (l18 + Integer.MIN_VALUE > 2147483631) { break L83; }
-           l13 = ((l13 << 6) | ((l19 << 12) & 61440)) | l15;
-           break L82;
-          }
-          l13 = ((l15 << 6) | ((l13 << 12) | ((l19 << 18) & 1835008))) | ((b[((int) l5) - 60717] & 0xff) & 63);
-         }
-         if (l13 == 12295) { break L56; }
-         if (l13 == 38646) { break L56; }
+         break L74;
         }
-        L84: {
-         if (l12 != 0) { break L84; }
-         if ((l14 = (int) b[((int) l7) - 60720]) > -1) { break L84; }
-         if (l14 + Integer.MIN_VALUE < 2147483616) { break L84; }
-         l16 = l14 & 255;
-         l20 = (b[((int) l7) - 60719] & 0xff) & 63;
-         l13 = (l21 = b[((int) l7) - 60718] & 0xff) & 63;
-         L85: {
-          L86: {
-           if (l14 + Integer.MIN_VALUE > 2147483631) { break L86; }
-           l15 = ((l20 << 6) | ((l16 << 12) & 61440)) | l13;
-           break L85;
-          }
-          l15 = ((l13 << 6) | ((l20 << 12) | ((l16 << 18) & 1835008))) | ((b[((int) l7) - 60717] & 0xff) & 63);
+        if (l18 > -1) { break L70; }
+        if (l18 + Integer.MIN_VALUE < 2147483616) { break L70; }
+        l13 = (b[((int) l5) - 60719] & 0xff) & 63;
+        l15 = (b[((int) l5) - 60718] & 0xff) & 63;
+        L82: {
+         L83: {
+          if (l18 + Integer.MIN_VALUE > 2147483631) { break L83; }
+          l13 = ((l13 << 6) | ((l19 << 12) & 61440)) | l15;
+          break L82;
          }
-         L87: {
-          if (l15 != 24180) { break L87; }
-          if (Core4.f122(m, 82768L, 1L, 84760L, 2L, l7, l8) == 0) { break L55; }
-         }
-         L88: {
-          L89: {
-           if (l14 + Integer.MIN_VALUE > 2147483631) { break L89; }
-           l13 = ((l20 << 6) | ((l16 << 12) & 61440)) | l13;
-           break L88;
-          }
-          l13 = ((l13 << 6) | ((l20 << 12) | ((l16 << 18) & 1835008))) | ((b[((int) l7) - 60717] & 0xff) & 63);
-         }
-         L90: {
-          if (l13 > 25150) { break L90; }
-          if (l13 == 21150) { break L55; }
-          if (l13 == 21495) { break L55; }
-          if (l13 != 23460) { break L84; }
-          break L55;
-         }
-         if (l13 == 25151) { break L55; }
-         if (l13 == 34399) { break L55; }
-         if (l13 == 36774) { break L55; }
+         l13 = ((l15 << 6) | ((l13 << 12) | ((l19 << 18) & 1835008))) | ((b[((int) l5) - 60717] & 0xff) & 63);
         }
-        L91: {
-         if ((l13 = (l4 == 0L) ? 1 : 0) != 0) { break L91; }
-         if (((int) b[((int) ((l1 = l3 + l4) + -1L)) - 60720]) > -1) { break L91; }
-         l10 = -2L;
-         L92: {
-          if ((b[((int) (l1 + -2L)) - 60720] & 0xff) + Integer.MIN_VALUE > -2147483457) { break L92; }
-          l10 = ((b[((int) (l1 + -3L)) - 60720] & 0xff) + Integer.MIN_VALUE > -2147483457) ? -3L : -4L;
-         }
-         if ((l15 = (int) b[((int) (l1 = (l3 + l10) + l4)) - 60720]) > -1) { break L91; }
-         if (l15 + Integer.MIN_VALUE < 2147483616) { break L91; }
-         l14 = l15 & 255;
-         l16 = (b[((int) l1) - 60719] & 0xff) & 63;
-         l20 = (b[((int) l1) - 60718] & 0xff) & 63;
-         L93: {
-          L94: {
-           if (l15 + Integer.MIN_VALUE > 2147483631) { break L94; }
-           l15 = ((l16 << 6) | ((l14 << 12) & 61440)) | l20;
-           break L93;
-          }
-          l15 = ((l20 << 6) | ((l16 << 12) | ((l14 << 18) & 1835008))) | ((b[((int) l1) - 60717] & 0xff) & 63);
-         }
-         L95: {
-          if (l15 > 27003) { break L95; }
-          L96: {
-           if (l15 > 24230) { break L96; }
-           if (l15 == 21495) { break L56; }
-           if (l15 == 24162) { break L56; }
-           break L91;
-          }
-          if (l15 == 24231) { break L56; }
-          if (l15 == 26635) { break L56; }
-          if (l15 == 26847) { break L56; }
-          break L91;
-         }
-         L97: {
-          if (l15 > 30720) { break L97; }
-          if (l15 == 27004) { break L56; }
-          if (l15 == 27155) { break L56; }
-          break L91;
-         }
-         if (l15 == 30721) { break L56; }
-         if (l15 == 30908) { break L56; }
-         if (l15 == 34399) { break L56; }
-        }
-        l15 = 1;
-        if (l18 > -1) { exit = 1; break PART; }
-        if (l18 + Integer.MIN_VALUE < 2147483616) { exit = 1; break PART; }
-        l14 = (b[((int) l5) - 60719] & 0xff) & 63;
-        l16 = (b[((int) l5) - 60718] & 0xff) & 63;
-        L98: {
-         L99: {
-          if (l18 + Integer.MIN_VALUE > 2147483631) { break L99; }
-          l14 = ((l14 << 6) | ((l19 << 12) & 61440)) | l16;
-          break L98;
-         }
-         l14 = ((l16 << 6) | ((l14 << 12) | ((l19 << 18) & 1835008))) | ((b[((int) l5) - 60717] & 0xff) & 63);
-        }
-        L100: {
-         if (l14 == 38646) { break L100; }
-         if (l14 != 12295) { exit = 1; break PART; }
-        }
-        if (l13 != 0) { exit = 1; break PART; }
-        if (((int) b[((int) ((l1 = l3 + l4) + -1L)) - 60720]) > -1) { exit = 1; break PART; }
-        l10 = -2L;
-        L101: {
-         if ((b[((int) (l1 + -2L)) - 60720] & 0xff) + Integer.MIN_VALUE > -2147483457) { break L101; }
-         l10 = ((b[((int) (l1 + -3L)) - 60720] & 0xff) + Integer.MIN_VALUE > -2147483457) ? -3L : -4L;
-        }
-        if ((l13 = (int) b[((int) (l1 = (l3 + l10) + l4)) - 60720]) > -1) { exit = 1; break PART; }
-        if (l13 + Integer.MIN_VALUE < 2147483616) { exit = 1; break PART; }
-        l14 = l13 & 255;
-        l16 = (b[((int) l1) - 60719] & 0xff) & 63;
-        l18 = (b[((int) l1) - 60718] & 0xff) & 63;
-        L102: {
-         L103: {
-          if (l13 + Integer.MIN_VALUE > 2147483631) { break L103; }
-          l13 = ((l16 << 6) | ((l14 << 12) & 61440)) | l18;
-          break L102;
-         }
-         l13 = ((l18 << 6) | ((l16 << 12) | ((l14 << 18) & 1835008))) | ((b[((int) l1) - 60717] & 0xff) & 63);
-        }
-        L104: {
-         L105: {
-          if (l13 > 26177) { break L105; }
-          if (l13 == 20998) { break L104; }
-          if (l13 == 26102) { break L104; }
-          exit = 1; break PART;
-         }
-         if (l13 == 26178) { break L104; }
-         if (l13 == 40670) { break L104; }
-         if (l13 != 28857) { exit = 1; break PART; }
-        }
-        if (l12 != 0) { exit = 1; break PART; }
-        if ((l14 = (int) b[((int) l7) - 60720]) > -1) { exit = 1; break PART; }
-        if (l14 + Integer.MIN_VALUE < 2147483616) { exit = 1; break PART; }
+        if (l13 == 12295) { break L56; }
+        if (l13 == 38646) { break L56; }
+       }
+       L84: {
+        if (l12 != 0) { break L84; }
+        if ((l14 = (int) b[((int) l7) - 60720]) > -1) { break L84; }
+        if (l14 + Integer.MIN_VALUE < 2147483616) { break L84; }
         l16 = l14 & 255;
         l20 = (b[((int) l7) - 60719] & 0xff) & 63;
         l13 = (l21 = b[((int) l7) - 60718] & 0xff) & 63;
-        L106: {
-         L107: {
-          if (l14 + Integer.MIN_VALUE > 2147483631) { break L107; }
-          l18 = ((l20 << 6) | ((l16 << 12) & 61440)) | l13;
-          break L106;
+        L85: {
+         L86: {
+          if (l14 + Integer.MIN_VALUE > 2147483631) { break L86; }
+          l15 = ((l20 << 6) | ((l16 << 12) & 61440)) | l13;
+          break L85;
          }
-         l18 = ((l13 << 6) | ((l20 << 12) | ((l16 << 18) & 1835008))) | ((b[((int) l7) - 60717] & 0xff) & 63);
+         l15 = ((l13 << 6) | ((l20 << 12) | ((l16 << 18) & 1835008))) | ((b[((int) l7) - 60717] & 0xff) & 63);
         }
-        if (l18 == 20998) { break L55; }
-        l13 = 1;
-        if (l18 == 31186) { break L55; }
-        exit = 2; break PART;
-       }
-       if (l12 != 0) { break L51; }
-       l16 = (l14 = (int) b[((int) l7) - 60720]) & 255;
-       L108: {
-        if (l14 <= -1) { break L108; }
-        l1 = 1L;
-        l15 = 1;
-        l13 = l16;
-        break L52;
-       }
-       l20 = (b[((int) l7) - 60719] & 0xff) & 63;
-       if (l14 + Integer.MIN_VALUE < 2147483616) { break L54; }
-       l21 = b[((int) l7) - 60718] & 0xff;
-      }
-      l13 = l21 & 63;
-      L109: {
-       if (l14 + Integer.MIN_VALUE > 2147483631) { break L109; }
-       l13 = (((l16 << 12) & 61440) | (l20 << 6)) | l13;
-       l1 = 3L;
-       break L53;
-      }
-      l13 = ((l13 << 6) | (((l16 << 18) & 1835008) | (l20 << 12))) | ((b[((int) l7) - 60717] & 0xff) & 63);
-      l1 = 4L;
-      break L53;
-     }
-     l13 = ((l16 << 6) & 1984) | l20;
-     l1 = 2L;
-    }
-    l15 = 0;
-   }
-   L110: {
-    L111: {
-     L112: {
-      L113: {
-       L114: {
-        L115: {
-         L116: {
-          L117: {
-           L118: {
-            L119: {
-             if (l13 > 27154) { break L119; }
-             L120: {
-              if (l13 > 23617) { break L120; }
-              l1 = l5;
-              l9 = l6;
-              if (l13 == 21010) { break L118; }
-              l1 = l5;
-              l9 = l6;
-              if (l13 == 21123) { break L118; }
-              break L51;
-             }
-             switch (l13 + -23618) {
-             case 0: case 34: break L114;
-             case 1: case 2: case 3: case 5: case 6: case 7: case 9: case 10: case 11: case 12: case 13: case 14: case 15: case 16: case 17: case 18: case 19: case 20: case 21: case 22: case 23: case 24: case 25: case 26: case 27: case 28: case 29: case 30: case 31: case 32: case 33: break L51;
-             case 4: case 8: break L117;
-             default: break L116;
-             }
-            }
-            if (l13 > 36826) { break L115; }
-            if (l13 == 27155) { break L114; }
-            l1 = l5;
-            l9 = l6;
-            if (l13 == 32218) { break L118; }
-            l1 = l5;
-            l9 = l6;
-            if (l13 != 32447) { break L51; }
-           }
-           L121: while (true) {
-            if (l9 == 0L) { break L51; }
-            l13 = (l15 = (int) b[((int) l1) - 60720]) & 255;
-            l10 = 1L;
-            L122: {
-             if (l15 > -1) { break L122; }
-             l14 = (b[((int) l1) - 60719] & 0xff) & 63;
-             L123: {
-              if (l15 + Integer.MIN_VALUE > 2147483615) { break L123; }
-              l13 = ((l13 << 6) & 1984) | l14;
-              l10 = 2L;
-              break L122;
-             }
-             l16 = (b[((int) l1) - 60718] & 0xff) & 63;
-             L124: {
-              if (l15 + Integer.MIN_VALUE > 2147483631) { break L124; }
-              l13 = ((l14 << 6) | ((l13 << 12) & 61440)) | l16;
-              l10 = 3L;
-              break L122;
-             }
-             l13 = ((l16 << 6) | ((l14 << 12) | ((l13 << 18) & 1835008))) | ((b[((int) l1) - 60717] & 0xff) & 63);
-             l10 = 4L;
-            }
-            if (l13 == 28857) { exit = 3; break PART; }
-            l9 = l9 - l10;
-            l1 = l1 + l10;
-            if (l13 != 40670) { continue L121; }
-            exit = 3; break PART;
-           }
-          }
-          l1 = 1L;
-          L125: {
-           if (l15 != 0) { break L125; }
-           l13 = (b[((int) l7) - 60719] & 0xff) & 63;
-           L126: {
-            if (l14 + Integer.MIN_VALUE > 2147483615) { break L126; }
-            l16 = ((l16 << 6) & 1984) | l13;
-            l1 = 2L;
-            break L125;
-           }
-           l15 = (b[((int) l7) - 60718] & 0xff) & 63;
-           L127: {
-            if (l14 + Integer.MIN_VALUE > 2147483631) { break L127; }
-            l16 = ((l13 << 6) | ((l16 << 12) & 61440)) | l15;
-            l1 = 3L;
-            break L125;
-           }
-           l16 = ((l15 << 6) | ((l13 << 12) | ((l16 << 18) & 1835008))) | ((b[((int) l7) - 60717] & 0xff) & 63);
-           l1 = 4L;
-          }
-          if (l8 == l1) { break L51; }
-          l15 = (l13 = (int) b[((int) (l9 = l7 + l1)) - 60720]) & 255;
-          l10 = 1L;
-          L128: {
-           if (l13 > -1) { break L128; }
-           l14 = (b[((int) l9) - 60719] & 0xff) & 63;
-           L129: {
-            if (l13 + Integer.MIN_VALUE > 2147483615) { break L129; }
-            l15 = ((l15 << 6) & 1984) | l14;
-            l10 = 2L;
-            break L128;
-           }
-           l18 = (b[((int) l9) - 60718] & 0xff) & 63;
-           L130: {
-            if (l13 + Integer.MIN_VALUE > 2147483631) { break L130; }
-            l15 = ((l14 << 6) | ((l15 << 12) & 61440)) | l18;
-            l10 = 3L;
-            break L128;
-           }
-           l15 = ((l18 << 6) | ((l14 << 12) | ((l15 << 18) & 1835008))) | ((b[((int) l9) - 60717] & 0xff) & 63);
-           l10 = 4L;
-          }
-          if (((l16 + -23622) & -5) != 0) { break L51; }
-          Core2.f50(m, l2 + 48L, l15);
-          if (l8 == (l10 + l1)) { break L51; }
-          if ((l15 + -48) + Integer.MIN_VALUE < -2147483638) { break L51; }
-          if (((b[((int) l2) - 60672] & 0xff) & 255) != 1) { break L51; }
-          if ((l13 = (int) b[((int) (l1 = l9 + l10)) - 60720]) > -1) { break L51; }
-          if (l13 + Integer.MIN_VALUE < 2147483616) { break L51; }
-          l15 = l13 & 255;
-          l14 = (b[((int) l1) - 60719] & 0xff) & 63;
-          l16 = (b[((int) l1) - 60718] & 0xff) & 63;
-          L131: {
-           L132: {
-            if (l13 + Integer.MIN_VALUE > 2147483631) { break L132; }
-            l13 = ((l14 << 6) | ((l15 << 12) & 61440)) | l16;
-            break L131;
-           }
-           l13 = ((l16 << 6) | ((l14 << 12) | ((l15 << 18) & 1835008))) | ((b[((int) l1) - 60717] & 0xff) & 63);
-          }
-          if (l13 != 20013) { break L51; }
-          l13 = 1;
-          l15 = 2;
-          exit = 2; break PART;
+        L87: {
+         if (l15 != 24180) { break L87; }
+         if (Core4.f122(m, 82768L, 1L, 84760L, 2L, l7, l8) == 0) { break L55; }
+        }
+        L88: {
+         L89: {
+          if (l14 + Integer.MIN_VALUE > 2147483631) { break L89; }
+          l13 = ((l20 << 6) | ((l16 << 12) & 61440)) | l13;
+          break L88;
          }
-         if (l13 == 27004) { break L114; }
-         break L51;
+         l13 = ((l13 << 6) | ((l20 << 12) | ((l16 << 18) & 1835008))) | ((b[((int) l7) - 60717] & 0xff) & 63);
         }
-        L133: {
-         if (l13 > 38916) { break L133; }
-         L134: {
-          if (l13 == 36827) { break L134; }
-          if (l13 != 36914) { break L51; }
-         }
-         if (l8 == l1) { break L51; }
-         if ((l13 = (int) b[((int) (l1 = l7 + l1)) - 60720]) > -1) { break L51; }
-         if (l13 + Integer.MIN_VALUE < 2147483616) { break L51; }
-         l15 = l13 & 255;
-         l14 = (b[((int) l1) - 60719] & 0xff) & 63;
-         l16 = (b[((int) l1) - 60718] & 0xff) & 63;
-         if (l13 + Integer.MIN_VALUE > 2147483631) { break L113; }
-         l13 = ((l14 << 6) | ((l15 << 12) & 61440)) | l16;
-         break L112;
+        L90: {
+         if (l13 > 25150) { break L90; }
+         if (l13 == 21150) { break L55; }
+         if (l13 == 21495) { break L55; }
+         if (l13 != 23460) { break L84; }
+         break L55;
         }
-        if (l13 == 38917) { break L114; }
-        if (l13 != 39033) { break L51; }
+        if (l13 == 25151) { break L55; }
+        if (l13 == 34399) { break L55; }
+        if (l13 == 36774) { break L55; }
        }
-       if (l17 != 0) { break L51; }
-       if ((l13 = (int) b[((int) l5) - 60720]) > -1) { break L51; }
-       if (l13 + Integer.MIN_VALUE < 2147483616) { break L51; }
-       l15 = l13 & 255;
+       L91: {
+        if ((l13 = (l4 == 0L) ? 1 : 0) != 0) { break L91; }
+        if (((int) b[((int) ((l1 = l3 + l4) + -1L)) - 60720]) > -1) { break L91; }
+        l10 = -2L;
+        L92: {
+         if ((b[((int) (l1 + -2L)) - 60720] & 0xff) + Integer.MIN_VALUE > -2147483457) { break L92; }
+         l10 = ((b[((int) (l1 + -3L)) - 60720] & 0xff) + Integer.MIN_VALUE > -2147483457) ? -3L : -4L;
+        }
+        if ((l15 = (int) b[((int) (l1 = (l3 + l10) + l4)) - 60720]) > -1) { break L91; }
+        if (l15 + Integer.MIN_VALUE < 2147483616) { break L91; }
+        l14 = l15 & 255;
+        l16 = (b[((int) l1) - 60719] & 0xff) & 63;
+        l20 = (b[((int) l1) - 60718] & 0xff) & 63;
+        L93: {
+         L94: {
+          if (l15 + Integer.MIN_VALUE > 2147483631) { break L94; }
+          l15 = ((l16 << 6) | ((l14 << 12) & 61440)) | l20;
+          break L93;
+         }
+         l15 = ((l20 << 6) | ((l16 << 12) | ((l14 << 18) & 1835008))) | ((b[((int) l1) - 60717] & 0xff) & 63);
+        }
+        L95: {
+         if (l15 > 27003) { break L95; }
+         L96: {
+          if (l15 > 24230) { break L96; }
+          if (l15 == 21495) { break L56; }
+          if (l15 == 24162) { break L56; }
+          break L91;
+         }
+         if (l15 == 24231) { break L56; }
+         if (l15 == 26635) { break L56; }
+         if (l15 == 26847) { break L56; }
+         break L91;
+        }
+        L97: {
+         if (l15 > 30720) { break L97; }
+         if (l15 == 27004) { break L56; }
+         if (l15 == 27155) { break L56; }
+         break L91;
+        }
+        if (l15 == 30721) { break L56; }
+        if (l15 == 30908) { break L56; }
+        if (l15 == 34399) { break L56; }
+       }
+       l15 = 1;
+       if (l18 > -1) { exit = 1; break PART; }
+       if (l18 + Integer.MIN_VALUE < 2147483616) { exit = 1; break PART; }
        l14 = (b[((int) l5) - 60719] & 0xff) & 63;
        l16 = (b[((int) l5) - 60718] & 0xff) & 63;
-       if (l13 + Integer.MIN_VALUE > 2147483631) { break L111; }
-       l13 = ((l14 << 6) | ((l15 << 12) & 61440)) | l16;
-       break L110;
+       L98: {
+        L99: {
+         if (l18 + Integer.MIN_VALUE > 2147483631) { break L99; }
+         l14 = ((l14 << 6) | ((l19 << 12) & 61440)) | l16;
+         break L98;
+        }
+        l14 = ((l16 << 6) | ((l14 << 12) | ((l19 << 18) & 1835008))) | ((b[((int) l5) - 60717] & 0xff) & 63);
+       }
+       L100: {
+        if (l14 == 38646) { break L100; }
+        if (l14 != 12295) { exit = 1; break PART; }
+       }
+       if (l13 != 0) { exit = 1; break PART; }
+       if (((int) b[((int) ((l1 = l3 + l4) + -1L)) - 60720]) > -1) { exit = 1; break PART; }
+       l10 = -2L;
+       L101: {
+        if ((b[((int) (l1 + -2L)) - 60720] & 0xff) + Integer.MIN_VALUE > -2147483457) { break L101; }
+        l10 = ((b[((int) (l1 + -3L)) - 60720] & 0xff) + Integer.MIN_VALUE > -2147483457) ? -3L : -4L;
+       }
+       if ((l13 = (int) b[((int) (l1 = (l3 + l10) + l4)) - 60720]) > -1) { exit = 1; break PART; }
+       if (l13 + Integer.MIN_VALUE < 2147483616) { exit = 1; break PART; }
+       l14 = l13 & 255;
+       l16 = (b[((int) l1) - 60719] & 0xff) & 63;
+       l18 = (b[((int) l1) - 60718] & 0xff) & 63;
+       L102: {
+        L103: {
+         if (l13 + Integer.MIN_VALUE > 2147483631) { break L103; }
+         l13 = ((l16 << 6) | ((l14 << 12) & 61440)) | l18;
+         break L102;
+        }
+        l13 = ((l18 << 6) | ((l16 << 12) | ((l14 << 18) & 1835008))) | ((b[((int) l1) - 60717] & 0xff) & 63);
+       }
+       L104: {
+        L105: {
+         if (l13 > 26177) { break L105; }
+         if (l13 == 20998) { break L104; }
+         if (l13 == 26102) { break L104; }
+         exit = 1; break PART;
+        }
+        if (l13 == 26178) { break L104; }
+        if (l13 == 40670) { break L104; }
+        if (l13 != 28857) { exit = 1; break PART; }
+       }
+       if (l12 != 0) { exit = 1; break PART; }
+       if ((l14 = (int) b[((int) l7) - 60720]) > -1) { exit = 1; break PART; }
+       if (l14 + Integer.MIN_VALUE < 2147483616) { exit = 1; break PART; }
+       l16 = l14 & 255;
+       l20 = (b[((int) l7) - 60719] & 0xff) & 63;
+       l13 = (l21 = b[((int) l7) - 60718] & 0xff) & 63;
+       L106: {
+        L107: {
+         if (l14 + Integer.MIN_VALUE > 2147483631) { break L107; }
+         l18 = ((l20 << 6) | ((l16 << 12) & 61440)) | l13;
+         break L106;
+        }
+        l18 = ((l13 << 6) | ((l20 << 12) | ((l16 << 18) & 1835008))) | ((b[((int) l7) - 60717] & 0xff) & 63);
+       }
+       if (l18 == 20998) { break L55; }
+       l13 = 1;
+       if (l18 == 31186) { break L55; }
+       exit = 2; break PART;
       }
-      l13 = ((l16 << 6) | ((l14 << 12) | ((l15 << 18) & 1835008))) | ((b[((int) l1) - 60717] & 0xff) & 63);
+      if (l12 != 0) { exit = 3; break PART; }
+      l16 = (l14 = (int) b[((int) l7) - 60720]) & 255;
+      L108: {
+       if (l14 <= -1) { break L108; }
+       l1 = 1L;
+       l15 = 1;
+       l13 = l16;
+       break L52;
+      }
+      l20 = (b[((int) l7) - 60719] & 0xff) & 63;
+      if (l14 + Integer.MIN_VALUE < 2147483616) { break L54; }
+      l21 = b[((int) l7) - 60718] & 0xff;
      }
-     l15 = 2;
-     if (l13 == 20301) { exit = 1; break PART; }
-     if (l13 == 21046) { exit = 1; break PART; }
-     break L51;
+     l13 = l21 & 63;
+     L109: {
+      if (l14 + Integer.MIN_VALUE > 2147483631) { break L109; }
+      l13 = (((l16 << 12) & 61440) | (l20 << 6)) | l13;
+      l1 = 3L;
+      break L53;
+     }
+     l13 = ((l13 << 6) | (((l16 << 18) & 1835008) | (l20 << 12))) | ((b[((int) l7) - 60717] & 0xff) & 63);
+     l1 = 4L;
+     break L53;
     }
-    l13 = ((l16 << 6) | ((l14 << 12) | ((l15 << 18) & 1835008))) | ((b[((int) l5) - 60717] & 0xff) & 63);
+    l13 = ((l16 << 6) & 1984) | l20;
+    l1 = 2L;
    }
-   l15 = 2;
-   if (l13 == 36000) { exit = 1; break PART; }
-   if (l13 == 36127) { exit = 1; break PART; }
+   l15 = 0;
   }
  }
  m.kept[0] = l1;
@@ -5608,441 +5430,590 @@ static int f108_2(State m, long l1, long l2, long l3, long l4, long l5, long l6,
  return exit;
 }
 
-static int f108_3(State m, long l1, long l2, long l3, long l4, long l5, long l6, long l7, long l9, long l10, int l12, int l13, int l14, int l15, int l16, int l17, int l18, int l20, int l21) {
+static int f108_3(State m, long l1, long l2, long l5, long l6, long l7, long l8, long l9, long l10, int l13, int l14, int l15, int l16, int l17, int l18) {
  final byte[] b = m.bytes;
  int exit = 0;
  PART: {
-  L154: {
-   L155: {
-    L156: {
-     if (l17 != 0) { break L156; }
-     l13 = (l15 = (int) b[((int) l5) - 60720]) & 255;
-     l1 = 1L;
-     L157: {
-      if (l15 > -1) { break L157; }
+  L111: {
+   L112: {
+    L113: {
+     L114: {
+      L115: {
+       L116: {
+        L117: {
+         L118: {
+          L119: {
+           L120: {
+            if (l13 > 27154) { break L120; }
+            L121: {
+             if (l13 > 23617) { break L121; }
+             l1 = l5;
+             l9 = l6;
+             if (l13 == 21010) { break L119; }
+             l1 = l5;
+             l9 = l6;
+             if (l13 == 21123) { break L119; }
+             exit = 1; break PART;
+            }
+            switch (l13 + -23618) {
+            case 0: case 34: break L115;
+            case 1: case 2: case 3: case 5: case 6: case 7: case 9: case 10: case 11: case 12: case 13: case 14: case 15: case 16: case 17: case 18: case 19: case 20: case 21: case 22: case 23: case 24: case 25: case 26: case 27: case 28: case 29: case 30: case 31: case 32: case 33: exit = 1; break PART;
+            case 4: case 8: break L118;
+            default: break L117;
+            }
+           }
+           if (l13 > 36826) { break L116; }
+           if (l13 == 27155) { break L115; }
+           l1 = l5;
+           l9 = l6;
+           if (l13 == 32218) { break L119; }
+           l1 = l5;
+           l9 = l6;
+           if (l13 != 32447) { exit = 1; break PART; }
+          }
+          L122: while (true) {
+           if (l9 == 0L) { exit = 1; break PART; }
+           l13 = (l15 = (int) b[((int) l1) - 60720]) & 255;
+           l10 = 1L;
+           L123: {
+            if (l15 > -1) { break L123; }
+            l14 = (b[((int) l1) - 60719] & 0xff) & 63;
+            L124: {
+             if (l15 + Integer.MIN_VALUE > 2147483615) { break L124; }
+             l13 = ((l13 << 6) & 1984) | l14;
+             l10 = 2L;
+             break L123;
+            }
+            l16 = (b[((int) l1) - 60718] & 0xff) & 63;
+            L125: {
+             if (l15 + Integer.MIN_VALUE > 2147483631) { break L125; }
+             l13 = ((l14 << 6) | ((l13 << 12) & 61440)) | l16;
+             l10 = 3L;
+             break L123;
+            }
+            l13 = ((l16 << 6) | ((l14 << 12) | ((l13 << 18) & 1835008))) | ((b[((int) l1) - 60717] & 0xff) & 63);
+            l10 = 4L;
+           }
+           if (l13 == 28857) { exit = 2; break PART; }
+           l9 = l9 - l10;
+           l1 = l1 + l10;
+           if (l13 != 40670) { continue L122; }
+           exit = 2; break PART;
+          }
+         }
+         l1 = 1L;
+         L126: {
+          if (l15 != 0) { break L126; }
+          l13 = (b[((int) l7) - 60719] & 0xff) & 63;
+          L127: {
+           if (l14 + Integer.MIN_VALUE > 2147483615) { break L127; }
+           l16 = ((l16 << 6) & 1984) | l13;
+           l1 = 2L;
+           break L126;
+          }
+          l15 = (b[((int) l7) - 60718] & 0xff) & 63;
+          L128: {
+           if (l14 + Integer.MIN_VALUE > 2147483631) { break L128; }
+           l16 = ((l13 << 6) | ((l16 << 12) & 61440)) | l15;
+           l1 = 3L;
+           break L126;
+          }
+          l16 = ((l15 << 6) | ((l13 << 12) | ((l16 << 18) & 1835008))) | ((b[((int) l7) - 60717] & 0xff) & 63);
+          l1 = 4L;
+         }
+         if (l8 == l1) { exit = 1; break PART; }
+         l15 = (l13 = (int) b[((int) (l9 = l7 + l1)) - 60720]) & 255;
+         l10 = 1L;
+         L129: {
+          if (l13 > -1) { break L129; }
+          l14 = (b[((int) l9) - 60719] & 0xff) & 63;
+          L130: {
+           if (l13 + Integer.MIN_VALUE > 2147483615) { break L130; }
+           l15 = ((l15 << 6) & 1984) | l14;
+           l10 = 2L;
+           break L129;
+          }
+          l18 = (b[((int) l9) - 60718] & 0xff) & 63;
+          L131: {
+           if (l13 + Integer.MIN_VALUE > 2147483631) { break L131; }
+           l15 = ((l14 << 6) | ((l15 << 12) & 61440)) | l18;
+           l10 = 3L;
+           break L129;
+          }
+          l15 = ((l18 << 6) | ((l14 << 12) | ((l15 << 18) & 1835008))) | ((b[((int) l9) - 60717] & 0xff) & 63);
+          l10 = 4L;
+         }
+         if (((l16 + -23622) & -5) != 0) { exit = 1; break PART; }
+         Core2.f50(m, l2 + 48L, l15);
+         if (l8 == (l10 + l1)) { exit = 1; break PART; }
+         if ((l15 + -48) + Integer.MIN_VALUE < -2147483638) { exit = 1; break PART; }
+         if (((b[((int) l2) - 60672] & 0xff) & 255) != 1) { exit = 1; break PART; }
+         if ((l13 = (int) b[((int) (l1 = l9 + l10)) - 60720]) > -1) { exit = 1; break PART; }
+         if (l13 + Integer.MIN_VALUE < 2147483616) { exit = 1; break PART; }
+         l15 = l13 & 255;
+         l14 = (b[((int) l1) - 60719] & 0xff) & 63;
+         l16 = (b[((int) l1) - 60718] & 0xff) & 63;
+         L132: {
+          L133: {
+           if (l13 + Integer.MIN_VALUE > 2147483631) { break L133; }
+           l13 = ((l14 << 6) | ((l15 << 12) & 61440)) | l16;
+           break L132;
+          }
+          l13 = ((l16 << 6) | ((l14 << 12) | ((l15 << 18) & 1835008))) | ((b[((int) l1) - 60717] & 0xff) & 63);
+         }
+         if (l13 != 20013) { exit = 1; break PART; }
+         l13 = 1;
+         l15 = 2;
+         exit = 3; break PART;
+        }
+        if (l13 == 27004) { break L115; }
+        exit = 1; break PART;
+       }
+       L134: {
+        if (l13 > 38916) { break L134; }
+        L135: {
+         if (l13 == 36827) { break L135; }
+         if (l13 != 36914) { exit = 1; break PART; }
+        }
+        if (l8 == l1) { exit = 1; break PART; }
+        if ((l13 = (int) b[((int) (l1 = l7 + l1)) - 60720]) > -1) { exit = 1; break PART; }
+        if (l13 + Integer.MIN_VALUE < 2147483616) { exit = 1; break PART; }
+        l15 = l13 & 255;
+        l14 = (b[((int) l1) - 60719] & 0xff) & 63;
+        l16 = (b[((int) l1) - 60718] & 0xff) & 63;
+        if (l13 + Integer.MIN_VALUE > 2147483631) { break L114; }
+        l13 = ((l14 << 6) | ((l15 << 12) & 61440)) | l16;
+        break L113;
+       }
+       if (l13 == 38917) { break L115; }
+       if (l13 != 39033) { exit = 1; break PART; }
+      }
+      if (l17 != 0) { exit = 1; break PART; }
+      if ((l13 = (int) b[((int) l5) - 60720]) > -1) { exit = 1; break PART; }
+      if (l13 + Integer.MIN_VALUE < 2147483616) { exit = 1; break PART; }
+      l15 = l13 & 255;
       l14 = (b[((int) l5) - 60719] & 0xff) & 63;
-      L158: {
-       if (l15 + Integer.MIN_VALUE > 2147483615) { break L158; }
-       l13 = ((l13 << 6) & 1984) | l14;
-       l1 = 2L;
-       break L157;
-      }
       l16 = (b[((int) l5) - 60718] & 0xff) & 63;
-      L159: {
-       if (l15 + Integer.MIN_VALUE > 2147483631) { break L159; }
-       l13 = ((l14 << 6) | ((l13 << 12) & 61440)) | l16;
-       l1 = 3L;
-       break L157;
-      }
-      l13 = ((l16 << 6) | ((l14 << 12) | ((l13 << 18) & 1835008))) | ((b[((int) l5) - 60717] & 0xff) & 63);
-      l1 = 4L;
+      if (l13 + Integer.MIN_VALUE > 2147483631) { break L112; }
+      l13 = ((l14 << 6) | ((l15 << 12) & 61440)) | l16;
+      break L111;
      }
-     L160: {
-      if (l6 == l1) { break L160; }
-      l9 = 1L;
-      l14 = l16 = (l15 = (int) b[((int) (l10 = l5 + l1)) - 60720]) & 255;
-      L161: {
-       L162: {
-        L163: {
-         L164: {
-          L165: {
-           L166: {
-            L167: {
-             if (l15 > -1) { break L167; }
-             l14 = (b[((int) l10) - 60719] & 0xff) & 63;
-             L168: {
-              L169: {
-               if (l15 + Integer.MIN_VALUE < 2147483616) { break L169; }
-               l20 = (b[((int) l10) - 60718] & 0xff) & 63;
-               L170: {
-                L171: {
-                 if (l15 + Integer.MIN_VALUE > 2147483631) { break L171; }
-                 l17 = ((l14 << 6) | ((l16 << 12) & 61440)) | l20;
-                 break L170;
-                }
-                l17 = ((l20 << 6) | ((l14 << 12) | ((l16 << 18) & 1835008))) | ((b[((int) l10) - 60717] & 0xff) & 63);
-               }
-               L172: {
-                if (l17 == 40670) { break L172; }
-                if (l17 != 28857) { break L168; }
-               }
-               Core2.f50(m, l2 + 40L, l13);
-               if ((l13 + -58) + Integer.MIN_VALUE > 2147483637) { break L166; }
-               if (((b[((int) l2) - 60680] & 0xff) & 255) != 1) { break L166; }
-               if ((l13 != 12295) & (l13 != 38646)) { break L161; }
-               if (l13 == 21313) { break L161; }
-               break L160;
-              }
-              l14 = ((l16 << 6) & 1984) | l14;
-              l9 = 2L;
-              break L167;
-             }
-             L173: {
-              if (l15 + Integer.MIN_VALUE > 2147483631) { break L173; }
-              l14 = ((l14 << 6) | ((l16 << 12) & 61440)) | l20;
-              l9 = 3L;
-              break L167;
-             }
-             l14 = ((l20 << 6) | ((l14 << 12) | ((l16 << 18) & 1835008))) | ((b[((int) l10) - 60717] & 0xff) & 63);
-             l9 = 4L;
-            }
-            l1 = l6 - l1;
-            L174: {
-             if (l13 > 20840) { break L174; }
-             if (l13 == 20004) { break L165; }
-             if (l13 != 20108) { break L160; }
-             break L165;
-            }
-            if (l13 == 20841) { break L165; }
-            if (l13 != 21313) { break L160; }
-            Core2.f50(m, l2 + 32L, l14);
-            if ((l14 + -58) + Integer.MIN_VALUE > 2147483637) { break L160; }
-            if (((b[((int) l2) - 60688] & 0xff) & 255) != 1) { break L160; }
-            if (l14 == 12295) { break L160; }
-            if (l14 == 38646) { break L160; }
-            if (l1 == l9) { break L160; }
-            break L164;
-           }
-           if (l13 != 21313) { break L160; }
-           break L161;
-          }
-          if (l1 == l9) { break L163; }
-          if (l14 != 21313) { break L163; }
-         }
-         if ((l14 = (int) b[((int) (l9 = l10 + l9)) - 60720]) > -1) { break L163; }
-         if (l14 + Integer.MIN_VALUE < 2147483616) { break L163; }
-         l17 = l14 & 255;
-         l20 = (b[((int) l9) - 60719] & 0xff) & 63;
-         l21 = (b[((int) l9) - 60718] & 0xff) & 63;
-         L175: {
-          L176: {
-           if (l14 + Integer.MIN_VALUE > 2147483631) { break L176; }
-           l14 = ((l20 << 6) | ((l17 << 12) & 61440)) | l21;
-           break L175;
-          }
-          l14 = ((l21 << 6) | ((l20 << 12) | ((l17 << 18) & 1835008))) | ((b[((int) l9) - 60717] & 0xff) & 63);
-         }
-         if (l14 == 28857) { break L161; }
-         if (l14 == 40670) { break L161; }
-         if (l13 != 20108) { break L160; }
-         if (l15 > -1) { break L160; }
-         break L162;
-        }
-        if (l13 != 20108) { break L160; }
-        if (l15 > -1) { break L160; }
-       }
-       if (l15 + Integer.MIN_VALUE < 2147483616) { break L160; }
-       l13 = (b[((int) l10) - 60719] & 0xff) & 63;
-       l14 = (b[((int) l10) - 60718] & 0xff) & 63;
-       L177: {
-        L178: {
-         if (l15 + Integer.MIN_VALUE > 2147483631) { break L178; }
-         l13 = ((l13 << 6) | ((l16 << 12) & 61440)) | l14;
-         l9 = 3L;
-         break L177;
-        }
-        l13 = ((l14 << 6) | ((l13 << 12) | ((l16 << 18) & 1835008))) | ((b[((int) l10) - 60717] & 0xff) & 63);
-        l9 = 4L;
-       }
-       if (l13 != 21313) { break L160; }
-       if (Core4.f122(m, 84768L, 4L, 82776L, 2L, l10 + l9, l1 - l9) == 0) { break L160; }
-      }
-      L179: {
-       if (l18 != 0) { break L179; }
-       if (((int) b[((int) ((l1 = l3 + l4) + -1L)) - 60720]) > -1) { break L179; }
-       l10 = -2L;
-       L180: {
-        if ((b[((int) (l1 + -2L)) - 60720] & 0xff) + Integer.MIN_VALUE > -2147483457) { break L180; }
-        l10 = ((b[((int) (l1 + -3L)) - 60720] & 0xff) + Integer.MIN_VALUE > -2147483457) ? -3L : -4L;
-       }
-       if ((l13 = (int) b[((int) (l1 = (l3 + l10) + l4)) - 60720]) > -1) { break L179; }
-       if (l13 + Integer.MIN_VALUE < 2147483616) { break L179; }
-       l15 = l13 & 255;
-       l14 = (b[((int) l1) - 60719] & 0xff) & 63;
-       l16 = (b[((int) l1) - 60718] & 0xff) & 63;
-       L181: {
-        L182: {
-         if (l13 + Integer.MIN_VALUE > 2147483631) { break L182; }
-         l14 = ((l14 << 6) | ((l15 << 12) & 61440)) | l16;
-         break L181;
-        }
-        l14 = ((l16 << 6) | ((l14 << 12) | ((l15 << 18) & 1835008))) | ((b[((int) l1) - 60717] & 0xff) & 63);
-       }
-       l15 = 4;
-       L183: {
-        if (l14 > 26201) { break L183; }
-        if (l14 == 21320) { exit = 1; break PART; }
-        if (l14 == 22812) { exit = 1; break PART; }
-        if (l14 == 26089) { exit = 1; break PART; }
-        break L179;
-       }
-       l13 = 1;
-       switch (l14 + -26202) {
-       case 0: case 14: exit = 2; break PART;
-       default: break L179;
-       }
-      }
-      if (Core4.f136(m, 83108L, 1L, 83100L, 2L, l3, l4) == 0) { break L160; }
-      l15 = 4;
-      l13 = 1;
-      exit = 2; break PART;
-     }
-     L184: {
-      if ((l13 = (int) b[((int) (l5 + (l1 = l6 + -1L))) - 60720]) >= 0) { break L184; }
-      l1 = -2L;
-      L185: {
-       if ((b[((int) ((l10 = l5 + l6) + -2L)) - 60720] & 0xff) + Integer.MIN_VALUE > -2147483457) { break L185; }
-       l1 = ((b[((int) (l10 + -3L)) - 60720] & 0xff) + Integer.MIN_VALUE > -2147483457) ? -3L : -4L;
-      }
-      l13 = (l15 = (int) b[((int) (l10 = l5 + (l1 = l1 + l6))) - 60720]) & 255;
-      if (l15 > -1) { break L184; }
-      l14 = (b[((int) l10) - 60719] & 0xff) & 63;
-      L186: {
-       if (l15 + Integer.MIN_VALUE > 2147483615) { break L186; }
-       l13 = ((l13 << 6) & 1984) | l14;
-       break L184;
-      }
-      l16 = (b[((int) l10) - 60718] & 0xff) & 63;
-      L187: {
-       if (l15 + Integer.MIN_VALUE > 2147483631) { break L187; }
-       l13 = ((l14 << 6) | ((l13 << 12) & 61440)) | l16;
-       break L184;
-      }
-      l13 = ((l16 << 6) | ((l14 << 12) | ((l13 << 18) & 1835008))) | ((b[((int) l10) - 60717] & 0xff) & 63);
-     }
-     Core2.f50(m, l2 + 24L, l13);
-     if ((l13 + -58) + Integer.MIN_VALUE > 2147483637) { break L156; }
-     if (((b[((int) l2) - 60696] & 0xff) & 255) != 1) { break L156; }
-     if (l13 == 12295) { break L156; }
-     if (l13 == 38646) { break L156; }
-     if (l1 == 0L) { break L156; }
-     L188: {
-      if ((l13 = (int) b[((int) (l5 + (l10 = l1 + -1L))) - 60720]) >= 0) { break L188; }
-      l10 = -2L;
-      L189: {
-       if ((b[((int) ((l9 = l5 + l1) + -2L)) - 60720] & 0xff) + Integer.MIN_VALUE > -2147483457) { break L189; }
-       l10 = ((b[((int) (l9 + -3L)) - 60720] & 0xff) + Integer.MIN_VALUE > -2147483457) ? -3L : -4L;
-      }
-      l13 = (l15 = (int) b[((int) (l1 = l5 + (l10 = l10 + l1))) - 60720]) & 255;
-      if (l15 > -1) { break L188; }
-      l14 = (b[((int) l1) - 60719] & 0xff) & 63;
-      L190: {
-       if (l15 + Integer.MIN_VALUE > 2147483615) { break L190; }
-       l13 = ((l13 << 6) & 1984) | l14;
-       break L188;
-      }
-      l16 = (b[((int) l1) - 60718] & 0xff) & 63;
-      L191: {
-       if (l15 + Integer.MIN_VALUE > 2147483631) { break L191; }
-       l13 = ((l14 << 6) | ((l13 << 12) & 61440)) | l16;
-       break L188;
-      }
-      l13 = ((l16 << 6) | ((l14 << 12) | ((l13 << 18) & 1835008))) | ((b[((int) l1) - 60717] & 0xff) & 63);
-     }
-     L192: {
-      if ((l15 = (l13 == 38646) ? 1 : 0) != 0) { break L192; }
-      if (l13 == 12295) { break L192; }
-      if ((((l13 == 12295) ? 1 : 0) | l15) == 0) { break L156; }
-      break L155;
-     }
-     if (l10 == 0L) { break L156; }
-     L193: {
-      if ((l13 = (int) b[((int) (l5 + (l1 = l10 + -1L))) - 60720]) >= 0) { break L193; }
-      l1 = -2L;
-      L194: {
-       if ((b[((int) ((l9 = l5 + l10) + -2L)) - 60720] & 0xff) + Integer.MIN_VALUE > -2147483457) { break L194; }
-       l1 = ((b[((int) (l9 + -3L)) - 60720] & 0xff) + Integer.MIN_VALUE > -2147483457) ? -3L : -4L;
-      }
-      l13 = (l15 = (int) b[((int) (l10 = l5 + (l1 = l1 + l10))) - 60720]) & 255;
-      if (l15 > -1) { break L193; }
-      l14 = (b[((int) l10) - 60719] & 0xff) & 63;
-      L195: {
-       if (l15 + Integer.MIN_VALUE > 2147483615) { break L195; }
-       l13 = ((l13 << 6) & 1984) | l14;
-       break L193;
-      }
-      l16 = (b[((int) l10) - 60718] & 0xff) & 63;
-      L196: {
-       if (l15 + Integer.MIN_VALUE > 2147483631) { break L196; }
-       l13 = ((l14 << 6) | ((l13 << 12) & 61440)) | l16;
-       break L193;
-      }
-      l13 = ((l16 << 6) | ((l14 << 12) | ((l13 << 18) & 1835008))) | ((b[((int) l10) - 60717] & 0xff) & 63);
-     }
-     L197: {
-      if ((l15 = (l13 == 40670) ? 1 : 0) != 0) { break L197; }
-      if (l13 == 28857) { break L197; }
-      if ((((l13 == 28857) ? 1 : 0) | l15) == 0) { break L156; }
-      break L155;
-     }
-     if (l1 == 0L) { break L156; }
-     L198: {
-      if ((l13 = (int) b[((int) (l5 + (l10 = l1 + -1L))) - 60720]) >= 0) { break L198; }
-      l10 = -2L;
-      L199: {
-       if ((b[((int) ((l9 = l5 + l1) + -2L)) - 60720] & 0xff) + Integer.MIN_VALUE > -2147483457) { break L199; }
-       l10 = ((b[((int) (l9 + -3L)) - 60720] & 0xff) + Integer.MIN_VALUE > -2147483457) ? -3L : -4L;
-      }
-      l13 = (l15 = (int) b[((int) (l1 = l5 + (l10 = l10 + l1))) - 60720]) & 255;
-      if (l15 > -1) { break L198; }
-      l14 = (b[((int) l1) - 60719] & 0xff) & 63;
-      L200: {
-       if (l15 + Integer.MIN_VALUE > 2147483615) { break L200; }
-       l13 = ((l13 << 6) & 1984) | l14;
-       break L198;
-      }
-      l16 = (b[((int) l1) - 60718] & 0xff) & 63;
-      L201: {
-       if (l15 + Integer.MIN_VALUE > 2147483631) { break L201; }
-       l13 = ((l14 << 6) | ((l13 << 12) & 61440)) | l16;
-       break L198;
-      }
-      l13 = ((l16 << 6) | ((l14 << 12) | ((l13 << 18) & 1835008))) | ((b[((int) l1) - 60717] & 0xff) & 63);
-     }
-     L202: {
-      L203: {
-       L204: {
-        L205: {
-         L206: {
-          L207: {
-           if (l10 == 0L) { break L207; }
-           L208: {
-            if ((l15 = (int) b[((int) (l5 + (l1 = l10 + -1L))) - 60720]) >= 0) { break L208; }
-            l1 = -2L;
-            L209: {
-             if ((b[((int) ((l9 = l5 + l10) + -2L)) - 60720] & 0xff) + Integer.MIN_VALUE > -2147483457) { break L209; }
-             l1 = ((b[((int) (l9 + -3L)) - 60720] & 0xff) + Integer.MIN_VALUE > -2147483457) ? -3L : -4L;
-            }
-            l15 = (l14 = (int) b[((int) (l10 = l5 + (l1 = l1 + l10))) - 60720]) & 255;
-            if (l14 > -1) { break L208; }
-            l16 = (b[((int) l10) - 60719] & 0xff) & 63;
-            L210: {
-             if (l14 + Integer.MIN_VALUE > 2147483615) { break L210; }
-             l15 = ((l15 << 6) & 1984) | l16;
-             break L208;
-            }
-            l17 = (b[((int) l10) - 60718] & 0xff) & 63;
-            L211: {
-             if (l14 + Integer.MIN_VALUE > 2147483631) { break L211; }
-             l15 = ((l16 << 6) | ((l15 << 12) & 61440)) | l17;
-             break L208;
-            }
-            l15 = ((l17 << 6) | ((l16 << 12) | ((l15 << 18) & 1835008))) | ((b[((int) l10) - 60717] & 0xff) & 63);
-           }
-           if (l1 == 0L) { break L204; }
-           if (((int) b[((int) ((l10 = l5 + l1) + -1L)) - 60720]) > -1) { break L156; }
-           l9 = -2L;
-           L212: {
-            if ((b[((int) (l10 + -2L)) - 60720] & 0xff) + Integer.MIN_VALUE > -2147483457) { break L212; }
-            l9 = ((b[((int) (l10 + -3L)) - 60720] & 0xff) + Integer.MIN_VALUE > -2147483457) ? -3L : -4L;
-           }
-           if ((l14 = (int) b[((int) (l1 = l5 + (l10 = l9 + l1))) - 60720]) > -1) { break L156; }
-           if (l14 + Integer.MIN_VALUE < 2147483616) { break L156; }
-           l16 = l14 & 255;
-           l17 = (b[((int) l1) - 60719] & 0xff) & 63;
-           l20 = (b[((int) l1) - 60718] & 0xff) & 63;
-           if (l14 + Integer.MIN_VALUE > 2147483631) { break L206; }
-           l14 = ((l17 << 6) | ((l16 << 12) & 61440)) | l20;
-           break L205;
-          }
-          Core2.f50(m, l2 + 8L, l13);
-          L213: {
-           L214: {
-            if ((l13 + -58) + Integer.MIN_VALUE > 2147483637) { break L214; }
-            if (((b[((int) l2) - 60712] & 0xff) & 255) == 1) { break L213; }
-           }
-           if (l13 != 21313) { break L156; }
-           break L155;
-          }
-          if ((l13 != 12295) & (l13 != 38646)) { break L155; }
-          if (l13 != 21313) { break L156; }
-          break L155;
-         }
-         l14 = ((l20 << 6) | ((l17 << 12) | ((l16 << 18) & 1835008))) | ((b[((int) l1) - 60717] & 0xff) & 63);
-        }
-        if (l10 != 0L) { break L156; }
-        if (l14 != 20108) { break L156; }
-        if (l15 != 21313) { break L156; }
-        switch (l13 + -19968) {
-        case 0: case 9: break L155;
-        case 1: case 2: case 3: case 4: case 5: case 6: case 7: case 8: break L156;
-        default: break L203;
-        }
-       }
-       L215: {
-        if (l15 > 20840) { break L215; }
-        if (l15 == 20004) { break L202; }
-        if (l15 != 20108) { break L156; }
-        break L202;
-       }
-       if (l15 == 20841) { break L202; }
-       if (l15 != 21313) { break L156; }
-       Core2.f50(m, l2 + 16L, l13);
-       if ((l13 + -58) + Integer.MIN_VALUE > 2147483637) { break L156; }
-       if (((b[((int) l2) - 60704] & 0xff) & 255) != 1) { break L156; }
-       if (l13 == 12295) { break L156; }
-       if (l13 == 38646) { break L156; }
-       break L155;
-      }
-      if (l13 == 20108) { break L155; }
-      if (l13 != 22235) { break L156; }
-      break L155;
-     }
-     if (l13 == 21313) { break L155; }
+     l13 = ((l16 << 6) | ((l14 << 12) | ((l15 << 18) & 1835008))) | ((b[((int) l1) - 60717] & 0xff) & 63);
     }
-    if (l12 == 0) { break L154; }
-    exit = 3; break PART;
+    l15 = 2;
+    if (l13 == 20301) { exit = 4; break PART; }
+    if (l13 == 21046) { exit = 4; break PART; }
+    exit = 1; break PART;
    }
-   l13 = 1;
-   l15 = 4;
-   if (l12 != 0) { exit = 2; break PART; }
-   if ((l14 = (int) b[((int) l7) - 60720]) > -1) { exit = 2; break PART; }
-   if (l14 + Integer.MIN_VALUE < 2147483616) { exit = 2; break PART; }
-   l16 = l14 & 255;
-   l12 = (b[((int) l7) - 60719] & 0xff) & 63;
-   l17 = (b[((int) l7) - 60718] & 0xff) & 63;
-   L216: {
-    L217: {
-     if (l14 + Integer.MIN_VALUE > 2147483631) { break L217; }
-     l14 = ((l12 << 6) | ((l16 << 12) & 61440)) | l17;
-     break L216;
-    }
-    l14 = ((l17 << 6) | ((l12 << 12) | ((l16 << 18) & 1835008))) | ((b[((int) l7) - 60717] & 0xff) & 63);
-   }
-   L218: {
-    if (l14 > 21543) { break L218; }
-    L219: {
-     switch (l14 + -20803) {
-     case 0: case 8: break L154;
-     case 1: case 2: case 3: case 4: case 5: case 6: case 7: exit = 2; break PART;
-     default: break L219;
-     }
-    }
-    if (l14 == 20493) { break L154; }
-    if (l14 == 21319) { break L154; }
-    exit = 2; break PART;
-   }
-   L220: {
-    if (l14 > 24229) { break L220; }
-    if (l14 == 21544) { break L154; }
-    if (l14 == 22136) { break L154; }
-    exit = 2; break PART;
-   }
-   if (l14 == 24230) { break L154; }
-   if (l14 != 31859) { exit = 2; break PART; }
+   l13 = ((l16 << 6) | ((l14 << 12) | ((l15 << 18) & 1835008))) | ((b[((int) l5) - 60717] & 0xff) & 63);
   }
  }
  m.kept[0] = l1;
  m.kept[1] = l9;
  m.kept[2] = l10;
- m.kept[3] = l12;
- m.kept[4] = l13;
- m.kept[5] = l14;
- m.kept[6] = l15;
- m.kept[7] = l16;
- m.kept[8] = l17;
- m.kept[9] = l20;
- m.kept[10] = l21;
+ m.kept[3] = l13;
+ m.kept[4] = l14;
+ m.kept[5] = l15;
+ m.kept[6] = l16;
+ m.kept[7] = l18;
+ return exit;
+}
+
+static int f108_4(State m, long l1, long l3, long l4, long l7, long l8, long l10, int l12, int l13, int l14, int l15, int l16, int l18, int l20) {
+ final byte[] b = m.bytes;
+ int exit = 0;
+ PART: {
+  L137: {
+   if ((l18 = (l4 == 0L) ? 1 : 0) != 0) { break L137; }
+   if (((int) b[((int) ((l1 = l3 + l4) + -1L)) - 60720]) > -1) { break L137; }
+   l10 = -2L;
+   L138: {
+    if ((b[((int) (l1 + -2L)) - 60720] & 0xff) + Integer.MIN_VALUE > -2147483457) { break L138; }
+    l10 = ((b[((int) (l1 + -3L)) - 60720] & 0xff) + Integer.MIN_VALUE > -2147483457) ? -3L : -4L;
+   }
+   if ((l13 = (int) b[((int) (l1 = (l3 + l10) + l4)) - 60720]) > -1) { break L137; }
+   if (l13 + Integer.MIN_VALUE < 2147483616) { break L137; }
+   l15 = l13 & 255;
+   l14 = (b[((int) l1) - 60719] & 0xff) & 63;
+   l16 = (b[((int) l1) - 60718] & 0xff) & 63;
+   L139: {
+    L140: {
+     if (l13 + Integer.MIN_VALUE > 2147483631) { break L140; }
+     l13 = ((l14 << 6) | ((l15 << 12) & 61440)) | l16;
+     break L139;
+    }
+    l13 = ((l16 << 6) | ((l14 << 12) | ((l15 << 18) & 1835008))) | ((b[((int) l1) - 60717] & 0xff) & 63);
+   }
+   if (l12 != 0) { break L137; }
+   if (l13 != 31532) { break L137; }
+   l13 = (l15 = (int) b[((int) l7) - 60720]) & 255;
+   l1 = 1L;
+   L141: {
+    if (l15 > -1) { break L141; }
+    l14 = (b[((int) l7) - 60719] & 0xff) & 63;
+    L142: {
+     if (l15 + Integer.MIN_VALUE > 2147483615) { break L142; }
+     l13 = ((l13 << 6) & 1984) | l14;
+     l1 = 2L;
+     break L141;
+    }
+    l16 = (b[((int) l7) - 60718] & 0xff) & 63;
+    L143: {
+     if (l15 + Integer.MIN_VALUE > 2147483631) { break L143; }
+     l13 = ((l14 << 6) | ((l13 << 12) & 61440)) | l16;
+     l1 = 3L;
+     break L141;
+    }
+    l13 = ((l16 << 6) | ((l14 << 12) | ((l13 << 18) & 1835008))) | ((b[((int) l7) - 60717] & 0xff) & 63);
+    l1 = 4L;
+   }
+   l10 = l7 + l1;
+   L144: {
+    L145: {
+     if (l13 == 26465) { break L145; }
+     if (l13 == 27425) { break L144; }
+     if (l13 != 26781) { break L137; }
+    }
+    l15 = 2;
+    if (l8 == l1) { exit = 1; break PART; }
+    if ((l13 = (int) b[((int) l10) - 60720]) > -1) { exit = 1; break PART; }
+    if (l13 + Integer.MIN_VALUE < 2147483616) { exit = 1; break PART; }
+    l14 = l13 & 255;
+    l16 = (b[((int) l10) - 60719] & 0xff) & 63;
+    l20 = (b[((int) l10) - 60718] & 0xff) & 63;
+    L146: {
+     L147: {
+      if (l13 + Integer.MIN_VALUE > 2147483631) { break L147; }
+      if (((l13 = (l16 << 6) | ((l14 << 12) & 61440)) + -19968) + Integer.MIN_VALUE >= -2147462656) { exit = 1; break PART; }
+      l13 = l13 | l20;
+      break L146;
+     }
+     if (((l13 = (l20 << 6) | ((l16 << 12) | ((l14 << 18) & 1835008))) + -19968) + Integer.MIN_VALUE >= -2147462656) { exit = 1; break PART; }
+     l13 = l13 | ((b[((int) l10) - 60717] & 0xff) & 63);
+    }
+    L148: {
+     if (l13 > 25109) { break L148; }
+     L149: {
+      if (l13 > 21039) { break L149; }
+      if (l13 == 19982) { exit = 1; break PART; }
+      if (l13 == 20043) { exit = 1; break PART; }
+      break L137;
+     }
+     if (l13 == 21040) { exit = 1; break PART; }
+     if (l13 == 21450) { exit = 1; break PART; }
+     if (l13 == 21644) { exit = 1; break PART; }
+     break L137;
+    }
+    L150: {
+     if (l13 > 33286) { break L150; }
+     if (l13 == 25110) { exit = 1; break PART; }
+     if (l13 == 31532) { exit = 1; break PART; }
+     if (l13 == 33267) { exit = 1; break PART; }
+     break L137;
+    }
+    if (l13 == 33287) { exit = 1; break PART; }
+    if (l13 == 35215) { exit = 1; break PART; }
+    if (l13 == 35268) { exit = 1; break PART; }
+    break L137;
+   }
+   if (l8 == l1) { break L137; }
+   if ((l13 = (int) b[((int) l10) - 60720]) > -1) { break L137; }
+   if (l13 + Integer.MIN_VALUE < 2147483616) { break L137; }
+   l15 = l13 & 255;
+   l14 = (b[((int) l10) - 60719] & 0xff) & 63;
+   l16 = (b[((int) l10) - 60718] & 0xff) & 63;
+   L151: {
+    L152: {
+     if (l13 + Integer.MIN_VALUE > 2147483631) { break L152; }
+     l13 = ((l14 << 6) | ((l15 << 12) & 61440)) | l16;
+     break L151;
+    }
+    l13 = ((l16 << 6) | ((l14 << 12) | ((l15 << 18) & 1835008))) | ((b[((int) l10) - 60717] & 0xff) & 63);
+   }
+   if (l13 == 20840) { exit = 2; break PART; }
+  }
+ }
+ m.kept[0] = l1;
+ m.kept[1] = l10;
+ m.kept[2] = l13;
+ m.kept[3] = l14;
+ m.kept[4] = l15;
+ m.kept[5] = l16;
+ m.kept[6] = l18;
+ m.kept[7] = l20;
+ return exit;
+}
+
+static int f108_5(State m, long l1, long l2, long l3, long l4, long l5, long l6, long l9, long l10, int l13, int l14, int l15, int l16, int l17, int l18, int l20, int l21) {
+ final byte[] b = m.bytes;
+ int exit = 0;
+ PART: {
+  L162: {
+   if (l6 == l1) { break L162; }
+   l9 = 1L;
+   l14 = l16 = (l15 = (int) b[((int) (l10 = l5 + l1)) - 60720]) & 255;
+   L163: {
+    L164: {
+     L165: {
+      L166: {
+       L167: {
+        L168: {
+         L169: {
+          if (l15 > -1) { break L169; }
+          l14 = (b[((int) l10) - 60719] & 0xff) & 63;
+          L170: {
+           L171: {
+            if (l15 + Integer.MIN_VALUE < 2147483616) { break L171; }
+            l20 = (b[((int) l10) - 60718] & 0xff) & 63;
+            L172: {
+             L173: {
+              if (l15 + Integer.MIN_VALUE > 2147483631) { break L173; }
+              l17 = ((l14 << 6) | ((l16 << 12) & 61440)) | l20;
+              break L172;
+             }
+             l17 = ((l20 << 6) | ((l14 << 12) | ((l16 << 18) & 1835008))) | ((b[((int) l10) - 60717] & 0xff) & 63);
+            }
+            L174: {
+             if (l17 == 40670) { break L174; }
+             if (l17 != 28857) { break L170; }
+            }
+            Core2.f50(m, l2 + 40L, l13);
+            if ((l13 + -58) + Integer.MIN_VALUE > 2147483637) { break L168; }
+            if (((b[((int) l2) - 60680] & 0xff) & 255) != 1) { break L168; }
+            if ((l13 != 12295) & (l13 != 38646)) { break L163; }
+            if (l13 == 21313) { break L163; }
+            break L162;
+           }
+           l14 = ((l16 << 6) & 1984) | l14;
+           l9 = 2L;
+           break L169;
+          }
+          L175: {
+           if (l15 + Integer.MIN_VALUE > 2147483631) { break L175; }
+           l14 = ((l14 << 6) | ((l16 << 12) & 61440)) | l20;
+           l9 = 3L;
+           break L169;
+          }
+          l14 = ((l20 << 6) | ((l14 << 12) | ((l16 << 18) & 1835008))) | ((b[((int) l10) - 60717] & 0xff) & 63);
+          l9 = 4L;
+         }
+         l1 = l6 - l1;
+         L176: {
+          if (l13 > 20840) { break L176; }
+          if (l13 == 20004) { break L167; }
+          if (l13 != 20108) { break L162; }
+          break L167;
+         }
+         if (l13 == 20841) { break L167; }
+         if (l13 != 21313) { break L162; }
+         Core2.f50(m, l2 + 32L, l14);
+         if ((l14 + -58) + Integer.MIN_VALUE > 2147483637) { break L162; }
+         if (((b[((int) l2) - 60688] & 0xff) & 255) != 1) { break L162; }
+         if (l14 == 12295) { break L162; }
+         if (l14 == 38646) { break L162; }
+         if (l1 == l9) { break L162; }
+         break L166;
+        }
+        if (l13 != 21313) { break L162; }
+        break L163;
+       }
+       if (l1 == l9) { break L165; }
+       if (l14 != 21313) { break L165; }
+      }
+      if ((l14 = (int) b[((int) (l9 = l10 + l9)) - 60720]) > -1) { break L165; }
+      if (l14 + Integer.MIN_VALUE < 2147483616) { break L165; }
+      l17 = l14 & 255;
+      l20 = (b[((int) l9) - 60719] & 0xff) & 63;
+      l21 = (b[((int) l9) - 60718] & 0xff) & 63;
+      L177: {
+       L178: {
+        if (l14 + Integer.MIN_VALUE > 2147483631) { break L178; }
+        l14 = ((l20 << 6) | ((l17 << 12) & 61440)) | l21;
+        break L177;
+       }
+       l14 = ((l21 << 6) | ((l20 << 12) | ((l17 << 18) & 1835008))) | ((b[((int) l9) - 60717] & 0xff) & 63);
+      }
+      if (l14 == 28857) { break L163; }
+      if (l14 == 40670) { break L163; }
+      if (l13 != 20108) { break L162; }
+      if (l15 > -1) { break L162; }
+      break L164;
+     }
+     if (l13 != 20108) { break L162; }
+     if (l15 > -1) { break L162; }
+    }
+    if (l15 + Integer.MIN_VALUE < 2147483616) { break L162; }
+    l13 = (b[((int) l10) - 60719] & 0xff) & 63;
+    l14 = (b[((int) l10) - 60718] & 0xff) & 63;
+    L179: {
+     L180: {
+      if (l15 + Integer.MIN_VALUE > 2147483631) { break L180; }
+      l13 = ((l13 << 6) | ((l16 << 12) & 61440)) | l14;
+      l9 = 3L;
+      break L179;
+     }
+     l13 = ((l14 << 6) | ((l13 << 12) | ((l16 << 18) & 1835008))) | ((b[((int) l10) - 60717] & 0xff) & 63);
+     l9 = 4L;
+    }
+    if (l13 != 21313) { break L162; }
+    if (Core4.f122(m, 84768L, 4L, 82776L, 2L, l10 + l9, l1 - l9) == 0) { break L162; }
+   }
+   L181: {
+    if (l18 != 0) { break L181; }
+    if (((int) b[((int) ((l1 = l3 + l4) + -1L)) - 60720]) > -1) { break L181; }
+    l10 = -2L;
+    L182: {
+     if ((b[((int) (l1 + -2L)) - 60720] & 0xff) + Integer.MIN_VALUE > -2147483457) { break L182; }
+     l10 = ((b[((int) (l1 + -3L)) - 60720] & 0xff) + Integer.MIN_VALUE > -2147483457) ? -3L : -4L;
+    }
+    if ((l13 = (int) b[((int) (l1 = (l3 + l10) + l4)) - 60720]) > -1) { break L181; }
+    if (l13 + Integer.MIN_VALUE < 2147483616) { break L181; }
+    l15 = l13 & 255;
+    l14 = (b[((int) l1) - 60719] & 0xff) & 63;
+    l16 = (b[((int) l1) - 60718] & 0xff) & 63;
+    L183: {
+     L184: {
+      if (l13 + Integer.MIN_VALUE > 2147483631) { break L184; }
+      l14 = ((l14 << 6) | ((l15 << 12) & 61440)) | l16;
+      break L183;
+     }
+     l14 = ((l16 << 6) | ((l14 << 12) | ((l15 << 18) & 1835008))) | ((b[((int) l1) - 60717] & 0xff) & 63);
+    }
+    l15 = 4;
+    L185: {
+     if (l14 > 26201) { break L185; }
+     if (l14 == 21320) { exit = 1; break PART; }
+     if (l14 == 22812) { exit = 1; break PART; }
+     if (l14 == 26089) { exit = 1; break PART; }
+     break L181;
+    }
+    l13 = 1;
+    switch (l14 + -26202) {
+    case 0: case 14: exit = 2; break PART;
+    default: break L181;
+    }
+   }
+   if (Core4.f136(m, 83108L, 1L, 83100L, 2L, l3, l4) == 0) { break L162; }
+   l15 = 4;
+   l13 = 1;
+   exit = 2; break PART;
+  }
+ }
+ m.kept[0] = l1;
+ m.kept[1] = l9;
+ m.kept[2] = l10;
+ m.kept[3] = l13;
+ m.kept[4] = l14;
+ m.kept[5] = l15;
+ m.kept[6] = l16;
+ m.kept[7] = l17;
+ m.kept[8] = l20;
+ m.kept[9] = l21;
+ return exit;
+}
+
+static int f108_6(State m, long l1, long l2, long l5, long l9, long l10, int l13, int l14, int l15, int l16, int l17, int l20) {
+ final byte[] b = m.bytes;
+ int exit = 0;
+ PART: {
+  L205: {
+   L206: {
+    L207: {
+     L208: {
+      L209: {
+       L210: {
+        if (l10 == 0L) { break L210; }
+        L211: {
+         if ((l15 = (int) b[((int) (l5 + (l1 = l10 + -1L))) - 60720]) >= 0) { break L211; }
+         l1 = -2L;
+         L212: {
+          if ((b[((int) ((l9 = l5 + l10) + -2L)) - 60720] & 0xff) + Integer.MIN_VALUE > -2147483457) { break L212; }
+          l1 = ((b[((int) (l9 + -3L)) - 60720] & 0xff) + Integer.MIN_VALUE > -2147483457) ? -3L : -4L;
+         }
+         l15 = (l14 = (int) b[((int) (l10 = l5 + (l1 = l1 + l10))) - 60720]) & 255;
+         if (l14 > -1) { break L211; }
+         l16 = (b[((int) l10) - 60719] & 0xff) & 63;
+         L213: {
+          if (l14 + Integer.MIN_VALUE > 2147483615) { break L213; }
+          l15 = ((l15 << 6) & 1984) | l16;
+          break L211;
+         }
+         l17 = (b[((int) l10) - 60718] & 0xff) & 63;
+         L214: {
+          if (l14 + Integer.MIN_VALUE > 2147483631) { break L214; }
+          l15 = ((l16 << 6) | ((l15 << 12) & 61440)) | l17;
+          break L211;
+         }
+         l15 = ((l17 << 6) | ((l16 << 12) | ((l15 << 18) & 1835008))) | ((b[((int) l10) - 60717] & 0xff) & 63);
+        }
+        if (l1 == 0L) { break L207; }
+        if (((int) b[((int) ((l10 = l5 + l1) + -1L)) - 60720]) > -1) { exit = 1; break PART; }
+        l9 = -2L;
+        L215: {
+         if ((b[((int) (l10 + -2L)) - 60720] & 0xff) + Integer.MIN_VALUE > -2147483457) { break L215; }
+         l9 = ((b[((int) (l10 + -3L)) - 60720] & 0xff) + Integer.MIN_VALUE > -2147483457) ? -3L : -4L;
+        }
+        if ((l14 = (int) b[((int) (l1 = l5 + (l10 = l9 + l1))) - 60720]) > -1) { exit = 1; break PART; }
+        if (l14 + Integer.MIN_VALUE < 2147483616) { exit = 1; break PART; }
+        l16 = l14 & 255;
+        l17 = (b[((int) l1) - 60719] & 0xff) & 63;
+        l20 = (b[((int) l1) - 60718] & 0xff) & 63;
+        if (l14 + Integer.MIN_VALUE > 2147483631) { break L209; }
+        l14 = ((l17 << 6) | ((l16 << 12) & 61440)) | l20;
+        break L208;
+       }
+       Core2.f50(m, l2 + 8L, l13);
+       L216: {
+        L217: {
+         if ((l13 + -58) + Integer.MIN_VALUE > 2147483637) { break L217; }
+         if (((b[((int) l2) - 60712] & 0xff) & 255) == 1) { break L216; }
+        }
+        if (l13 != 21313) { exit = 1; break PART; }
+        exit = 2; break PART;
+       }
+       if ((l13 != 12295) & (l13 != 38646)) { exit = 2; break PART; }
+       if (l13 != 21313) { exit = 1; break PART; }
+       exit = 2; break PART;
+      }
+      l14 = ((l20 << 6) | ((l17 << 12) | ((l16 << 18) & 1835008))) | ((b[((int) l1) - 60717] & 0xff) & 63);
+     }
+     if (l10 != 0L) { exit = 1; break PART; }
+     if (l14 != 20108) { exit = 1; break PART; }
+     if (l15 != 21313) { exit = 1; break PART; }
+     switch (l13 + -19968) {
+     case 0: case 9: exit = 2; break PART;
+     case 1: case 2: case 3: case 4: case 5: case 6: case 7: case 8: exit = 1; break PART;
+     default: break L206;
+     }
+    }
+    L218: {
+     if (l15 > 20840) { break L218; }
+     if (l15 == 20004) { break L205; }
+     if (l15 != 20108) { exit = 1; break PART; }
+     break L205;
+    }
+    if (l15 == 20841) { break L205; }
+    if (l15 != 21313) { exit = 1; break PART; }
+    Core2.f50(m, l2 + 16L, l13);
+    if ((l13 + -58) + Integer.MIN_VALUE > 2147483637) { exit = 1; break PART; }
+    if (((b[((int) l2) - 60704] & 0xff) & 255) != 1) { exit = 1; break PART; }
+    if (l13 == 12295) { exit = 1; break PART; }
+    if (l13 == 38646) { exit = 1; break PART; }
+    exit = 2; break PART;
+   }
+   if (l13 == 20108) { exit = 2; break PART; }
+   if (l13 != 22235) { exit = 1; break PART; }
+   exit = 2; break PART;
+  }
+ }
+ m.kept[0] = l1;
+ m.kept[1] = l9;
+ m.kept[2] = l10;
+ m.kept[3] = l14;
+ m.kept[4] = l15;
+ m.kept[5] = l16;
+ m.kept[6] = l17;
+ m.kept[7] = l20;
  return exit;
 }
 
@@ -6187,317 +6158,432 @@ static void f108(State m, long l0, long l1) {
    l9 = l6;
    L49: {
     L50: {
-     final int x135 = f108_2(m, l1, l2, l3, l4, l5, l6, l7, l8, l9, l10, l12, l13, l14, l15, l16, l17, l18, l19, l20, l21);
+     L51: {
+      final int x110 = f108_2(m, l1, l2, l3, l4, l5, l6, l7, l8, l9, l10, l12, l13, l14, l15, l16, l17, l18, l19, l20, l21);
+      l1 = m.kept[0];
+      l9 = m.kept[1];
+      l10 = m.kept[2];
+      l13 = (int) m.kept[3];
+      l14 = (int) m.kept[4];
+      l15 = (int) m.kept[5];
+      l16 = (int) m.kept[6];
+      l18 = (int) m.kept[7];
+      l19 = (int) m.kept[8];
+      l20 = (int) m.kept[9];
+      l21 = (int) m.kept[10];
+      switch (x110) {
+      case 1: break L49;
+      case 2: break L1;
+      case 3: break L51;
+      }
+      final int x136 = f108_3(m, l1, l2, l5, l6, l7, l8, l9, l10, l13, l14, l15, l16, l17, l18);
+      l1 = m.kept[0];
+      l9 = m.kept[1];
+      l10 = m.kept[2];
+      l13 = (int) m.kept[3];
+      l14 = (int) m.kept[4];
+      l15 = (int) m.kept[5];
+      l16 = (int) m.kept[6];
+      l18 = (int) m.kept[7];
+      switch (x136) {
+      case 1: break L51;
+      case 2: break L50;
+      case 3: break L1;
+      case 4: break L49;
+      }
+      l15 = 2;
+      if (l13 == 36000) { break L49; }
+      if (l13 == 36127) { break L49; }
+     }
+     final int x153 = f108_4(m, l1, l3, l4, l7, l8, l10, l12, l13, l14, l15, l16, l18, l20);
      l1 = m.kept[0];
-     l9 = m.kept[1];
-     l10 = m.kept[2];
-     l13 = (int) m.kept[3];
-     l14 = (int) m.kept[4];
-     l15 = (int) m.kept[5];
-     l16 = (int) m.kept[6];
-     l18 = (int) m.kept[7];
-     l19 = (int) m.kept[8];
-     l20 = (int) m.kept[9];
-     l21 = (int) m.kept[10];
-     switch (x135) {
+     l10 = m.kept[1];
+     l13 = (int) m.kept[2];
+     l14 = (int) m.kept[3];
+     l15 = (int) m.kept[4];
+     l16 = (int) m.kept[5];
+     l18 = (int) m.kept[6];
+     l20 = (int) m.kept[7];
+     switch (x153) {
      case 1: break L49;
-     case 2: break L1;
-     case 3: break L50;
+     case 2: break L50;
      }
-     L136: {
-      if ((l18 = (l4 == 0L) ? 1 : 0) != 0) { break L136; }
-      if (((int) b[((int) ((l1 = l3 + l4) + -1L)) - 60720]) > -1) { break L136; }
-      l10 = -2L;
-      L137: {
-       if ((b[((int) (l1 + -2L)) - 60720] & 0xff) + Integer.MIN_VALUE > -2147483457) { break L137; }
-       l10 = ((b[((int) (l1 + -3L)) - 60720] & 0xff) + Integer.MIN_VALUE > -2147483457) ? -3L : -4L;
-      }
-      if ((l13 = (int) b[((int) (l1 = (l3 + l10) + l4)) - 60720]) > -1) { break L136; }
-      if (l13 + Integer.MIN_VALUE < 2147483616) { break L136; }
-      l15 = l13 & 255;
-      l14 = (b[((int) l1) - 60719] & 0xff) & 63;
-      l16 = (b[((int) l1) - 60718] & 0xff) & 63;
-      L138: {
-       L139: {
-        if (l13 + Integer.MIN_VALUE > 2147483631) { break L139; }
-        l13 = ((l14 << 6) | ((l15 << 12) & 61440)) | l16;
-        break L138;
-       }
-       l13 = ((l16 << 6) | ((l14 << 12) | ((l15 << 18) & 1835008))) | ((b[((int) l1) - 60717] & 0xff) & 63);
-      }
-      if (l12 != 0) { break L136; }
-      if (l13 != 31532) { break L136; }
-      l13 = (l15 = (int) b[((int) l7) - 60720]) & 255;
-      l1 = 1L;
-      L140: {
-       if (l15 > -1) { break L140; }
-       l14 = (b[((int) l7) - 60719] & 0xff) & 63;
-       L141: {
-        if (l15 + Integer.MIN_VALUE > 2147483615) { break L141; }
-        l13 = ((l13 << 6) & 1984) | l14;
-        l1 = 2L;
-        break L140;
-       }
-       l16 = (b[((int) l7) - 60718] & 0xff) & 63;
-       L142: {
-        if (l15 + Integer.MIN_VALUE > 2147483631) { break L142; }
-        l13 = ((l14 << 6) | ((l13 << 12) & 61440)) | l16;
-        l1 = 3L;
-        break L140;
-       }
-       l13 = ((l16 << 6) | ((l14 << 12) | ((l13 << 18) & 1835008))) | ((b[((int) l7) - 60717] & 0xff) & 63);
-       l1 = 4L;
-      }
-      l10 = l7 + l1;
-      L143: {
-       L144: {
-        if (l13 == 26465) { break L144; }
-        if (l13 == 27425) { break L143; }
-        if (l13 != 26781) { break L136; }
-       }
-       l15 = 2;
-       if (l8 == l1) { break L49; }
-       if ((l13 = (int) b[((int) l10) - 60720]) > -1) { break L49; }
-       if (l13 + Integer.MIN_VALUE < 2147483616) { break L49; }
-       l14 = l13 & 255;
-       l16 = (b[((int) l10) - 60719] & 0xff) & 63;
-       l20 = (b[((int) l10) - 60718] & 0xff) & 63;
-       L145: {
-        L146: {
-         if (l13 + Integer.MIN_VALUE > 2147483631) { break L146; }
-         if (((l13 = (l16 << 6) | ((l14 << 12) & 61440)) + -19968) + Integer.MIN_VALUE >= -2147462656) { break L49; }
-         l13 = l13 | l20;
-         break L145;
+     L154: {
+      L155: {
+       L156: {
+        L157: {
+         L158: {
+          if (l17 != 0) { break L158; }
+          l13 = (l15 = (int) b[((int) l5) - 60720]) & 255;
+          l1 = 1L;
+          L159: {
+           if (l15 > -1) { break L159; }
+           l14 = (b[((int) l5) - 60719] & 0xff) & 63;
+           L160: {
+            if (l15 + Integer.MIN_VALUE > 2147483615) { break L160; }
+            l13 = ((l13 << 6) & 1984) | l14;
+            l1 = 2L;
+            break L159;
+           }
+           l16 = (b[((int) l5) - 60718] & 0xff) & 63;
+           L161: {
+            if (l15 + Integer.MIN_VALUE > 2147483631) { break L161; }
+            l13 = ((l14 << 6) | ((l13 << 12) & 61440)) | l16;
+            l1 = 3L;
+            break L159;
+           }
+           l13 = ((l16 << 6) | ((l14 << 12) | ((l13 << 18) & 1835008))) | ((b[((int) l5) - 60717] & 0xff) & 63);
+           l1 = 4L;
+          }
+          final int x186 = f108_5(m, l1, l2, l3, l4, l5, l6, l9, l10, l13, l14, l15, l16, l17, l18, l20, l21);
+          l1 = m.kept[0];
+          l9 = m.kept[1];
+          l10 = m.kept[2];
+          l13 = (int) m.kept[3];
+          l14 = (int) m.kept[4];
+          l15 = (int) m.kept[5];
+          l16 = (int) m.kept[6];
+          l17 = (int) m.kept[7];
+          l20 = (int) m.kept[8];
+          l21 = (int) m.kept[9];
+          switch (x186) {
+          case 1: break L49;
+          case 2: break L1;
+          }
+          L187: {
+           if ((l13 = (int) b[((int) (l5 + (l1 = l6 + -1L))) - 60720]) >= 0) { break L187; }
+           l1 = -2L;
+           L188: {
+            if ((b[((int) ((l10 = l5 + l6) + -2L)) - 60720] & 0xff) + Integer.MIN_VALUE > -2147483457) { break L188; }
+            l1 = ((b[((int) (l10 + -3L)) - 60720] & 0xff) + Integer.MIN_VALUE > -2147483457) ? -3L : -4L;
+           }
+           l13 = (l15 = (int) b[((int) (l10 = l5 + (l1 = l1 + l6))) - 60720]) & 255;
+           if (l15 > -1) { break L187; }
+           l14 = (b[((int) l10) - 60719] & 0xff) & 63;
+           L189: {
+            if (l15 + Integer.MIN_VALUE > 2147483615) { break L189; }
+            l13 = ((l13 << 6) & 1984) | l14;
+            break L187;
+           }
+           l16 = (b[((int) l10) - 60718] & 0xff) & 63;
+           L190: {
+            if (l15 + Integer.MIN_VALUE > 2147483631) { break L190; }
+            l13 = ((l14 << 6) | ((l13 << 12) & 61440)) | l16;
+            break L187;
+           }
+           l13 = ((l16 << 6) | ((l14 << 12) | ((l13 << 18) & 1835008))) | ((b[((int) l10) - 60717] & 0xff) & 63);
+          }
+          Core2.f50(m, l2 + 24L, l13);
+          if ((l13 + -58) + Integer.MIN_VALUE > 2147483637) { break L158; }
+          if (((b[((int) l2) - 60696] & 0xff) & 255) != 1) { break L158; }
+          if (l13 == 12295) { break L158; }
+          if (l13 == 38646) { break L158; }
+          if (l1 == 0L) { break L158; }
+          L191: {
+           if ((l13 = (int) b[((int) (l5 + (l10 = l1 + -1L))) - 60720]) >= 0) { break L191; }
+           l10 = -2L;
+           L192: {
+            if ((b[((int) ((l9 = l5 + l1) + -2L)) - 60720] & 0xff) + Integer.MIN_VALUE > -2147483457) { break L192; }
+            l10 = ((b[((int) (l9 + -3L)) - 60720] & 0xff) + Integer.MIN_VALUE > -2147483457) ? -3L : -4L;
+           }
+           l13 = (l15 = (int) b[((int) (l1 = l5 + (l10 = l10 + l1))) - 60720]) & 255;
+           if (l15 > -1) { break L191; }
+           l14 = (b[((int) l1) - 60719] & 0xff) & 63;
+           L193: {
+            if (l15 + Integer.MIN_VALUE > 2147483615) { break L193; }
+            l13 = ((l13 << 6) & 1984) | l14;
+            break L191;
+           }
+           l16 = (b[((int) l1) - 60718] & 0xff) & 63;
+           L194: {
+            if (l15 + Integer.MIN_VALUE > 2147483631) { break L194; }
+            l13 = ((l14 << 6) | ((l13 << 12) & 61440)) | l16;
+            break L191;
+           }
+           l13 = ((l16 << 6) | ((l14 << 12) | ((l13 << 18) & 1835008))) | ((b[((int) l1) - 60717] & 0xff) & 63);
+          }
+          L195: {
+           if ((l15 = (l13 == 38646) ? 1 : 0) != 0) { break L195; }
+           if (l13 == 12295) { break L195; }
+           if ((((l13 == 12295) ? 1 : 0) | l15) == 0) { break L158; }
+           break L157;
+          }
+          if (l10 == 0L) { break L158; }
+          L196: {
+           if ((l13 = (int) b[((int) (l5 + (l1 = l10 + -1L))) - 60720]) >= 0) { break L196; }
+           l1 = -2L;
+           L197: {
+            if ((b[((int) ((l9 = l5 + l10) + -2L)) - 60720] & 0xff) + Integer.MIN_VALUE > -2147483457) { break L197; }
+            l1 = ((b[((int) (l9 + -3L)) - 60720] & 0xff) + Integer.MIN_VALUE > -2147483457) ? -3L : -4L;
+           }
+           l13 = (l15 = (int) b[((int) (l10 = l5 + (l1 = l1 + l10))) - 60720]) & 255;
+           if (l15 > -1) { break L196; }
+           l14 = (b[((int) l10) - 60719] & 0xff) & 63;
+           L198: {
+            if (l15 + Integer.MIN_VALUE > 2147483615) { break L198; }
+            l13 = ((l13 << 6) & 1984) | l14;
+            break L196;
+           }
+           l16 = (b[((int) l10) - 60718] & 0xff) & 63;
+           L199: {
+            if (l15 + Integer.MIN_VALUE > 2147483631) { break L199; }
+            l13 = ((l14 << 6) | ((l13 << 12) & 61440)) | l16;
+            break L196;
+           }
+           l13 = ((l16 << 6) | ((l14 << 12) | ((l13 << 18) & 1835008))) | ((b[((int) l10) - 60717] & 0xff) & 63);
+          }
+          L200: {
+           if ((l15 = (l13 == 40670) ? 1 : 0) != 0) { break L200; }
+           if (l13 == 28857) { break L200; }
+           if ((((l13 == 28857) ? 1 : 0) | l15) == 0) { break L158; }
+           break L157;
+          }
+          if (l1 == 0L) { break L158; }
+          L201: {
+           if ((l13 = (int) b[((int) (l5 + (l10 = l1 + -1L))) - 60720]) >= 0) { break L201; }
+           l10 = -2L;
+           L202: {
+            if ((b[((int) ((l9 = l5 + l1) + -2L)) - 60720] & 0xff) + Integer.MIN_VALUE > -2147483457) { break L202; }
+            l10 = ((b[((int) (l9 + -3L)) - 60720] & 0xff) + Integer.MIN_VALUE > -2147483457) ? -3L : -4L;
+           }
+           l13 = (l15 = (int) b[((int) (l1 = l5 + (l10 = l10 + l1))) - 60720]) & 255;
+           if (l15 > -1) { break L201; }
+           l14 = (b[((int) l1) - 60719] & 0xff) & 63;
+           L203: {
+            if (l15 + Integer.MIN_VALUE > 2147483615) { break L203; }
+            l13 = ((l13 << 6) & 1984) | l14;
+            break L201;
+           }
+           l16 = (b[((int) l1) - 60718] & 0xff) & 63;
+           L204: {
+            if (l15 + Integer.MIN_VALUE > 2147483631) { break L204; }
+            l13 = ((l14 << 6) | ((l13 << 12) & 61440)) | l16;
+            break L201;
+           }
+           l13 = ((l16 << 6) | ((l14 << 12) | ((l13 << 18) & 1835008))) | ((b[((int) l1) - 60717] & 0xff) & 63);
+          }
+          final int x219 = f108_6(m, l1, l2, l5, l9, l10, l13, l14, l15, l16, l17, l20);
+          l1 = m.kept[0];
+          l9 = m.kept[1];
+          l10 = m.kept[2];
+          l14 = (int) m.kept[3];
+          l15 = (int) m.kept[4];
+          l16 = (int) m.kept[5];
+          l17 = (int) m.kept[6];
+          l20 = (int) m.kept[7];
+          switch (x219) {
+          case 1: break L158;
+          case 2: break L157;
+          }
+          if (l13 == 21313) { break L157; }
+         }
+         if (l12 == 0) { break L156; }
+         break L155;
         }
-        if (((l13 = (l20 << 6) | ((l16 << 12) | ((l14 << 18) & 1835008))) + -19968) + Integer.MIN_VALUE >= -2147462656) { break L49; }
-        l13 = l13 | ((b[((int) l10) - 60717] & 0xff) & 63);
-       }
-       L147: {
-        if (l13 > 25109) { break L147; }
-        L148: {
-         if (l13 > 21039) { break L148; }
-         if (l13 == 19982) { break L49; }
-         if (l13 == 20043) { break L49; }
-         break L136;
+        l13 = 1;
+        l15 = 4;
+        if (l12 != 0) { break L1; }
+        if ((l14 = (int) b[((int) l7) - 60720]) > -1) { break L1; }
+        if (l14 + Integer.MIN_VALUE < 2147483616) { break L1; }
+        l16 = l14 & 255;
+        l12 = (b[((int) l7) - 60719] & 0xff) & 63;
+        l17 = (b[((int) l7) - 60718] & 0xff) & 63;
+        L220: {
+         L221: {
+          if (l14 + Integer.MIN_VALUE > 2147483631) { break L221; }
+          l14 = ((l12 << 6) | ((l16 << 12) & 61440)) | l17;
+          break L220;
+         }
+         l14 = ((l17 << 6) | ((l12 << 12) | ((l16 << 18) & 1835008))) | ((b[((int) l7) - 60717] & 0xff) & 63);
         }
-        if (l13 == 21040) { break L49; }
-        if (l13 == 21450) { break L49; }
-        if (l13 == 21644) { break L49; }
-        break L136;
-       }
-       L149: {
-        if (l13 > 33286) { break L149; }
-        if (l13 == 25110) { break L49; }
-        if (l13 == 31532) { break L49; }
-        if (l13 == 33267) { break L49; }
-        break L136;
-       }
-       if (l13 == 33287) { break L49; }
-       if (l13 == 35215) { break L49; }
-       if (l13 == 35268) { break L49; }
-       break L136;
-      }
-      if (l8 == l1) { break L136; }
-      if ((l13 = (int) b[((int) l10) - 60720]) > -1) { break L136; }
-      if (l13 + Integer.MIN_VALUE < 2147483616) { break L136; }
-      l15 = l13 & 255;
-      l14 = (b[((int) l10) - 60719] & 0xff) & 63;
-      l16 = (b[((int) l10) - 60718] & 0xff) & 63;
-      L150: {
-       L151: {
-        if (l13 + Integer.MIN_VALUE > 2147483631) { break L151; }
-        l13 = ((l14 << 6) | ((l15 << 12) & 61440)) | l16;
-        break L150;
-       }
-       l13 = ((l16 << 6) | ((l14 << 12) | ((l15 << 18) & 1835008))) | ((b[((int) l10) - 60717] & 0xff) & 63);
-      }
-      if (l13 == 20840) { break L50; }
-     }
-     L152: {
-      L153: {
-       final int x221 = f108_3(m, l1, l2, l3, l4, l5, l6, l7, l9, l10, l12, l13, l14, l15, l16, l17, l18, l20, l21);
-       l1 = m.kept[0];
-       l9 = m.kept[1];
-       l10 = m.kept[2];
-       l12 = (int) m.kept[3];
-       l13 = (int) m.kept[4];
-       l14 = (int) m.kept[5];
-       l15 = (int) m.kept[6];
-       l16 = (int) m.kept[7];
-       l17 = (int) m.kept[8];
-       l20 = (int) m.kept[9];
-       l21 = (int) m.kept[10];
-       switch (x221) {
-       case 1: break L49;
-       case 2: break L1;
-       case 3: break L153;
+        L222: {
+         if (l14 > 21543) { break L222; }
+         L223: {
+          switch (l14 + -20803) {
+          case 0: case 8: break L156;
+          case 1: case 2: case 3: case 4: case 5: case 6: case 7: break L1;
+          default: break L223;
+          }
+         }
+         if (l14 == 20493) { break L156; }
+         if (l14 == 21319) { break L156; }
+         break L1;
+        }
+        L224: {
+         if (l14 > 24229) { break L224; }
+         if (l14 == 21544) { break L156; }
+         if (l14 == 22136) { break L156; }
+         break L1;
+        }
+        if (l14 == 24230) { break L156; }
+        if (l14 != 31859) { break L1; }
        }
        l16 = (l13 = (int) b[((int) l7) - 60720]) & 255;
        l10 = 1L;
-       L222: {
-        if (l13 > -1) { break L222; }
+       L225: {
+        if (l13 > -1) { break L225; }
         l15 = (b[((int) l7) - 60719] & 0xff) & 63;
-        L223: {
-         if (l13 + Integer.MIN_VALUE > 2147483615) { break L223; }
+        L226: {
+         if (l13 + Integer.MIN_VALUE > 2147483615) { break L226; }
          l16 = ((l16 << 6) & 1984) | l15;
          l10 = 2L;
-         break L222;
+         break L225;
         }
         l14 = (b[((int) l7) - 60718] & 0xff) & 63;
-        L224: {
-         if (l13 + Integer.MIN_VALUE > 2147483631) { break L224; }
+        L227: {
+         if (l13 + Integer.MIN_VALUE > 2147483631) { break L227; }
          l16 = ((l15 << 6) | ((l16 << 12) & 61440)) | l14;
          l10 = 3L;
-         break L222;
+         break L225;
         }
         l16 = ((l14 << 6) | ((l15 << 12) | ((l16 << 18) & 1835008))) | ((b[((int) l7) - 60717] & 0xff) & 63);
         l10 = 4L;
        }
-       L225: {
-        L226: {
-         if (l16 > 12315) { break L226; }
-         L227: {
-          if (l16 > 8210) { break L227; }
-          if (l16 == 45) { break L225; }
-          if (l16 != 126) { break L153; }
-          break L225;
+       L228: {
+        L229: {
+         if (l16 > 12315) { break L229; }
+         L230: {
+          if (l16 > 8210) { break L230; }
+          if (l16 == 45) { break L228; }
+          if (l16 != 126) { break L155; }
+          break L228;
          }
-         if ((l16 + -8211) + Integer.MIN_VALUE < -2147483646) { break L225; }
-         if (l16 != 12289) { break L153; }
-         break L225;
+         if ((l16 + -8211) + Integer.MIN_VALUE < -2147483646) { break L228; }
+         if (l16 != 12289) { break L155; }
+         break L228;
         }
-        L228: {
-         if (l16 > 33266) { break L228; }
-         if (l16 == 12316) { break L225; }
-         if (l16 != 21040) { break L153; }
-         break L225;
+        L231: {
+         if (l16 > 33266) { break L231; }
+         if (l16 == 12316) { break L228; }
+         if (l16 != 21040) { break L155; }
+         break L228;
         }
-        if (l16 == 33267) { break L225; }
-        if (l16 == 65374) { break L225; }
-        if (l16 != 65293) { break L153; }
+        if (l16 == 33267) { break L228; }
+        if (l16 == 65374) { break L228; }
+        if (l16 != 65293) { break L155; }
        }
        l1 = l11 = l7 + l10;
        l9 = l8 = l8 - l10;
-       L229: {
-        L230: while (true) {
-         if ((l7 = l9) == 0L) { break L229; }
+       L232: {
+        L233: while (true) {
+         if ((l7 = l9) == 0L) { break L232; }
          l13 = (l15 = (int) b[((int) l1) - 60720]) & 255;
          l10 = 1L;
-         L231: {
-          if (l15 > -1) { break L231; }
+         L234: {
+          if (l15 > -1) { break L234; }
           l14 = (b[((int) l1) - 60719] & 0xff) & 63;
-          L232: {
-           if (l15 + Integer.MIN_VALUE > 2147483615) { break L232; }
+          L235: {
+           if (l15 + Integer.MIN_VALUE > 2147483615) { break L235; }
            l13 = ((l13 << 6) & 1984) | l14;
            l10 = 2L;
-           break L231;
+           break L234;
           }
           l12 = (b[((int) l1) - 60718] & 0xff) & 63;
-          L233: {
-           if (l15 + Integer.MIN_VALUE > 2147483631) { break L233; }
+          L236: {
+           if (l15 + Integer.MIN_VALUE > 2147483631) { break L236; }
            l13 = ((l14 << 6) | ((l13 << 12) & 61440)) | l12;
            l10 = 3L;
-           break L231;
+           break L234;
           }
           l13 = ((l12 << 6) | ((l14 << 12) | ((l13 << 18) & 1835008))) | ((b[((int) l1) - 60717] & 0xff) & 63);
           l10 = 4L;
          }
          l9 = l7 - l10;
          l1 = l1 + l10;
-         if (Core5.f150(m, l13) != 0) { continue L230; }
-         break L230;
+         if (Core5.f150(m, l13) != 0) { continue L233; }
+         break L233;
         }
        }
        l15 = ((l13 = Core5.f151(m, l16, l5, l6, l11, l8 - l7)) != 0) ? 5 : 0;
        if (l18 != 0) { break L1; }
        if (l13 != 0) { break L1; }
-       break L152;
+       break L154;
       }
-      if (l18 == 0) { break L152; }
+      if (l18 == 0) { break L154; }
       l13 = 0;
       l15 = 0;
       break L1;
      }
      l13 = 0;
-     L234: {
-      if ((l14 = (int) b[((int) (l3 + (l7 = l4 + -1L))) - 60720]) >= 0) { break L234; }
+     L237: {
+      if ((l14 = (int) b[((int) (l3 + (l7 = l4 + -1L))) - 60720]) >= 0) { break L237; }
       l1 = -2L;
-      L235: {
-       if ((b[((int) ((l10 = l3 + l4) + -2L)) - 60720] & 0xff) + Integer.MIN_VALUE > -2147483457) { break L235; }
+      L238: {
+       if ((b[((int) ((l10 = l3 + l4) + -2L)) - 60720] & 0xff) + Integer.MIN_VALUE > -2147483457) { break L238; }
        l1 = ((b[((int) (l10 + -3L)) - 60720] & 0xff) + Integer.MIN_VALUE > -2147483457) ? -3L : -4L;
       }
       l14 = (l15 = (int) b[((int) (l1 = l3 + (l7 = l1 + l4))) - 60720]) & 255;
-      if (l15 > -1) { break L234; }
+      if (l15 > -1) { break L237; }
       l16 = (b[((int) l1) - 60719] & 0xff) & 63;
-      L236: {
-       if (l15 + Integer.MIN_VALUE > 2147483615) { break L236; }
+      L239: {
+       if (l15 + Integer.MIN_VALUE > 2147483615) { break L239; }
        l14 = ((l14 << 6) & 1984) | l16;
-       break L234;
+       break L237;
       }
       l12 = (b[((int) l1) - 60718] & 0xff) & 63;
-      L237: {
-       if (l15 + Integer.MIN_VALUE > 2147483631) { break L237; }
+      L240: {
+       if (l15 + Integer.MIN_VALUE > 2147483631) { break L240; }
        l14 = ((l16 << 6) | ((l14 << 12) & 61440)) | l12;
-       break L234;
+       break L237;
       }
       l14 = ((l12 << 6) | ((l16 << 12) | ((l14 << 18) & 1835008))) | ((b[((int) l1) - 60717] & 0xff) & 63);
      }
-     L238: {
-      L239: {
-       if (l14 > 12315) { break L239; }
-       L240: {
-        if (l14 > 8210) { break L240; }
-        if (l14 == 45) { break L238; }
+     L241: {
+      L242: {
+       if (l14 > 12315) { break L242; }
+       L243: {
+        if (l14 > 8210) { break L243; }
+        if (l14 == 45) { break L241; }
         l15 = 0;
-        if (l14 == 126) { break L238; }
+        if (l14 == 126) { break L241; }
         break L1;
        }
-       if ((l14 + -8211) + Integer.MIN_VALUE < -2147483646) { break L238; }
+       if ((l14 + -8211) + Integer.MIN_VALUE < -2147483646) { break L241; }
        l15 = 0;
-       if (l14 == 12289) { break L238; }
+       if (l14 == 12289) { break L241; }
        break L1;
       }
-      L241: {
-       if (l14 > 33266) { break L241; }
-       if (l14 == 12316) { break L238; }
+      L244: {
+       if (l14 > 33266) { break L244; }
+       if (l14 == 12316) { break L241; }
        l15 = 0;
-       if (l14 == 21040) { break L238; }
+       if (l14 == 21040) { break L241; }
        break L1;
       }
-      if (l14 == 33267) { break L238; }
-      if (l14 == 65374) { break L238; }
+      if (l14 == 33267) { break L241; }
+      if (l14 == 65374) { break L241; }
       l15 = 0;
       if (l14 != 65293) { break L1; }
      }
      l10 = l7;
-     L242: {
-      L243: while (true) {
-       if ((l1 = l10) == 0L) { break L242; }
-       L244: {
-        if ((l13 = (int) b[((int) (l3 + (l10 = l1 + -1L))) - 60720]) >= 0) { break L244; }
+     L245: {
+      L246: while (true) {
+       if ((l1 = l10) == 0L) { break L245; }
+       L247: {
+        if ((l13 = (int) b[((int) (l3 + (l10 = l1 + -1L))) - 60720]) >= 0) { break L247; }
         l10 = -2L;
-        L245: {
-         if ((b[((int) ((l9 = l3 + l1) + -2L)) - 60720] & 0xff) + Integer.MIN_VALUE > -2147483457) { break L245; }
+        L248: {
+         if ((b[((int) ((l9 = l3 + l1) + -2L)) - 60720] & 0xff) + Integer.MIN_VALUE > -2147483457) { break L248; }
          l10 = ((b[((int) (l9 + -3L)) - 60720] & 0xff) + Integer.MIN_VALUE > -2147483457) ? -3L : -4L;
         }
         l13 = (l15 = (int) b[((int) (l9 = l3 + (l10 = l10 + l1))) - 60720]) & 255;
-        if (l15 > -1) { break L244; }
+        if (l15 > -1) { break L247; }
         l16 = (b[((int) l9) - 60719] & 0xff) & 63;
-        L246: {
-         if (l15 + Integer.MIN_VALUE > 2147483615) { break L246; }
+        L249: {
+         if (l15 + Integer.MIN_VALUE > 2147483615) { break L249; }
          l13 = ((l13 << 6) & 1984) | l16;
-         break L244;
+         break L247;
         }
         l12 = (b[((int) l9) - 60718] & 0xff) & 63;
-        L247: {
-         if (l15 + Integer.MIN_VALUE > 2147483631) { break L247; }
+        L250: {
+         if (l15 + Integer.MIN_VALUE > 2147483631) { break L250; }
          l13 = ((l16 << 6) | ((l13 << 12) & 61440)) | l12;
-         break L244;
+         break L247;
         }
         l13 = ((l12 << 6) | ((l16 << 12) | ((l13 << 18) & 1835008))) | ((b[((int) l9) - 60717] & 0xff) & 63);
        }
-       if (Core5.f150(m, l13) != 0) { continue L243; }
-       break L243;
+       if (Core5.f150(m, l13) != 0) { continue L246; }
+       break L246;
       }
      }
      l15 = ((l13 = Core5.f151(m, l14, l3 + l1, l7 - l1, l5, l6)) != 0) ? 5 : 0;
@@ -7516,138 +7602,69 @@ static int f114_1(State m, int l1, long l2, long l3, long l4, long l5, long l6, 
  final byte[] b = m.bytes;
  int exit = 0;
  PART: {
-  L12: {
-   L13: {
-    L14: {
-     L15: {
-      L16: {
-       L17: {
-        L18: {
-         L19: {
-          L20: {
-           L21: {
-            L22: {
-             L23: {
-              L24: {
-               L25: {
-                L26: {
-                 L27: {
-                  switch ((int) ((l1 & 0xffffffffL) & 255L)) {
-                  case 1: break L26;
-                  case 2: break L25;
-                  case 3: break L24;
-                  case 4: break L23;
-                  case 5: break L22;
-                  case 6: break L21;
-                  case 7: break L20;
-                  case 8: break L19;
-                  case 9: break L18;
-                  case 10: break L17;
-                  case 11: break L16;
-                  case 12: break L15;
-                  case 13: break L14;
-                  case 14: break L13;
-                  case 15: break L12;
-                  case 16: exit = 1; break PART;
-                  case 17: exit = 2; break PART;
-                  case 18: exit = 3; break PART;
-                  case 19: exit = 4; break PART;
-                  case 20: exit = 5; break PART;
-                  case 21: exit = 6; break PART;
-                  case 22: exit = 7; break PART;
-                  default: break L27;
-                  }
-                 }
-                 if (l3 == 0L) { exit = 8; break PART; }
-                 L28: {
-                  L29: {
-                   if ((l1 = (int) b[((int) l2) - 60720]) > -1) { break L29; }
-                   if (l1 + Integer.MIN_VALUE < 2147483616) { break L29; }
-                   l9 = l1 & 255;
-                   l10 = (b[((int) l2) - 60719] & 0xff) & 63;
-                   l11 = (b[((int) l2) - 60718] & 0xff) & 63;
-                   L30: {
-                    L31: {
-                     if (l1 + Integer.MIN_VALUE > 2147483631) { break L31; }
-                     l1 = ((l10 << 6) | ((l9 << 12) & 61440)) | l11;
-                     l5 = 3L;
-                     break L30;
-                    }
-                    l1 = ((l11 << 6) | ((l10 << 12) | ((l9 << 18) & 1835008))) | ((b[((int) l2) - 60717] & 0xff) & 63);
-                    l5 = 4L;
-                   }
-                   if (l1 != 24180) { break L29; }
-                   l3 = l3 - l5;
-                   l2 = l2 + l5;
-                   l5 = 1L;
-                   break L28;
-                  }
-                  l2 = 0L;
-                  l3 = 0L;
-                  l5 = 0L;
-                 }
-                 Words.put64(b, ((int) l4) - 60672, l3);
-                 Words.put64(b, ((int) l4) - 60680, l2);
-                 Words.put64(b, ((int) l4) - 60688, l5);
-                 exit = 8; break PART;
+  L14: {
+   L15: {
+    L16: {
+     L17: {
+      L18: {
+       L19: {
+        L20: {
+         L21: {
+          L22: {
+           L23: {
+            L24: {
+             L25: {
+              L26: {
+               L27: {
+                switch ((int) ((l1 & 0xffffffffL) & 255L)) {
+                case 1: break L26;
+                case 2: break L25;
+                case 3: break L24;
+                case 4: break L23;
+                case 5: break L22;
+                case 6: break L21;
+                case 7: break L20;
+                case 8: break L19;
+                case 9: break L18;
+                case 10: break L17;
+                case 11: break L16;
+                case 12: break L15;
+                case 13: break L14;
+                case 14: exit = 1; break PART;
+                case 15: exit = 2; break PART;
+                case 16: exit = 3; break PART;
+                case 17: exit = 4; break PART;
+                case 18: exit = 5; break PART;
+                case 19: exit = 6; break PART;
+                case 20: exit = 7; break PART;
+                case 21: exit = 8; break PART;
+                case 22: exit = 9; break PART;
+                default: break L27;
                 }
-                if (l3 == 0L) { exit = 8; break PART; }
-                L32: {
-                 L33: {
-                  if ((l1 = (int) b[((int) l2) - 60720]) > -1) { break L33; }
-                  if (l1 + Integer.MIN_VALUE < 2147483616) { break L33; }
-                  l9 = l1 & 255;
-                  l10 = (b[((int) l2) - 60719] & 0xff) & 63;
-                  l11 = (b[((int) l2) - 60718] & 0xff) & 63;
-                  L34: {
-                   L35: {
-                    if (l1 + Integer.MIN_VALUE > 2147483631) { break L35; }
-                    l1 = ((l10 << 6) | ((l9 << 12) & 61440)) | l11;
-                    l5 = 3L;
-                    break L34;
-                   }
-                   l1 = ((l11 << 6) | ((l10 << 12) | ((l9 << 18) & 1835008))) | ((b[((int) l2) - 60717] & 0xff) & 63);
-                   l5 = 4L;
-                  }
-                  if (l1 != 26376) { break L33; }
-                  l3 = l3 - l5;
-                  l2 = l2 + l5;
-                  l5 = 1L;
-                  break L32;
-                 }
-                 l2 = 0L;
-                 l3 = 0L;
-                 l5 = 0L;
-                }
-                Words.put64(b, ((int) l4) - 60672, l3);
-                Words.put64(b, ((int) l4) - 60680, l2);
-                Words.put64(b, ((int) l4) - 60688, l5);
-                exit = 8; break PART;
                }
-               if (l3 == 0L) { exit = 8; break PART; }
-               L36: {
-                L37: {
-                 if ((l1 = (int) b[((int) l2) - 60720]) > -1) { break L37; }
-                 if (l1 + Integer.MIN_VALUE < 2147483616) { break L37; }
+               if (l3 == 0L) { exit = 10; break PART; }
+               L28: {
+                L29: {
+                 if ((l1 = (int) b[((int) l2) - 60720]) > -1) { break L29; }
+                 if (l1 + Integer.MIN_VALUE < 2147483616) { break L29; }
                  l9 = l1 & 255;
                  l10 = (b[((int) l2) - 60719] & 0xff) & 63;
                  l11 = (b[((int) l2) - 60718] & 0xff) & 63;
-                 L38: {
-                  L39: {
-                   if (l1 + Integer.MIN_VALUE > 2147483631) { break L39; }
+                 L30: {
+                  L31: {
+                   if (l1 + Integer.MIN_VALUE > 2147483631) { break L31; }
                    l1 = ((l10 << 6) | ((l9 << 12) & 61440)) | l11;
                    l5 = 3L;
-                   break L38;
+                   break L30;
                   }
                   l1 = ((l11 << 6) | ((l10 << 12) | ((l9 << 18) & 1835008))) | ((b[((int) l2) - 60717] & 0xff) & 63);
                   l5 = 4L;
                  }
+                 if (l1 != 24180) { break L29; }
                  l3 = l3 - l5;
                  l2 = l2 + l5;
                  l5 = 1L;
-                 if (l1 == 21495) { break L36; }
-                 if (l1 == 26085) { break L36; }
-                 if (l1 == 34399) { break L36; }
+                 break L28;
                 }
                 l2 = 0L;
                 l3 = 0L;
@@ -7656,31 +7673,31 @@ static int f114_1(State m, int l1, long l2, long l3, long l4, long l5, long l6, 
                Words.put64(b, ((int) l4) - 60672, l3);
                Words.put64(b, ((int) l4) - 60680, l2);
                Words.put64(b, ((int) l4) - 60688, l5);
-               exit = 8; break PART;
+               exit = 10; break PART;
               }
-              if (l3 == 0L) { exit = 8; break PART; }
-              L40: {
-               L41: {
-                if ((l1 = (int) b[((int) l2) - 60720]) > -1) { break L41; }
-                if (l1 + Integer.MIN_VALUE < 2147483616) { break L41; }
+              if (l3 == 0L) { exit = 10; break PART; }
+              L32: {
+               L33: {
+                if ((l1 = (int) b[((int) l2) - 60720]) > -1) { break L33; }
+                if (l1 + Integer.MIN_VALUE < 2147483616) { break L33; }
                 l9 = l1 & 255;
                 l10 = (b[((int) l2) - 60719] & 0xff) & 63;
                 l11 = (b[((int) l2) - 60718] & 0xff) & 63;
-                L42: {
-                 L43: {
-                  if (l1 + Integer.MIN_VALUE > 2147483631) { break L43; }
+                L34: {
+                 L35: {
+                  if (l1 + Integer.MIN_VALUE > 2147483631) { break L35; }
                   l1 = ((l10 << 6) | ((l9 << 12) & 61440)) | l11;
                   l5 = 3L;
-                  break L42;
+                  break L34;
                  }
                  l1 = ((l11 << 6) | ((l10 << 12) | ((l9 << 18) & 1835008))) | ((b[((int) l2) - 60717] & 0xff) & 63);
                  l5 = 4L;
                 }
+                if (l1 != 26376) { break L33; }
                 l3 = l3 - l5;
                 l2 = l2 + l5;
                 l5 = 1L;
-                if (l1 == 28857) { break L40; }
-                if (l1 == 40670) { break L40; }
+                break L32;
                }
                l2 = 0L;
                l3 = 0L;
@@ -7689,22 +7706,22 @@ static int f114_1(State m, int l1, long l2, long l3, long l4, long l5, long l6, 
               Words.put64(b, ((int) l4) - 60672, l3);
               Words.put64(b, ((int) l4) - 60680, l2);
               Words.put64(b, ((int) l4) - 60688, l5);
-              exit = 8; break PART;
+              exit = 10; break PART;
              }
-             if (l3 == 0L) { exit = 8; break PART; }
-             L44: {
-              L45: {
-               if ((l1 = (int) b[((int) l2) - 60720]) > -1) { break L45; }
-               if (l1 + Integer.MIN_VALUE < 2147483616) { break L45; }
+             if (l3 == 0L) { exit = 10; break PART; }
+             L36: {
+              L37: {
+               if ((l1 = (int) b[((int) l2) - 60720]) > -1) { break L37; }
+               if (l1 + Integer.MIN_VALUE < 2147483616) { break L37; }
                l9 = l1 & 255;
                l10 = (b[((int) l2) - 60719] & 0xff) & 63;
                l11 = (b[((int) l2) - 60718] & 0xff) & 63;
-               L46: {
-                L47: {
-                 if (l1 + Integer.MIN_VALUE > 2147483631) { break L47; }
+               L38: {
+                L39: {
+                 if (l1 + Integer.MIN_VALUE > 2147483631) { break L39; }
                  l1 = ((l10 << 6) | ((l9 << 12) & 61440)) | l11;
                  l5 = 3L;
-                 break L46;
+                 break L38;
                 }
                 l1 = ((l11 << 6) | ((l10 << 12) | ((l9 << 18) & 1835008))) | ((b[((int) l2) - 60717] & 0xff) & 63);
                 l5 = 4L;
@@ -7712,14 +7729,9 @@ static int f114_1(State m, int l1, long l2, long l3, long l4, long l5, long l6, 
                l3 = l3 - l5;
                l2 = l2 + l5;
                l5 = 1L;
-               L48: {
-                if (l1 > 28856) { break L48; }
-                if (l1 == 26102) { break L44; }
-                if (l1 != 26178) { break L45; }
-                break L44;
-               }
-               if (l1 == 28857) { break L44; }
-               if (l1 == 40670) { break L44; }
+               if (l1 == 21495) { break L36; }
+               if (l1 == 26085) { break L36; }
+               if (l1 == 34399) { break L36; }
               }
               l2 = 0L;
               l3 = 0L;
@@ -7728,31 +7740,31 @@ static int f114_1(State m, int l1, long l2, long l3, long l4, long l5, long l6, 
              Words.put64(b, ((int) l4) - 60672, l3);
              Words.put64(b, ((int) l4) - 60680, l2);
              Words.put64(b, ((int) l4) - 60688, l5);
-             exit = 8; break PART;
+             exit = 10; break PART;
             }
-            if (l3 == 0L) { exit = 8; break PART; }
-            L49: {
-             L50: {
-              if ((l1 = (int) b[((int) l2) - 60720]) > -1) { break L50; }
-              if (l1 + Integer.MIN_VALUE < 2147483616) { break L50; }
+            if (l3 == 0L) { exit = 10; break PART; }
+            L40: {
+             L41: {
+              if ((l1 = (int) b[((int) l2) - 60720]) > -1) { break L41; }
+              if (l1 + Integer.MIN_VALUE < 2147483616) { break L41; }
               l9 = l1 & 255;
               l10 = (b[((int) l2) - 60719] & 0xff) & 63;
               l11 = (b[((int) l2) - 60718] & 0xff) & 63;
-              L51: {
-               L52: {
-                if (l1 + Integer.MIN_VALUE > 2147483631) { break L52; }
+              L42: {
+               L43: {
+                if (l1 + Integer.MIN_VALUE > 2147483631) { break L43; }
                 l1 = ((l10 << 6) | ((l9 << 12) & 61440)) | l11;
                 l5 = 3L;
-                break L51;
+                break L42;
                }
                l1 = ((l11 << 6) | ((l10 << 12) | ((l9 << 18) & 1835008))) | ((b[((int) l2) - 60717] & 0xff) & 63);
                l5 = 4L;
               }
-              if (l1 != 20998) { break L50; }
               l3 = l3 - l5;
               l2 = l2 + l5;
               l5 = 1L;
-              break L49;
+              if (l1 == 28857) { break L40; }
+              if (l1 == 40670) { break L40; }
              }
              l2 = 0L;
              l3 = 0L;
@@ -7761,31 +7773,37 @@ static int f114_1(State m, int l1, long l2, long l3, long l4, long l5, long l6, 
             Words.put64(b, ((int) l4) - 60672, l3);
             Words.put64(b, ((int) l4) - 60680, l2);
             Words.put64(b, ((int) l4) - 60688, l5);
-            exit = 8; break PART;
+            exit = 10; break PART;
            }
-           if (l3 == 0L) { exit = 8; break PART; }
-           L53: {
-            L54: {
-             if ((l1 = (int) b[((int) l2) - 60720]) > -1) { break L54; }
-             if (l1 + Integer.MIN_VALUE < 2147483616) { break L54; }
+           if (l3 == 0L) { exit = 10; break PART; }
+           L44: {
+            L45: {
+             if ((l1 = (int) b[((int) l2) - 60720]) > -1) { break L45; }
+             if (l1 + Integer.MIN_VALUE < 2147483616) { break L45; }
              l9 = l1 & 255;
              l10 = (b[((int) l2) - 60719] & 0xff) & 63;
              l11 = (b[((int) l2) - 60718] & 0xff) & 63;
-             L55: {
-              L56: {
-               if (l1 + Integer.MIN_VALUE > 2147483631) { break L56; }
+             L46: {
+              L47: {
+               if (l1 + Integer.MIN_VALUE > 2147483631) { break L47; }
                l1 = ((l10 << 6) | ((l9 << 12) & 61440)) | l11;
                l5 = 3L;
-               break L55;
+               break L46;
               }
               l1 = ((l11 << 6) | ((l10 << 12) | ((l9 << 18) & 1835008))) | ((b[((int) l2) - 60717] & 0xff) & 63);
               l5 = 4L;
              }
-             if (l1 != 31186) { break L54; }
              l3 = l3 - l5;
              l2 = l2 + l5;
              l5 = 1L;
-             break L53;
+             L48: {
+              if (l1 > 28856) { break L48; }
+              if (l1 == 26102) { break L44; }
+              if (l1 != 26178) { break L45; }
+              break L44;
+             }
+             if (l1 == 28857) { break L44; }
+             if (l1 == 40670) { break L44; }
             }
             l2 = 0L;
             l3 = 0L;
@@ -7794,31 +7812,31 @@ static int f114_1(State m, int l1, long l2, long l3, long l4, long l5, long l6, 
            Words.put64(b, ((int) l4) - 60672, l3);
            Words.put64(b, ((int) l4) - 60680, l2);
            Words.put64(b, ((int) l4) - 60688, l5);
-           exit = 8; break PART;
+           exit = 10; break PART;
           }
-          if (l3 == 0L) { exit = 8; break PART; }
-          L57: {
-           L58: {
-            if ((l1 = (int) b[((int) l2) - 60720]) > -1) { break L58; }
-            if (l1 + Integer.MIN_VALUE < 2147483616) { break L58; }
+          if (l3 == 0L) { exit = 10; break PART; }
+          L49: {
+           L50: {
+            if ((l1 = (int) b[((int) l2) - 60720]) > -1) { break L50; }
+            if (l1 + Integer.MIN_VALUE < 2147483616) { break L50; }
             l9 = l1 & 255;
             l10 = (b[((int) l2) - 60719] & 0xff) & 63;
             l11 = (b[((int) l2) - 60718] & 0xff) & 63;
-            L59: {
-             L60: {
-              if (l1 + Integer.MIN_VALUE > 2147483631) { break L60; }
+            L51: {
+             L52: {
+              if (l1 + Integer.MIN_VALUE > 2147483631) { break L52; }
               l1 = ((l10 << 6) | ((l9 << 12) & 61440)) | l11;
               l5 = 3L;
-              break L59;
+              break L51;
              }
              l1 = ((l11 << 6) | ((l10 << 12) | ((l9 << 18) & 1835008))) | ((b[((int) l2) - 60717] & 0xff) & 63);
              l5 = 4L;
             }
-            if (l1 != 21322) { break L58; }
+            if (l1 != 20998) { break L50; }
             l3 = l3 - l5;
             l2 = l2 + l5;
             l5 = 1L;
-            break L57;
+            break L49;
            }
            l2 = 0L;
            l3 = 0L;
@@ -7827,31 +7845,31 @@ static int f114_1(State m, int l1, long l2, long l3, long l4, long l5, long l6, 
           Words.put64(b, ((int) l4) - 60672, l3);
           Words.put64(b, ((int) l4) - 60680, l2);
           Words.put64(b, ((int) l4) - 60688, l5);
-          exit = 8; break PART;
+          exit = 10; break PART;
          }
-         if (l3 == 0L) { exit = 8; break PART; }
-         L61: {
-          L62: {
-           if ((l1 = (int) b[((int) l2) - 60720]) > -1) { break L62; }
-           if (l1 + Integer.MIN_VALUE < 2147483616) { break L62; }
+         if (l3 == 0L) { exit = 10; break PART; }
+         L53: {
+          L54: {
+           if ((l1 = (int) b[((int) l2) - 60720]) > -1) { break L54; }
+           if (l1 + Integer.MIN_VALUE < 2147483616) { break L54; }
            l9 = l1 & 255;
            l10 = (b[((int) l2) - 60719] & 0xff) & 63;
            l11 = (b[((int) l2) - 60718] & 0xff) & 63;
-           L63: {
-            L64: {
-             if (l1 + Integer.MIN_VALUE > 2147483631) { break L64; }
+           L55: {
+            L56: {
+             if (l1 + Integer.MIN_VALUE > 2147483631) { break L56; }
              l1 = ((l10 << 6) | ((l9 << 12) & 61440)) | l11;
              l5 = 3L;
-             break L63;
+             break L55;
             }
             l1 = ((l11 << 6) | ((l10 << 12) | ((l9 << 18) & 1835008))) | ((b[((int) l2) - 60717] & 0xff) & 63);
             l5 = 4L;
            }
-           if (l1 != 21051) { break L62; }
+           if (l1 != 31186) { break L54; }
            l3 = l3 - l5;
            l2 = l2 + l5;
            l5 = 1L;
-           break L61;
+           break L53;
           }
           l2 = 0L;
           l3 = 0L;
@@ -7860,236 +7878,212 @@ static int f114_1(State m, int l1, long l2, long l3, long l4, long l5, long l6, 
          Words.put64(b, ((int) l4) - 60672, l3);
          Words.put64(b, ((int) l4) - 60680, l2);
          Words.put64(b, ((int) l4) - 60688, l5);
-         exit = 8; break PART;
+         exit = 10; break PART;
         }
-        if (l3 == 0L) { exit = 8; break PART; }
-        l1 = (l9 = (int) b[((int) l2) - 60720]) & 255;
-        l6 = 1L;
-        L65: {
-         L66: {
-          if (l9 <= -1) { break L66; }
+        if (l3 == 0L) { exit = 10; break PART; }
+        L57: {
+         L58: {
+          if ((l1 = (int) b[((int) l2) - 60720]) > -1) { break L58; }
+          if (l1 + Integer.MIN_VALUE < 2147483616) { break L58; }
+          l9 = l1 & 255;
+          l10 = (b[((int) l2) - 60719] & 0xff) & 63;
+          l11 = (b[((int) l2) - 60718] & 0xff) & 63;
+          L59: {
+           L60: {
+            if (l1 + Integer.MIN_VALUE > 2147483631) { break L60; }
+            l1 = ((l10 << 6) | ((l9 << 12) & 61440)) | l11;
+            l5 = 3L;
+            break L59;
+           }
+           l1 = ((l11 << 6) | ((l10 << 12) | ((l9 << 18) & 1835008))) | ((b[((int) l2) - 60717] & 0xff) & 63);
+           l5 = 4L;
+          }
+          if (l1 != 21322) { break L58; }
+          l3 = l3 - l5;
+          l2 = l2 + l5;
           l5 = 1L;
-          break L65;
+          break L57;
          }
-         l10 = (b[((int) l2) - 60719] & 0xff) & 63;
-         L67: {
-          if (l9 + Integer.MIN_VALUE > 2147483615) { break L67; }
-          l1 = ((l1 << 6) & 1984) | l10;
-          l5 = 2L;
-          break L65;
-         }
-         l11 = (b[((int) l2) - 60718] & 0xff) & 63;
-         L68: {
-          if (l9 + Integer.MIN_VALUE > 2147483631) { break L68; }
-          l1 = ((l10 << 6) | ((l1 << 12) & 61440)) | l11;
-          l5 = 3L;
-          break L65;
-         }
-         l1 = ((l11 << 6) | ((l10 << 12) | ((l1 << 18) & 1835008))) | ((b[((int) l2) - 60717] & 0xff) & 63);
-         l5 = 4L;
-        }
-        l3 = l3 - l5;
-        l2 = l2 + l5;
-        L69: {
-         if (l1 == 58) { break L69; }
-         if (l1 == 65306) { break L69; }
-         l6 = 0L;
          l2 = 0L;
          l3 = 0L;
+         l5 = 0L;
         }
         Words.put64(b, ((int) l4) - 60672, l3);
         Words.put64(b, ((int) l4) - 60680, l2);
-        Words.put64(b, ((int) l4) - 60688, l6);
-        exit = 8; break PART;
+        Words.put64(b, ((int) l4) - 60688, l5);
+        exit = 10; break PART;
        }
-       if (l3 == 0L) { exit = 8; break PART; }
-       l1 = (l9 = (int) b[((int) l2) - 60720]) & 255;
-       l5 = 1L;
-       L70: {
-        if (l9 > -1) { break L70; }
-        l10 = (b[((int) l2) - 60719] & 0xff) & 63;
-        L71: {
-         if (l9 + Integer.MIN_VALUE > 2147483615) { break L71; }
-         l1 = ((l1 << 6) & 1984) | l10;
-         l5 = 2L;
-         break L70;
+       if (l3 == 0L) { exit = 10; break PART; }
+       L61: {
+        L62: {
+         if ((l1 = (int) b[((int) l2) - 60720]) > -1) { break L62; }
+         if (l1 + Integer.MIN_VALUE < 2147483616) { break L62; }
+         l9 = l1 & 255;
+         l10 = (b[((int) l2) - 60719] & 0xff) & 63;
+         l11 = (b[((int) l2) - 60718] & 0xff) & 63;
+         L63: {
+          L64: {
+           if (l1 + Integer.MIN_VALUE > 2147483631) { break L64; }
+           l1 = ((l10 << 6) | ((l9 << 12) & 61440)) | l11;
+           l5 = 3L;
+           break L63;
+          }
+          l1 = ((l11 << 6) | ((l10 << 12) | ((l9 << 18) & 1835008))) | ((b[((int) l2) - 60717] & 0xff) & 63);
+          l5 = 4L;
+         }
+         if (l1 != 21051) { break L62; }
+         l3 = l3 - l5;
+         l2 = l2 + l5;
+         l5 = 1L;
+         break L61;
         }
-        l11 = (b[((int) l2) - 60718] & 0xff) & 63;
-        L72: {
-         if (l9 + Integer.MIN_VALUE > 2147483631) { break L72; }
-         l1 = ((l10 << 6) | ((l1 << 12) & 61440)) | l11;
-         l5 = 3L;
-         break L70;
-        }
-        l1 = ((l11 << 6) | ((l10 << 12) | ((l1 << 18) & 1835008))) | ((b[((int) l2) - 60717] & 0xff) & 63);
-        l5 = 4L;
+        l2 = 0L;
+        l3 = 0L;
+        l5 = 0L;
        }
-       final int t73 = (int) l4;
-       final long t74 = l3 - l5;
-       final int t75 = l1 = (l1 == 45) ? 1 : 0;
-       Words.put64(b, t73 - 60672, t75 != 0 ? t74 : 0L);
-       final int t76 = (int) l4;
-       final long t77 = l2 + l5;
-       final int t78 = l1;
-       Words.put64(b, t76 - 60680, t78 != 0 ? t77 : 0L);
-       Words.put64(b, ((int) l4) - 60688, l1 & 0xffffffffL);
-       exit = 8; break PART;
+       Words.put64(b, ((int) l4) - 60672, l3);
+       Words.put64(b, ((int) l4) - 60680, l2);
+       Words.put64(b, ((int) l4) - 60688, l5);
+       exit = 10; break PART;
       }
-      if (l3 == 0L) { exit = 8; break PART; }
+      if (l3 == 0L) { exit = 10; break PART; }
       l1 = (l9 = (int) b[((int) l2) - 60720]) & 255;
-      l5 = 1L;
-      L79: {
-       if (l9 > -1) { break L79; }
+      l6 = 1L;
+      L65: {
+       L66: {
+        if (l9 <= -1) { break L66; }
+        l5 = 1L;
+        break L65;
+       }
        l10 = (b[((int) l2) - 60719] & 0xff) & 63;
-       L80: {
-        if (l9 + Integer.MIN_VALUE > 2147483615) { break L80; }
+       L67: {
+        if (l9 + Integer.MIN_VALUE > 2147483615) { break L67; }
         l1 = ((l1 << 6) & 1984) | l10;
         l5 = 2L;
-        break L79;
+        break L65;
        }
        l11 = (b[((int) l2) - 60718] & 0xff) & 63;
-       L81: {
-        if (l9 + Integer.MIN_VALUE > 2147483631) { break L81; }
+       L68: {
+        if (l9 + Integer.MIN_VALUE > 2147483631) { break L68; }
         l1 = ((l10 << 6) | ((l1 << 12) & 61440)) | l11;
         l5 = 3L;
-        break L79;
+        break L65;
        }
        l1 = ((l11 << 6) | ((l10 << 12) | ((l1 << 18) & 1835008))) | ((b[((int) l2) - 60717] & 0xff) & 63);
        l5 = 4L;
       }
-      final int t82 = (int) l4;
-      final long t83 = l3 - l5;
-      final int t84 = l1 = (l1 == 47) ? 1 : 0;
-      Words.put64(b, t82 - 60672, t84 != 0 ? t83 : 0L);
-      final int t85 = (int) l4;
-      final long t86 = l2 + l5;
-      final int t87 = l1;
-      Words.put64(b, t85 - 60680, t87 != 0 ? t86 : 0L);
-      Words.put64(b, ((int) l4) - 60688, l1 & 0xffffffffL);
-      exit = 8; break PART;
-     }
-     if (l3 == 0L) { exit = 8; break PART; }
-     L88: {
-      L89: {
-       if ((l1 = (int) b[((int) l2) - 60720]) > -1) { break L89; }
-       if (l1 + Integer.MIN_VALUE < 2147483616) { break L89; }
-       l9 = l1 & 255;
-       l10 = (b[((int) l2) - 60719] & 0xff) & 63;
-       l11 = (b[((int) l2) - 60718] & 0xff) & 63;
-       L90: {
-        L91: {
-         if (l1 + Integer.MIN_VALUE > 2147483631) { break L91; }
-         l1 = ((l10 << 6) | ((l9 << 12) & 61440)) | l11;
-         l5 = 3L;
-         break L90;
-        }
-        l1 = ((l11 << 6) | ((l10 << 12) | ((l9 << 18) & 1835008))) | ((b[((int) l2) - 60717] & 0xff) & 63);
-        l5 = 4L;
-       }
-       if (l1 != 27604) { break L89; }
-       l3 = l3 - l5;
-       l2 = l2 + l5;
-       l5 = 1L;
-       break L88;
-      }
-      l2 = 0L;
-      l3 = 0L;
-      l5 = 0L;
-     }
-     Words.put64(b, ((int) l4) - 60672, l3);
-     Words.put64(b, ((int) l4) - 60680, l2);
-     Words.put64(b, ((int) l4) - 60688, l5);
-     exit = 8; break PART;
-    }
-    if (l3 == 0L) { exit = 8; break PART; }
-    L92: {
-     L93: {
-      if ((l1 = (int) b[((int) l2) - 60720]) > -1) { break L93; }
-      if (l1 + Integer.MIN_VALUE < 2147483616) { break L93; }
-      l9 = l1 & 255;
-      l10 = (b[((int) l2) - 60719] & 0xff) & 63;
-      l11 = (b[((int) l2) - 60718] & 0xff) & 63;
-      L94: {
-       L95: {
-        if (l1 + Integer.MIN_VALUE > 2147483631) { break L95; }
-        l1 = ((l10 << 6) | ((l9 << 12) & 61440)) | l11;
-        l5 = 3L;
-        break L94;
-       }
-       l1 = ((l11 << 6) | ((l10 << 12) | ((l9 << 18) & 1835008))) | ((b[((int) l2) - 60717] & 0xff) & 63);
-       l5 = 4L;
-      }
       l3 = l3 - l5;
       l2 = l2 + l5;
-      l5 = 1L;
-      if (l1 == 24230) { break L92; }
-      if (l1 == 31186) { break L92; }
-      if (l1 == 31859) { break L92; }
+      L69: {
+       if (l1 == 58) { break L69; }
+       if (l1 == 65306) { break L69; }
+       l6 = 0L;
+       l2 = 0L;
+       l3 = 0L;
+      }
+      Words.put64(b, ((int) l4) - 60672, l3);
+      Words.put64(b, ((int) l4) - 60680, l2);
+      Words.put64(b, ((int) l4) - 60688, l6);
+      exit = 10; break PART;
      }
-     l2 = 0L;
-     l3 = 0L;
-     l5 = 0L;
-    }
-    Words.put64(b, ((int) l4) - 60672, l3);
-    Words.put64(b, ((int) l4) - 60680, l2);
-    Words.put64(b, ((int) l4) - 60688, l5);
-    exit = 8; break PART;
-   }
-   if (l3 == 0L) { exit = 8; break PART; }
-   l1 = (l9 = (int) b[((int) l2) - 60720]) & 255;
-   l5 = 1L;
-   L96: {
-    L97: {
-     L98: {
-      L99: {
-       if (l9 > -1) { break L99; }
-       l10 = (b[((int) l2) - 60719] & 0xff) & 63;
-       if (l9 + Integer.MIN_VALUE > 2147483615) { break L98; }
+     if (l3 == 0L) { exit = 10; break PART; }
+     l1 = (l9 = (int) b[((int) l2) - 60720]) & 255;
+     l5 = 1L;
+     L70: {
+      if (l9 > -1) { break L70; }
+      l10 = (b[((int) l2) - 60719] & 0xff) & 63;
+      L71: {
+       if (l9 + Integer.MIN_VALUE > 2147483615) { break L71; }
        l1 = ((l1 << 6) & 1984) | l10;
        l5 = 2L;
+       break L70;
       }
-      l6 = l3 - l5;
-      l2 = l2 + l5;
-      break L97;
-     }
-     l11 = (b[((int) l2) - 60718] & 0xff) & 63;
-     L100: {
-      L101: {
-       if (l9 + Integer.MIN_VALUE > 2147483631) { break L101; }
+      l11 = (b[((int) l2) - 60718] & 0xff) & 63;
+      L72: {
+       if (l9 + Integer.MIN_VALUE > 2147483631) { break L72; }
        l1 = ((l10 << 6) | ((l1 << 12) & 61440)) | l11;
        l5 = 3L;
-       break L100;
+       break L70;
       }
       l1 = ((l11 << 6) | ((l10 << 12) | ((l1 << 18) & 1835008))) | ((b[((int) l2) - 60717] & 0xff) & 63);
       l5 = 4L;
      }
-     l6 = l3 - l5;
-     l2 = l2 + l5;
-     l3 = 1L;
-     if (l1 == 21040) { break L96; }
-     if (l1 == 33267) { break L96; }
+     final int t73 = (int) l4;
+     final long t74 = l3 - l5;
+     final int t75 = l1 = (l1 == 45) ? 1 : 0;
+     Words.put64(b, t73 - 60672, t75 != 0 ? t74 : 0L);
+     final int t76 = (int) l4;
+     final long t77 = l2 + l5;
+     final int t78 = l1;
+     Words.put64(b, t76 - 60680, t78 != 0 ? t77 : 0L);
+     Words.put64(b, ((int) l4) - 60688, l1 & 0xffffffffL);
+     exit = 10; break PART;
     }
-    l3 = 1L;
-    L102: {
-     L103: {
-      if (l1 > 12315) { break L103; }
-      if ((l1 + -8211) + Integer.MIN_VALUE < -2147483646) { break L96; }
-      if (l1 == 45) { break L96; }
-      if (l1 != 126) { break L102; }
-      break L96;
+    if (l3 == 0L) { exit = 10; break PART; }
+    l1 = (l9 = (int) b[((int) l2) - 60720]) & 255;
+    l5 = 1L;
+    L79: {
+     if (l9 > -1) { break L79; }
+     l10 = (b[((int) l2) - 60719] & 0xff) & 63;
+     L80: {
+      if (l9 + Integer.MIN_VALUE > 2147483615) { break L80; }
+      l1 = ((l1 << 6) & 1984) | l10;
+      l5 = 2L;
+      break L79;
      }
-     if (l1 == 12316) { break L96; }
-     if (l1 == 65293) { break L96; }
-     if (l1 == 65374) { break L96; }
+     l11 = (b[((int) l2) - 60718] & 0xff) & 63;
+     L81: {
+      if (l9 + Integer.MIN_VALUE > 2147483631) { break L81; }
+      l1 = ((l10 << 6) | ((l1 << 12) & 61440)) | l11;
+      l5 = 3L;
+      break L79;
+     }
+     l1 = ((l11 << 6) | ((l10 << 12) | ((l1 << 18) & 1835008))) | ((b[((int) l2) - 60717] & 0xff) & 63);
+     l5 = 4L;
     }
-    l6 = 0L;
+    final int t82 = (int) l4;
+    final long t83 = l3 - l5;
+    final int t84 = l1 = (l1 == 47) ? 1 : 0;
+    Words.put64(b, t82 - 60672, t84 != 0 ? t83 : 0L);
+    final int t85 = (int) l4;
+    final long t86 = l2 + l5;
+    final int t87 = l1;
+    Words.put64(b, t85 - 60680, t87 != 0 ? t86 : 0L);
+    Words.put64(b, ((int) l4) - 60688, l1 & 0xffffffffL);
+    exit = 10; break PART;
+   }
+   if (l3 == 0L) { exit = 10; break PART; }
+   L88: {
+    L89: {
+     if ((l1 = (int) b[((int) l2) - 60720]) > -1) { break L89; }
+     if (l1 + Integer.MIN_VALUE < 2147483616) { break L89; }
+     l9 = l1 & 255;
+     l10 = (b[((int) l2) - 60719] & 0xff) & 63;
+     l11 = (b[((int) l2) - 60718] & 0xff) & 63;
+     L90: {
+      L91: {
+       if (l1 + Integer.MIN_VALUE > 2147483631) { break L91; }
+       l1 = ((l10 << 6) | ((l9 << 12) & 61440)) | l11;
+       l5 = 3L;
+       break L90;
+      }
+      l1 = ((l11 << 6) | ((l10 << 12) | ((l9 << 18) & 1835008))) | ((b[((int) l2) - 60717] & 0xff) & 63);
+      l5 = 4L;
+     }
+     if (l1 != 27604) { break L89; }
+     l3 = l3 - l5;
+     l2 = l2 + l5;
+     l5 = 1L;
+     break L88;
+    }
     l2 = 0L;
     l3 = 0L;
+    l5 = 0L;
    }
-   Words.put64(b, ((int) l4) - 60672, l6);
+   Words.put64(b, ((int) l4) - 60672, l3);
    Words.put64(b, ((int) l4) - 60680, l2);
-   Words.put64(b, ((int) l4) - 60688, l3);
-   exit = 8; break PART;
+   Words.put64(b, ((int) l4) - 60688, l5);
+   exit = 10; break PART;
   }
  }
  m.kept[0] = l1;
@@ -8133,24 +8127,118 @@ static void f114(State m, long l0, int l1, long l2, long l3) {
          L9: {
           L10: {
            L11: {
-            final int x104 = f114_1(m, l1, l2, l3, l4, l5, l6, l9, l10, l11);
-            l1 = (int) m.kept[0];
-            l2 = m.kept[1];
-            l3 = m.kept[2];
-            l5 = m.kept[3];
-            l6 = m.kept[4];
-            l9 = (int) m.kept[5];
-            l10 = (int) m.kept[6];
-            l11 = (int) m.kept[7];
-            switch (x104) {
-            case 1: break L11;
-            case 2: break L10;
-            case 3: break L9;
-            case 4: break L8;
-            case 5: break L7;
-            case 6: break L6;
-            case 7: break L5;
-            case 8: break L2;
+            L12: {
+             L13: {
+              final int x92 = f114_1(m, l1, l2, l3, l4, l5, l6, l9, l10, l11);
+              l1 = (int) m.kept[0];
+              l2 = m.kept[1];
+              l3 = m.kept[2];
+              l5 = m.kept[3];
+              l6 = m.kept[4];
+              l9 = (int) m.kept[5];
+              l10 = (int) m.kept[6];
+              l11 = (int) m.kept[7];
+              switch (x92) {
+              case 1: break L13;
+              case 2: break L12;
+              case 3: break L11;
+              case 4: break L10;
+              case 5: break L9;
+              case 6: break L8;
+              case 7: break L7;
+              case 8: break L6;
+              case 9: break L5;
+              case 10: break L2;
+              }
+              if (l3 == 0L) { break L2; }
+              L93: {
+               L94: {
+                if ((l1 = (int) b[((int) l2) - 60720]) > -1) { break L94; }
+                if (l1 + Integer.MIN_VALUE < 2147483616) { break L94; }
+                l9 = l1 & 255;
+                l10 = (b[((int) l2) - 60719] & 0xff) & 63;
+                l11 = (b[((int) l2) - 60718] & 0xff) & 63;
+                L95: {
+                 L96: {
+                  if (l1 + Integer.MIN_VALUE > 2147483631) { break L96; }
+                  l1 = ((l10 << 6) | ((l9 << 12) & 61440)) | l11;
+                  l5 = 3L;
+                  break L95;
+                 }
+                 l1 = ((l11 << 6) | ((l10 << 12) | ((l9 << 18) & 1835008))) | ((b[((int) l2) - 60717] & 0xff) & 63);
+                 l5 = 4L;
+                }
+                l3 = l3 - l5;
+                l2 = l2 + l5;
+                l5 = 1L;
+                if (l1 == 24230) { break L93; }
+                if (l1 == 31186) { break L93; }
+                if (l1 == 31859) { break L93; }
+               }
+               l2 = 0L;
+               l3 = 0L;
+               l5 = 0L;
+              }
+              Words.put64(b, ((int) l4) - 60672, l3);
+              Words.put64(b, ((int) l4) - 60680, l2);
+              Words.put64(b, ((int) l4) - 60688, l5);
+              break L2;
+             }
+             if (l3 == 0L) { break L2; }
+             l1 = (l9 = (int) b[((int) l2) - 60720]) & 255;
+             l5 = 1L;
+             L97: {
+              L98: {
+               L99: {
+                L100: {
+                 if (l9 > -1) { break L100; }
+                 l10 = (b[((int) l2) - 60719] & 0xff) & 63;
+                 if (l9 + Integer.MIN_VALUE > 2147483615) { break L99; }
+                 l1 = ((l1 << 6) & 1984) | l10;
+                 l5 = 2L;
+                }
+                l6 = l3 - l5;
+                l2 = l2 + l5;
+                break L98;
+               }
+               l11 = (b[((int) l2) - 60718] & 0xff) & 63;
+               L101: {
+                L102: {
+                 if (l9 + Integer.MIN_VALUE > 2147483631) { break L102; }
+                 l1 = ((l10 << 6) | ((l1 << 12) & 61440)) | l11;
+                 l5 = 3L;
+                 break L101;
+                }
+                l1 = ((l11 << 6) | ((l10 << 12) | ((l1 << 18) & 1835008))) | ((b[((int) l2) - 60717] & 0xff) & 63);
+                l5 = 4L;
+               }
+               l6 = l3 - l5;
+               l2 = l2 + l5;
+               l3 = 1L;
+               if (l1 == 21040) { break L97; }
+               if (l1 == 33267) { break L97; }
+              }
+              l3 = 1L;
+              L103: {
+               L104: {
+                if (l1 > 12315) { break L104; }
+                if ((l1 + -8211) + Integer.MIN_VALUE < -2147483646) { break L97; }
+                if (l1 == 45) { break L97; }
+                if (l1 != 126) { break L103; }
+                break L97;
+               }
+               if (l1 == 12316) { break L97; }
+               if (l1 == 65293) { break L97; }
+               if (l1 == 65374) { break L97; }
+              }
+              l6 = 0L;
+              l2 = 0L;
+              l3 = 0L;
+             }
+             Words.put64(b, ((int) l4) - 60672, l6);
+             Words.put64(b, ((int) l4) - 60680, l2);
+             Words.put64(b, ((int) l4) - 60688, l3);
+             break L2;
             }
             L105: {
              L106: {

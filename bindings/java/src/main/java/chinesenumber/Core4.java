@@ -1056,699 +1056,408 @@ static void f120(State m, long l0, int l1, long l2, long l3) {
  throw State.trap();
 }
 
-static int f121_1(State m, long l0, int l1, int l2, long l3, long l4, long l5, long l6, long l7, long l8, long l9, long l10, int l11, int l12, int l13, int l14, int l15, int l16, int l17, int l18, int l19, int l20) {
+static int f121_1(State m, long l0, int l1, int l2, long l3, long l4, long l5, long l6, long l7, long l8, long l9, long l10, int l12, int l13, int l14, int l15, int l16, int l17, int l18, int l19, int l20) {
  final byte[] b = m.bytes;
  int exit = 0;
  PART: {
-  L4: {
-   L5: {
-    L6: {
-     L7: {
-      L8: {
-       L9: {
-        L10: {
-         L11: {
-          L12: {
-           L13: {
-            L14: {
-             L15: {
-              L16: {
-               L17: {
-                L18: {
-                 L19: {
-                  L20: {
-                   L21: {
-                    L22: {
-                     if ((l4 = l4) < 16L) { break L22; }
-                     l5 = Words.get64(b, ((int) l3) - 60704);
-                     l6 = Words.get64(b, ((int) l3) - 60712);
-                     l11 = b[((int) l3) - 60713] & 0xff;
-                     l12 = b[((int) l3) - 60714] & 0xff;
-                     l13 = Words.get16(b, ((int) l3) - 60716) & 0xffff;
-                     l14 = Words.get16(b, ((int) l3) - 60718) & 0xffff;
-                     l15 = Words.get16(b, ((int) l3) - 60720) & 0xffff;
-                     Words.put64(b, ((int) l4) - 60520, 0L);
-                     Words.put64(b, ((int) l4) - 60528, 0L);
-                     Words.put64(b, ((int) l4) - 60536, 0L);
-                     l7 = 1L;
-                     l16 = l15;
-                     l17 = l14;
-                     l18 = l13;
-                     l19 = l12;
-                     l20 = l11;
-                     l8 = l6;
-                     l3 = l5;
-                     L23: {
-                      L24: {
-                       L25: {
-                        switch ((int) ((l1 & 0xffffffffL) & 255L)) {
-                        case 1: break L24;
-                        case 2: break L23;
-                        case 3: exit = 1; break PART;
-                        default: break L25;
-                        }
-                       }
-                       Core3.f112(m, l4 + 152L, l12 & 1, l6, l5);
-                       l9 = Words.get64(b, ((int) l4) - 60560);
-                       l7 = Words.get64(b, ((int) l4) - 60568);
-                       Words.put64(b, ((int) l4) - 60488, 0L);
-                       Words.put64(b, ((int) l4) - 60496, 0L);
-                       Words.put64(b, ((int) l4) - 60504, 0L);
-                       Words.put64(b, ((int) l4) - 60512, 0L);
-                       Core3.f111(m, l4 + 208L, l7, l9);
-                       l5 = Words.get64(b, ((int) l4) - 60512);
-                       L26: {
-                        if ((l19 = ((l10 = Words.get64(b, ((int) l4) - 60504)) == 0L) ? 1 : 0) != 0) { break L26; }
-                        L27: {
-                         L28: {
-                          if ((l18 = (int) b[((int) l5) - 60720]) <= -1) { break L28; }
-                          l3 = 1L;
-                          break L27;
-                         }
-                         L29: {
-                          if (l18 + Integer.MIN_VALUE >= 2147483616) { break L29; }
-                          l3 = 2L;
-                          break L27;
-                         }
-                         l3 = (l18 + Integer.MIN_VALUE < 2147483632) ? 3L : 4L;
-                        }
-                        l6 = l10 - l3;
-                        l3 = l5 + l3;
-                        L30: while (true) {
-                         if (l6 == 0L) { break L26; }
-                         l18 = (l12 = (int) b[((int) l3) - 60720]) & 255;
-                         l8 = 1L;
-                         L31: {
-                          if (l12 > -1) { break L31; }
-                          l20 = (b[((int) l3) - 60719] & 0xff) & 63;
-                          L32: {
-                           if (l12 + Integer.MIN_VALUE > 2147483615) { break L32; }
-                           l18 = ((l18 << 6) & 1984) | l20;
-                           l8 = 2L;
-                           break L31;
-                          }
-                          l17 = (b[((int) l3) - 60718] & 0xff) & 63;
-                          L33: {
-                           if (l12 + Integer.MIN_VALUE > 2147483631) { break L33; }
-                           l18 = ((l20 << 6) | ((l18 << 12) & 61440)) | l17;
-                           l8 = 3L;
-                           break L31;
-                          }
-                          l18 = ((l17 << 6) | ((l20 << 12) | ((l18 << 18) & 1835008))) | ((b[((int) l3) - 60717] & 0xff) & 63);
-                          l8 = 4L;
-                         }
-                         if (l18 == 20004) { exit = 2; break PART; }
-                         l6 = l6 - l8;
-                         l3 = l3 + l8;
-                         if (l18 != 20841) { continue L30; }
-                         exit = 2; break PART;
-                        }
-                       }
-                       L34: {
-                        L35: {
-                         L36: {
-                          L37: {
-                           L38: {
-                            L39: {
-                             L40: {
-                              L41: {
-                               L42: {
-                                L43: {
-                                 L44: {
-                                  L45: {
-                                   switch ((int) ((l2 & 0xffffffffL) & 255L)) {
-                                   case 1: break L44;
-                                   case 2: break L43;
-                                   case 3: break L42;
-                                   case 4: break L41;
-                                   case 5: break L40;
-                                   case 6: break L39;
-                                   case 7: break L38;
-                                   case 8: case 9: break L37;
-                                   case 10: break L36;
-                                   case 11: break L35;
-                                   case 12: break L34;
-                                   default: break L45;
-                                   }
-                                  }
-                                  f128(m, l4 + 8L, l5, l10);
-                                  l18 = Words.get16(b, ((int) l4) - 60710) & 0xffff;
-                                  l12 = b[((int) l4) - 60712] & 0xff;
-                                  break L4;
-                                 }
-                                 f129(m, l4 + 16L, l5, l10);
-                                 l18 = Words.get16(b, ((int) l4) - 60702) & 0xffff;
-                                 l12 = b[((int) l4) - 60704] & 0xff;
-                                 break L4;
-                                }
-                                f129(m, l4 + 32L, l5, l10);
-                                l12 = 1;
-                                L46: {
-                                 if ((b[((int) l4) - 60688] & 0xff) != 1) { break L46; }
-                                 l18 = Words.get16(b, ((int) l4) - 60686) & 0xffff;
-                                 break L4;
-                                }
-                                f130(m, l4 + 24L, l5, l10);
-                                l18 = Words.get16(b, ((int) l4) - 60694) & 0xffff;
-                                l12 = b[((int) l4) - 60696] & 0xff;
-                                break L4;
-                               }
-                               f131(m, l4 + 40L, l5, l10);
-                               final int t47 = b[((int) l4) - 60679] & 0xff;
-                               final int t48 = l12 = (b[((int) l4) - 60680] & 0xff) & 1;
-                               l18 = t48 != 0 ? t47 : 0;
-                               break L4;
-                              }
-                              f131(m, l4 + 56L, l5, l10);
-                              l12 = 1;
-                              L49: {
-                               L50: {
-                                if ((b[((int) l4) - 60664] & 0xff) != 1) { break L50; }
-                                l18 = (b[((int) l4) - 60663] & 0xff) & 255;
-                                break L49;
-                               }
-                               f132(m, l4 + 48L, l5, l10);
-                               final int t51 = (b[((int) l4) - 60671] & 0xff) & 255;
-                               final int t52 = (l12 = b[((int) l4) - 60672] & 0xff) & 1;
-                               l18 = t52 != 0 ? t51 : 0;
-                               l12 = l12;
-                              }
-                              l12 = l12 & 1;
-                              break L4;
-                             }
-                             L53: {
-                              L54: {
-                               if (l19 == 0) { break L54; }
-                               l12 = 0;
-                               l18 = 0;
-                               break L53;
-                              }
-                              L55: {
-                               L56: {
-                                if ((l18 = (int) b[((int) l5) - 60720]) <= -1) { break L56; }
-                                l3 = 1L;
-                                break L55;
-                               }
-                               L57: {
-                                if (l18 + Integer.MIN_VALUE >= 2147483616) { break L57; }
-                                l3 = 2L;
-                                break L55;
-                               }
-                               l3 = (l18 + Integer.MIN_VALUE < 2147483632) ? 3L : 4L;
-                              }
-                              l12 = 0;
-                              l18 = 0;
-                              if (l10 == l3) { break L53; }
-                              f131(m, l4 + 64L, l5, l10);
-                              final int t58 = (b[((int) l4) - 60655] & 0xff) & 255;
-                              final int t59 = (l12 = b[((int) l4) - 60656] & 0xff) & 1;
-                              l18 = t59 != 0 ? t58 : 0;
-                             }
-                             l12 = l12 & 1;
-                             break L4;
-                            }
-                            f132(m, l4 + 72L, l5, l10);
-                            final int t60 = b[((int) l4) - 60647] & 0xff;
-                            final int t61 = l12 = (b[((int) l4) - 60648] & 0xff) & 1;
-                            l18 = t61 != 0 ? t60 : 0;
-                            break L4;
-                           }
-                           f130(m, l4 + 80L, l5, l10);
-                           l18 = Words.get16(b, ((int) l4) - 60638) & 0xffff;
-                           l12 = b[((int) l4) - 60640] & 0xff;
-                           break L4;
-                          }
-                          L62: {
-                           if (l19 == 0) { break L62; }
-                           l12 = 0;
-                           l18 = 0;
-                           break L5;
-                          }
-                          l20 = (l18 = (int) b[((int) l5) - 60720]) & 255;
-                          l3 = 1L;
-                          L63: {
-                           if (l18 > -1) { break L63; }
-                           l12 = (b[((int) l5) - 60719] & 0xff) & 63;
-                           L64: {
-                            if (l18 + Integer.MIN_VALUE > 2147483615) { break L64; }
-                            l20 = ((l20 << 6) & 1984) | l12;
-                            l3 = 2L;
-                            break L63;
-                           }
-                           l17 = (b[((int) l5) - 60718] & 0xff) & 63;
-                           L65: {
-                            if (l18 + Integer.MIN_VALUE > 2147483631) { break L65; }
-                            l20 = ((l12 << 6) | ((l20 << 12) & 61440)) | l17;
-                            l3 = 3L;
-                            break L63;
-                           }
-                           l20 = ((l17 << 6) | ((l12 << 12) | ((l20 << 18) & 1835008))) | ((b[((int) l5) - 60717] & 0xff) & 63);
-                           l3 = 4L;
-                          }
-                          l12 = 0;
-                          l18 = 0;
-                          if (l10 != l3) { break L5; }
-                          Core1.f24(m, l4 + 96L, l20);
-                          l12 = 1;
-                          L66: {
-                           if ((b[((int) l4) - 60624] & 0xff) != 1) { break L66; }
-                           l18 = (b[((int) l4) - 60623] & 0xff) & 255;
-                           break L5;
-                          }
-                          l18 = 0;
-                          l12 = 0;
-                          L67: {
-                           if (l20 > 20107) { break L67; }
-                           if ((l17 = l20 + -19968) + Integer.MIN_VALUE <= -2147483612) { break L21; }
-                           break L7;
-                          }
-                          L68: {
-                           if (l20 > 22234) { break L68; }
-                           if ((l17 = l20 + -20841) + Integer.MIN_VALUE > -2147483644) { break L8; }
-                           if (((1 << l17) & 21) == 0) { break L8; }
-                           break L6;
-                          }
-                          if (l20 == 38646) { break L6; }
-                          if (l20 != 22235) { break L5; }
-                          break L6;
-                         }
-                         f133(m, l4 + 120L, l5, l10);
-                         l12 = 1;
-                         L69: {
-                          if ((b[((int) l4) - 60600] & 0xff) != 1) { break L69; }
-                          l18 = (b[((int) l4) - 60599] & 0xff) & 255;
-                          break L9;
-                         }
-                         L70: {
-                          if (l19 == 0) { break L70; }
-                          l18 = 0;
-                          l12 = 0;
-                          break L9;
-                         }
-                         l20 = (l18 = (int) b[((int) l5) - 60720]) & 255;
-                         l3 = 1L;
-                         L71: {
-                          if (l18 > -1) { break L71; }
-                          l12 = (b[((int) l5) - 60719] & 0xff) & 63;
-                          L72: {
-                           if (l18 + Integer.MIN_VALUE > 2147483615) { break L72; }
-                           l20 = ((l20 << 6) & 1984) | l12;
-                           l3 = 2L;
-                           break L71;
-                          }
-                          l17 = (b[((int) l5) - 60718] & 0xff) & 63;
-                          L73: {
-                           if (l18 + Integer.MIN_VALUE > 2147483631) { break L73; }
-                           l20 = ((l12 << 6) | ((l20 << 12) & 61440)) | l17;
-                           l3 = 3L;
-                           break L71;
-                          }
-                          l20 = ((l17 << 6) | ((l12 << 12) | ((l20 << 18) & 1835008))) | ((b[((int) l5) - 60717] & 0xff) & 63);
-                          l3 = 4L;
-                         }
-                         l12 = 0;
-                         l18 = 0;
-                         if (l10 == l3) { break L9; }
-                         l17 = (l18 = (int) b[((int) (l6 = l5 + l3)) - 60720]) & 255;
-                         l8 = 1L;
-                         L74: {
-                          if (l18 > -1) { break L74; }
-                          l12 = (b[((int) l6) - 60719] & 0xff) & 63;
-                          L75: {
-                           if (l18 + Integer.MIN_VALUE > 2147483615) { break L75; }
-                           l17 = ((l17 << 6) & 1984) | l12;
-                           l8 = 2L;
-                           break L74;
-                          }
-                          l19 = (b[((int) l6) - 60718] & 0xff) & 63;
-                          L76: {
-                           if (l18 + Integer.MIN_VALUE > 2147483631) { break L76; }
-                           l17 = ((l12 << 6) | ((l17 << 12) & 61440)) | l19;
-                           l8 = 3L;
-                           break L74;
-                          }
-                          l17 = ((l19 << 6) | ((l12 << 12) | ((l17 << 18) & 1835008))) | ((b[((int) l6) - 60717] & 0xff) & 63);
-                          l8 = 4L;
-                         }
-                         l12 = 0;
-                         l18 = 0;
-                         if (l10 != (l8 + l3)) { break L9; }
-                         l19 = 0;
-                         L77: {
-                          if (l20 > 20107) { break L77; }
-                          if ((l18 = l20 + -19968) + Integer.MIN_VALUE <= -2147483612) { break L20; }
-                          break L12;
-                         }
-                         L78: {
-                          if (l20 > 22234) { break L78; }
-                          if ((l18 = l20 + -20841) + Integer.MIN_VALUE > -2147483644) { break L13; }
-                          if (((1 << l18) & 21) == 0) { break L13; }
-                          break L11;
-                         }
-                         if (l20 == 38646) { break L11; }
-                         l16 = 0;
-                         if (l20 != 22235) { break L10; }
-                         break L11;
-                        }
-                        f133(m, l4 + 128L, l5, l10);
-                        final int t79 = b[((int) l4) - 60591] & 0xff;
-                        final int t80 = l12 = (b[((int) l4) - 60592] & 0xff) & 1;
-                        l18 = t80 != 0 ? t79 : 0;
-                        break L4;
-                       }
-                       L81: {
-                        L82: {
-                         if (l19 == 0) { break L82; }
-                         l12 = 0;
-                         l18 = 0;
-                         break L81;
-                        }
-                        l12 = (l18 = (int) b[((int) l5) - 60720]) & 255;
-                        l3 = 1L;
-                        L83: {
-                         if (l18 > -1) { break L83; }
-                         l20 = (b[((int) l5) - 60719] & 0xff) & 63;
-                         L84: {
-                          if (l18 + Integer.MIN_VALUE > 2147483615) { break L84; }
-                          l12 = ((l12 << 6) & 1984) | l20;
-                          l3 = 2L;
-                          break L83;
-                         }
-                         l17 = (b[((int) l5) - 60718] & 0xff) & 63;
-                         L85: {
-                          if (l18 + Integer.MIN_VALUE > 2147483631) { break L85; }
-                          l12 = ((l20 << 6) | ((l12 << 12) & 61440)) | l17;
-                          l3 = 3L;
-                          break L83;
-                         }
-                         l12 = ((l17 << 6) | ((l20 << 12) | ((l12 << 18) & 1835008))) | ((b[((int) l5) - 60717] & 0xff) & 63);
-                         l3 = 4L;
-                        }
-                        L86: {
-                         L87: {
-                          if (l10 == l3) { break L87; }
-                          f133(m, l4 + 144L, l5, l10);
-                          l18 = b[((int) l4) - 60575] & 0xff;
-                          l12 = b[((int) l4) - 60576] & 0xff;
-                          break L86;
-                         }
-                         Core1.f24(m, l4 + 136L, l12);
-                         l18 = b[((int) l4) - 60583] & 0xff;
-                         l12 = b[((int) l4) - 60584] & 0xff;
-                        }
-                        final int t88 = l18 & 255;
-                        final int t89 = l12 & 1;
-                        l18 = t89 != 0 ? t88 : 0;
-                       }
-                       l12 = l12 & 1;
-                       break L4;
-                      }
-                      Core3.f112(m, l4 + 168L, l12 & 1, l6, l5);
-                      Core3.f114(m, l4 + 184L, l2, Words.get64(b, ((int) l4) - 60552), Words.get64(b, ((int) l4) - 60544));
-                      L90: {
-                       if ((b[((int) l4) - 60536] & 0xff) != 1) { break L90; }
-                       l19 = 0;
-                       l3 = Words.get64(b, ((int) l4) - 60520);
-                       l8 = Words.get64(b, ((int) l4) - 60528);
-                       l16 = l15;
-                       l17 = l14;
-                       l18 = l13;
-                       l20 = 0;
-                       exit = 1; break PART;
-                      }
-                      Words.put64(b, ((int) l0) - 60696, 0L);
-                      Words.put64(b, ((int) l0) - 60704, 0L);
-                      Words.put64(b, ((int) l0) - 60712, 0L);
-                      Words.put64(b, ((int) l0) - 60720, 0L);
-                      exit = 3; break PART;
-                     }
-                     if (l5 == 0L) { break L16; }
-                     l18 = (l20 = (int) b[((int) l6) - 60720]) & 255;
-                     l7 = 1L;
-                     L91: {
-                      if (l20 > -1) { break L91; }
-                      l17 = (b[((int) l6) - 60719] & 0xff) & 63;
-                      L92: {
-                       if (l20 + Integer.MIN_VALUE > 2147483615) { break L92; }
-                       l18 = ((l18 << 6) & 1984) | l17;
-                       l7 = 2L;
-                       break L91;
-                      }
-                      l19 = (b[((int) l6) - 60718] & 0xff) & 63;
-                      L93: {
-                       if (l20 + Integer.MIN_VALUE > 2147483631) { break L93; }
-                       l18 = ((l17 << 6) | ((l18 << 12) & 61440)) | l19;
-                       l7 = 3L;
-                       break L91;
-                      }
-                      l18 = ((l19 << 6) | ((l17 << 12) | ((l18 << 18) & 1835008))) | ((b[((int) l6) - 60717] & 0xff) & 63);
-                      l7 = 4L;
-                     }
-                     l9 = l6 + l7;
-                     l3 = Words.get64(b, State.far((int) (l8 = ((l2 & 0xffffffffL) & 255L) << 3L), 87912));
-                     l8 = Words.get64(b, State.far((int) l8, 87824));
-                     L94: while (true) {
-                      if (Words.get32(b, ((int) l3) - 60720) == l18) { break L15; }
-                      l3 = l3 + 4L;
-                      if ((l8 = l8 + -1L) != 0L) { continue L94; }
-                      break L94;
-                     }
-                     L95: {
-                      L96: {
-                       L97: {
-                        switch ((l2 & 255) + -4) {
-                        case 0: break L97;
-                        case 6: break L96;
-                        default: break L16;
-                        }
-                       }
-                       if (l5 == l7) { break L16; }
-                       if (l18 != 20043) { break L16; }
-                       l1 = (l18 = (int) b[((int) l9) - 60720]) & 255;
-                       L98: {
-                        if (l18 > -1) { break L98; }
-                        l20 = (b[((int) l9) - 60719] & 0xff) & 63;
-                        L99: {
-                         if (l18 + Integer.MIN_VALUE > 2147483615) { break L99; }
-                         l1 = ((l1 << 6) & 1984) | l20;
-                         break L98;
-                        }
-                        l17 = (b[((int) l9) - 60718] & 0xff) & 63;
-                        L100: {
-                         if (l18 + Integer.MIN_VALUE > 2147483631) { break L100; }
-                         l1 = ((l20 << 6) | ((l1 << 12) & 61440)) | l17;
-                         break L98;
-                        }
-                        l1 = ((l17 << 6) | ((l20 << 12) | ((l1 << 18) & 1835008))) | ((b[((int) l9) - 60717] & 0xff) & 63);
-                       }
-                       l7 = 0L;
-                       l16 = 0;
-                       if ((l1 + -48) + Integer.MIN_VALUE < -2147483638) { break L14; }
-                       l17 = 0;
-                       l18 = 0;
-                       l19 = 0;
-                       l20 = 0;
-                       l8 = 0L;
-                       l3 = 0L;
-                       if ((l1 + -65296) + Integer.MIN_VALUE < -2147483638) { exit = 1; break PART; }
-                       l8 = 0L;
-                       l19 = 0;
-                       l16 = 0;
-                       l7 = 0L;
-                       L101: {
-                        if (l1 > 20840) { break L101; }
-                        L102: {
-                         if (l1 > 20060) { break L102; }
-                         if ((l18 = l1 + -19968) + Integer.MIN_VALUE > -2147483612) { break L17; }
-                         if (((1L << (l18 & 0xffffffffL)) & 68719477257L) == 0L) { break L17; }
-                         break L18;
-                        }
-                        l17 = 0;
-                        l18 = 0;
-                        l20 = 0;
-                        l3 = 0L;
-                        switch (l1 + -20108) {
-                        case 0: case 8: exit = 1; break PART;
-                        case 1: case 2: case 3: case 4: case 5: case 6: case 7: break L16;
-                        default: break L95;
-                        }
-                       }
-                       L103: {
-                        if (l1 > 21312) { break L103; }
-                        if ((l18 = l1 + -20841) + Integer.MIN_VALUE > -2147483644) { break L19; }
-                        if (((1 << l18) & 21) != 0) { break L18; }
-                        break L19;
-                       }
-                       L104: {
-                        if (l1 > 24189) { break L104; }
-                        if (l1 == 21313) { break L18; }
-                        l17 = 0;
-                        l18 = 0;
-                        l20 = 0;
-                        l3 = 0L;
-                        if (l1 != 22235) { break L16; }
-                        exit = 1; break PART;
-                       }
-                       if (l1 == 24190) { break L18; }
-                       if (l1 == 30334) { break L18; }
-                       l17 = 0;
-                       l18 = 0;
-                       l20 = 0;
-                       l3 = 0L;
-                       if (l1 != 38646) { break L16; }
-                       exit = 1; break PART;
-                      }
-                      if (((l18 & 2097119) + -65) + Integer.MIN_VALUE < -2147483622) { break L15; }
-                      break L16;
-                     }
-                     l17 = 0;
-                     l18 = 0;
-                     l20 = 0;
-                     l3 = 0L;
-                     if (l1 == 20061) { exit = 1; break PART; }
-                     break L16;
-                    }
-                    throw State.trap();
-                   }
-                   if (((1L << (l17 & 0xffffffffL)) & 68719477257L) == 0L) { break L7; }
-                   break L6;
-                  }
-                  if (((1L << (l18 & 0xffffffffL)) & 68719477257L) == 0L) { break L12; }
-                  break L11;
-                 }
-                 l17 = 0;
-                 l18 = 0;
-                 l20 = 0;
-                 l3 = 0L;
-                 if (l1 != 20960) { break L16; }
-                 exit = 1; break PART;
-                }
-                l17 = 0;
-                l18 = 0;
-                l20 = 0;
-                l3 = 0L;
-                exit = 1; break PART;
-               }
-               l17 = 0;
-               l18 = 0;
-               l20 = 0;
-               l3 = 0L;
-               if (l1 == 12295) { exit = 1; break PART; }
-              }
-              l7 = 1L;
-              l16 = l15;
-              l17 = l14;
-              l18 = l13;
-              l19 = l12;
-              l20 = l11;
-              l8 = l6;
-              l3 = l5;
-              exit = 1; break PART;
-             }
-             l7 = 0L;
-             l16 = 0;
-            }
-            l17 = 0;
-            l18 = 0;
-            l19 = 0;
-            l20 = 0;
-            l8 = 0L;
-            l3 = 0L;
-            exit = 1; break PART;
-           }
-           l16 = 0;
-           switch (l20 + -20108) {
-           case 0: case 8: break L11;
-           default: break L10;
-           }
-          }
-          if (l20 == 12295) { break L11; }
-          l16 = 0;
-          if (l20 != 20061) { break L10; }
-         }
-         Core2.f50(m, l4 + 112L, l20);
-         l16 = (b[((int) l4) - 60607] & 0xff) * 10;
-         l19 = b[((int) l4) - 60608] & 0xff;
-        }
-        l12 = 0;
-        L105: {
-         L106: {
-          L107: {
-           L108: {
-            L109: {
-             if (l17 > 20107) { break L109; }
-             if ((l18 = l17 + -19968) + Integer.MIN_VALUE <= -2147483612) { break L108; }
-             break L106;
-            }
-            L110: {
-             if (l17 > 22234) { break L110; }
-             if ((l18 = l17 + -20841) + Integer.MIN_VALUE > -2147483644) { break L107; }
-             if (((1 << l18) & 21) == 0) { break L107; }
-             break L105;
-            }
-            if (l17 == 38646) { break L105; }
-            l18 = 0;
-            if (l17 != 22235) { break L9; }
-            break L105;
-           }
-           if (((1L << (l18 & 0xffffffffL)) & 68719477257L) == 0L) { break L106; }
-           break L105;
-          }
-          l18 = 0;
-          switch (l17 + -20108) {
-          case 0: case 8: break L105;
-          default: break L9;
-          }
-         }
-         if (l17 == 12295) { break L105; }
-         l18 = 0;
-         if (l17 != 20061) { break L9; }
-        }
-        Core2.f50(m, l4 + 104L, l17);
-        final int t111 = (b[((int) l4) - 60615] & 0xff) + l16;
-        final int t112 = (l12 = (b[((int) l4) - 60616] & 0xff) & l19) & 255;
-        final int t113 = (t112 != 0 ? t111 : 0) & 255;
-        final int t114 = l12 & 1;
-        l18 = t114 != 0 ? t113 : 0;
-       }
-       l12 = l12 & 1;
-       break L4;
-      }
-      switch (l20 + -20108) {
-      case 0: case 8: break L6;
-      default: break L5;
-      }
+  L23: {
+   L24: {
+    L25: {
+     switch ((int) ((l1 & 0xffffffffL) & 255L)) {
+     case 1: break L24;
+     case 2: break L23;
+     case 3: exit = 1; break PART;
+     default: break L25;
      }
-     if (l20 == 12295) { break L6; }
-     if (l20 != 20061) { break L5; }
     }
-    Core2.f50(m, l4 + 88L, l20);
-    final int t115 = (b[((int) l4) - 60631] & 0xff) & 255;
-    final int t116 = (l12 = b[((int) l4) - 60632] & 0xff) & 1;
-    l18 = t116 != 0 ? t115 : 0;
+    Core3.f112(m, l4 + 152L, l12 & 1, l6, l5);
+    l9 = Words.get64(b, ((int) l4) - 60560);
+    l7 = Words.get64(b, ((int) l4) - 60568);
+    Words.put64(b, ((int) l4) - 60488, 0L);
+    Words.put64(b, ((int) l4) - 60496, 0L);
+    Words.put64(b, ((int) l4) - 60504, 0L);
+    Words.put64(b, ((int) l4) - 60512, 0L);
+    Core3.f111(m, l4 + 208L, l7, l9);
+    l5 = Words.get64(b, ((int) l4) - 60512);
+    L26: {
+     if ((l19 = ((l10 = Words.get64(b, ((int) l4) - 60504)) == 0L) ? 1 : 0) != 0) { break L26; }
+     L27: {
+      L28: {
+       if ((l18 = (int) b[((int) l5) - 60720]) <= -1) { break L28; }
+       l3 = 1L;
+       break L27;
+      }
+      L29: {
+       if (l18 + Integer.MIN_VALUE >= 2147483616) { break L29; }
+       l3 = 2L;
+       break L27;
+      }
+      l3 = (l18 + Integer.MIN_VALUE < 2147483632) ? 3L : 4L;
+     }
+     l6 = l10 - l3;
+     l3 = l5 + l3;
+     L30: while (true) {
+      if (l6 == 0L) { break L26; }
+      l18 = (l12 = (int) b[((int) l3) - 60720]) & 255;
+      l8 = 1L;
+      L31: {
+       if (l12 > -1) { break L31; }
+       l20 = (b[((int) l3) - 60719] & 0xff) & 63;
+       L32: {
+        if (l12 + Integer.MIN_VALUE > 2147483615) { break L32; }
+        l18 = ((l18 << 6) & 1984) | l20;
+        l8 = 2L;
+        break L31;
+       }
+       l17 = (b[((int) l3) - 60718] & 0xff) & 63;
+       L33: {
+        if (l12 + Integer.MIN_VALUE > 2147483631) { break L33; }
+        l18 = ((l20 << 6) | ((l18 << 12) & 61440)) | l17;
+        l8 = 3L;
+        break L31;
+       }
+       l18 = ((l17 << 6) | ((l20 << 12) | ((l18 << 18) & 1835008))) | ((b[((int) l3) - 60717] & 0xff) & 63);
+       l8 = 4L;
+      }
+      if (l18 == 20004) { exit = 2; break PART; }
+      l6 = l6 - l8;
+      l3 = l3 + l8;
+      if (l18 != 20841) { continue L30; }
+      exit = 2; break PART;
+     }
+    }
+    L34: {
+     L35: {
+      L36: {
+       L37: {
+        L38: {
+         L39: {
+          L40: {
+           L41: {
+            L42: {
+             L43: {
+              L44: {
+               L45: {
+                switch ((int) ((l2 & 0xffffffffL) & 255L)) {
+                case 1: break L44;
+                case 2: break L43;
+                case 3: break L42;
+                case 4: break L41;
+                case 5: break L40;
+                case 6: break L39;
+                case 7: break L38;
+                case 8: case 9: break L37;
+                case 10: break L36;
+                case 11: break L35;
+                case 12: break L34;
+                default: break L45;
+                }
+               }
+               f128(m, l4 + 8L, l5, l10);
+               l18 = Words.get16(b, ((int) l4) - 60710) & 0xffff;
+               l12 = b[((int) l4) - 60712] & 0xff;
+               exit = 3; break PART;
+              }
+              f129(m, l4 + 16L, l5, l10);
+              l18 = Words.get16(b, ((int) l4) - 60702) & 0xffff;
+              l12 = b[((int) l4) - 60704] & 0xff;
+              exit = 3; break PART;
+             }
+             f129(m, l4 + 32L, l5, l10);
+             l12 = 1;
+             L46: {
+              if ((b[((int) l4) - 60688] & 0xff) != 1) { break L46; }
+              l18 = Words.get16(b, ((int) l4) - 60686) & 0xffff;
+              exit = 3; break PART;
+             }
+             f130(m, l4 + 24L, l5, l10);
+             l18 = Words.get16(b, ((int) l4) - 60694) & 0xffff;
+             l12 = b[((int) l4) - 60696] & 0xff;
+             exit = 3; break PART;
+            }
+            f131(m, l4 + 40L, l5, l10);
+            final int t47 = b[((int) l4) - 60679] & 0xff;
+            final int t48 = l12 = (b[((int) l4) - 60680] & 0xff) & 1;
+            l18 = t48 != 0 ? t47 : 0;
+            exit = 3; break PART;
+           }
+           f131(m, l4 + 56L, l5, l10);
+           l12 = 1;
+           L49: {
+            L50: {
+             if ((b[((int) l4) - 60664] & 0xff) != 1) { break L50; }
+             l18 = (b[((int) l4) - 60663] & 0xff) & 255;
+             break L49;
+            }
+            f132(m, l4 + 48L, l5, l10);
+            final int t51 = (b[((int) l4) - 60671] & 0xff) & 255;
+            final int t52 = (l12 = b[((int) l4) - 60672] & 0xff) & 1;
+            l18 = t52 != 0 ? t51 : 0;
+            l12 = l12;
+           }
+           l12 = l12 & 1;
+           exit = 3; break PART;
+          }
+          L53: {
+           L54: {
+            if (l19 == 0) { break L54; }
+            l12 = 0;
+            l18 = 0;
+            break L53;
+           }
+           L55: {
+            L56: {
+             if ((l18 = (int) b[((int) l5) - 60720]) <= -1) { break L56; }
+             l3 = 1L;
+             break L55;
+            }
+            L57: {
+             if (l18 + Integer.MIN_VALUE >= 2147483616) { break L57; }
+             l3 = 2L;
+             break L55;
+            }
+            l3 = (l18 + Integer.MIN_VALUE < 2147483632) ? 3L : 4L;
+           }
+           l12 = 0;
+           l18 = 0;
+           if (l10 == l3) { break L53; }
+           f131(m, l4 + 64L, l5, l10);
+           final int t58 = (b[((int) l4) - 60655] & 0xff) & 255;
+           final int t59 = (l12 = b[((int) l4) - 60656] & 0xff) & 1;
+           l18 = t59 != 0 ? t58 : 0;
+          }
+          l12 = l12 & 1;
+          exit = 3; break PART;
+         }
+         f132(m, l4 + 72L, l5, l10);
+         final int t60 = b[((int) l4) - 60647] & 0xff;
+         final int t61 = l12 = (b[((int) l4) - 60648] & 0xff) & 1;
+         l18 = t61 != 0 ? t60 : 0;
+         exit = 3; break PART;
+        }
+        f130(m, l4 + 80L, l5, l10);
+        l18 = Words.get16(b, ((int) l4) - 60638) & 0xffff;
+        l12 = b[((int) l4) - 60640] & 0xff;
+        exit = 3; break PART;
+       }
+       L62: {
+        if (l19 == 0) { break L62; }
+        l12 = 0;
+        l18 = 0;
+        exit = 4; break PART;
+       }
+       l20 = (l18 = (int) b[((int) l5) - 60720]) & 255;
+       l3 = 1L;
+       L63: {
+        if (l18 > -1) { break L63; }
+        l12 = (b[((int) l5) - 60719] & 0xff) & 63;
+        L64: {
+         if (l18 + Integer.MIN_VALUE > 2147483615) { break L64; }
+         l20 = ((l20 << 6) & 1984) | l12;
+         l3 = 2L;
+         break L63;
+        }
+        l17 = (b[((int) l5) - 60718] & 0xff) & 63;
+        L65: {
+         if (l18 + Integer.MIN_VALUE > 2147483631) { break L65; }
+         l20 = ((l12 << 6) | ((l20 << 12) & 61440)) | l17;
+         l3 = 3L;
+         break L63;
+        }
+        l20 = ((l17 << 6) | ((l12 << 12) | ((l20 << 18) & 1835008))) | ((b[((int) l5) - 60717] & 0xff) & 63);
+        l3 = 4L;
+       }
+       l12 = 0;
+       l18 = 0;
+       if (l10 != l3) { exit = 4; break PART; }
+       Core1.f24(m, l4 + 96L, l20);
+       l12 = 1;
+       L66: {
+        if ((b[((int) l4) - 60624] & 0xff) != 1) { break L66; }
+        l18 = (b[((int) l4) - 60623] & 0xff) & 255;
+        exit = 4; break PART;
+       }
+       l18 = 0;
+       l12 = 0;
+       L67: {
+        if (l20 > 20107) { break L67; }
+        if ((l17 = l20 + -19968) + Integer.MIN_VALUE <= -2147483612) { exit = 5; break PART; }
+        exit = 6; break PART;
+       }
+       L68: {
+        if (l20 > 22234) { break L68; }
+        if ((l17 = l20 + -20841) + Integer.MIN_VALUE > -2147483644) { exit = 7; break PART; }
+        if (((1 << l17) & 21) == 0) { exit = 7; break PART; }
+        exit = 8; break PART;
+       }
+       if (l20 == 38646) { exit = 8; break PART; }
+       if (l20 != 22235) { exit = 4; break PART; }
+       exit = 8; break PART;
+      }
+      f133(m, l4 + 120L, l5, l10);
+      l12 = 1;
+      L69: {
+       if ((b[((int) l4) - 60600] & 0xff) != 1) { break L69; }
+       l18 = (b[((int) l4) - 60599] & 0xff) & 255;
+       exit = 9; break PART;
+      }
+      L70: {
+       if (l19 == 0) { break L70; }
+       l18 = 0;
+       l12 = 0;
+       exit = 9; break PART;
+      }
+      l20 = (l18 = (int) b[((int) l5) - 60720]) & 255;
+      l3 = 1L;
+      L71: {
+       if (l18 > -1) { break L71; }
+       l12 = (b[((int) l5) - 60719] & 0xff) & 63;
+       L72: {
+        if (l18 + Integer.MIN_VALUE > 2147483615) { break L72; }
+        l20 = ((l20 << 6) & 1984) | l12;
+        l3 = 2L;
+        break L71;
+       }
+       l17 = (b[((int) l5) - 60718] & 0xff) & 63;
+       L73: {
+        if (l18 + Integer.MIN_VALUE > 2147483631) { break L73; }
+        l20 = ((l12 << 6) | ((l20 << 12) & 61440)) | l17;
+        l3 = 3L;
+        break L71;
+       }
+       l20 = ((l17 << 6) | ((l12 << 12) | ((l20 << 18) & 1835008))) | ((b[((int) l5) - 60717] & 0xff) & 63);
+       l3 = 4L;
+      }
+      l12 = 0;
+      l18 = 0;
+      if (l10 == l3) { exit = 9; break PART; }
+      l17 = (l18 = (int) b[((int) (l6 = l5 + l3)) - 60720]) & 255;
+      l8 = 1L;
+      L74: {
+       if (l18 > -1) { break L74; }
+       l12 = (b[((int) l6) - 60719] & 0xff) & 63;
+       L75: {
+        if (l18 + Integer.MIN_VALUE > 2147483615) { break L75; }
+        l17 = ((l17 << 6) & 1984) | l12;
+        l8 = 2L;
+        break L74;
+       }
+       l19 = (b[((int) l6) - 60718] & 0xff) & 63;
+       L76: {
+        if (l18 + Integer.MIN_VALUE > 2147483631) { break L76; }
+        l17 = ((l12 << 6) | ((l17 << 12) & 61440)) | l19;
+        l8 = 3L;
+        break L74;
+       }
+       l17 = ((l19 << 6) | ((l12 << 12) | ((l17 << 18) & 1835008))) | ((b[((int) l6) - 60717] & 0xff) & 63);
+       l8 = 4L;
+      }
+      l12 = 0;
+      l18 = 0;
+      if (l10 != (l8 + l3)) { exit = 9; break PART; }
+      l19 = 0;
+      L77: {
+       if (l20 > 20107) { break L77; }
+       if ((l18 = l20 + -19968) + Integer.MIN_VALUE <= -2147483612) { exit = 10; break PART; }
+       exit = 11; break PART;
+      }
+      L78: {
+       if (l20 > 22234) { break L78; }
+       if ((l18 = l20 + -20841) + Integer.MIN_VALUE > -2147483644) { exit = 12; break PART; }
+       if (((1 << l18) & 21) == 0) { exit = 12; break PART; }
+       exit = 13; break PART;
+      }
+      if (l20 == 38646) { exit = 13; break PART; }
+      l16 = 0;
+      if (l20 != 22235) { exit = 14; break PART; }
+      exit = 13; break PART;
+     }
+     f133(m, l4 + 128L, l5, l10);
+     final int t79 = b[((int) l4) - 60591] & 0xff;
+     final int t80 = l12 = (b[((int) l4) - 60592] & 0xff) & 1;
+     l18 = t80 != 0 ? t79 : 0;
+     exit = 3; break PART;
+    }
+    L81: {
+     L82: {
+      if (l19 == 0) { break L82; }
+      l12 = 0;
+      l18 = 0;
+      break L81;
+     }
+     l12 = (l18 = (int) b[((int) l5) - 60720]) & 255;
+     l3 = 1L;
+     L83: {
+      if (l18 > -1) { break L83; }
+      l20 = (b[((int) l5) - 60719] & 0xff) & 63;
+      L84: {
+       if (l18 + Integer.MIN_VALUE > 2147483615) { break L84; }
+       l12 = ((l12 << 6) & 1984) | l20;
+       l3 = 2L;
+       break L83;
+      }
+      l17 = (b[((int) l5) - 60718] & 0xff) & 63;
+      L85: {
+       if (l18 + Integer.MIN_VALUE > 2147483631) { break L85; }
+       l12 = ((l20 << 6) | ((l12 << 12) & 61440)) | l17;
+       l3 = 3L;
+       break L83;
+      }
+      l12 = ((l17 << 6) | ((l20 << 12) | ((l12 << 18) & 1835008))) | ((b[((int) l5) - 60717] & 0xff) & 63);
+      l3 = 4L;
+     }
+     L86: {
+      L87: {
+       if (l10 == l3) { break L87; }
+       f133(m, l4 + 144L, l5, l10);
+       l18 = b[((int) l4) - 60575] & 0xff;
+       l12 = b[((int) l4) - 60576] & 0xff;
+       break L86;
+      }
+      Core1.f24(m, l4 + 136L, l12);
+      l18 = b[((int) l4) - 60583] & 0xff;
+      l12 = b[((int) l4) - 60584] & 0xff;
+     }
+     final int t88 = l18 & 255;
+     final int t89 = l12 & 1;
+     l18 = t89 != 0 ? t88 : 0;
+    }
+    l12 = l12 & 1;
+    exit = 3; break PART;
    }
-   l12 = l12 & 1;
+   Core3.f112(m, l4 + 168L, l12 & 1, l6, l5);
+   Core3.f114(m, l4 + 184L, l2, Words.get64(b, ((int) l4) - 60552), Words.get64(b, ((int) l4) - 60544));
+   L90: {
+    if ((b[((int) l4) - 60536] & 0xff) != 1) { break L90; }
+    l19 = 0;
+    l3 = Words.get64(b, ((int) l4) - 60520);
+    l8 = Words.get64(b, ((int) l4) - 60528);
+    l16 = l15;
+    l17 = l14;
+    l18 = l13;
+    l20 = 0;
+    exit = 1; break PART;
+   }
+   Words.put64(b, ((int) l0) - 60696, 0L);
+   Words.put64(b, ((int) l0) - 60704, 0L);
+   Words.put64(b, ((int) l0) - 60712, 0L);
+   Words.put64(b, ((int) l0) - 60720, 0L);
+   exit = 15; break PART;
   }
  }
- m.kept[0] = l1;
- m.kept[1] = l3;
- m.kept[2] = l4;
- m.kept[3] = l5;
- m.kept[4] = l6;
- m.kept[5] = l7;
- m.kept[6] = l8;
- m.kept[7] = l9;
- m.kept[8] = l10;
- m.kept[9] = l11;
- m.kept[10] = l12;
- m.kept[11] = l13;
- m.kept[12] = l14;
- m.kept[13] = l15;
- m.kept[14] = l16;
- m.kept[15] = l17;
- m.kept[16] = l18;
- m.kept[17] = l19;
- m.kept[18] = l20;
+ m.kept[0] = l3;
+ m.kept[1] = l5;
+ m.kept[2] = l6;
+ m.kept[3] = l7;
+ m.kept[4] = l8;
+ m.kept[5] = l9;
+ m.kept[6] = l10;
+ m.kept[7] = l12;
+ m.kept[8] = l16;
+ m.kept[9] = l17;
+ m.kept[10] = l18;
+ m.kept[11] = l19;
+ m.kept[12] = l20;
  return exit;
 }
 
@@ -1775,30 +1484,321 @@ static void f121(State m, long l0, int l1, int l2, long l3) {
  L1: {
   L2: {
    L3: {
-    final int x117 = f121_1(m, l0, l1, l2, l3, l4, l5, l6, l7, l8, l9, l10, l11, l12, l13, l14, l15, l16, l17, l18, l19, l20);
-    l1 = (int) m.kept[0];
-    l3 = m.kept[1];
-    l4 = m.kept[2];
-    l5 = m.kept[3];
-    l6 = m.kept[4];
-    l7 = m.kept[5];
-    l8 = m.kept[6];
-    l9 = m.kept[7];
-    l10 = m.kept[8];
-    l11 = (int) m.kept[9];
-    l12 = (int) m.kept[10];
-    l13 = (int) m.kept[11];
-    l14 = (int) m.kept[12];
-    l15 = (int) m.kept[13];
-    l16 = (int) m.kept[14];
-    l17 = (int) m.kept[15];
-    l18 = (int) m.kept[16];
-    l19 = (int) m.kept[17];
-    l20 = (int) m.kept[18];
-    switch (x117) {
-    case 1: break L2;
-    case 2: break L3;
-    case 3: break L1;
+    L4: {
+     L5: {
+      L6: {
+       L7: {
+        L8: {
+         L9: {
+          L10: {
+           L11: {
+            L12: {
+             L13: {
+              L14: {
+               L15: {
+                L16: {
+                 L17: {
+                  L18: {
+                   L19: {
+                    L20: {
+                     L21: {
+                      L22: {
+                       if ((l4 = l4) < 16L) { break L22; }
+                       l5 = Words.get64(b, ((int) l3) - 60704);
+                       l6 = Words.get64(b, ((int) l3) - 60712);
+                       l11 = b[((int) l3) - 60713] & 0xff;
+                       l12 = b[((int) l3) - 60714] & 0xff;
+                       l13 = Words.get16(b, ((int) l3) - 60716) & 0xffff;
+                       l14 = Words.get16(b, ((int) l3) - 60718) & 0xffff;
+                       l15 = Words.get16(b, ((int) l3) - 60720) & 0xffff;
+                       Words.put64(b, ((int) l4) - 60520, 0L);
+                       Words.put64(b, ((int) l4) - 60528, 0L);
+                       Words.put64(b, ((int) l4) - 60536, 0L);
+                       l7 = 1L;
+                       l16 = l15;
+                       l17 = l14;
+                       l18 = l13;
+                       l19 = l12;
+                       l20 = l11;
+                       l8 = l6;
+                       l3 = l5;
+                       final int x91 = f121_1(m, l0, l1, l2, l3, l4, l5, l6, l7, l8, l9, l10, l12, l13, l14, l15, l16, l17, l18, l19, l20);
+                       l3 = m.kept[0];
+                       l5 = m.kept[1];
+                       l6 = m.kept[2];
+                       l7 = m.kept[3];
+                       l8 = m.kept[4];
+                       l9 = m.kept[5];
+                       l10 = m.kept[6];
+                       l12 = (int) m.kept[7];
+                       l16 = (int) m.kept[8];
+                       l17 = (int) m.kept[9];
+                       l18 = (int) m.kept[10];
+                       l19 = (int) m.kept[11];
+                       l20 = (int) m.kept[12];
+                       switch (x91) {
+                       case 1: break L2;
+                       case 2: break L3;
+                       case 3: break L4;
+                       case 4: break L5;
+                       case 5: break L21;
+                       case 6: break L7;
+                       case 7: break L8;
+                       case 8: break L6;
+                       case 9: break L9;
+                       case 10: break L20;
+                       case 11: break L12;
+                       case 12: break L13;
+                       case 13: break L11;
+                       case 14: break L10;
+                       case 15: break L1;
+                       }
+                       if (l5 == 0L) { break L16; }
+                       l18 = (l20 = (int) b[((int) l6) - 60720]) & 255;
+                       l7 = 1L;
+                       L92: {
+                        if (l20 > -1) { break L92; }
+                        l17 = (b[((int) l6) - 60719] & 0xff) & 63;
+                        L93: {
+                         if (l20 + Integer.MIN_VALUE > 2147483615) { break L93; }
+                         l18 = ((l18 << 6) & 1984) | l17;
+                         l7 = 2L;
+                         break L92;
+                        }
+                        l19 = (b[((int) l6) - 60718] & 0xff) & 63;
+                        L94: {
+                         if (l20 + Integer.MIN_VALUE > 2147483631) { break L94; }
+                         l18 = ((l17 << 6) | ((l18 << 12) & 61440)) | l19;
+                         l7 = 3L;
+                         break L92;
+                        }
+                        l18 = ((l19 << 6) | ((l17 << 12) | ((l18 << 18) & 1835008))) | ((b[((int) l6) - 60717] & 0xff) & 63);
+                        l7 = 4L;
+                       }
+                       l9 = l6 + l7;
+                       l3 = Words.get64(b, State.far((int) (l8 = ((l2 & 0xffffffffL) & 255L) << 3L), 87912));
+                       l8 = Words.get64(b, State.far((int) l8, 87824));
+                       L95: while (true) {
+                        if (Words.get32(b, ((int) l3) - 60720) == l18) { break L15; }
+                        l3 = l3 + 4L;
+                        if ((l8 = l8 + -1L) != 0L) { continue L95; }
+                        break L95;
+                       }
+                       L96: {
+                        L97: {
+                         L98: {
+                          switch ((l2 & 255) + -4) {
+                          case 0: break L98;
+                          case 6: break L97;
+                          default: break L16;
+                          }
+                         }
+                         if (l5 == l7) { break L16; }
+                         if (l18 != 20043) { break L16; }
+                         l1 = (l18 = (int) b[((int) l9) - 60720]) & 255;
+                         L99: {
+                          if (l18 > -1) { break L99; }
+                          l20 = (b[((int) l9) - 60719] & 0xff) & 63;
+                          L100: {
+                           if (l18 + Integer.MIN_VALUE > 2147483615) { break L100; }
+                           l1 = ((l1 << 6) & 1984) | l20;
+                           break L99;
+                          }
+                          l17 = (b[((int) l9) - 60718] & 0xff) & 63;
+                          L101: {
+                           if (l18 + Integer.MIN_VALUE > 2147483631) { break L101; }
+                           l1 = ((l20 << 6) | ((l1 << 12) & 61440)) | l17;
+                           break L99;
+                          }
+                          l1 = ((l17 << 6) | ((l20 << 12) | ((l1 << 18) & 1835008))) | ((b[((int) l9) - 60717] & 0xff) & 63);
+                         }
+                         l7 = 0L;
+                         l16 = 0;
+                         if ((l1 + -48) + Integer.MIN_VALUE < -2147483638) { break L14; }
+                         l17 = 0;
+                         l18 = 0;
+                         l19 = 0;
+                         l20 = 0;
+                         l8 = 0L;
+                         l3 = 0L;
+                         if ((l1 + -65296) + Integer.MIN_VALUE < -2147483638) { break L2; }
+                         l8 = 0L;
+                         l19 = 0;
+                         l16 = 0;
+                         l7 = 0L;
+                         L102: {
+                          if (l1 > 20840) { break L102; }
+                          L103: {
+                           if (l1 > 20060) { break L103; }
+                           if ((l18 = l1 + -19968) + Integer.MIN_VALUE > -2147483612) { break L17; }
+                           if (((1L << (l18 & 0xffffffffL)) & 68719477257L) == 0L) { break L17; }
+                           break L18;
+                          }
+                          l17 = 0;
+                          l18 = 0;
+                          l20 = 0;
+                          l3 = 0L;
+                          switch (l1 + -20108) {
+                          case 0: case 8: break L2;
+                          case 1: case 2: case 3: case 4: case 5: case 6: case 7: break L16;
+                          default: break L96;
+                          }
+                         }
+                         L104: {
+                          if (l1 > 21312) { break L104; }
+                          if ((l18 = l1 + -20841) + Integer.MIN_VALUE > -2147483644) { break L19; }
+                          if (((1 << l18) & 21) != 0) { break L18; }
+                          break L19;
+                         }
+                         L105: {
+                          if (l1 > 24189) { break L105; }
+                          if (l1 == 21313) { break L18; }
+                          l17 = 0;
+                          l18 = 0;
+                          l20 = 0;
+                          l3 = 0L;
+                          if (l1 != 22235) { break L16; }
+                          break L2;
+                         }
+                         if (l1 == 24190) { break L18; }
+                         if (l1 == 30334) { break L18; }
+                         l17 = 0;
+                         l18 = 0;
+                         l20 = 0;
+                         l3 = 0L;
+                         if (l1 != 38646) { break L16; }
+                         break L2;
+                        }
+                        if (((l18 & 2097119) + -65) + Integer.MIN_VALUE < -2147483622) { break L15; }
+                        break L16;
+                       }
+                       l17 = 0;
+                       l18 = 0;
+                       l20 = 0;
+                       l3 = 0L;
+                       if (l1 == 20061) { break L2; }
+                       break L16;
+                      }
+                      throw State.trap();
+                     }
+                     if (((1L << (l17 & 0xffffffffL)) & 68719477257L) == 0L) { break L7; }
+                     break L6;
+                    }
+                    if (((1L << (l18 & 0xffffffffL)) & 68719477257L) == 0L) { break L12; }
+                    break L11;
+                   }
+                   l17 = 0;
+                   l18 = 0;
+                   l20 = 0;
+                   l3 = 0L;
+                   if (l1 != 20960) { break L16; }
+                   break L2;
+                  }
+                  l17 = 0;
+                  l18 = 0;
+                  l20 = 0;
+                  l3 = 0L;
+                  break L2;
+                 }
+                 l17 = 0;
+                 l18 = 0;
+                 l20 = 0;
+                 l3 = 0L;
+                 if (l1 == 12295) { break L2; }
+                }
+                l7 = 1L;
+                l16 = l15;
+                l17 = l14;
+                l18 = l13;
+                l19 = l12;
+                l20 = l11;
+                l8 = l6;
+                l3 = l5;
+                break L2;
+               }
+               l7 = 0L;
+               l16 = 0;
+              }
+              l17 = 0;
+              l18 = 0;
+              l19 = 0;
+              l20 = 0;
+              l8 = 0L;
+              l3 = 0L;
+              break L2;
+             }
+             l16 = 0;
+             switch (l20 + -20108) {
+             case 0: case 8: break L11;
+             default: break L10;
+             }
+            }
+            if (l20 == 12295) { break L11; }
+            l16 = 0;
+            if (l20 != 20061) { break L10; }
+           }
+           Core2.f50(m, l4 + 112L, l20);
+           l16 = (b[((int) l4) - 60607] & 0xff) * 10;
+           l19 = b[((int) l4) - 60608] & 0xff;
+          }
+          l12 = 0;
+          L106: {
+           L107: {
+            L108: {
+             L109: {
+              L110: {
+               if (l17 > 20107) { break L110; }
+               if ((l18 = l17 + -19968) + Integer.MIN_VALUE <= -2147483612) { break L109; }
+               break L107;
+              }
+              L111: {
+               if (l17 > 22234) { break L111; }
+               if ((l18 = l17 + -20841) + Integer.MIN_VALUE > -2147483644) { break L108; }
+               if (((1 << l18) & 21) == 0) { break L108; }
+               break L106;
+              }
+              if (l17 == 38646) { break L106; }
+              l18 = 0;
+              if (l17 != 22235) { break L9; }
+              break L106;
+             }
+             if (((1L << (l18 & 0xffffffffL)) & 68719477257L) == 0L) { break L107; }
+             break L106;
+            }
+            l18 = 0;
+            switch (l17 + -20108) {
+            case 0: case 8: break L106;
+            default: break L9;
+            }
+           }
+           if (l17 == 12295) { break L106; }
+           l18 = 0;
+           if (l17 != 20061) { break L9; }
+          }
+          Core2.f50(m, l4 + 104L, l17);
+          final int t112 = (b[((int) l4) - 60615] & 0xff) + l16;
+          final int t113 = (l12 = (b[((int) l4) - 60616] & 0xff) & l19) & 255;
+          final int t114 = (t113 != 0 ? t112 : 0) & 255;
+          final int t115 = l12 & 1;
+          l18 = t115 != 0 ? t114 : 0;
+         }
+         l12 = l12 & 1;
+         break L4;
+        }
+        switch (l20 + -20108) {
+        case 0: case 8: break L6;
+        default: break L5;
+        }
+       }
+       if (l20 == 12295) { break L6; }
+       if (l20 != 20061) { break L5; }
+      }
+      Core2.f50(m, l4 + 88L, l20);
+      final int t116 = (b[((int) l4) - 60631] & 0xff) & 255;
+      final int t117 = (l12 = b[((int) l4) - 60632] & 0xff) & 1;
+      l18 = t117 != 0 ? t116 : 0;
+     }
+     l12 = l12 & 1;
     }
     if ((l12 & 1) == 0) { break L3; }
     L118: {
@@ -4290,569 +4290,514 @@ static int f140_1(State m, int l0, int l1, long l2, long l3, int l4, long l5, lo
  final byte[] b = m.bytes;
  int exit = 0;
  PART: {
-  L11: {
-   L12: {
-    L13: {
-     L14: {
-      L15: {
-       if (l4 > 21447) { break L15; }
-       L16: {
-        if (l4 > 164) { break L16; }
+  L12: {
+   L13: {
+    L14: {
+     L15: {
+      if (l4 > 21447) { break L15; }
+      L16: {
+       if (l4 > 164) { break L16; }
+       l10 = 0;
+       switch (l4 + -32) {
+       case 0: exit = 1; break PART;
+       case 5: exit = 2; break PART;
+       case 12: break L13;
+       case 13: exit = 3; break PART;
+       case 14: break L14;
+       default: exit = 4; break PART;
+       }
+      }
+      L17: {
+       if (l4 > 19978) { break L17; }
+       if (l4 == 165) { exit = 5; break PART; }
+       if (l4 == 8240) { exit = 2; break PART; }
+       if (l4 == 8722) { exit = 3; break PART; }
+       l10 = 0;
+       exit = 4; break PART;
+      }
+      if (l4 == 19979) { exit = 6; break PART; }
+      if (l4 == 20043) { exit = 7; break PART; }
+      if (l4 == 20998) { exit = 8; break PART; }
+      l10 = 0;
+      exit = 4; break PART;
+     }
+     L18: {
+      L19: {
+       if (l4 > 40669) { break L19; }
+       L20: {
+        if (l4 > 35999) { break L20; }
+        if (l4 == 21448) { exit = 9; break PART; }
+        if (l4 == 28857) { break L18; }
         l10 = 0;
-        switch (l4 + -32) {
-        case 0: break L11;
-        case 5: exit = 1; break PART;
-        case 12: break L13;
-        case 13: exit = 2; break PART;
-        case 14: break L14;
-        default: exit = 3; break PART;
-        }
+        exit = 4; break PART;
        }
-       L17: {
-        if (l4 > 19978) { break L17; }
-        if (l4 == 165) { exit = 4; break PART; }
-        if (l4 == 8240) { exit = 1; break PART; }
-        if (l4 == 8722) { exit = 2; break PART; }
-        l10 = 0;
-        exit = 3; break PART;
-       }
-       if (l4 == 19979) { exit = 5; break PART; }
-       if (l4 == 20043) { exit = 6; break PART; }
-       if (l4 == 20998) { exit = 7; break PART; }
+       if (l4 == 36000) { exit = 10; break PART; }
+       if (l4 == 36127) { exit = 10; break PART; }
        l10 = 0;
-       exit = 3; break PART;
-      }
-      L18: {
-       L19: {
-        if (l4 > 40669) { break L19; }
-        L20: {
-         if (l4 > 35999) { break L20; }
-         if (l4 == 21448) { exit = 8; break PART; }
-         if (l4 == 28857) { break L18; }
-         l10 = 0;
-         exit = 3; break PART;
-        }
-        if (l4 == 36000) { exit = 9; break PART; }
-        if (l4 == 36127) { exit = 9; break PART; }
-        l10 = 0;
-        exit = 3; break PART;
-       }
-       l10 = 0;
-       L21: {
-        switch (l4 + -65285) {
-        case 0: exit = 1; break PART;
-        case 1: case 2: case 3: case 4: case 5: case 6: exit = 3; break PART;
-        case 7: break L12;
-        case 8: exit = 2; break PART;
-        case 9: break L14;
-        default: break L21;
-        }
-       }
-       if (l4 == 65509) { exit = 4; break PART; }
-       if (l4 == 40670) { break L18; }
-       l10 = 0;
-       exit = 3; break PART;
-      }
-      L22: {
-       if (l3 == 0L) { break L22; }
-       l10 = 0;
-       L23: {
-        if ((l4 = (int) b[((int) ((l8 = l2 + l3) + -1L)) - 60720]) >= 0) { break L23; }
-        l9 = -2L;
-        L24: {
-         if ((b[((int) (l8 + -2L)) - 60720] & 0xff) + Integer.MIN_VALUE > -2147483457) { break L24; }
-         l9 = ((b[((int) (l8 + -3L)) - 60720] & 0xff) + Integer.MIN_VALUE > -2147483457) ? -3L : -4L;
-        }
-        l4 = (l11 = (int) b[((int) (l8 = (l2 + l9) + l3)) - 60720]) & 255;
-        if (l11 > -1) { break L23; }
-        l12 = (b[((int) l8) - 60719] & 0xff) & 63;
-        L25: {
-         if (l11 + Integer.MIN_VALUE > 2147483615) { break L25; }
-         l4 = ((l4 << 6) & 1984) | l12;
-         break L23;
-        }
-        l13 = (b[((int) l8) - 60718] & 0xff) & 63;
-        L26: {
-         if (l11 + Integer.MIN_VALUE > 2147483631) { break L26; }
-         l4 = ((l12 << 6) | ((l4 << 12) & 61440)) | l13;
-         break L23;
-        }
-        l4 = ((l13 << 6) | ((l12 << 12) | ((l4 << 18) & 1835008))) | ((b[((int) l8) - 60717] & 0xff) & 63);
-       }
-       if ((l4 + -48) + Integer.MIN_VALUE < -2147483638) { exit = 3; break PART; }
-       if ((l4 + -65296) + Integer.MIN_VALUE < -2147483638) { exit = 3; break PART; }
-      }
-      L27: {
-       if (f142(m, l0, l1, l2, l3) != 0) { break L27; }
-       l10 = 0;
-       exit = 3; break PART;
-      }
-      L28: {
-       L29: {
-        L30: {
-         if (l6 + Long.MIN_VALUE < -9223372036854775805L) { break L30; }
-         if (((l4 = b[((int) l5) - 60720] & 0xff) & 240) != 224) { break L29; }
-         final int t31 = b[((int) ((l3 = ((((l11 = (((l10 = b[((int) l5) - 60719] & 0xff) << 8) | ((l13 = b[((int) l5) - 60718] & 0xff) << 16)) | l4) & 0xffffffffL) * 953497L) >>> 22L) & 1016L) + 80941L)) - 60720] & 0xff;
-         final int t32 = l11 = (Words.get32(b, State.far((int) l3, 80936)) == l11) ? 1 : 0;
-         l12 = t32 != 0 ? t31 : 0;
-         final int t33 = b[((int) (l3 + 80940L)) - 60720] & 0xff;
-         final int t34 = l11;
-         l11 = t34 != 0 ? t33 : 2;
-         l4 = (((l4 << 12) | l13) + (l10 << 6)) + -925824;
-         l6 = l6 + -3L;
-         l5 = l5 + 3L;
-         break L28;
-        }
-        L35: {
-         if (!(l6 == 0L)) { break L35; }
-         l10 = 0;
-         exit = 3; break PART;
-        }
-        l4 = b[((int) l5) - 60720] & 0xff;
-       }
-       l3 = 1L;
-       L36: {
-        if (((int) (byte) l4) > -1) { break L36; }
-        l10 = (b[((int) l5) - 60719] & 0xff) & 63;
-        L37: {
-         if (l4 + Integer.MIN_VALUE > -2147483425) { break L37; }
-         l4 = ((l4 << 6) & 1984) | l10;
-         l3 = 2L;
-         break L36;
-        }
-        l11 = (b[((int) l5) - 60718] & 0xff) & 63;
-        L38: {
-         if (l4 + Integer.MIN_VALUE > -2147483409) { break L38; }
-         l4 = ((l10 << 6) | ((l4 << 12) & 61440)) | l11;
-         l3 = 3L;
-         break L36;
-        }
-        l4 = ((l11 << 6) | ((l10 << 12) | ((l4 << 18) & 1835008))) | ((b[((int) l5) - 60717] & 0xff) & 63);
-        l3 = 4L;
-       }
-       l6 = l6 - l3;
-       l5 = l5 + l3;
-       L39: {
-        if ((l4 + -2048) + Integer.MIN_VALUE > -2147420161) { break L39; }
-        final int t40 = b[((int) ((l3 = ((((l10 = (((l4 >>> 12) | ((l4 << 2) & 16128)) | ((l4 << 16) & 4128768)) | 8421600) & 0xffffffffL) * 953497L) >>> 22L) & 1016L) + 80941L)) - 60720] & 0xff;
-        final int t41 = l10 = (Words.get32(b, State.far((int) l3, 80936)) == l10) ? 1 : 0;
-        l12 = t41 != 0 ? t40 : 0;
-        final int t42 = b[((int) (l3 + 80940L)) - 60720] & 0xff;
-        final int t43 = l10;
-        l11 = t43 != 0 ? t42 : 2;
-        break L28;
-       }
-       final int t44 = l10 = l4 + -48;
-       final int t45 = l10 = (l10 + Integer.MIN_VALUE < -2147483638) ? 1 : 0;
-       l12 = t45 != 0 ? t44 : 0;
-       l11 = l10 != 0 ? 0 : 2;
-      }
-      Core2.f50(m, l7 + 16L, l4);
-      L46: {
-       if ((l4 + -58) + Integer.MIN_VALUE <= 2147483637) { break L46; }
-       l10 = 0;
-       exit = 3; break PART;
-      }
-      L47: {
-       if (((b[((int) l7) - 60704] & 0xff) & 255) == 1) { break L47; }
-       l10 = 0;
-       exit = 3; break PART;
+       exit = 4; break PART;
       }
       l10 = 0;
-      L48: {
-       L49: {
-        switch ((int) ((l11 & 0xffffffffL) & 255L)) {
-        case 1: break L49;
-        case 2: exit = 3; break PART;
-        default: break L48;
-        }
+      L21: {
+       switch (l4 + -65285) {
+       case 0: exit = 2; break PART;
+       case 1: case 2: case 3: case 4: case 5: case 6: exit = 4; break PART;
+       case 7: break L12;
+       case 8: exit = 3; break PART;
+       case 9: break L14;
+       default: break L21;
        }
-       if ((l1 & 255) + Integer.MIN_VALUE >= (l12 & 255) + Integer.MIN_VALUE) { break L48; }
+      }
+      if (l4 == 65509) { exit = 5; break PART; }
+      if (l4 == 40670) { break L18; }
+      l10 = 0;
+      exit = 4; break PART;
+     }
+     L22: {
+      if (l3 == 0L) { break L22; }
+      l10 = 0;
+      L23: {
+       if ((l4 = (int) b[((int) ((l8 = l2 + l3) + -1L)) - 60720]) >= 0) { break L23; }
+       l9 = -2L;
+       L24: {
+        if ((b[((int) (l8 + -2L)) - 60720] & 0xff) + Integer.MIN_VALUE > -2147483457) { break L24; }
+        l9 = ((b[((int) (l8 + -3L)) - 60720] & 0xff) + Integer.MIN_VALUE > -2147483457) ? -3L : -4L;
+       }
+       l4 = (l11 = (int) b[((int) (l8 = (l2 + l9) + l3)) - 60720]) & 255;
+       if (l11 > -1) { break L23; }
+       l12 = (b[((int) l8) - 60719] & 0xff) & 63;
+       L25: {
+        if (l11 + Integer.MIN_VALUE > 2147483615) { break L25; }
+        l4 = ((l4 << 6) & 1984) | l12;
+        break L23;
+       }
+       l13 = (b[((int) l8) - 60718] & 0xff) & 63;
+       L26: {
+        if (l11 + Integer.MIN_VALUE > 2147483631) { break L26; }
+        l4 = ((l12 << 6) | ((l4 << 12) & 61440)) | l13;
+        break L23;
+       }
+       l4 = ((l13 << 6) | ((l12 << 12) | ((l4 << 18) & 1835008))) | ((b[((int) l8) - 60717] & 0xff) & 63);
+      }
+      if ((l4 + -48) + Integer.MIN_VALUE < -2147483638) { exit = 4; break PART; }
+      if ((l4 + -65296) + Integer.MIN_VALUE < -2147483638) { exit = 4; break PART; }
+     }
+     L27: {
+      if (f142(m, l0, l1, l2, l3) != 0) { break L27; }
+      l10 = 0;
+      exit = 4; break PART;
+     }
+     L28: {
+      L29: {
+       L30: {
+        if (l6 + Long.MIN_VALUE < -9223372036854775805L) { break L30; }
+        if (((l4 = b[((int) l5) - 60720] & 0xff) & 240) != 224) { break L29; }
+        final int t31 = b[((int) ((l3 = ((((l11 = (((l10 = b[((int) l5) - 60719] & 0xff) << 8) | ((l13 = b[((int) l5) - 60718] & 0xff) << 16)) | l4) & 0xffffffffL) * 953497L) >>> 22L) & 1016L) + 80941L)) - 60720] & 0xff;
+        final int t32 = l11 = (Words.get32(b, State.far((int) l3, 80936)) == l11) ? 1 : 0;
+        l12 = t32 != 0 ? t31 : 0;
+        final int t33 = b[((int) (l3 + 80940L)) - 60720] & 0xff;
+        final int t34 = l11;
+        l11 = t34 != 0 ? t33 : 2;
+        l4 = (((l4 << 12) | l13) + (l10 << 6)) + -925824;
+        l6 = l6 + -3L;
+        l5 = l5 + 3L;
+        break L28;
+       }
+       L35: {
+        if (!(l6 == 0L)) { break L35; }
+        l10 = 0;
+        exit = 4; break PART;
+       }
+       l4 = b[((int) l5) - 60720] & 0xff;
+      }
+      l3 = 1L;
+      L36: {
+       if (((int) (byte) l4) > -1) { break L36; }
+       l10 = (b[((int) l5) - 60719] & 0xff) & 63;
+       L37: {
+        if (l4 + Integer.MIN_VALUE > -2147483425) { break L37; }
+        l4 = ((l4 << 6) & 1984) | l10;
+        l3 = 2L;
+        break L36;
+       }
+       l11 = (b[((int) l5) - 60718] & 0xff) & 63;
+       L38: {
+        if (l4 + Integer.MIN_VALUE > -2147483409) { break L38; }
+        l4 = ((l10 << 6) | ((l4 << 12) & 61440)) | l11;
+        l3 = 3L;
+        break L36;
+       }
+       l4 = ((l11 << 6) | ((l10 << 12) | ((l4 << 18) & 1835008))) | ((b[((int) l5) - 60717] & 0xff) & 63);
+       l3 = 4L;
+      }
+      l6 = l6 - l3;
+      l5 = l5 + l3;
+      L39: {
+       if ((l4 + -2048) + Integer.MIN_VALUE > -2147420161) { break L39; }
+       final int t40 = b[((int) ((l3 = ((((l10 = (((l4 >>> 12) | ((l4 << 2) & 16128)) | ((l4 << 16) & 4128768)) | 8421600) & 0xffffffffL) * 953497L) >>> 22L) & 1016L) + 80941L)) - 60720] & 0xff;
+       final int t41 = l10 = (Words.get32(b, State.far((int) l3, 80936)) == l10) ? 1 : 0;
+       l12 = t41 != 0 ? t40 : 0;
+       final int t42 = b[((int) (l3 + 80940L)) - 60720] & 0xff;
+       final int t43 = l10;
+       l11 = t43 != 0 ? t42 : 2;
+       break L28;
+      }
+      final int t44 = l10 = l4 + -48;
+      final int t45 = l10 = (l10 + Integer.MIN_VALUE < -2147483638) ? 1 : 0;
+      l12 = t45 != 0 ? t44 : 0;
+      l11 = l10 != 0 ? 0 : 2;
+     }
+     Core2.f50(m, l7 + 16L, l4);
+     L46: {
+      if ((l4 + -58) + Integer.MIN_VALUE <= 2147483637) { break L46; }
+      l10 = 0;
+      exit = 4; break PART;
+     }
+     L47: {
+      if (((b[((int) l7) - 60704] & 0xff) & 255) == 1) { break L47; }
+      l10 = 0;
+      exit = 4; break PART;
+     }
+     l10 = 0;
+     L48: {
+      L49: {
+       switch ((int) ((l11 & 0xffffffffL) & 255L)) {
+       case 1: break L49;
+       case 2: exit = 4; break PART;
+       default: break L48;
+       }
+      }
+      if ((l1 & 255) + Integer.MIN_VALUE >= (l12 & 255) + Integer.MIN_VALUE) { break L48; }
+      l10 = 0;
+      exit = 4; break PART;
+     }
+     L50: {
+      if ((l0 & 1) != 0) { break L50; }
+      L51: {
+       L52: {
+        if (l4 > 29589) { break L52; }
+        L53: {
+         if (l4 > 22776) { break L53; }
+         L54: {
+          if (l4 != 20191) { break L54; }
+          l10 = 0;
+          exit = 4; break PART;
+         }
+         L55: {
+          if (l4 != 20237) { break L55; }
+          l10 = 0;
+          exit = 4; break PART;
+         }
+         if (l4 != 20336) { break L51; }
+         l10 = 0;
+         exit = 4; break PART;
+        }
+        L56: {
+         if (l4 > 25419) { break L56; }
+         L57: {
+          if (l4 != 22777) { break L57; }
+          l10 = 0;
+          exit = 4; break PART;
+         }
+         if (l4 != 25342) { break L51; }
+         l10 = 0;
+         exit = 4; break PART;
+        }
+        L58: {
+         if (l4 != 25420) { break L58; }
+         l10 = 0;
+         exit = 4; break PART;
+        }
+        if (l4 != 26578) { break L51; }
+        l10 = 0;
+        exit = 4; break PART;
+       }
+       L59: {
+        if (l4 > 36143) { break L59; }
+        l10 = 0;
+        L60: {
+         switch (l4 + -36014) {
+         case 0: case 5: exit = 4; break PART;
+         case 1: case 2: case 3: case 4: break L51;
+         default: break L60;
+         }
+        }
+        L61: {
+         if (l4 != 29590) { break L61; }
+         l10 = 0;
+         exit = 4; break PART;
+        }
+        if (l4 != 32902) { break L51; }
+        l10 = 0;
+        exit = 4; break PART;
+       }
+       L62: {
+        if (l4 != 36144) { break L62; }
+        l10 = 0;
+        exit = 4; break PART;
+       }
+       L63: {
+        if (l4 != 38470) { break L63; }
+        l10 = 0;
+        exit = 4; break PART;
+       }
+       if (l4 != 38520) { break L51; }
        l10 = 0;
-       exit = 3; break PART;
+       exit = 4; break PART;
       }
-      L50: {
-       if ((l0 & 1) != 0) { break L50; }
-       L51: {
-        L52: {
-         if (l4 > 29589) { break L52; }
-         L53: {
-          if (l4 > 22776) { break L53; }
-          L54: {
-           if (l4 != 20191) { break L54; }
-           l10 = 0;
-           exit = 3; break PART;
-          }
-          L55: {
-           if (l4 != 20237) { break L55; }
-           l10 = 0;
-           exit = 3; break PART;
-          }
-          if (l4 != 20336) { break L51; }
-          l10 = 0;
-          exit = 3; break PART;
-         }
-         L56: {
-          if (l4 > 25419) { break L56; }
-          L57: {
-           if (l4 != 22777) { break L57; }
-           l10 = 0;
-           exit = 3; break PART;
-          }
-          if (l4 != 25342) { break L51; }
-          l10 = 0;
-          exit = 3; break PART;
-         }
-         L58: {
-          if (l4 != 25420) { break L58; }
-          l10 = 0;
-          exit = 3; break PART;
-         }
-         if (l4 != 26578) { break L51; }
-         l10 = 0;
-         exit = 3; break PART;
-        }
-        L59: {
-         if (l4 > 36143) { break L59; }
-         l10 = 0;
-         L60: {
-          switch (l4 + -36014) {
-          case 0: case 5: exit = 3; break PART;
-          case 1: case 2: case 3: case 4: break L51;
-          default: break L60;
-          }
-         }
-         L61: {
-          if (l4 != 29590) { break L61; }
-          l10 = 0;
-          exit = 3; break PART;
-         }
-         if (l4 != 32902) { break L51; }
-         l10 = 0;
-         exit = 3; break PART;
-        }
-        L62: {
-         if (l4 != 36144) { break L62; }
-         l10 = 0;
-         exit = 3; break PART;
-        }
-        L63: {
-         if (l4 != 38470) { break L63; }
-         l10 = 0;
-         exit = 3; break PART;
-        }
-        if (l4 != 38520) { break L51; }
-        l10 = 0;
-        exit = 3; break PART;
+      if ((l4 + -21441) + Integer.MIN_VALUE >= -2147483644) { break L50; }
+      l10 = 0;
+      exit = 4; break PART;
+     }
+     L64: {
+      if ((l1 = (l6 == 0L) ? 1 : 0) != 0) { break L64; }
+      l10 = (l0 = (int) b[((int) l5) - 60720]) & 255;
+      L65: {
+       if (l0 > -1) { break L65; }
+       l11 = (b[((int) l5) - 60719] & 0xff) & 63;
+       L66: {
+        if (l0 + Integer.MIN_VALUE > 2147483615) { break L66; }
+        l10 = ((l10 << 6) & 1984) | l11;
+        break L65;
        }
-       if ((l4 + -21441) + Integer.MIN_VALUE >= -2147483644) { break L50; }
+       l12 = (b[((int) l5) - 60718] & 0xff) & 63;
+       L67: {
+        if (l0 + Integer.MIN_VALUE > 2147483631) { break L67; }
+        l10 = ((l11 << 6) | ((l10 << 12) & 61440)) | l12;
+        break L65;
+       }
+       l10 = ((l12 << 6) | ((l11 << 12) | ((l10 << 18) & 1835008))) | ((b[((int) l5) - 60717] & 0xff) & 63);
+      }
+      L68: {
+       if (l10 > 21312) { break L68; }
+       L69: {
+        if (l10 != 20998) { break L69; }
+        l10 = 0;
+        exit = 4; break PART;
+       }
+       if (l10 != 21051) { break L64; }
        l10 = 0;
-       exit = 3; break PART;
+       exit = 4; break PART;
       }
-      L64: {
-       if ((l1 = (l6 == 0L) ? 1 : 0) != 0) { break L64; }
-       l10 = (l0 = (int) b[((int) l5) - 60720]) & 255;
-       L65: {
-        if (l0 > -1) { break L65; }
-        l11 = (b[((int) l5) - 60719] & 0xff) & 63;
-        L66: {
-         if (l0 + Integer.MIN_VALUE > 2147483615) { break L66; }
-         l10 = ((l10 << 6) & 1984) | l11;
-         break L65;
-        }
-        l12 = (b[((int) l5) - 60718] & 0xff) & 63;
-        L67: {
-         if (l0 + Integer.MIN_VALUE > 2147483631) { break L67; }
-         l10 = ((l11 << 6) | ((l10 << 12) & 61440)) | l12;
-         break L65;
-        }
-        l10 = ((l12 << 6) | ((l11 << 12) | ((l10 << 18) & 1835008))) | ((b[((int) l5) - 60717] & 0xff) & 63);
-       }
-       L68: {
-        if (l10 > 21312) { break L68; }
-        L69: {
-         if (l10 != 20998) { break L69; }
-         l10 = 0;
-         exit = 3; break PART;
-        }
-        if (l10 != 21051) { break L64; }
-        l10 = 0;
-        exit = 3; break PART;
-       }
-       L70: {
-        if (l10 != 21313) { break L70; }
-        l10 = 0;
-        exit = 3; break PART;
-       }
-       L71: {
-        if (l10 != 28857) { break L71; }
-        l10 = 0;
-        exit = 3; break PART;
-       }
-       if (l10 != 40670) { break L64; }
+      L70: {
+       if (l10 != 21313) { break L70; }
        l10 = 0;
-       exit = 3; break PART;
+       exit = 4; break PART;
       }
-      l10 = 1;
-      L72: {
-       L73: {
-        if (l4 == 38646) { break L73; }
-        if (l4 == 19968) { break L72; }
-        if (l4 != 12295) { exit = 3; break PART; }
-       }
-       if (l1 != 0) { exit = 3; break PART; }
-       l4 = (l10 = (int) b[((int) l5) - 60720]) & 255;
-       l3 = 1L;
-       L74: {
-        if (l10 > -1) { break L74; }
-        l0 = (b[((int) l5) - 60719] & 0xff) & 63;
-        L75: {
-         if (l10 + Integer.MIN_VALUE > 2147483615) { break L75; }
-         l4 = ((l4 << 6) & 1984) | l0;
-         l3 = 2L;
-         break L74;
-        }
-        l1 = (b[((int) l5) - 60718] & 0xff) & 63;
-        L76: {
-         if (l10 + Integer.MIN_VALUE > 2147483631) { break L76; }
-         l4 = ((l0 << 6) | ((l4 << 12) & 61440)) | l1;
-         l3 = 3L;
-         break L74;
-        }
-        l4 = ((l1 << 6) | ((l0 << 12) | ((l4 << 18) & 1835008))) | ((b[((int) l5) - 60717] & 0xff) & 63);
-        l3 = 4L;
-       }
-       Core2.f50(m, l7 + 8L, l4);
-       l10 = 1;
-       if (l6 == l3) { exit = 3; break PART; }
-       if (((l4 + -65306) + Integer.MIN_VALUE < 2147483638) & ((b[((int) l7) - 60712] & 0xff) != 1)) { exit = 3; break PART; }
-       l4 = (l10 = (int) b[((int) (l5 = l5 + l3)) - 60720]) & 255;
-       L77: {
-        if (l10 > -1) { break L77; }
-        l0 = (b[((int) l5) - 60719] & 0xff) & 63;
-        L78: {
-         if (l10 + Integer.MIN_VALUE > 2147483615) { break L78; }
-         l4 = ((l4 << 6) & 1984) | l0;
-         break L77;
-        }
-        l1 = (b[((int) l5) - 60718] & 0xff) & 63;
-        L79: {
-         if (l10 + Integer.MIN_VALUE > 2147483631) { break L79; }
-         l4 = ((l0 << 6) | ((l4 << 12) & 61440)) | l1;
-         break L77;
-        }
-        l4 = ((l1 << 6) | ((l0 << 12) | ((l4 << 18) & 1835008))) | ((b[((int) l5) - 60717] & 0xff) & 63);
-       }
-       L80: {
-        L81: {
-         if (l4 > 21312) { break L81; }
-         L82: {
-          if (l4 != 20998) { break L82; }
-          l10 = 0;
-          exit = 3; break PART;
-         }
-         l10 = 0;
-         if (l4 != 21051) { break L80; }
-         exit = 3; break PART;
-        }
-        L83: {
-         if (l4 != 21313) { break L83; }
-         l10 = 0;
-         exit = 3; break PART;
-        }
-        L84: {
-         if (l4 != 28857) { break L84; }
-         l10 = 0;
-         exit = 3; break PART;
-        }
-        l10 = 0;
-        if (l4 == 40670) { exit = 3; break PART; }
-       }
-       l10 = 1;
-       exit = 3; break PART;
+      L71: {
+       if (l10 != 28857) { break L71; }
+       l10 = 0;
+       exit = 4; break PART;
       }
-      if (l1 != 0) { exit = 3; break PART; }
+      if (l10 != 40670) { break L64; }
+      l10 = 0;
+      exit = 4; break PART;
+     }
+     l10 = 1;
+     L72: {
+      L73: {
+       if (l4 == 38646) { break L73; }
+       if (l4 == 19968) { break L72; }
+       if (l4 != 12295) { exit = 4; break PART; }
+      }
+      if (l1 != 0) { exit = 4; break PART; }
       l4 = (l10 = (int) b[((int) l5) - 60720]) & 255;
-      L85: {
-       if (l10 > -1) { break L85; }
+      l3 = 1L;
+      L74: {
+       if (l10 > -1) { break L74; }
        l0 = (b[((int) l5) - 60719] & 0xff) & 63;
-       L86: {
-        if (l10 + Integer.MIN_VALUE > 2147483615) { break L86; }
+       L75: {
+        if (l10 + Integer.MIN_VALUE > 2147483615) { break L75; }
         l4 = ((l4 << 6) & 1984) | l0;
-        break L85;
+        l3 = 2L;
+        break L74;
        }
        l1 = (b[((int) l5) - 60718] & 0xff) & 63;
-       L87: {
-        if (l10 + Integer.MIN_VALUE > 2147483631) { break L87; }
+       L76: {
+        if (l10 + Integer.MIN_VALUE > 2147483631) { break L76; }
         l4 = ((l0 << 6) | ((l4 << 12) & 61440)) | l1;
-        break L85;
+        l3 = 3L;
+        break L74;
+       }
+       l4 = ((l1 << 6) | ((l0 << 12) | ((l4 << 18) & 1835008))) | ((b[((int) l5) - 60717] & 0xff) & 63);
+       l3 = 4L;
+      }
+      Core2.f50(m, l7 + 8L, l4);
+      l10 = 1;
+      if (l6 == l3) { exit = 4; break PART; }
+      if (((l4 + -65306) + Integer.MIN_VALUE < 2147483638) & ((b[((int) l7) - 60712] & 0xff) != 1)) { exit = 4; break PART; }
+      l4 = (l10 = (int) b[((int) (l5 = l5 + l3)) - 60720]) & 255;
+      L77: {
+       if (l10 > -1) { break L77; }
+       l0 = (b[((int) l5) - 60719] & 0xff) & 63;
+       L78: {
+        if (l10 + Integer.MIN_VALUE > 2147483615) { break L78; }
+        l4 = ((l4 << 6) & 1984) | l0;
+        break L77;
+       }
+       l1 = (b[((int) l5) - 60718] & 0xff) & 63;
+       L79: {
+        if (l10 + Integer.MIN_VALUE > 2147483631) { break L79; }
+        l4 = ((l0 << 6) | ((l4 << 12) & 61440)) | l1;
+        break L77;
        }
        l4 = ((l1 << 6) | ((l0 << 12) | ((l4 << 18) & 1835008))) | ((b[((int) l5) - 60717] & 0xff) & 63);
       }
-      L88: {
-       L89: {
-        if (l4 > 27170) { break L89; }
-        L90: {
-         if (l4 > 20998) { break L90; }
-         L91: {
-          if (l4 != 19979) { break L91; }
-          l10 = 0;
-          exit = 3; break PART;
-         }
+      L80: {
+       L81: {
+        if (l4 > 21312) { break L81; }
+        L82: {
+         if (l4 != 20998) { break L82; }
          l10 = 0;
-         if (l4 != 20123) { break L88; }
-         exit = 3; break PART;
-        }
-        L92: {
-         if (l4 != 20999) { break L92; }
-         l10 = 0;
-         exit = 3; break PART;
-        }
-        L93: {
-         if (l4 != 23450) { break L93; }
-         l10 = 0;
-         exit = 3; break PART;
+         exit = 4; break PART;
         }
         l10 = 0;
-        if (l4 != 26679) { break L88; }
-        exit = 3; break PART;
+        if (l4 != 21051) { break L80; }
+        exit = 4; break PART;
        }
-       L94: {
-        if (l4 > 32217) { break L94; }
-        L95: {
-         if (l4 != 27171) { break L95; }
-         l10 = 0;
-         exit = 3; break PART;
-        }
-        L96: {
-         if (l4 != 28404) { break L96; }
-         l10 = 0;
-         exit = 3; break PART;
-        }
+       L83: {
+        if (l4 != 21313) { break L83; }
         l10 = 0;
-        if (l4 != 30452) { break L88; }
-        exit = 3; break PART;
+        exit = 4; break PART;
        }
-       L97: {
-        if (l4 != 32218) { break L97; }
+       L84: {
+        if (l4 != 28857) { break L84; }
         l10 = 0;
-        exit = 3; break PART;
-       }
-       L98: {
-        if (l4 != 32447) { break L98; }
-        l10 = 0;
-        exit = 3; break PART;
+        exit = 4; break PART;
        }
        l10 = 0;
-       if (l4 == 36215) { exit = 3; break PART; }
+       if (l4 == 40670) { exit = 4; break PART; }
       }
       l10 = 1;
-      exit = 3; break PART;
+      exit = 4; break PART;
      }
-     l10 = 0;
-     if (l3 == 0L) { exit = 3; break PART; }
-     l10 = 0;
-     L99: {
-      if ((l4 = (int) b[((int) ((l8 = l2 + l3) + -1L)) - 60720]) >= 0) { break L99; }
-      l9 = -2L;
-      L100: {
-       if ((b[((int) (l8 + -2L)) - 60720] & 0xff) + Integer.MIN_VALUE > -2147483457) { break L100; }
-       l9 = ((b[((int) (l8 + -3L)) - 60720] & 0xff) + Integer.MIN_VALUE > -2147483457) ? -3L : -4L;
-      }
-      l4 = (l0 = (int) b[((int) (l3 = (l2 + l9) + l3)) - 60720]) & 255;
-      if (l0 > -1) { break L99; }
-      l1 = (b[((int) l3) - 60719] & 0xff) & 63;
-      L101: {
-       if (l0 + Integer.MIN_VALUE > 2147483615) { break L101; }
-       l4 = ((l4 << 6) & 1984) | l1;
-       break L99;
-      }
-      l11 = (b[((int) l3) - 60718] & 0xff) & 63;
-      L102: {
-       if (l0 + Integer.MIN_VALUE > 2147483631) { break L102; }
-       l4 = ((l1 << 6) | ((l4 << 12) & 61440)) | l11;
-       break L99;
-      }
-      l4 = ((l11 << 6) | ((l1 << 12) | ((l4 << 18) & 1835008))) | ((b[((int) l3) - 60717] & 0xff) & 63);
-     }
-     if (l6 == 0L) { exit = 3; break PART; }
-     if (((l4 + -58) + Integer.MIN_VALUE < 2147483638) & ((l4 + -65306) + Integer.MIN_VALUE < 2147483638)) { exit = 3; break PART; }
+     if (l1 != 0) { exit = 4; break PART; }
      l4 = (l10 = (int) b[((int) l5) - 60720]) & 255;
-     L103: {
-      if (l10 > -1) { break L103; }
+     L85: {
+      if (l10 > -1) { break L85; }
       l0 = (b[((int) l5) - 60719] & 0xff) & 63;
-      L104: {
-       if (l10 + Integer.MIN_VALUE > 2147483615) { break L104; }
+      L86: {
+       if (l10 + Integer.MIN_VALUE > 2147483615) { break L86; }
        l4 = ((l4 << 6) & 1984) | l0;
-       break L103;
+       break L85;
       }
       l1 = (b[((int) l5) - 60718] & 0xff) & 63;
-      L105: {
-       if (l10 + Integer.MIN_VALUE > 2147483631) { break L105; }
+      L87: {
+       if (l10 + Integer.MIN_VALUE > 2147483631) { break L87; }
        l4 = ((l0 << 6) | ((l4 << 12) & 61440)) | l1;
-       break L103;
+       break L85;
       }
       l4 = ((l1 << 6) | ((l0 << 12) | ((l4 << 18) & 1835008))) | ((b[((int) l5) - 60717] & 0xff) & 63);
      }
-     l10 = (((l4 + -48) + Integer.MIN_VALUE < -2147483638) | ((l4 + -65296) + Integer.MIN_VALUE < -2147483638)) ? 1 : 0;
-     exit = 3; break PART;
+     L88: {
+      L89: {
+       if (l4 > 27170) { break L89; }
+       L90: {
+        if (l4 > 20998) { break L90; }
+        L91: {
+         if (l4 != 19979) { break L91; }
+         l10 = 0;
+         exit = 4; break PART;
+        }
+        l10 = 0;
+        if (l4 != 20123) { break L88; }
+        exit = 4; break PART;
+       }
+       L92: {
+        if (l4 != 20999) { break L92; }
+        l10 = 0;
+        exit = 4; break PART;
+       }
+       L93: {
+        if (l4 != 23450) { break L93; }
+        l10 = 0;
+        exit = 4; break PART;
+       }
+       l10 = 0;
+       if (l4 != 26679) { break L88; }
+       exit = 4; break PART;
+      }
+      L94: {
+       if (l4 > 32217) { break L94; }
+       L95: {
+        if (l4 != 27171) { break L95; }
+        l10 = 0;
+        exit = 4; break PART;
+       }
+       L96: {
+        if (l4 != 28404) { break L96; }
+        l10 = 0;
+        exit = 4; break PART;
+       }
+       l10 = 0;
+       if (l4 != 30452) { break L88; }
+       exit = 4; break PART;
+      }
+      L97: {
+       if (l4 != 32218) { break L97; }
+       l10 = 0;
+       exit = 4; break PART;
+      }
+      L98: {
+       if (l4 != 32447) { break L98; }
+       l10 = 0;
+       exit = 4; break PART;
+      }
+      l10 = 0;
+      if (l4 == 36215) { exit = 4; break PART; }
+     }
+     l10 = 1;
+     exit = 4; break PART;
     }
-    l10 = f143(m, l2, l3, l5, l6);
-    exit = 3; break PART;
-   }
-   l4 = f143(m, l2, l3, l5, l6);
-   L106: {
-    if (!(l3 == 0L)) { break L106; }
     l10 = 0;
-    exit = 3; break PART;
+    if (l3 == 0L) { exit = 4; break PART; }
+    l10 = 0;
+    L99: {
+     if ((l4 = (int) b[((int) ((l8 = l2 + l3) + -1L)) - 60720]) >= 0) { break L99; }
+     l9 = -2L;
+     L100: {
+      if ((b[((int) (l8 + -2L)) - 60720] & 0xff) + Integer.MIN_VALUE > -2147483457) { break L100; }
+      l9 = ((b[((int) (l8 + -3L)) - 60720] & 0xff) + Integer.MIN_VALUE > -2147483457) ? -3L : -4L;
+     }
+     l4 = (l0 = (int) b[((int) (l3 = (l2 + l9) + l3)) - 60720]) & 255;
+     if (l0 > -1) { break L99; }
+     l1 = (b[((int) l3) - 60719] & 0xff) & 63;
+     L101: {
+      if (l0 + Integer.MIN_VALUE > 2147483615) { break L101; }
+      l4 = ((l4 << 6) & 1984) | l1;
+      break L99;
+     }
+     l11 = (b[((int) l3) - 60718] & 0xff) & 63;
+     L102: {
+      if (l0 + Integer.MIN_VALUE > 2147483631) { break L102; }
+      l4 = ((l1 << 6) | ((l4 << 12) & 61440)) | l11;
+      break L99;
+     }
+     l4 = ((l11 << 6) | ((l1 << 12) | ((l4 << 18) & 1835008))) | ((b[((int) l3) - 60717] & 0xff) & 63);
+    }
+    if (l6 == 0L) { exit = 4; break PART; }
+    if (((l4 + -58) + Integer.MIN_VALUE < 2147483638) & ((l4 + -65306) + Integer.MIN_VALUE < 2147483638)) { exit = 4; break PART; }
+    l4 = (l10 = (int) b[((int) l5) - 60720]) & 255;
+    L103: {
+     if (l10 > -1) { break L103; }
+     l0 = (b[((int) l5) - 60719] & 0xff) & 63;
+     L104: {
+      if (l10 + Integer.MIN_VALUE > 2147483615) { break L104; }
+      l4 = ((l4 << 6) & 1984) | l0;
+      break L103;
+     }
+     l1 = (b[((int) l5) - 60718] & 0xff) & 63;
+     L105: {
+      if (l10 + Integer.MIN_VALUE > 2147483631) { break L105; }
+      l4 = ((l0 << 6) | ((l4 << 12) & 61440)) | l1;
+      break L103;
+     }
+     l4 = ((l1 << 6) | ((l0 << 12) | ((l4 << 18) & 1835008))) | ((b[((int) l5) - 60717] & 0xff) & 63);
+    }
+    l10 = (((l4 + -48) + Integer.MIN_VALUE < -2147483638) | ((l4 + -65296) + Integer.MIN_VALUE < -2147483638)) ? 1 : 0;
+    exit = 4; break PART;
    }
-   l10 = 0;
-   if (l4 == 0) { exit = 3; break PART; }
-   l10 = 0;
-   L107: {
-    if ((l4 = (int) b[((int) ((l8 = l2 + l3) + -1L)) - 60720]) >= 0) { break L107; }
-    l9 = -2L;
-    L108: {
-     if ((b[((int) (l8 + -2L)) - 60720] & 0xff) + Integer.MIN_VALUE > -2147483457) { break L108; }
-     l9 = ((b[((int) (l8 + -3L)) - 60720] & 0xff) + Integer.MIN_VALUE > -2147483457) ? -3L : -4L;
-    }
-    l4 = (l0 = (int) b[((int) (l3 = (l2 + l9) + l3)) - 60720]) & 255;
-    if (l0 > -1) { break L107; }
-    l1 = (b[((int) l3) - 60719] & 0xff) & 63;
-    L109: {
-     if (l0 + Integer.MIN_VALUE > 2147483615) { break L109; }
-     l4 = ((l4 << 6) & 1984) | l1;
-     break L107;
-    }
-    l11 = (b[((int) l3) - 60718] & 0xff) & 63;
-    L110: {
-     if (l0 + Integer.MIN_VALUE > 2147483631) { break L110; }
-     l4 = ((l1 << 6) | ((l4 << 12) & 61440)) | l11;
-     break L107;
-    }
-    l4 = ((l11 << 6) | ((l1 << 12) | ((l4 << 18) & 1835008))) | ((b[((int) l3) - 60717] & 0xff) & 63);
-   }
-   if (l6 == 0L) { exit = 3; break PART; }
-   if ((l4 + -65306) + Integer.MIN_VALUE < 2147483638) { exit = 3; break PART; }
-   l4 = (l10 = (int) b[((int) l5) - 60720]) & 255;
-   L111: {
-    if (l10 > -1) { break L111; }
-    l0 = (b[((int) l5) - 60719] & 0xff) & 63;
-    L112: {
-     if (l10 + Integer.MIN_VALUE > 2147483615) { break L112; }
-     l4 = ((l4 << 6) & 1984) | l0;
-     break L111;
-    }
-    l1 = (b[((int) l5) - 60718] & 0xff) & 63;
-    L113: {
-     if (l10 + Integer.MIN_VALUE > 2147483631) { break L113; }
-     l4 = ((l0 << 6) | ((l4 << 12) & 61440)) | l1;
-     break L111;
-    }
-    l4 = ((l1 << 6) | ((l0 << 12) | ((l4 << 18) & 1835008))) | ((b[((int) l5) - 60717] & 0xff) & 63);
-   }
-   l10 = ((l4 + -65296) + Integer.MIN_VALUE < -2147483638) ? 1 : 0;
-   exit = 3; break PART;
+   l10 = f143(m, l2, l3, l5, l6);
+   exit = 4; break PART;
   }
  }
  m.kept[0] = l0;
@@ -5189,6 +5134,163 @@ static int f140_4(State m, long l3, int l4, long l5, long l6, int l10, int l11, 
  return exit;
 }
 
+static int f140_5(State m, int l0, int l1, int l4, long l7, int l10, int l11, int l12) {
+ final byte[] b = m.bytes;
+ int exit = 0;
+ PART: {
+  L220: {
+   if ((l4 + -48) + Integer.MIN_VALUE < -2147483638) { break L220; }
+   if ((l4 + -65296) + Integer.MIN_VALUE < -2147483638) { break L220; }
+   l10 = 0;
+   L221: {
+    L222: {
+     switch ((int) ((l11 & 0xffffffffL) & 255L)) {
+     case 1: break L222;
+     case 2: exit = 1; break PART;
+     default: break L221;
+     }
+    }
+    if ((l1 & 255) + Integer.MIN_VALUE >= (l12 & 255) + Integer.MIN_VALUE) { break L221; }
+    l10 = 0;
+    exit = 1; break PART;
+   }
+   L223: {
+    if ((l0 & 1) != 0) { break L223; }
+    L224: {
+     L225: {
+      if (l4 > 29589) { break L225; }
+      L226: {
+       if (l4 > 22776) { break L226; }
+       L227: {
+        if (l4 != 20191) { break L227; }
+        l10 = 0;
+        exit = 1; break PART;
+       }
+       L228: {
+        if (l4 != 20237) { break L228; }
+        l10 = 0;
+        exit = 1; break PART;
+       }
+       if (l4 != 20336) { break L224; }
+       l10 = 0;
+       exit = 1; break PART;
+      }
+      L229: {
+       if (l4 > 25419) { break L229; }
+       L230: {
+        if (l4 != 22777) { break L230; }
+        l10 = 0;
+        exit = 1; break PART;
+       }
+       if (l4 != 25342) { break L224; }
+       l10 = 0;
+       exit = 1; break PART;
+      }
+      L231: {
+       if (l4 != 25420) { break L231; }
+       l10 = 0;
+       exit = 1; break PART;
+      }
+      if (l4 != 26578) { break L224; }
+      l10 = 0;
+      exit = 1; break PART;
+     }
+     L232: {
+      if (l4 > 36143) { break L232; }
+      l10 = 0;
+      L233: {
+       switch (l4 + -36014) {
+       case 0: case 5: exit = 1; break PART;
+       case 1: case 2: case 3: case 4: break L224;
+       default: break L233;
+       }
+      }
+      L234: {
+       if (l4 != 29590) { break L234; }
+       l10 = 0;
+       exit = 1; break PART;
+      }
+      if (l4 != 32902) { break L224; }
+      l10 = 0;
+      exit = 1; break PART;
+     }
+     L235: {
+      if (l4 != 36144) { break L235; }
+      l10 = 0;
+      exit = 1; break PART;
+     }
+     L236: {
+      if (l4 != 38470) { break L236; }
+      l10 = 0;
+      exit = 1; break PART;
+     }
+     if (l4 != 38520) { break L224; }
+     l10 = 0;
+     exit = 1; break PART;
+    }
+    if ((l4 + -21441) + Integer.MIN_VALUE >= -2147483644) { break L223; }
+    l10 = 0;
+    exit = 1; break PART;
+   }
+   Core2.f50(m, l7 + 24L, l4);
+   if (l4 == 21313) { break L220; }
+   if (((b[((int) l7) - 60696] & 0xff) & 255) == 1) { break L220; }
+   l10 = 0;
+   exit = 1; break PART;
+  }
+ }
+ m.kept[0] = l10;
+ return exit;
+}
+
+static int f140_6(State m, int l4, long l5, long l6, long l8, int l10, int l11, int l12) {
+ final byte[] b = m.bytes;
+ int exit = 0;
+ PART: {
+  L259: {
+   if ((l4 + -48) + Integer.MIN_VALUE < -2147483638) { break L259; }
+   if ((l4 + -65296) + Integer.MIN_VALUE < -2147483638) { break L259; }
+   L260: {
+    if (l4 == 65509) { break L260; }
+    if (l4 == 165) { break L260; }
+    l10 = 0;
+    exit = 1; break PART;
+   }
+   L261: {
+    if (l6 != l8) { break L261; }
+    l10 = 0;
+    exit = 1; break PART;
+   }
+   l4 = (l10 = (int) b[((int) (l5 = l5 + l8)) - 60720]) & 255;
+   L262: {
+    if (l10 > -1) { break L262; }
+    l11 = (b[((int) l5) - 60719] & 0xff) & 63;
+    L263: {
+     if (l10 + Integer.MIN_VALUE > 2147483615) { break L263; }
+     l4 = ((l4 << 6) & 1984) | l11;
+     break L262;
+    }
+    l12 = (b[((int) l5) - 60718] & 0xff) & 63;
+    L264: {
+     if (l10 + Integer.MIN_VALUE > 2147483631) { break L264; }
+     l4 = ((l11 << 6) | ((l4 << 12) & 61440)) | l12;
+     break L262;
+    }
+    l4 = ((l12 << 6) | ((l11 << 12) | ((l4 << 18) & 1835008))) | ((b[((int) l5) - 60717] & 0xff) & 63);
+   }
+   if ((l4 + -48) + Integer.MIN_VALUE < -2147483638) { break L259; }
+   l10 = 0;
+   if ((l4 + -65296) + Integer.MIN_VALUE > -2147483639) { exit = 1; break PART; }
+  }
+ }
+ m.kept[0] = l4;
+ m.kept[1] = l5;
+ m.kept[2] = l10;
+ m.kept[3] = l11;
+ m.kept[4] = l12;
+ return exit;
+}
+
 static int f140(State m, int l0, int l1, long l2, long l3, int l4, long l5, long l6) {
  final byte[] b = m.bytes;
  long l7 = 0;
@@ -5210,29 +5312,85 @@ static int f140(State m, int l0, int l1, long l2, long l3, int l4, long l5, long
         L8: {
          L9: {
           L10: {
-           final int x114 = f140_1(m, l0, l1, l2, l3, l4, l5, l6, l7, l8, l9, l10, l11, l12, l13);
-           l0 = (int) m.kept[0];
-           l1 = (int) m.kept[1];
-           l3 = m.kept[2];
-           l4 = (int) m.kept[3];
-           l5 = m.kept[4];
-           l6 = m.kept[5];
-           l8 = m.kept[6];
-           l9 = m.kept[7];
-           l10 = (int) m.kept[8];
-           l11 = (int) m.kept[9];
-           l12 = (int) m.kept[10];
-           l13 = (int) m.kept[11];
-           switch (x114) {
-           case 1: break L8;
-           case 2: break L4;
-           case 3: break L2;
-           case 4: break L3;
-           case 5: break L6;
-           case 6: break L9;
-           case 7: break L10;
-           case 8: break L7;
-           case 9: break L5;
+           L11: {
+            final int x106 = f140_1(m, l0, l1, l2, l3, l4, l5, l6, l7, l8, l9, l10, l11, l12, l13);
+            l0 = (int) m.kept[0];
+            l1 = (int) m.kept[1];
+            l3 = m.kept[2];
+            l4 = (int) m.kept[3];
+            l5 = m.kept[4];
+            l6 = m.kept[5];
+            l8 = m.kept[6];
+            l9 = m.kept[7];
+            l10 = (int) m.kept[8];
+            l11 = (int) m.kept[9];
+            l12 = (int) m.kept[10];
+            l13 = (int) m.kept[11];
+            switch (x106) {
+            case 1: break L11;
+            case 2: break L8;
+            case 3: break L4;
+            case 4: break L2;
+            case 5: break L3;
+            case 6: break L6;
+            case 7: break L9;
+            case 8: break L10;
+            case 9: break L7;
+            case 10: break L5;
+            }
+            l4 = f143(m, l2, l3, l5, l6);
+            L107: {
+             if (!(l3 == 0L)) { break L107; }
+             l10 = 0;
+             break L2;
+            }
+            l10 = 0;
+            if (l4 == 0) { break L2; }
+            l10 = 0;
+            L108: {
+             if ((l4 = (int) b[((int) ((l8 = l2 + l3) + -1L)) - 60720]) >= 0) { break L108; }
+             l9 = -2L;
+             L109: {
+              if ((b[((int) (l8 + -2L)) - 60720] & 0xff) + Integer.MIN_VALUE > -2147483457) { break L109; }
+              l9 = ((b[((int) (l8 + -3L)) - 60720] & 0xff) + Integer.MIN_VALUE > -2147483457) ? -3L : -4L;
+             }
+             l4 = (l0 = (int) b[((int) (l3 = (l2 + l9) + l3)) - 60720]) & 255;
+             if (l0 > -1) { break L108; }
+             l1 = (b[((int) l3) - 60719] & 0xff) & 63;
+             L110: {
+              if (l0 + Integer.MIN_VALUE > 2147483615) { break L110; }
+              l4 = ((l4 << 6) & 1984) | l1;
+              break L108;
+             }
+             l11 = (b[((int) l3) - 60718] & 0xff) & 63;
+             L111: {
+              if (l0 + Integer.MIN_VALUE > 2147483631) { break L111; }
+              l4 = ((l1 << 6) | ((l4 << 12) & 61440)) | l11;
+              break L108;
+             }
+             l4 = ((l11 << 6) | ((l1 << 12) | ((l4 << 18) & 1835008))) | ((b[((int) l3) - 60717] & 0xff) & 63);
+            }
+            if (l6 == 0L) { break L2; }
+            if ((l4 + -65306) + Integer.MIN_VALUE < 2147483638) { break L2; }
+            l4 = (l10 = (int) b[((int) l5) - 60720]) & 255;
+            L112: {
+             if (l10 > -1) { break L112; }
+             l0 = (b[((int) l5) - 60719] & 0xff) & 63;
+             L113: {
+              if (l10 + Integer.MIN_VALUE > 2147483615) { break L113; }
+              l4 = ((l4 << 6) & 1984) | l0;
+              break L112;
+             }
+             l1 = (b[((int) l5) - 60718] & 0xff) & 63;
+             L114: {
+              if (l10 + Integer.MIN_VALUE > 2147483631) { break L114; }
+              l4 = ((l0 << 6) | ((l4 << 12) & 61440)) | l1;
+              break L112;
+             }
+             l4 = ((l1 << 6) | ((l0 << 12) | ((l4 << 18) & 1835008))) | ((b[((int) l5) - 60717] & 0xff) & 63);
+            }
+            l10 = ((l4 + -65296) + Integer.MIN_VALUE < -2147483638) ? 1 : 0;
+            break L2;
            }
            l10 = 0;
            if (l3 == 0L) { break L2; }
@@ -5499,137 +5657,42 @@ static int f140(State m, int l0, int l1, long l2, long l3, int l4, long l5, long
       switch (x219) {
       case 1: break L2;
       }
-      L220: {
-       if ((l4 + -48) + Integer.MIN_VALUE < -2147483638) { break L220; }
-       if ((l4 + -65296) + Integer.MIN_VALUE < -2147483638) { break L220; }
-       l10 = 0;
-       L221: {
-        L222: {
-         switch ((int) ((l11 & 0xffffffffL) & 255L)) {
-         case 1: break L222;
-         case 2: break L2;
-         default: break L221;
-         }
-        }
-        if ((l1 & 255) + Integer.MIN_VALUE >= (l12 & 255) + Integer.MIN_VALUE) { break L221; }
-        l10 = 0;
-        break L2;
-       }
-       L223: {
-        if ((l0 & 1) != 0) { break L223; }
-        L224: {
-         L225: {
-          if (l4 > 29589) { break L225; }
-          L226: {
-           if (l4 > 22776) { break L226; }
-           L227: {
-            if (l4 != 20191) { break L227; }
-            l10 = 0;
-            break L2;
-           }
-           L228: {
-            if (l4 != 20237) { break L228; }
-            l10 = 0;
-            break L2;
-           }
-           if (l4 != 20336) { break L224; }
-           l10 = 0;
-           break L2;
-          }
-          L229: {
-           if (l4 > 25419) { break L229; }
-           L230: {
-            if (l4 != 22777) { break L230; }
-            l10 = 0;
-            break L2;
-           }
-           if (l4 != 25342) { break L224; }
-           l10 = 0;
-           break L2;
-          }
-          L231: {
-           if (l4 != 25420) { break L231; }
-           l10 = 0;
-           break L2;
-          }
-          if (l4 != 26578) { break L224; }
-          l10 = 0;
-          break L2;
-         }
-         L232: {
-          if (l4 > 36143) { break L232; }
-          l10 = 0;
-          L233: {
-           switch (l4 + -36014) {
-           case 0: case 5: break L2;
-           case 1: case 2: case 3: case 4: break L224;
-           default: break L233;
-           }
-          }
-          L234: {
-           if (l4 != 29590) { break L234; }
-           l10 = 0;
-           break L2;
-          }
-          if (l4 != 32902) { break L224; }
-          l10 = 0;
-          break L2;
-         }
-         L235: {
-          if (l4 != 36144) { break L235; }
-          l10 = 0;
-          break L2;
-         }
-         L236: {
-          if (l4 != 38470) { break L236; }
-          l10 = 0;
-          break L2;
-         }
-         if (l4 != 38520) { break L224; }
-         l10 = 0;
-         break L2;
-        }
-        if ((l4 + -21441) + Integer.MIN_VALUE >= -2147483644) { break L223; }
-        l10 = 0;
-        break L2;
-       }
-       Core2.f50(m, l7 + 24L, l4);
-       if (l4 == 21313) { break L220; }
-       if (((b[((int) l7) - 60696] & 0xff) & 255) == 1) { break L220; }
-       l10 = 0;
-       break L2;
+      final int x237 = f140_5(m, l0, l1, l4, l7, l10, l11, l12);
+      l10 = (int) m.kept[0];
+      switch (x237) {
+      case 1: break L2;
       }
       l10 = 1;
       if (l4 != 19968) { break L2; }
       if (f145(m, l0, l1, l5, l6) != 0) { break L2; }
-      L237: {
-       if (!(l6 == 0L)) { break L237; }
+      L238: {
+       if (!(l6 == 0L)) { break L238; }
        l10 = 0;
        break L2;
       }
       l4 = (l0 = (int) b[((int) l5) - 60720]) & 255;
-      L238: {
-       if (l0 > -1) { break L238; }
+      L239: {
+       if (l0 > -1) { break L239; }
        l1 = (b[((int) l5) - 60719] & 0xff) & 63;
-       L239: {
-        if (l0 + Integer.MIN_VALUE > 2147483615) { break L239; }
+       L240: {
+        if (l0 + Integer.MIN_VALUE > 2147483615) { break L240; }
         l4 = ((l4 << 6) & 1984) | l1;
-        break L238;
+        break L239;
        }
        l11 = (b[((int) l5) - 60718] & 0xff) & 63;
-       L240: {
-        if (l0 + Integer.MIN_VALUE > 2147483631) { break L240; }
+       L241: {
+        if (l0 + Integer.MIN_VALUE > 2147483631) { break L241; }
         l4 = ((l1 << 6) | ((l4 << 12) & 61440)) | l11;
-        break L238;
+        break L239;
        }
        l4 = ((l11 << 6) | ((l1 << 12) | ((l4 << 18) & 1835008))) | ((b[((int) l5) - 60717] & 0xff) & 63);
       }
-      L241: {
-       L242: {
-        if (l4 > 25884) { break L242; }
+      L242: {
+       L243: {
+        if (l4 > 25884) { break L243; }
         if (l4 == 8451) { break L2; }
         if (l4 == 24230) { break L2; }
-        if (l4 != 25668) { break L241; }
+        if (l4 != 25668) { break L242; }
         break L2;
        }
        if (l4 == 25885) { break L2; }
@@ -5639,8 +5702,8 @@ static int f140(State m, int l0, int l1, long l2, long l3, int l4, long l5, long
       l10 = 0;
       break L2;
      }
-     L243: {
-      if (f145(m, l0, l1, l5, l6) != 0) { break L243; }
+     L244: {
+      if (f145(m, l0, l1, l5, l6) != 0) { break L244; }
       l10 = 0;
       break L2;
      }
@@ -5649,60 +5712,60 @@ static int f140(State m, int l0, int l1, long l2, long l3, int l4, long l5, long
      l10 = 1;
      if (l3 == 0L) { break L2; }
      l10 = 0;
-     L244: {
-      if ((l4 = (int) b[((int) ((l5 = l2 + l3) + -1L)) - 60720]) >= 0) { break L244; }
+     L245: {
+      if ((l4 = (int) b[((int) ((l5 = l2 + l3) + -1L)) - 60720]) >= 0) { break L245; }
       l6 = -2L;
-      L245: {
-       if ((b[((int) (l5 + -2L)) - 60720] & 0xff) + Integer.MIN_VALUE > -2147483457) { break L245; }
+      L246: {
+       if ((b[((int) (l5 + -2L)) - 60720] & 0xff) + Integer.MIN_VALUE > -2147483457) { break L246; }
        l6 = ((b[((int) (l5 + -3L)) - 60720] & 0xff) + Integer.MIN_VALUE > -2147483457) ? -3L : -4L;
       }
       l4 = (l0 = (int) b[((int) (l5 = (l2 + l6) + l3)) - 60720]) & 255;
-      if (l0 > -1) { break L244; }
+      if (l0 > -1) { break L245; }
       l1 = (b[((int) l5) - 60719] & 0xff) & 63;
-      L246: {
-       if (l0 + Integer.MIN_VALUE > 2147483615) { break L246; }
+      L247: {
+       if (l0 + Integer.MIN_VALUE > 2147483615) { break L247; }
        l4 = ((l4 << 6) & 1984) | l1;
-       break L244;
+       break L245;
       }
       l11 = (b[((int) l5) - 60718] & 0xff) & 63;
-      L247: {
-       if (l0 + Integer.MIN_VALUE > 2147483631) { break L247; }
+      L248: {
+       if (l0 + Integer.MIN_VALUE > 2147483631) { break L248; }
        l4 = ((l1 << 6) | ((l4 << 12) & 61440)) | l11;
-       break L244;
+       break L245;
       }
       l4 = ((l11 << 6) | ((l1 << 12) | ((l4 << 18) & 1835008))) | ((b[((int) l5) - 60717] & 0xff) & 63);
      }
-     L248: {
-      L249: {
-       if (l4 > 27490) { break L249; }
-       L250: {
-        if (l4 > 25284) { break L250; }
+     L249: {
+      L250: {
+       if (l4 > 27490) { break L250; }
+       L251: {
+        if (l4 > 25284) { break L251; }
         if (l4 == 19981) { break L2; }
         if (l4 == 21213) { break L2; }
-        if (l4 != 25265) { break L248; }
+        if (l4 != 25265) { break L249; }
         break L2;
        }
-       L251: {
-        if (l4 > 25811) { break L251; }
+       L252: {
+        if (l4 > 25811) { break L252; }
         if (l4 == 25285) { break L2; }
-        if (l4 != 25593) { break L248; }
+        if (l4 != 25593) { break L249; }
         break L2;
        }
        if (l4 == 25812) { break L2; }
-       if (l4 != 27450) { break L248; }
+       if (l4 != 27450) { break L249; }
        break L2;
       }
-      L252: {
-       if (l4 > 33257) { break L252; }
-       L253: {
+      L253: {
+       if (l4 > 33257) { break L253; }
+       L254: {
         switch (l4 + -32972) {
         case 0: case 16: break L2;
-        case 1: case 2: case 3: case 4: case 5: case 6: case 7: case 8: case 9: case 10: case 11: case 12: case 13: case 14: case 15: break L248;
-        default: break L253;
+        case 1: case 2: case 3: case 4: case 5: case 6: case 7: case 8: case 9: case 10: case 11: case 12: case 13: case 14: case 15: break L249;
+        default: break L254;
         }
        }
        if (l4 == 27491) { break L2; }
-       if (l4 != 32937) { break L248; }
+       if (l4 != 32937) { break L249; }
        break L2;
       }
       if (l4 == 33258) { break L2; }
@@ -5712,133 +5775,107 @@ static int f140(State m, int l0, int l1, long l2, long l3, int l4, long l5, long
      l10 = 1;
      break L2;
     }
-    L254: {
-     if (!(l6 == 0L)) { break L254; }
+    L255: {
+     if (!(l6 == 0L)) { break L255; }
      l10 = 0;
      break L2;
     }
     l4 = (l10 = (int) b[((int) l5) - 60720]) & 255;
     l8 = 1L;
-    L255: {
-     if (l10 > -1) { break L255; }
+    L256: {
+     if (l10 > -1) { break L256; }
      l11 = (b[((int) l5) - 60719] & 0xff) & 63;
-     L256: {
-      if (l10 + Integer.MIN_VALUE > 2147483615) { break L256; }
+     L257: {
+      if (l10 + Integer.MIN_VALUE > 2147483615) { break L257; }
       l4 = ((l4 << 6) & 1984) | l11;
       l8 = 2L;
-      break L255;
+      break L256;
      }
      l12 = (b[((int) l5) - 60718] & 0xff) & 63;
-     L257: {
-      if (l10 + Integer.MIN_VALUE > 2147483631) { break L257; }
+     L258: {
+      if (l10 + Integer.MIN_VALUE > 2147483631) { break L258; }
       l4 = ((l11 << 6) | ((l4 << 12) & 61440)) | l12;
       l8 = 3L;
-      break L255;
+      break L256;
      }
      l4 = ((l12 << 6) | ((l11 << 12) | ((l4 << 18) & 1835008))) | ((b[((int) l5) - 60717] & 0xff) & 63);
      l8 = 4L;
     }
-    L258: {
-     if ((l4 + -48) + Integer.MIN_VALUE < -2147483638) { break L258; }
-     if ((l4 + -65296) + Integer.MIN_VALUE < -2147483638) { break L258; }
-     L259: {
-      if (l4 == 65509) { break L259; }
-      if (l4 == 165) { break L259; }
-      l10 = 0;
-      break L2;
-     }
-     L260: {
-      if (l6 != l8) { break L260; }
-      l10 = 0;
-      break L2;
-     }
-     l4 = (l10 = (int) b[((int) (l5 = l5 + l8)) - 60720]) & 255;
-     L261: {
-      if (l10 > -1) { break L261; }
-      l11 = (b[((int) l5) - 60719] & 0xff) & 63;
-      L262: {
-       if (l10 + Integer.MIN_VALUE > 2147483615) { break L262; }
-       l4 = ((l4 << 6) & 1984) | l11;
-       break L261;
-      }
-      l12 = (b[((int) l5) - 60718] & 0xff) & 63;
-      L263: {
-       if (l10 + Integer.MIN_VALUE > 2147483631) { break L263; }
-       l4 = ((l11 << 6) | ((l4 << 12) & 61440)) | l12;
-       break L261;
-      }
-      l4 = ((l12 << 6) | ((l11 << 12) | ((l4 << 18) & 1835008))) | ((b[((int) l5) - 60717] & 0xff) & 63);
-     }
-     if ((l4 + -48) + Integer.MIN_VALUE < -2147483638) { break L258; }
-     l10 = 0;
-     if ((l4 + -65296) + Integer.MIN_VALUE > -2147483639) { break L2; }
+    final int x265 = f140_6(m, l4, l5, l6, l8, l10, l11, l12);
+    l4 = (int) m.kept[0];
+    l5 = m.kept[1];
+    l10 = (int) m.kept[2];
+    l11 = (int) m.kept[3];
+    l12 = (int) m.kept[4];
+    switch (x265) {
+    case 1: break L2;
     }
     l10 = f146(m, l0, l1, l2, l3);
     break L2;
    }
-   L264: {
-    if (!(l6 == 0L)) { break L264; }
+   L266: {
+    if (!(l6 == 0L)) { break L266; }
     l10 = 0;
     break L2;
    }
    l4 = (l10 = (int) b[((int) l5) - 60720]) & 255;
-   L265: {
-    if (l10 > -1) { break L265; }
+   L267: {
+    if (l10 > -1) { break L267; }
     l11 = (b[((int) l5) - 60719] & 0xff) & 63;
-    L266: {
-     if (l10 + Integer.MIN_VALUE > 2147483615) { break L266; }
+    L268: {
+     if (l10 + Integer.MIN_VALUE > 2147483615) { break L268; }
      l4 = ((l4 << 6) & 1984) | l11;
-     break L265;
+     break L267;
     }
     l12 = (b[((int) l5) - 60718] & 0xff) & 63;
-    L267: {
-     if (l10 + Integer.MIN_VALUE > 2147483631) { break L267; }
+    L269: {
+     if (l10 + Integer.MIN_VALUE > 2147483631) { break L269; }
      l4 = ((l11 << 6) | ((l4 << 12) & 61440)) | l12;
-     break L265;
+     break L267;
     }
     l4 = ((l12 << 6) | ((l11 << 12) | ((l4 << 18) & 1835008))) | ((b[((int) l5) - 60717] & 0xff) & 63);
    }
-   L268: {
-    if (!(l3 == 0L)) { break L268; }
+   L270: {
+    if (!(l3 == 0L)) { break L270; }
     l10 = 0;
     break L2;
    }
    l10 = 0;
    if (((l4 + -58) + Integer.MIN_VALUE < 2147483638) & ((l4 + -65306) + Integer.MIN_VALUE < 2147483638)) { break L2; }
    l10 = 0;
-   L269: {
-    if ((l4 = (int) b[((int) (l2 + (l5 = l3 + -1L))) - 60720]) >= 0) { break L269; }
+   L271: {
+    if ((l4 = (int) b[((int) (l2 + (l5 = l3 + -1L))) - 60720]) >= 0) { break L271; }
     l5 = -2L;
-    L270: {
-     if ((b[((int) ((l6 = l2 + l3) + -2L)) - 60720] & 0xff) + Integer.MIN_VALUE > -2147483457) { break L270; }
+    L272: {
+     if ((b[((int) ((l6 = l2 + l3) + -2L)) - 60720] & 0xff) + Integer.MIN_VALUE > -2147483457) { break L272; }
      l5 = ((b[((int) (l6 + -3L)) - 60720] & 0xff) + Integer.MIN_VALUE > -2147483457) ? -3L : -4L;
     }
     l4 = (l11 = (int) b[((int) (l6 = l2 + (l5 = l5 + l3))) - 60720]) & 255;
-    if (l11 > -1) { break L269; }
+    if (l11 > -1) { break L271; }
     l12 = (b[((int) l6) - 60719] & 0xff) & 63;
-    L271: {
-     if (l11 + Integer.MIN_VALUE > 2147483615) { break L271; }
+    L273: {
+     if (l11 + Integer.MIN_VALUE > 2147483615) { break L273; }
      l4 = ((l4 << 6) & 1984) | l12;
-     break L269;
+     break L271;
     }
     l13 = (b[((int) l6) - 60718] & 0xff) & 63;
-    L272: {
-     if (l11 + Integer.MIN_VALUE > 2147483631) { break L272; }
+    L274: {
+     if (l11 + Integer.MIN_VALUE > 2147483631) { break L274; }
      l4 = ((l12 << 6) | ((l4 << 12) & 61440)) | l13;
-     break L269;
+     break L271;
     }
     l4 = ((l13 << 6) | ((l12 << 12) | ((l4 << 18) & 1835008))) | ((b[((int) l6) - 60717] & 0xff) & 63);
    }
-   L273: {
-    if (l4 == 45) { break L273; }
-    if (l4 == 65293) { break L273; }
+   L275: {
+    if (l4 == 45) { break L275; }
+    if (l4 == 65293) { break L275; }
     if (l4 != 8722) { break L2; }
    }
    l10 = f146(m, l0, l1, l2, l5);
   }
   m.g0 = l7 + 32L;
-  final int t274 = l10;
-  return t274;
+  final int t276 = l10;
+  return t276;
  }
  throw State.trap();
 }

@@ -6,405 +6,370 @@ static int f149_1(State m, long l0, long l1, long l2, long l3, long l6, long l7,
  final byte[] b = m.bytes;
  int exit = 0;
  PART: {
-  L2: {
-   L3: {
-    L4: {
-     L5: {
-      L6: {
-       L7: {
-        L8: {
-         L9: {
-          if ((l6 = m.g0) < 16L) { break L9; }
-          L10: {
-           L11: {
-            if (l1 == 0L) { break L11; }
-            L12: {
-             if ((l10 = (int) b[((int) (l0 + (l7 = l1 + -1L))) - 60720]) >= 0) { break L12; }
-             l7 = -2L;
-             L13: {
-              if ((b[((int) ((l8 = l0 + l1) + -2L)) - 60720] & 0xff) + Integer.MIN_VALUE > -2147483457) { break L13; }
-              l7 = ((b[((int) (l8 + -3L)) - 60720] & 0xff) + Integer.MIN_VALUE > -2147483457) ? -3L : -4L;
-             }
-             l10 = (l11 = (int) b[((int) (l8 = l0 + (l7 = l7 + l1))) - 60720]) & 255;
-             if (l11 > -1) { break L12; }
-             l12 = (b[((int) l8) - 60719] & 0xff) & 63;
-             L14: {
-              if (l11 + Integer.MIN_VALUE > 2147483615) { break L14; }
-              l10 = ((l10 << 6) & 1984) | l12;
-              break L12;
-             }
-             l13 = (b[((int) l8) - 60718] & 0xff) & 63;
-             L15: {
-              if (l11 + Integer.MIN_VALUE > 2147483631) { break L15; }
-              l10 = ((l12 << 6) | ((l10 << 12) & 61440)) | l13;
-              break L12;
-             }
-             l10 = ((l13 << 6) | ((l12 << 12) | ((l10 << 18) & 1835008))) | ((b[((int) l8) - 60717] & 0xff) & 63);
-            }
-            L16: {
-             L17: {
-              L18: {
-               L19: {
-                L20: {
-                 if (l10 > 26375) { break L20; }
-                 if (l10 == 21021) { break L10; }
-                 if (l10 == 21452) { break L19; }
-                 if (l10 != 24180) { break L11; }
-                 if (l3 == 0L) { break L2; }
-                 l10 = (l11 = (int) b[((int) l2) - 60720]) & 255;
-                 if (l11 <= -1) { break L18; }
-                 l7 = -1L;
-                 break L3;
-                }
-                if (l10 == 26376) { break L16; }
-                if (l10 == 36947) { break L17; }
-                if (l10 != 38617) { break L11; }
-               }
-               if (l3 == 0L) { break L2; }
+  L4: {
+   L5: {
+    L6: {
+     L7: {
+      L8: {
+       L9: {
+        if ((l6 = m.g0) < 16L) { break L9; }
+        L10: {
+         L11: {
+          if (l1 == 0L) { break L11; }
+          L12: {
+           if ((l10 = (int) b[((int) (l0 + (l7 = l1 + -1L))) - 60720]) >= 0) { break L12; }
+           l7 = -2L;
+           L13: {
+            if ((b[((int) ((l8 = l0 + l1) + -2L)) - 60720] & 0xff) + Integer.MIN_VALUE > -2147483457) { break L13; }
+            l7 = ((b[((int) (l8 + -3L)) - 60720] & 0xff) + Integer.MIN_VALUE > -2147483457) ? -3L : -4L;
+           }
+           l10 = (l11 = (int) b[((int) (l8 = l0 + (l7 = l7 + l1))) - 60720]) & 255;
+           if (l11 > -1) { break L12; }
+           l12 = (b[((int) l8) - 60719] & 0xff) & 63;
+           L14: {
+            if (l11 + Integer.MIN_VALUE > 2147483615) { break L14; }
+            l10 = ((l10 << 6) & 1984) | l12;
+            break L12;
+           }
+           l13 = (b[((int) l8) - 60718] & 0xff) & 63;
+           L15: {
+            if (l11 + Integer.MIN_VALUE > 2147483631) { break L15; }
+            l10 = ((l12 << 6) | ((l10 << 12) & 61440)) | l13;
+            break L12;
+           }
+           l10 = ((l13 << 6) | ((l12 << 12) | ((l10 << 18) & 1835008))) | ((b[((int) l8) - 60717] & 0xff) & 63);
+          }
+          L16: {
+           L17: {
+            L18: {
+             L19: {
+              L20: {
+               if (l10 > 26375) { break L20; }
+               if (l10 == 21021) { break L10; }
+               if (l10 == 21452) { break L19; }
+               if (l10 != 24180) { break L11; }
+               if (l3 == 0L) { exit = 1; break PART; }
                l10 = (l11 = (int) b[((int) l2) - 60720]) & 255;
-               L21: {
-                if (l11 <= -1) { break L21; }
-                l7 = -1L;
-                break L3;
-               }
-               if (l11 + Integer.MIN_VALUE < 2147483616) { break L7; }
-               l12 = (b[((int) l2) - 60719] & 0xff) & 63;
-               l13 = (b[((int) l2) - 60718] & 0xff) & 63;
-               L22: {
-                L23: {
-                 if (l11 + Integer.MIN_VALUE > 2147483631) { break L23; }
-                 l14 = ((l12 << 6) | ((l10 << 12) & 61440)) | l13;
-                 l7 = 3L;
-                 break L22;
-                }
-                l14 = ((l13 << 6) | ((l12 << 12) | ((l10 << 18) & 1835008))) | ((b[((int) l2) - 60717] & 0xff) & 63);
-                l7 = 4L;
-               }
-               L24: {
-                if (l3 == l7) { break L24; }
-                if (l14 != 21313) { break L24; }
-                if ((l14 = (int) b[((int) (l8 = l2 + l7)) - 60720]) > -1) { break L24; }
-                if (l14 + Integer.MIN_VALUE < 2147483616) { break L24; }
-                l15 = l14 & 255;
-                l16 = (b[((int) l8) - 60719] & 0xff) & 63;
-                l17 = (b[((int) l8) - 60718] & 0xff) & 63;
-                L25: {
-                 L26: {
-                  if (l14 + Integer.MIN_VALUE < 2147483632) { break L26; }
-                  l14 = ((l17 << 6) | ((l16 << 12) | ((l15 << 18) & 1835008))) | ((b[((int) l8) - 60717] & 0xff) & 63);
-                  l8 = 4L;
-                  break L25;
-                 }
-                 l14 = ((l16 << 6) | ((l15 << 12) & 61440)) | l17;
-                 l8 = 3L;
-                }
-                if (l14 != 19968) { break L24; }
-                if (l3 != (l8 + l7)) { break L24; }
-                m.g0 = l6;
-                m.intResult = 1; exit = 1; break PART;
-               }
-               L27: {
-                L28: {
-                 if (l11 + Integer.MIN_VALUE > 2147483631) { break L28; }
-                 l12 = ((l12 << 6) | ((l10 << 12) & 61440)) | l13;
-                 l7 = 3L;
-                 break L27;
-                }
-                l12 = ((l13 << 6) | ((l12 << 12) | ((l10 << 18) & 1835008))) | ((b[((int) l2) - 60717] & 0xff) & 63);
-                l7 = 4L;
-               }
-               if (l3 == l7) { break L5; }
-               if (l12 != 21313) { break L5; }
-               if ((l12 = (int) b[((int) (l8 = l2 + l7)) - 60720]) > -1) { break L5; }
-               if (l12 + Integer.MIN_VALUE < 2147483616) { break L5; }
-               l13 = l12 & 255;
-               l14 = (b[((int) l8) - 60719] & 0xff) & 63;
-               l15 = (b[((int) l8) - 60718] & 0xff) & 63;
-               L29: {
-                L30: {
-                 if (l12 + Integer.MIN_VALUE < 2147483632) { break L30; }
-                 l12 = ((l15 << 6) | ((l14 << 12) | ((l13 << 18) & 1835008))) | ((b[((int) l8) - 60717] & 0xff) & 63);
-                 l8 = 4L;
-                 break L29;
-                }
-                l12 = ((l14 << 6) | ((l13 << 12) & 61440)) | l15;
-                l8 = 3L;
-               }
-               if (l12 != 20108) { break L5; }
-               if (l3 != (l8 + l7)) { break L5; }
-               m.g0 = l6;
-               m.intResult = 1; exit = 1; break PART;
+               if (l11 <= -1) { break L18; }
+               l7 = -1L;
+               exit = 2; break PART;
               }
-              if (l11 + Integer.MIN_VALUE < 2147483616) { break L7; }
-              l12 = (b[((int) l2) - 60719] & 0xff) & 63;
-              l13 = (b[((int) l2) - 60718] & 0xff) & 63;
-              L31: {
-               L32: {
-                if (l11 + Integer.MIN_VALUE > 2147483631) { break L32; }
-                l12 = ((l12 << 6) | ((l10 << 12) & 61440)) | l13;
-                l7 = 3L;
-                break L31;
-               }
-               l12 = ((l13 << 6) | ((l12 << 12) | ((l10 << 18) & 1835008))) | ((b[((int) l2) - 60717] & 0xff) & 63);
-               l7 = 4L;
-              }
-              if (l3 == l7) { break L5; }
-              if (l12 != 19977) { break L5; }
-              if ((l12 = (int) b[((int) (l8 = l2 + l7)) - 60720]) > -1) { break L5; }
-              if (l12 + Integer.MIN_VALUE < 2147483616) { break L5; }
-              l13 = l12 & 255;
-              l14 = (b[((int) l8) - 60719] & 0xff) & 63;
-              l15 = (b[((int) l8) - 60718] & 0xff) & 63;
-              L33: {
-               L34: {
-                if (l12 + Integer.MIN_VALUE < 2147483632) { break L34; }
-                l12 = ((l15 << 6) | ((l14 << 12) | ((l13 << 18) & 1835008))) | ((b[((int) l8) - 60717] & 0xff) & 63);
-                l8 = 4L;
-                break L33;
-               }
-               l12 = ((l14 << 6) | ((l13 << 12) & 61440)) | l15;
-               l8 = 3L;
-              }
-              if (l12 != 21313) { break L5; }
-              if (l3 != (l8 + l7)) { break L5; }
-              m.g0 = l6;
-              m.intResult = 1; exit = 1; break PART;
+              if (l10 == 26376) { break L16; }
+              if (l10 == 36947) { break L17; }
+              if (l10 != 38617) { break L11; }
              }
-             if (l7 == 0L) { break L11; }
-             if (((int) b[((int) ((l8 = l0 + l7) + -1L)) - 60720]) > -1) { break L11; }
-             l9 = -2L;
-             L35: {
-              if ((b[((int) (l8 + -2L)) - 60720] & 0xff) + Integer.MIN_VALUE > -2147483457) { break L35; }
-              l9 = ((b[((int) (l8 + -3L)) - 60720] & 0xff) + Integer.MIN_VALUE > -2147483457) ? -3L : -4L;
-             }
-             if ((l10 = (int) b[((int) (l7 = (l0 + l9) + l7)) - 60720]) > -1) { break L11; }
-             if (l10 + Integer.MIN_VALUE < 2147483616) { break L11; }
-             l11 = l10 & 255;
-             l12 = (b[((int) l7) - 60719] & 0xff) & 63;
-             l13 = (b[((int) l7) - 60718] & 0xff) & 63;
-             L36: {
-              L37: {
-               if (l10 + Integer.MIN_VALUE > 2147483631) { break L37; }
-               l10 = ((l12 << 6) | ((l11 << 12) & 61440)) | l13;
-               break L36;
-              }
-              l10 = ((l13 << 6) | ((l12 << 12) | ((l11 << 18) & 1835008))) | ((b[((int) l7) - 60717] & 0xff) & 63);
-             }
-             if (l3 == 0L) { break L11; }
-             if (l10 != 21315) { break L11; }
+             if (l3 == 0L) { exit = 1; break PART; }
              l10 = (l11 = (int) b[((int) l2) - 60720]) & 255;
-             L38: {
-              if (l11 <= -1) { break L38; }
+             L21: {
+              if (l11 <= -1) { break L21; }
               l7 = -1L;
-              break L3;
+              exit = 2; break PART;
              }
              if (l11 + Integer.MIN_VALUE < 2147483616) { break L7; }
              l12 = (b[((int) l2) - 60719] & 0xff) & 63;
              l13 = (b[((int) l2) - 60718] & 0xff) & 63;
-             L39: {
-              L40: {
-               if (l11 + Integer.MIN_VALUE > 2147483631) { break L40; }
+             L22: {
+              L23: {
+               if (l11 + Integer.MIN_VALUE > 2147483631) { break L23; }
                l14 = ((l12 << 6) | ((l10 << 12) & 61440)) | l13;
                l7 = 3L;
-               break L39;
+               break L22;
               }
               l14 = ((l13 << 6) | ((l12 << 12) | ((l10 << 18) & 1835008))) | ((b[((int) l2) - 60717] & 0xff) & 63);
               l7 = 4L;
              }
-             L41: {
-              if (l3 == l7) { break L41; }
-              if (l14 != 19968) { break L41; }
-              if ((l14 = (int) b[((int) (l8 = l2 + l7)) - 60720]) > -1) { break L41; }
-              if (l14 + Integer.MIN_VALUE < 2147483616) { break L41; }
+             L24: {
+              if (l3 == l7) { break L24; }
+              if (l14 != 21313) { break L24; }
+              if ((l14 = (int) b[((int) (l8 = l2 + l7)) - 60720]) > -1) { break L24; }
+              if (l14 + Integer.MIN_VALUE < 2147483616) { break L24; }
               l15 = l14 & 255;
               l16 = (b[((int) l8) - 60719] & 0xff) & 63;
               l17 = (b[((int) l8) - 60718] & 0xff) & 63;
-              L42: {
-               L43: {
-                if (l14 + Integer.MIN_VALUE < 2147483632) { break L43; }
+              L25: {
+               L26: {
+                if (l14 + Integer.MIN_VALUE < 2147483632) { break L26; }
                 l14 = ((l17 << 6) | ((l16 << 12) | ((l15 << 18) & 1835008))) | ((b[((int) l8) - 60717] & 0xff) & 63);
                 l8 = 4L;
-                break L42;
+                break L25;
                }
                l14 = ((l16 << 6) | ((l15 << 12) & 61440)) | l17;
                l8 = 3L;
               }
-              if (l14 != 19975) { break L41; }
-              if (l3 != (l8 + l7)) { break L41; }
+              if (l14 != 19968) { break L24; }
+              if (l3 != (l8 + l7)) { break L24; }
               m.g0 = l6;
-              m.intResult = 1; exit = 1; break PART;
+              m.intResult = 1; exit = 3; break PART;
              }
-             L44: {
-              L45: {
-               if (l11 + Integer.MIN_VALUE > 2147483631) { break L45; }
+             L27: {
+              L28: {
+               if (l11 + Integer.MIN_VALUE > 2147483631) { break L28; }
                l12 = ((l12 << 6) | ((l10 << 12) & 61440)) | l13;
                l7 = 3L;
-               break L44;
+               break L27;
               }
               l12 = ((l13 << 6) | ((l12 << 12) | ((l10 << 18) & 1835008))) | ((b[((int) l2) - 60717] & 0xff) & 63);
               l7 = 4L;
              }
              if (l3 == l7) { break L5; }
-             if (l12 != 19968) { break L5; }
+             if (l12 != 21313) { break L5; }
              if ((l12 = (int) b[((int) (l8 = l2 + l7)) - 60720]) > -1) { break L5; }
              if (l12 + Integer.MIN_VALUE < 2147483616) { break L5; }
              l13 = l12 & 255;
              l14 = (b[((int) l8) - 60719] & 0xff) & 63;
              l15 = (b[((int) l8) - 60718] & 0xff) & 63;
-             L46: {
-              L47: {
-               if (l12 + Integer.MIN_VALUE < 2147483632) { break L47; }
+             L29: {
+              L30: {
+               if (l12 + Integer.MIN_VALUE < 2147483632) { break L30; }
                l12 = ((l15 << 6) | ((l14 << 12) | ((l13 << 18) & 1835008))) | ((b[((int) l8) - 60717] & 0xff) & 63);
                l8 = 4L;
-               break L46;
+               break L29;
               }
               l12 = ((l14 << 6) | ((l13 << 12) & 61440)) | l15;
               l8 = 3L;
              }
-             if (l12 != 33836) { break L5; }
+             if (l12 != 20108) { break L5; }
              if (l3 != (l8 + l7)) { break L5; }
              m.g0 = l6;
-             m.intResult = 1; exit = 1; break PART;
+             m.intResult = 1; exit = 3; break PART;
             }
-            if (l7 == 0L) { break L11; }
-            if (((int) b[((int) ((l8 = l0 + l7) + -1L)) - 60720]) > -1) { break L11; }
-            l9 = -2L;
-            L48: {
-             if ((b[((int) (l8 + -2L)) - 60720] & 0xff) + Integer.MIN_VALUE > -2147483457) { break L48; }
-             l9 = ((b[((int) (l8 + -3L)) - 60720] & 0xff) + Integer.MIN_VALUE > -2147483457) ? -3L : -4L;
-            }
-            if ((l10 = (int) b[((int) (l7 = (l0 + l9) + l7)) - 60720]) > -1) { break L11; }
-            if (l10 + Integer.MIN_VALUE < 2147483616) { break L11; }
-            l11 = l10 & 255;
-            l12 = (b[((int) l7) - 60719] & 0xff) & 63;
-            l13 = (b[((int) l7) - 60718] & 0xff) & 63;
-            L49: {
-             L50: {
-              if (l10 + Integer.MIN_VALUE > 2147483631) { break L50; }
-              l11 = ((l12 << 6) | ((l11 << 12) & 61440)) | l13;
-              break L49;
+            if (l11 + Integer.MIN_VALUE < 2147483616) { break L7; }
+            l12 = (b[((int) l2) - 60719] & 0xff) & 63;
+            l13 = (b[((int) l2) - 60718] & 0xff) & 63;
+            L31: {
+             L32: {
+              if (l11 + Integer.MIN_VALUE > 2147483631) { break L32; }
+              l12 = ((l12 << 6) | ((l10 << 12) & 61440)) | l13;
+              l7 = 3L;
+              break L31;
              }
-             l11 = ((l13 << 6) | ((l12 << 12) | ((l11 << 18) & 1835008))) | ((b[((int) l7) - 60717] & 0xff) & 63);
+             l12 = ((l13 << 6) | ((l12 << 12) | ((l10 << 18) & 1835008))) | ((b[((int) l2) - 60717] & 0xff) & 63);
+             l7 = 4L;
             }
-            l10 = 1;
-            if (l11 == 27491) { exit = 2; break PART; }
-            if (l11 == 33098) { exit = 2; break PART; }
-            if (l11 == 33240) { exit = 2; break PART; }
+            if (l3 == l7) { break L5; }
+            if (l12 != 19977) { break L5; }
+            if ((l12 = (int) b[((int) (l8 = l2 + l7)) - 60720]) > -1) { break L5; }
+            if (l12 + Integer.MIN_VALUE < 2147483616) { break L5; }
+            l13 = l12 & 255;
+            l14 = (b[((int) l8) - 60719] & 0xff) & 63;
+            l15 = (b[((int) l8) - 60718] & 0xff) & 63;
+            L33: {
+             L34: {
+              if (l12 + Integer.MIN_VALUE < 2147483632) { break L34; }
+              l12 = ((l15 << 6) | ((l14 << 12) | ((l13 << 18) & 1835008))) | ((b[((int) l8) - 60717] & 0xff) & 63);
+              l8 = 4L;
+              break L33;
+             }
+             l12 = ((l14 << 6) | ((l13 << 12) & 61440)) | l15;
+             l8 = 3L;
+            }
+            if (l12 != 21313) { break L5; }
+            if (l3 != (l8 + l7)) { break L5; }
+            m.g0 = l6;
+            m.intResult = 1; exit = 3; break PART;
            }
-           if (l3 == 0L) { break L2; }
+           if (l7 == 0L) { break L11; }
+           if (((int) b[((int) ((l8 = l0 + l7) + -1L)) - 60720]) > -1) { break L11; }
+           l9 = -2L;
+           L35: {
+            if ((b[((int) (l8 + -2L)) - 60720] & 0xff) + Integer.MIN_VALUE > -2147483457) { break L35; }
+            l9 = ((b[((int) (l8 + -3L)) - 60720] & 0xff) + Integer.MIN_VALUE > -2147483457) ? -3L : -4L;
+           }
+           if ((l10 = (int) b[((int) (l7 = (l0 + l9) + l7)) - 60720]) > -1) { break L11; }
+           if (l10 + Integer.MIN_VALUE < 2147483616) { break L11; }
+           l11 = l10 & 255;
+           l12 = (b[((int) l7) - 60719] & 0xff) & 63;
+           l13 = (b[((int) l7) - 60718] & 0xff) & 63;
+           L36: {
+            L37: {
+             if (l10 + Integer.MIN_VALUE > 2147483631) { break L37; }
+             l10 = ((l12 << 6) | ((l11 << 12) & 61440)) | l13;
+             break L36;
+            }
+            l10 = ((l13 << 6) | ((l12 << 12) | ((l11 << 18) & 1835008))) | ((b[((int) l7) - 60717] & 0xff) & 63);
+           }
+           if (l3 == 0L) { break L11; }
+           if (l10 != 21315) { break L11; }
            l10 = (l11 = (int) b[((int) l2) - 60720]) & 255;
-           L51: {
-            if (l11 <= -1) { break L51; }
+           L38: {
+            if (l11 <= -1) { break L38; }
             l7 = -1L;
-            break L3;
+            exit = 2; break PART;
            }
+           if (l11 + Integer.MIN_VALUE < 2147483616) { break L7; }
            l12 = (b[((int) l2) - 60719] & 0xff) & 63;
-           if (l11 + Integer.MIN_VALUE > 2147483615) { break L4; }
-           break L6;
+           l13 = (b[((int) l2) - 60718] & 0xff) & 63;
+           L39: {
+            L40: {
+             if (l11 + Integer.MIN_VALUE > 2147483631) { break L40; }
+             l14 = ((l12 << 6) | ((l10 << 12) & 61440)) | l13;
+             l7 = 3L;
+             break L39;
+            }
+            l14 = ((l13 << 6) | ((l12 << 12) | ((l10 << 18) & 1835008))) | ((b[((int) l2) - 60717] & 0xff) & 63);
+            l7 = 4L;
+           }
+           L41: {
+            if (l3 == l7) { break L41; }
+            if (l14 != 19968) { break L41; }
+            if ((l14 = (int) b[((int) (l8 = l2 + l7)) - 60720]) > -1) { break L41; }
+            if (l14 + Integer.MIN_VALUE < 2147483616) { break L41; }
+            l15 = l14 & 255;
+            l16 = (b[((int) l8) - 60719] & 0xff) & 63;
+            l17 = (b[((int) l8) - 60718] & 0xff) & 63;
+            L42: {
+             L43: {
+              if (l14 + Integer.MIN_VALUE < 2147483632) { break L43; }
+              l14 = ((l17 << 6) | ((l16 << 12) | ((l15 << 18) & 1835008))) | ((b[((int) l8) - 60717] & 0xff) & 63);
+              l8 = 4L;
+              break L42;
+             }
+             l14 = ((l16 << 6) | ((l15 << 12) & 61440)) | l17;
+             l8 = 3L;
+            }
+            if (l14 != 19975) { break L41; }
+            if (l3 != (l8 + l7)) { break L41; }
+            m.g0 = l6;
+            m.intResult = 1; exit = 3; break PART;
+           }
+           L44: {
+            L45: {
+             if (l11 + Integer.MIN_VALUE > 2147483631) { break L45; }
+             l12 = ((l12 << 6) | ((l10 << 12) & 61440)) | l13;
+             l7 = 3L;
+             break L44;
+            }
+            l12 = ((l13 << 6) | ((l12 << 12) | ((l10 << 18) & 1835008))) | ((b[((int) l2) - 60717] & 0xff) & 63);
+            l7 = 4L;
+           }
+           if (l3 == l7) { break L5; }
+           if (l12 != 19968) { break L5; }
+           if ((l12 = (int) b[((int) (l8 = l2 + l7)) - 60720]) > -1) { break L5; }
+           if (l12 + Integer.MIN_VALUE < 2147483616) { break L5; }
+           l13 = l12 & 255;
+           l14 = (b[((int) l8) - 60719] & 0xff) & 63;
+           l15 = (b[((int) l8) - 60718] & 0xff) & 63;
+           L46: {
+            L47: {
+             if (l12 + Integer.MIN_VALUE < 2147483632) { break L47; }
+             l12 = ((l15 << 6) | ((l14 << 12) | ((l13 << 18) & 1835008))) | ((b[((int) l8) - 60717] & 0xff) & 63);
+             l8 = 4L;
+             break L46;
+            }
+            l12 = ((l14 << 6) | ((l13 << 12) & 61440)) | l15;
+            l8 = 3L;
+           }
+           if (l12 != 33836) { break L5; }
+           if (l3 != (l8 + l7)) { break L5; }
+           m.g0 = l6;
+           m.intResult = 1; exit = 3; break PART;
           }
-          if (!(l3 == 0L)) { break L8; }
-          break L2;
+          if (l7 == 0L) { break L11; }
+          if (((int) b[((int) ((l8 = l0 + l7) + -1L)) - 60720]) > -1) { break L11; }
+          l9 = -2L;
+          L48: {
+           if ((b[((int) (l8 + -2L)) - 60720] & 0xff) + Integer.MIN_VALUE > -2147483457) { break L48; }
+           l9 = ((b[((int) (l8 + -3L)) - 60720] & 0xff) + Integer.MIN_VALUE > -2147483457) ? -3L : -4L;
+          }
+          if ((l10 = (int) b[((int) (l7 = (l0 + l9) + l7)) - 60720]) > -1) { break L11; }
+          if (l10 + Integer.MIN_VALUE < 2147483616) { break L11; }
+          l11 = l10 & 255;
+          l12 = (b[((int) l7) - 60719] & 0xff) & 63;
+          l13 = (b[((int) l7) - 60718] & 0xff) & 63;
+          L49: {
+           L50: {
+            if (l10 + Integer.MIN_VALUE > 2147483631) { break L50; }
+            l11 = ((l12 << 6) | ((l11 << 12) & 61440)) | l13;
+            break L49;
+           }
+           l11 = ((l13 << 6) | ((l12 << 12) | ((l11 << 18) & 1835008))) | ((b[((int) l7) - 60717] & 0xff) & 63);
+          }
+          l10 = 1;
+          if (l11 == 27491) { exit = 4; break PART; }
+          if (l11 == 33098) { exit = 4; break PART; }
+          if (l11 == 33240) { exit = 4; break PART; }
          }
-         throw State.trap();
-        }
-        l10 = (l11 = (int) b[((int) l2) - 60720]) & 255;
-        L52: {
-         if (l11 <= -1) { break L52; }
-         l7 = -1L;
-         break L3;
-        }
-        if (l11 + Integer.MIN_VALUE < 2147483616) { break L7; }
-        l12 = (b[((int) l2) - 60719] & 0xff) & 63;
-        l13 = (b[((int) l2) - 60718] & 0xff) & 63;
-        L53: {
-         L54: {
-          if (l11 + Integer.MIN_VALUE > 2147483631) { break L54; }
-          l12 = ((l12 << 6) | ((l10 << 12) & 61440)) | l13;
-          l7 = 3L;
-          break L53;
+         if (l3 == 0L) { exit = 1; break PART; }
+         l10 = (l11 = (int) b[((int) l2) - 60720]) & 255;
+         L51: {
+          if (l11 <= -1) { break L51; }
+          l7 = -1L;
+          exit = 2; break PART;
          }
-         l12 = ((l13 << 6) | ((l12 << 12) | ((l10 << 18) & 1835008))) | ((b[((int) l2) - 60717] & 0xff) & 63);
-         l7 = 4L;
+         l12 = (b[((int) l2) - 60719] & 0xff) & 63;
+         if (l11 + Integer.MIN_VALUE > 2147483615) { break L4; }
+         break L6;
         }
-        if (l3 == l7) { break L5; }
-        if (l12 != 19968) { break L5; }
-        if ((l12 = (int) b[((int) (l8 = l2 + l7)) - 60720]) > -1) { break L5; }
-        if (l12 + Integer.MIN_VALUE < 2147483616) { break L5; }
-        l13 = l12 & 255;
-        l14 = (b[((int) l8) - 60719] & 0xff) & 63;
-        l15 = (b[((int) l8) - 60718] & 0xff) & 63;
-        L55: {
-         L56: {
-          if (l12 + Integer.MIN_VALUE < 2147483632) { break L56; }
-          l12 = ((l15 << 6) | ((l14 << 12) | ((l13 << 18) & 1835008))) | ((b[((int) l8) - 60717] & 0xff) & 63);
-          l9 = 4L;
-          break L55;
-         }
-         l12 = ((l14 << 6) | ((l13 << 12) & 61440)) | l15;
-         l9 = 3L;
-        }
-        if (l12 != 21313) { break L5; }
-        if (l3 == (l7 = l9 + l7)) { break L5; }
-        if ((l12 = (int) b[((int) (l8 = l8 + l9)) - 60720]) > -1) { break L5; }
-        if (l12 + Integer.MIN_VALUE < 2147483616) { break L5; }
-        l13 = l12 & 255;
-        l14 = (b[((int) l8) - 60719] & 0xff) & 63;
-        l15 = (b[((int) l8) - 60718] & 0xff) & 63;
-        L57: {
-         L58: {
-          if (l12 + Integer.MIN_VALUE < 2147483632) { break L58; }
-          l12 = ((l15 << 6) | ((l14 << 12) | ((l13 << 18) & 1835008))) | ((b[((int) l8) - 60717] & 0xff) & 63);
-          l8 = 4L;
-          break L57;
-         }
-         l12 = ((l14 << 6) | ((l13 << 12) & 61440)) | l15;
-         l8 = 3L;
-        }
-        if (l12 != 20116) { break L5; }
-        if (l3 != (l8 + l7)) { break L5; }
-        m.g0 = l6;
-        m.intResult = 1; exit = 1; break PART;
+        if (!(l3 == 0L)) { break L8; }
+        exit = 1; break PART;
        }
-       l12 = (b[((int) l2) - 60719] & 0xff) & 63;
+       throw State.trap();
       }
-      l10 = ((l10 << 6) & 1984) | l12;
-      l7 = -2L;
-      break L3;
+      l10 = (l11 = (int) b[((int) l2) - 60720]) & 255;
+      L52: {
+       if (l11 <= -1) { break L52; }
+       l7 = -1L;
+       exit = 2; break PART;
+      }
+      if (l11 + Integer.MIN_VALUE < 2147483616) { break L7; }
+      l12 = (b[((int) l2) - 60719] & 0xff) & 63;
+      l13 = (b[((int) l2) - 60718] & 0xff) & 63;
+      L53: {
+       L54: {
+        if (l11 + Integer.MIN_VALUE > 2147483631) { break L54; }
+        l12 = ((l12 << 6) | ((l10 << 12) & 61440)) | l13;
+        l7 = 3L;
+        break L53;
+       }
+       l12 = ((l13 << 6) | ((l12 << 12) | ((l10 << 18) & 1835008))) | ((b[((int) l2) - 60717] & 0xff) & 63);
+       l7 = 4L;
+      }
+      if (l3 == l7) { break L5; }
+      if (l12 != 19968) { break L5; }
+      if ((l12 = (int) b[((int) (l8 = l2 + l7)) - 60720]) > -1) { break L5; }
+      if (l12 + Integer.MIN_VALUE < 2147483616) { break L5; }
+      l13 = l12 & 255;
+      l14 = (b[((int) l8) - 60719] & 0xff) & 63;
+      l15 = (b[((int) l8) - 60718] & 0xff) & 63;
+      L55: {
+       L56: {
+        if (l12 + Integer.MIN_VALUE < 2147483632) { break L56; }
+        l12 = ((l15 << 6) | ((l14 << 12) | ((l13 << 18) & 1835008))) | ((b[((int) l8) - 60717] & 0xff) & 63);
+        l9 = 4L;
+        break L55;
+       }
+       l12 = ((l14 << 6) | ((l13 << 12) & 61440)) | l15;
+       l9 = 3L;
+      }
+      if (l12 != 21313) { break L5; }
+      if (l3 == (l7 = l9 + l7)) { break L5; }
+      if ((l12 = (int) b[((int) (l8 = l8 + l9)) - 60720]) > -1) { break L5; }
+      if (l12 + Integer.MIN_VALUE < 2147483616) { break L5; }
+      l13 = l12 & 255;
+      l14 = (b[((int) l8) - 60719] & 0xff) & 63;
+      l15 = (b[((int) l8) - 60718] & 0xff) & 63;
+      L57: {
+       L58: {
+        if (l12 + Integer.MIN_VALUE < 2147483632) { break L58; }
+        l12 = ((l15 << 6) | ((l14 << 12) | ((l13 << 18) & 1835008))) | ((b[((int) l8) - 60717] & 0xff) & 63);
+        l8 = 4L;
+        break L57;
+       }
+       l12 = ((l14 << 6) | ((l13 << 12) & 61440)) | l15;
+       l8 = 3L;
+      }
+      if (l12 != 20116) { break L5; }
+      if (l3 != (l8 + l7)) { break L5; }
+      m.g0 = l6;
+      m.intResult = 1; exit = 3; break PART;
      }
      l12 = (b[((int) l2) - 60719] & 0xff) & 63;
     }
-    l13 = (b[((int) l2) - 60718] & 0xff) & 63;
-    L59: {
-     if (l11 + Integer.MIN_VALUE > 2147483631) { break L59; }
-     l10 = ((l12 << 6) | ((l10 << 12) & 61440)) | l13;
-     l7 = -3L;
-     break L3;
-    }
-    l10 = ((l13 << 6) | ((l12 << 12) | ((l10 << 18) & 1835008))) | ((b[((int) l2) - 60717] & 0xff) & 63);
-    l7 = -4L;
+    l10 = ((l10 << 6) & 1984) | l12;
+    l7 = -2L;
+    exit = 2; break PART;
    }
-   L60: {
-    L61: {
-     if (l10 > 20844) { break L61; }
-     L62: {
-      switch (l10 + -19968) {
-      case 0: case 9: break L60;
-      case 1: case 2: case 3: case 4: case 5: case 6: case 7: case 8: break L2;
-      default: break L62;
-      }
-     }
-     switch (l10 + -20108) {
-     case 0: case 8: break L60;
-     default: break L2;
-     }
-    }
-    if (l10 == 22235) { break L60; }
-    if (l10 != 20845) { break L2; }
-   }
-   if (l7 == (0L - l3)) { break L2; }
-   if (Core4.f118(m, l0, l1) == 0) { break L2; }
-   m.g0 = l6;
-   m.intResult = 1; exit = 1; break PART;
+   l12 = (b[((int) l2) - 60719] & 0xff) & 63;
   }
  }
  m.kept[0] = l6;
@@ -422,42 +387,79 @@ static int f149_1(State m, long l0, long l1, long l2, long l3, long l6, long l7,
  return exit;
 }
 
-static int f149_2(State m, long l0, long l1, long l2, long l3, long l4, long l5, int l15, int l16, int l17, int l18, int l19) {
+static int f149_2(State m, long l0, long l1, long l2, long l3, long l4, long l5, int l16, int l17, int l18, int l19) {
  final byte[] b = m.bytes;
  int exit = 0;
  PART: {
-  L78: {
-   if (l3 == l1) { break L78; }
-   if (l16 != 21313) { break L78; }
-   if ((l16 = (int) b[((int) (l0 = l2 + l1)) - 60720]) > -1) { break L78; }
-   if (l16 + Integer.MIN_VALUE < 2147483616) { break L78; }
+  L73: {
+   if (l3 == l1) { break L73; }
+   if (l16 != 21313) { break L73; }
+   if ((l16 = (int) b[((int) (l0 = l2 + l1)) - 60720]) > -1) { break L73; }
+   if (l16 + Integer.MIN_VALUE < 2147483616) { break L73; }
    l17 = l16 & 255;
    l18 = (b[((int) l0) - 60719] & 0xff) & 63;
    l19 = (b[((int) l0) - 60718] & 0xff) & 63;
-   L79: {
-    L80: {
-     if (l16 + Integer.MIN_VALUE < 2147483632) { break L80; }
+   L74: {
+    L75: {
+     if (l16 + Integer.MIN_VALUE < 2147483632) { break L75; }
      l16 = ((l19 << 6) | ((l18 << 12) | ((l17 << 18) & 1835008))) | ((b[((int) l0) - 60717] & 0xff) & 63);
      l0 = 4L;
-     break L79;
+     break L74;
     }
     l16 = ((l18 << 6) | ((l17 << 12) & 61440)) | l19;
     l0 = 3L;
    }
-   if (l16 != 20843) { break L78; }
-   if (l3 != (l0 + l1)) { break L78; }
-   L81: {
-    if (l15 != 0) { break L81; }
-    if ((l16 = (int) b[((int) l4) - 60720]) > -1) { break L81; }
-    if (l16 + Integer.MIN_VALUE < 2147483616) { break L81; }
+   if (l16 != 20108) { break L73; }
+   if (l3 != (l0 + l1)) { break L73; }
+   if (Core4.f122(m, 84596L, 1L, 84600L, 2L, l4, l5) != 0) { exit = 1; break PART; }
+   if (Core4.f122(m, 84608L, 1L, 84612L, 1L, l4, l5) != 0) { exit = 1; break PART; }
+   if (Core4.f122(m, 82772L, 1L, 84616L, 2L, l4, l5) != 0) { exit = 1; break PART; }
+  }
+ }
+ m.kept[0] = l0;
+ m.kept[1] = l16;
+ m.kept[2] = l17;
+ m.kept[3] = l18;
+ m.kept[4] = l19;
+ return exit;
+}
+
+static int f149_3(State m, long l0, long l1, long l2, long l3, long l4, long l5, int l15, int l16, int l17, int l18, int l19) {
+ final byte[] b = m.bytes;
+ int exit = 0;
+ PART: {
+  L79: {
+   if (l3 == l1) { break L79; }
+   if (l16 != 21313) { break L79; }
+   if ((l16 = (int) b[((int) (l0 = l2 + l1)) - 60720]) > -1) { break L79; }
+   if (l16 + Integer.MIN_VALUE < 2147483616) { break L79; }
+   l17 = l16 & 255;
+   l18 = (b[((int) l0) - 60719] & 0xff) & 63;
+   l19 = (b[((int) l0) - 60718] & 0xff) & 63;
+   L80: {
+    L81: {
+     if (l16 + Integer.MIN_VALUE < 2147483632) { break L81; }
+     l16 = ((l19 << 6) | ((l18 << 12) | ((l17 << 18) & 1835008))) | ((b[((int) l0) - 60717] & 0xff) & 63);
+     l0 = 4L;
+     break L80;
+    }
+    l16 = ((l18 << 6) | ((l17 << 12) & 61440)) | l19;
+    l0 = 3L;
+   }
+   if (l16 != 20843) { break L79; }
+   if (l3 != (l0 + l1)) { break L79; }
+   L82: {
+    if (l15 != 0) { break L82; }
+    if ((l16 = (int) b[((int) l4) - 60720]) > -1) { break L82; }
+    if (l16 + Integer.MIN_VALUE < 2147483616) { break L82; }
     l17 = l16 & 255;
     l18 = (b[((int) l4) - 60719] & 0xff) & 63;
     l19 = (b[((int) l4) - 60718] & 0xff) & 63;
-    L82: {
-     L83: {
-      if (l16 + Integer.MIN_VALUE > 2147483631) { break L83; }
+    L83: {
+     L84: {
+      if (l16 + Integer.MIN_VALUE > 2147483631) { break L84; }
       l16 = ((l18 << 6) | ((l17 << 12) & 61440)) | l19;
-      break L82;
+      break L83;
      }
      l16 = ((l19 << 6) | ((l18 << 12) | ((l17 << 18) & 1835008))) | ((b[((int) l4) - 60717] & 0xff) & 63);
     }
@@ -476,75 +478,75 @@ static int f149_2(State m, long l0, long l1, long l2, long l3, long l4, long l5,
  return exit;
 }
 
-static int f149_3(State m, long l0, long l1, long l2, long l3, long l4, long l5, int l11, int l12, int l13, int l14, int l15, int l16, int l17, int l18, int l19) {
+static int f149_4(State m, long l0, long l1, long l2, long l3, long l4, long l5, int l11, int l12, int l13, int l14, int l15, int l16, int l17, int l18, int l19) {
  final byte[] b = m.bytes;
  int exit = 0;
  PART: {
-  L87: {
-   L88: {
-    L89: {
-     if (l3 == l1) { break L89; }
-     if (l16 != 21313) { break L89; }
-     if ((l16 = (int) b[((int) (l0 = l2 + l1)) - 60720]) > -1) { break L89; }
-     if (l16 + Integer.MIN_VALUE < 2147483616) { break L89; }
+  L88: {
+   L89: {
+    L90: {
+     if (l3 == l1) { break L90; }
+     if (l16 != 21313) { break L90; }
+     if ((l16 = (int) b[((int) (l0 = l2 + l1)) - 60720]) > -1) { break L90; }
+     if (l16 + Integer.MIN_VALUE < 2147483616) { break L90; }
      l17 = l16 & 255;
      l18 = (b[((int) l0) - 60719] & 0xff) & 63;
      l19 = (b[((int) l0) - 60718] & 0xff) & 63;
-     L90: {
-      L91: {
-       if (l16 + Integer.MIN_VALUE < 2147483632) { break L91; }
+     L91: {
+      L92: {
+       if (l16 + Integer.MIN_VALUE < 2147483632) { break L92; }
        l16 = ((l19 << 6) | ((l18 << 12) | ((l17 << 18) & 1835008))) | ((b[((int) l0) - 60717] & 0xff) & 63);
        l0 = 4L;
-       break L90;
+       break L91;
       }
       l16 = ((l18 << 6) | ((l17 << 12) & 61440)) | l19;
       l0 = 3L;
      }
-     if (l16 != 20061) { break L89; }
-     if (l3 == (l0 + l1)) { break L88; }
+     if (l16 != 20061) { break L90; }
+     if (l3 == (l0 + l1)) { break L89; }
     }
-    L92: {
-     L93: {
-      if (l11 + Integer.MIN_VALUE > 2147483631) { break L93; }
+    L93: {
+     L94: {
+      if (l11 + Integer.MIN_VALUE > 2147483631) { break L94; }
       l16 = ((l13 << 6) | ((l12 << 12) & 61440)) | l14;
       l1 = 3L;
-      break L92;
+      break L93;
      }
      l16 = ((l14 << 6) | ((l13 << 12) | ((l12 << 18) & 1835008))) | ((b[((int) l2) - 60717] & 0xff) & 63);
      l1 = 4L;
     }
-    if (l3 == l1) { break L87; }
-    if (l16 != 20108) { break L87; }
-    if ((l16 = (int) b[((int) (l0 = l2 + l1)) - 60720]) > -1) { break L87; }
-    if (l16 + Integer.MIN_VALUE < 2147483616) { break L87; }
+    if (l3 == l1) { break L88; }
+    if (l16 != 20108) { break L88; }
+    if ((l16 = (int) b[((int) (l0 = l2 + l1)) - 60720]) > -1) { break L88; }
+    if (l16 + Integer.MIN_VALUE < 2147483616) { break L88; }
     l17 = l16 & 255;
     l18 = (b[((int) l0) - 60719] & 0xff) & 63;
     l19 = (b[((int) l0) - 60718] & 0xff) & 63;
-    L94: {
-     L95: {
-      if (l16 + Integer.MIN_VALUE < 2147483632) { break L95; }
+    L95: {
+     L96: {
+      if (l16 + Integer.MIN_VALUE < 2147483632) { break L96; }
       l16 = ((l19 << 6) | ((l18 << 12) | ((l17 << 18) & 1835008))) | ((b[((int) l0) - 60717] & 0xff) & 63);
       l0 = 4L;
-      break L94;
+      break L95;
      }
      l16 = ((l18 << 6) | ((l17 << 12) & 61440)) | l19;
      l0 = 3L;
     }
-    if (l16 != 21313) { break L87; }
-    if (l3 != (l0 + l1)) { break L87; }
+    if (l16 != 21313) { break L88; }
+    if (l3 != (l0 + l1)) { break L88; }
    }
-   L96: {
-    if (l15 != 0) { break L96; }
-    if ((l16 = (int) b[((int) l4) - 60720]) > -1) { break L96; }
-    if (l16 + Integer.MIN_VALUE < 2147483616) { break L96; }
+   L97: {
+    if (l15 != 0) { break L97; }
+    if ((l16 = (int) b[((int) l4) - 60720]) > -1) { break L97; }
+    if (l16 + Integer.MIN_VALUE < 2147483616) { break L97; }
     l17 = l16 & 255;
     l18 = (b[((int) l4) - 60719] & 0xff) & 63;
     l19 = (b[((int) l4) - 60718] & 0xff) & 63;
-    L97: {
-     L98: {
-      if (l16 + Integer.MIN_VALUE > 2147483631) { break L98; }
+    L98: {
+     L99: {
+      if (l16 + Integer.MIN_VALUE > 2147483631) { break L99; }
       l16 = ((l18 << 6) | ((l17 << 12) & 61440)) | l19;
-      break L97;
+      break L98;
      }
      l16 = ((l19 << 6) | ((l18 << 12) | ((l17 << 18) & 1835008))) | ((b[((int) l4) - 60717] & 0xff) & 63);
     }
@@ -562,49 +564,49 @@ static int f149_3(State m, long l0, long l1, long l2, long l3, long l4, long l5,
  return exit;
 }
 
-static int f149_4(State m, long l0, long l1, long l2, long l3, long l4, long l5, int l15, int l16, int l17, int l18, int l19) {
+static int f149_5(State m, long l0, long l1, long l2, long l3, long l4, long l5, int l15, int l16, int l17, int l18, int l19) {
  final byte[] b = m.bytes;
  int exit = 0;
  PART: {
-  L102: {
-   if (l3 == l1) { break L102; }
-   if (l16 != 21313) { break L102; }
-   if ((l16 = (int) b[((int) (l0 = l2 + l1)) - 60720]) > -1) { break L102; }
-   if (l16 + Integer.MIN_VALUE < 2147483616) { break L102; }
+  L103: {
+   if (l3 == l1) { break L103; }
+   if (l16 != 21313) { break L103; }
+   if ((l16 = (int) b[((int) (l0 = l2 + l1)) - 60720]) > -1) { break L103; }
+   if (l16 + Integer.MIN_VALUE < 2147483616) { break L103; }
    l17 = l16 & 255;
    l18 = (b[((int) l0) - 60719] & 0xff) & 63;
    l19 = (b[((int) l0) - 60718] & 0xff) & 63;
-   L103: {
-    L104: {
-     if (l16 + Integer.MIN_VALUE < 2147483632) { break L104; }
+   L104: {
+    L105: {
+     if (l16 + Integer.MIN_VALUE < 2147483632) { break L105; }
      l16 = ((l19 << 6) | ((l18 << 12) | ((l17 << 18) & 1835008))) | ((b[((int) l0) - 60717] & 0xff) & 63);
      l0 = 4L;
-     break L103;
+     break L104;
     }
     l16 = ((l18 << 6) | ((l17 << 12) & 61440)) | l19;
     l0 = 3L;
    }
-   if (l16 != 19968) { break L102; }
-   if (l3 != (l0 + l1)) { break L102; }
-   L105: {
-    if (l15 != 0) { break L105; }
-    if ((l16 = (int) b[((int) l4) - 60720]) > -1) { break L105; }
-    if (l16 + Integer.MIN_VALUE < 2147483616) { break L105; }
+   if (l16 != 19968) { break L103; }
+   if (l3 != (l0 + l1)) { break L103; }
+   L106: {
+    if (l15 != 0) { break L106; }
+    if ((l16 = (int) b[((int) l4) - 60720]) > -1) { break L106; }
+    if (l16 + Integer.MIN_VALUE < 2147483616) { break L106; }
     l17 = l16 & 255;
     l18 = (b[((int) l4) - 60719] & 0xff) & 63;
     l19 = (b[((int) l4) - 60718] & 0xff) & 63;
-    L106: {
-     L107: {
-      if (l16 + Integer.MIN_VALUE > 2147483631) { break L107; }
+    L107: {
+     L108: {
+      if (l16 + Integer.MIN_VALUE > 2147483631) { break L108; }
       l16 = ((l18 << 6) | ((l17 << 12) & 61440)) | l19;
-      break L106;
+      break L107;
      }
      l16 = ((l19 << 6) | ((l18 << 12) | ((l17 << 18) & 1835008))) | ((b[((int) l4) - 60717] & 0xff) & 63);
     }
-    L108: {
-     if (l16 > 21434) { break L108; }
+    L109: {
+     if (l16 > 21434) { break L109; }
      if (l16 == 20877) { exit = 1; break PART; }
-     if (l16 != 20986) { break L105; }
+     if (l16 != 20986) { break L106; }
      exit = 1; break PART;
     }
     if (l16 == 21435) { exit = 1; break PART; }
@@ -624,58 +626,58 @@ static int f149_4(State m, long l0, long l1, long l2, long l3, long l4, long l5,
  return exit;
 }
 
-static int f149_5(State m, long l0, long l1, long l2, long l3, long l4, long l7, int l15, int l16, int l17, int l18, int l19) {
+static int f149_6(State m, long l0, long l1, long l2, long l3, long l4, long l7, int l15, int l16, int l17, int l18, int l19) {
  final byte[] b = m.bytes;
  int exit = 0;
  PART: {
-  L112: {
-   if (l3 == l1) { break L112; }
-   if (l16 != 19977) { break L112; }
-   if ((l16 = (int) b[((int) (l0 = l2 + l1)) - 60720]) > -1) { break L112; }
-   if (l16 + Integer.MIN_VALUE < 2147483616) { break L112; }
+  L113: {
+   if (l3 == l1) { break L113; }
+   if (l16 != 19977) { break L113; }
+   if ((l16 = (int) b[((int) (l0 = l2 + l1)) - 60720]) > -1) { break L113; }
+   if (l16 + Integer.MIN_VALUE < 2147483616) { break L113; }
    l17 = l16 & 255;
    l18 = (b[((int) l0) - 60719] & 0xff) & 63;
    l19 = (b[((int) l0) - 60718] & 0xff) & 63;
-   L113: {
-    L114: {
-     if (l16 + Integer.MIN_VALUE < 2147483632) { break L114; }
+   L114: {
+    L115: {
+     if (l16 + Integer.MIN_VALUE < 2147483632) { break L115; }
      l16 = ((l19 << 6) | ((l18 << 12) | ((l17 << 18) & 1835008))) | ((b[((int) l0) - 60717] & 0xff) & 63);
      l7 = 4L;
-     break L113;
+     break L114;
     }
     l16 = ((l18 << 6) | ((l17 << 12) & 61440)) | l19;
     l7 = 3L;
    }
-   if (l16 != 21313) { break L112; }
-   if (l3 == (l1 = l7 + l1)) { break L112; }
-   if ((l16 = (int) b[((int) (l0 = l0 + l7)) - 60720]) > -1) { break L112; }
-   if (l16 + Integer.MIN_VALUE < 2147483616) { break L112; }
+   if (l16 != 21313) { break L113; }
+   if (l3 == (l1 = l7 + l1)) { break L113; }
+   if ((l16 = (int) b[((int) (l0 = l0 + l7)) - 60720]) > -1) { break L113; }
+   if (l16 + Integer.MIN_VALUE < 2147483616) { break L113; }
    l17 = l16 & 255;
    l18 = (b[((int) l0) - 60719] & 0xff) & 63;
    l19 = (b[((int) l0) - 60718] & 0xff) & 63;
-   L115: {
-    L116: {
-     if (l16 + Integer.MIN_VALUE < 2147483632) { break L116; }
+   L116: {
+    L117: {
+     if (l16 + Integer.MIN_VALUE < 2147483632) { break L117; }
      l16 = ((l19 << 6) | ((l18 << 12) | ((l17 << 18) & 1835008))) | ((b[((int) l0) - 60717] & 0xff) & 63);
      l0 = 4L;
-     break L115;
+     break L116;
     }
     l16 = ((l18 << 6) | ((l17 << 12) & 61440)) | l19;
     l0 = 3L;
    }
-   if (l16 != 20845) { break L112; }
-   if (l15 != 0) { break L112; }
-   if (l3 != (l0 + l1)) { break L112; }
-   if ((l16 = (int) b[((int) l4) - 60720]) > -1) { break L112; }
-   if (l16 + Integer.MIN_VALUE < 2147483616) { break L112; }
+   if (l16 != 20845) { break L113; }
+   if (l15 != 0) { break L113; }
+   if (l3 != (l0 + l1)) { break L113; }
+   if ((l16 = (int) b[((int) l4) - 60720]) > -1) { break L113; }
+   if (l16 + Integer.MIN_VALUE < 2147483616) { break L113; }
    l17 = l16 & 255;
    l18 = (b[((int) l4) - 60719] & 0xff) & 63;
    l19 = (b[((int) l4) - 60718] & 0xff) & 63;
-   L117: {
-    L118: {
-     if (l16 + Integer.MIN_VALUE > 2147483631) { break L118; }
+   L118: {
+    L119: {
+     if (l16 + Integer.MIN_VALUE > 2147483631) { break L119; }
      l16 = ((l18 << 6) | ((l17 << 12) & 61440)) | l19;
-     break L117;
+     break L118;
     }
     l16 = ((l19 << 6) | ((l18 << 12) | ((l17 << 18) & 1835008))) | ((b[((int) l4) - 60717] & 0xff) & 63);
    }
@@ -693,58 +695,58 @@ static int f149_5(State m, long l0, long l1, long l2, long l3, long l4, long l7,
  return exit;
 }
 
-static int f149_6(State m, long l0, long l1, long l2, long l3, long l4, long l7, int l15, int l16, int l17, int l18, int l19) {
+static int f149_7(State m, long l0, long l1, long l2, long l3, long l4, long l7, int l15, int l16, int l17, int l18, int l19) {
  final byte[] b = m.bytes;
  int exit = 0;
  PART: {
-  L122: {
-   if (l3 == l1) { break L122; }
-   if (l16 != 19971) { break L122; }
-   if ((l16 = (int) b[((int) (l0 = l2 + l1)) - 60720]) > -1) { break L122; }
-   if (l16 + Integer.MIN_VALUE < 2147483616) { break L122; }
+  L123: {
+   if (l3 == l1) { break L123; }
+   if (l16 != 19971) { break L123; }
+   if ((l16 = (int) b[((int) (l0 = l2 + l1)) - 60720]) > -1) { break L123; }
+   if (l16 + Integer.MIN_VALUE < 2147483616) { break L123; }
    l17 = l16 & 255;
    l18 = (b[((int) l0) - 60719] & 0xff) & 63;
    l19 = (b[((int) l0) - 60718] & 0xff) & 63;
-   L123: {
-    L124: {
-     if (l16 + Integer.MIN_VALUE < 2147483632) { break L124; }
+   L124: {
+    L125: {
+     if (l16 + Integer.MIN_VALUE < 2147483632) { break L125; }
      l16 = ((l19 << 6) | ((l18 << 12) | ((l17 << 18) & 1835008))) | ((b[((int) l0) - 60717] & 0xff) & 63);
      l7 = 4L;
-     break L123;
+     break L124;
     }
     l16 = ((l18 << 6) | ((l17 << 12) & 61440)) | l19;
     l7 = 3L;
    }
-   if (l16 != 21313) { break L122; }
-   if (l3 == (l1 = l7 + l1)) { break L122; }
-   if ((l16 = (int) b[((int) (l0 = l0 + l7)) - 60720]) > -1) { break L122; }
-   if (l16 + Integer.MIN_VALUE < 2147483616) { break L122; }
+   if (l16 != 21313) { break L123; }
+   if (l3 == (l1 = l7 + l1)) { break L123; }
+   if ((l16 = (int) b[((int) (l0 = l0 + l7)) - 60720]) > -1) { break L123; }
+   if (l16 + Integer.MIN_VALUE < 2147483616) { break L123; }
    l17 = l16 & 255;
    l18 = (b[((int) l0) - 60719] & 0xff) & 63;
    l19 = (b[((int) l0) - 60718] & 0xff) & 63;
-   L125: {
-    L126: {
-     if (l16 + Integer.MIN_VALUE < 2147483632) { break L126; }
+   L126: {
+    L127: {
+     if (l16 + Integer.MIN_VALUE < 2147483632) { break L127; }
      l16 = ((l19 << 6) | ((l18 << 12) | ((l17 << 18) & 1835008))) | ((b[((int) l0) - 60717] & 0xff) & 63);
      l0 = 4L;
-     break L125;
+     break L126;
     }
     l16 = ((l18 << 6) | ((l17 << 12) & 61440)) | l19;
     l0 = 3L;
    }
-   if (l16 != 20108) { break L122; }
-   if (l15 != 0) { break L122; }
-   if (l3 != (l0 + l1)) { break L122; }
-   if ((l16 = (int) b[((int) l4) - 60720]) > -1) { break L122; }
-   if (l16 + Integer.MIN_VALUE < 2147483616) { break L122; }
+   if (l16 != 20108) { break L123; }
+   if (l15 != 0) { break L123; }
+   if (l3 != (l0 + l1)) { break L123; }
+   if ((l16 = (int) b[((int) l4) - 60720]) > -1) { break L123; }
+   if (l16 + Integer.MIN_VALUE < 2147483616) { break L123; }
    l17 = l16 & 255;
    l18 = (b[((int) l4) - 60719] & 0xff) & 63;
    l19 = (b[((int) l4) - 60718] & 0xff) & 63;
-   L127: {
-    L128: {
-     if (l16 + Integer.MIN_VALUE > 2147483631) { break L128; }
+   L128: {
+    L129: {
+     if (l16 + Integer.MIN_VALUE > 2147483631) { break L129; }
      l16 = ((l18 << 6) | ((l17 << 12) & 61440)) | l19;
-     break L127;
+     break L128;
     }
     l16 = ((l19 << 6) | ((l18 << 12) | ((l17 << 18) & 1835008))) | ((b[((int) l4) - 60717] & 0xff) & 63);
    }
@@ -763,75 +765,75 @@ static int f149_6(State m, long l0, long l1, long l2, long l3, long l4, long l7,
  return exit;
 }
 
-static int f149_7(State m, long l0, long l1, long l2, long l3, long l4, long l7, int l15, int l16, int l17, int l18, int l19) {
+static int f149_8(State m, long l0, long l1, long l2, long l3, long l4, long l7, int l15, int l16, int l17, int l18, int l19) {
  final byte[] b = m.bytes;
  int exit = 0;
  PART: {
-  L132: {
-   if (l3 == l1) { break L132; }
-   if (l16 != 19977) { break L132; }
-   if ((l16 = (int) b[((int) (l0 = l2 + l1)) - 60720]) > -1) { break L132; }
-   if (l16 + Integer.MIN_VALUE < 2147483616) { break L132; }
+  L133: {
+   if (l3 == l1) { break L133; }
+   if (l16 != 19977) { break L133; }
+   if ((l16 = (int) b[((int) (l0 = l2 + l1)) - 60720]) > -1) { break L133; }
+   if (l16 + Integer.MIN_VALUE < 2147483616) { break L133; }
    l17 = l16 & 255;
    l18 = (b[((int) l0) - 60719] & 0xff) & 63;
    l19 = (b[((int) l0) - 60718] & 0xff) & 63;
-   L133: {
-    L134: {
-     if (l16 + Integer.MIN_VALUE < 2147483632) { break L134; }
+   L134: {
+    L135: {
+     if (l16 + Integer.MIN_VALUE < 2147483632) { break L135; }
      l16 = ((l19 << 6) | ((l18 << 12) | ((l17 << 18) & 1835008))) | ((b[((int) l0) - 60717] & 0xff) & 63);
      l7 = 4L;
-     break L133;
+     break L134;
     }
     l16 = ((l18 << 6) | ((l17 << 12) & 61440)) | l19;
     l7 = 3L;
    }
-   if (l16 != 30334) { break L132; }
-   if (l3 == (l1 = l7 + l1)) { break L132; }
-   if ((l16 = (int) b[((int) (l0 = l0 + l7)) - 60720]) > -1) { break L132; }
-   if (l16 + Integer.MIN_VALUE < 2147483616) { break L132; }
+   if (l16 != 30334) { break L133; }
+   if (l3 == (l1 = l7 + l1)) { break L133; }
+   if ((l16 = (int) b[((int) (l0 = l0 + l7)) - 60720]) > -1) { break L133; }
+   if (l16 + Integer.MIN_VALUE < 2147483616) { break L133; }
    l17 = l16 & 255;
    l18 = (b[((int) l0) - 60719] & 0xff) & 63;
    l19 = (b[((int) l0) - 60718] & 0xff) & 63;
-   L135: {
-    L136: {
-     if (l16 + Integer.MIN_VALUE < 2147483632) { break L136; }
+   L136: {
+    L137: {
+     if (l16 + Integer.MIN_VALUE < 2147483632) { break L137; }
      l16 = ((l19 << 6) | ((l18 << 12) | ((l17 << 18) & 1835008))) | ((b[((int) l0) - 60717] & 0xff) & 63);
      l7 = 4L;
-     break L135;
+     break L136;
     }
     l16 = ((l18 << 6) | ((l17 << 12) & 61440)) | l19;
     l7 = 3L;
    }
-   if (l16 != 20845) { break L132; }
-   if (l3 == (l1 = l7 + l1)) { break L132; }
-   if ((l16 = (int) b[((int) (l0 = l0 + l7)) - 60720]) > -1) { break L132; }
-   if (l16 + Integer.MIN_VALUE < 2147483616) { break L132; }
+   if (l16 != 20845) { break L133; }
+   if (l3 == (l1 = l7 + l1)) { break L133; }
+   if ((l16 = (int) b[((int) (l0 = l0 + l7)) - 60720]) > -1) { break L133; }
+   if (l16 + Integer.MIN_VALUE < 2147483616) { break L133; }
    l17 = l16 & 255;
    l18 = (b[((int) l0) - 60719] & 0xff) & 63;
    l19 = (b[((int) l0) - 60718] & 0xff) & 63;
-   L137: {
-    L138: {
-     if (l16 + Integer.MIN_VALUE < 2147483632) { break L138; }
+   L138: {
+    L139: {
+     if (l16 + Integer.MIN_VALUE < 2147483632) { break L139; }
      l16 = ((l19 << 6) | ((l18 << 12) | ((l17 << 18) & 1835008))) | ((b[((int) l0) - 60717] & 0xff) & 63);
      l0 = 4L;
-     break L137;
+     break L138;
     }
     l16 = ((l18 << 6) | ((l17 << 12) & 61440)) | l19;
     l0 = 3L;
    }
-   if (l16 != 21313) { break L132; }
-   if (l15 != 0) { break L132; }
-   if (l3 != (l0 + l1)) { break L132; }
-   if ((l16 = (int) b[((int) l4) - 60720]) > -1) { break L132; }
-   if (l16 + Integer.MIN_VALUE < 2147483616) { break L132; }
+   if (l16 != 21313) { break L133; }
+   if (l15 != 0) { break L133; }
+   if (l3 != (l0 + l1)) { break L133; }
+   if ((l16 = (int) b[((int) l4) - 60720]) > -1) { break L133; }
+   if (l16 + Integer.MIN_VALUE < 2147483616) { break L133; }
    l17 = l16 & 255;
    l18 = (b[((int) l4) - 60719] & 0xff) & 63;
    l19 = (b[((int) l4) - 60718] & 0xff) & 63;
-   L139: {
-    L140: {
-     if (l16 + Integer.MIN_VALUE > 2147483631) { break L140; }
+   L140: {
+    L141: {
+     if (l16 + Integer.MIN_VALUE > 2147483631) { break L141; }
      l16 = ((l18 << 6) | ((l17 << 12) & 61440)) | l19;
-     break L139;
+     break L140;
     }
     l16 = ((l19 << 6) | ((l18 << 12) | ((l17 << 18) & 1835008))) | ((b[((int) l4) - 60717] & 0xff) & 63);
    }
@@ -848,59 +850,59 @@ static int f149_7(State m, long l0, long l1, long l2, long l3, long l4, long l7,
  return exit;
 }
 
-static int f149_8(State m, long l0, long l1, long l2, long l3, long l4, long l5, long l7, int l15, int l16, int l17, int l18, int l19) {
+static int f149_9(State m, long l0, long l1, long l2, long l3, long l4, long l5, long l7, int l15, int l16, int l17, int l18, int l19) {
  final byte[] b = m.bytes;
  int exit = 0;
  PART: {
-  L144: {
-   if (l3 == l1) { break L144; }
-   if (l16 != 20108) { break L144; }
-   if ((l16 = (int) b[((int) (l0 = l2 + l1)) - 60720]) > -1) { break L144; }
-   if (l16 + Integer.MIN_VALUE < 2147483616) { break L144; }
+  L145: {
+   if (l3 == l1) { break L145; }
+   if (l16 != 20108) { break L145; }
+   if ((l16 = (int) b[((int) (l0 = l2 + l1)) - 60720]) > -1) { break L145; }
+   if (l16 + Integer.MIN_VALUE < 2147483616) { break L145; }
    l17 = l16 & 255;
    l18 = (b[((int) l0) - 60719] & 0xff) & 63;
    l19 = (b[((int) l0) - 60718] & 0xff) & 63;
-   L145: {
-    L146: {
-     if (l16 + Integer.MIN_VALUE < 2147483632) { break L146; }
+   L146: {
+    L147: {
+     if (l16 + Integer.MIN_VALUE < 2147483632) { break L147; }
      l16 = ((l19 << 6) | ((l18 << 12) | ((l17 << 18) & 1835008))) | ((b[((int) l0) - 60717] & 0xff) & 63);
      l7 = 4L;
-     break L145;
+     break L146;
     }
     l16 = ((l18 << 6) | ((l17 << 12) & 61440)) | l19;
     l7 = 3L;
    }
-   if (l16 != 21313) { break L144; }
-   if (l3 == (l1 = l7 + l1)) { break L144; }
-   if ((l16 = (int) b[((int) (l0 = l0 + l7)) - 60720]) > -1) { break L144; }
-   if (l16 + Integer.MIN_VALUE < 2147483616) { break L144; }
+   if (l16 != 21313) { break L145; }
+   if (l3 == (l1 = l7 + l1)) { break L145; }
+   if ((l16 = (int) b[((int) (l0 = l0 + l7)) - 60720]) > -1) { break L145; }
+   if (l16 + Integer.MIN_VALUE < 2147483616) { break L145; }
    l17 = l16 & 255;
    l18 = (b[((int) l0) - 60719] & 0xff) & 63;
    l19 = (b[((int) l0) - 60718] & 0xff) & 63;
-   L147: {
-    L148: {
-     if (l16 + Integer.MIN_VALUE < 2147483632) { break L148; }
+   L148: {
+    L149: {
+     if (l16 + Integer.MIN_VALUE < 2147483632) { break L149; }
      l16 = ((l19 << 6) | ((l18 << 12) | ((l17 << 18) & 1835008))) | ((b[((int) l0) - 60717] & 0xff) & 63);
      l0 = 4L;
-     break L147;
+     break L148;
     }
     l16 = ((l18 << 6) | ((l17 << 12) & 61440)) | l19;
     l0 = 3L;
    }
-   if (l16 != 22235) { break L144; }
-   if (l3 != (l0 + l1)) { break L144; }
-   L149: {
-    if (l15 != 0) { break L149; }
-    if ((l16 = (int) b[((int) l4) - 60720]) > -1) { break L149; }
-    if (l16 + Integer.MIN_VALUE < 2147483616) { break L149; }
+   if (l16 != 22235) { break L145; }
+   if (l3 != (l0 + l1)) { break L145; }
+   L150: {
+    if (l15 != 0) { break L150; }
+    if ((l16 = (int) b[((int) l4) - 60720]) > -1) { break L150; }
+    if (l16 + Integer.MIN_VALUE < 2147483616) { break L150; }
     l17 = l16 & 255;
     l18 = (b[((int) l4) - 60719] & 0xff) & 63;
     l19 = (b[((int) l4) - 60718] & 0xff) & 63;
-    L150: {
-     L151: {
-      if (l16 + Integer.MIN_VALUE > 2147483631) { break L151; }
+    L151: {
+     L152: {
+      if (l16 + Integer.MIN_VALUE > 2147483631) { break L152; }
       l16 = ((l18 << 6) | ((l17 << 12) & 61440)) | l19;
-      break L150;
+      break L151;
      }
      l16 = ((l19 << 6) | ((l18 << 12) | ((l17 << 18) & 1835008))) | ((b[((int) l4) - 60717] & 0xff) & 63);
     }
@@ -919,58 +921,58 @@ static int f149_8(State m, long l0, long l1, long l2, long l3, long l4, long l5,
  return exit;
 }
 
-static int f149_9(State m, long l0, long l1, long l2, long l3, long l4, long l7, int l15, int l16, int l17, int l18, int l19) {
+static int f149_10(State m, long l0, long l1, long l2, long l3, long l4, long l7, int l15, int l16, int l17, int l18, int l19) {
  final byte[] b = m.bytes;
  int exit = 0;
  PART: {
-  L155: {
-   if (l3 == l1) { break L155; }
-   if (l16 != 20108) { break L155; }
-   if ((l16 = (int) b[((int) (l0 = l2 + l1)) - 60720]) > -1) { break L155; }
-   if (l16 + Integer.MIN_VALUE < 2147483616) { break L155; }
+  L156: {
+   if (l3 == l1) { break L156; }
+   if (l16 != 20108) { break L156; }
+   if ((l16 = (int) b[((int) (l0 = l2 + l1)) - 60720]) > -1) { break L156; }
+   if (l16 + Integer.MIN_VALUE < 2147483616) { break L156; }
    l17 = l16 & 255;
    l18 = (b[((int) l0) - 60719] & 0xff) & 63;
    l19 = (b[((int) l0) - 60718] & 0xff) & 63;
-   L156: {
-    L157: {
-     if (l16 + Integer.MIN_VALUE < 2147483632) { break L157; }
+   L157: {
+    L158: {
+     if (l16 + Integer.MIN_VALUE < 2147483632) { break L158; }
      l16 = ((l19 << 6) | ((l18 << 12) | ((l17 << 18) & 1835008))) | ((b[((int) l0) - 60717] & 0xff) & 63);
      l7 = 4L;
-     break L156;
+     break L157;
     }
     l16 = ((l18 << 6) | ((l17 << 12) & 61440)) | l19;
     l7 = 3L;
    }
-   if (l16 != 21313) { break L155; }
-   if (l3 == (l1 = l7 + l1)) { break L155; }
-   if ((l16 = (int) b[((int) (l0 = l0 + l7)) - 60720]) > -1) { break L155; }
-   if (l16 + Integer.MIN_VALUE < 2147483616) { break L155; }
+   if (l16 != 21313) { break L156; }
+   if (l3 == (l1 = l7 + l1)) { break L156; }
+   if ((l16 = (int) b[((int) (l0 = l0 + l7)) - 60720]) > -1) { break L156; }
+   if (l16 + Integer.MIN_VALUE < 2147483616) { break L156; }
    l17 = l16 & 255;
    l18 = (b[((int) l0) - 60719] & 0xff) & 63;
    l19 = (b[((int) l0) - 60718] & 0xff) & 63;
-   L158: {
-    L159: {
-     if (l16 + Integer.MIN_VALUE < 2147483632) { break L159; }
+   L159: {
+    L160: {
+     if (l16 + Integer.MIN_VALUE < 2147483632) { break L160; }
      l16 = ((l19 << 6) | ((l18 << 12) | ((l17 << 18) & 1835008))) | ((b[((int) l0) - 60717] & 0xff) & 63);
      l0 = 4L;
-     break L158;
+     break L159;
     }
     l16 = ((l18 << 6) | ((l17 << 12) & 61440)) | l19;
     l0 = 3L;
    }
-   if (l16 != 20843) { break L155; }
-   if (l15 != 0) { break L155; }
-   if (l3 != (l0 + l1)) { break L155; }
-   if ((l16 = (int) b[((int) l4) - 60720]) > -1) { break L155; }
-   if (l16 + Integer.MIN_VALUE < 2147483616) { break L155; }
+   if (l16 != 20843) { break L156; }
+   if (l15 != 0) { break L156; }
+   if (l3 != (l0 + l1)) { break L156; }
+   if ((l16 = (int) b[((int) l4) - 60720]) > -1) { break L156; }
+   if (l16 + Integer.MIN_VALUE < 2147483616) { break L156; }
    l17 = l16 & 255;
    l18 = (b[((int) l4) - 60719] & 0xff) & 63;
    l19 = (b[((int) l4) - 60718] & 0xff) & 63;
-   L160: {
-    L161: {
-     if (l16 + Integer.MIN_VALUE > 2147483631) { break L161; }
+   L161: {
+    L162: {
+     if (l16 + Integer.MIN_VALUE > 2147483631) { break L162; }
      l16 = ((l18 << 6) | ((l17 << 12) & 61440)) | l19;
-     break L160;
+     break L161;
     }
     l16 = ((l19 << 6) | ((l18 << 12) | ((l17 << 18) & 1835008))) | ((b[((int) l4) - 60717] & 0xff) & 63);
    }
@@ -987,41 +989,41 @@ static int f149_9(State m, long l0, long l1, long l2, long l3, long l4, long l7,
  return exit;
 }
 
-static int f149_10(State m, long l0, long l1, long l2, long l3, long l4, int l15, int l16, int l17, int l18, int l19) {
+static int f149_11(State m, long l0, long l1, long l2, long l3, long l4, int l15, int l16, int l17, int l18, int l19) {
  final byte[] b = m.bytes;
  int exit = 0;
  PART: {
-  L165: {
-   if (l3 == l1) { break L165; }
-   if (l16 != 21313) { break L165; }
-   if ((l16 = (int) b[((int) (l0 = l2 + l1)) - 60720]) > -1) { break L165; }
-   if (l16 + Integer.MIN_VALUE < 2147483616) { break L165; }
+  L166: {
+   if (l3 == l1) { break L166; }
+   if (l16 != 21313) { break L166; }
+   if ((l16 = (int) b[((int) (l0 = l2 + l1)) - 60720]) > -1) { break L166; }
+   if (l16 + Integer.MIN_VALUE < 2147483616) { break L166; }
    l17 = l16 & 255;
    l18 = (b[((int) l0) - 60719] & 0xff) & 63;
    l19 = (b[((int) l0) - 60718] & 0xff) & 63;
-   L166: {
-    L167: {
-     if (l16 + Integer.MIN_VALUE < 2147483632) { break L167; }
+   L167: {
+    L168: {
+     if (l16 + Integer.MIN_VALUE < 2147483632) { break L168; }
      l16 = ((l19 << 6) | ((l18 << 12) | ((l17 << 18) & 1835008))) | ((b[((int) l0) - 60717] & 0xff) & 63);
      l0 = 4L;
-     break L166;
+     break L167;
     }
     l16 = ((l18 << 6) | ((l17 << 12) & 61440)) | l19;
     l0 = 3L;
    }
-   if (l16 != 19977) { break L165; }
-   if (l15 != 0) { break L165; }
-   if (l3 != (l0 + l1)) { break L165; }
-   if ((l16 = (int) b[((int) l4) - 60720]) > -1) { break L165; }
-   if (l16 + Integer.MIN_VALUE < 2147483616) { break L165; }
+   if (l16 != 19977) { break L166; }
+   if (l15 != 0) { break L166; }
+   if (l3 != (l0 + l1)) { break L166; }
+   if ((l16 = (int) b[((int) l4) - 60720]) > -1) { break L166; }
+   if (l16 + Integer.MIN_VALUE < 2147483616) { break L166; }
    l17 = l16 & 255;
    l18 = (b[((int) l4) - 60719] & 0xff) & 63;
    l19 = (b[((int) l4) - 60718] & 0xff) & 63;
-   L168: {
-    L169: {
-     if (l16 + Integer.MIN_VALUE > 2147483631) { break L169; }
+   L169: {
+    L170: {
+     if (l16 + Integer.MIN_VALUE > 2147483631) { break L170; }
      l16 = ((l18 << 6) | ((l17 << 12) & 61440)) | l19;
-     break L168;
+     break L169;
     }
     l16 = ((l19 << 6) | ((l18 << 12) | ((l17 << 18) & 1835008))) | ((b[((int) l4) - 60717] & 0xff) & 63);
    }
@@ -1037,75 +1039,75 @@ static int f149_10(State m, long l0, long l1, long l2, long l3, long l4, int l15
  return exit;
 }
 
-static int f149_11(State m, long l0, long l1, long l2, long l3, long l4, long l7, int l15, int l16, int l17, int l18, int l19) {
+static int f149_12(State m, long l0, long l1, long l2, long l3, long l4, long l7, int l15, int l16, int l17, int l18, int l19) {
  final byte[] b = m.bytes;
  int exit = 0;
  PART: {
-  L173: {
-   if (l3 == l1) { break L173; }
-   if (l16 != 19968) { break L173; }
-   if ((l16 = (int) b[((int) (l0 = l2 + l1)) - 60720]) > -1) { break L173; }
-   if (l16 + Integer.MIN_VALUE < 2147483616) { break L173; }
+  L174: {
+   if (l3 == l1) { break L174; }
+   if (l16 != 19968) { break L174; }
+   if ((l16 = (int) b[((int) (l0 = l2 + l1)) - 60720]) > -1) { break L174; }
+   if (l16 + Integer.MIN_VALUE < 2147483616) { break L174; }
    l17 = l16 & 255;
    l18 = (b[((int) l0) - 60719] & 0xff) & 63;
    l19 = (b[((int) l0) - 60718] & 0xff) & 63;
-   L174: {
-    L175: {
-     if (l16 + Integer.MIN_VALUE < 2147483632) { break L175; }
+   L175: {
+    L176: {
+     if (l16 + Integer.MIN_VALUE < 2147483632) { break L176; }
      l16 = ((l19 << 6) | ((l18 << 12) | ((l17 << 18) & 1835008))) | ((b[((int) l0) - 60717] & 0xff) & 63);
      l7 = 4L;
-     break L174;
+     break L175;
     }
     l16 = ((l18 << 6) | ((l17 << 12) & 61440)) | l19;
     l7 = 3L;
    }
-   if (l16 != 21315) { break L173; }
-   if (l3 == (l1 = l7 + l1)) { break L173; }
-   if ((l16 = (int) b[((int) (l0 = l0 + l7)) - 60720]) > -1) { break L173; }
-   if (l16 + Integer.MIN_VALUE < 2147483616) { break L173; }
+   if (l16 != 21315) { break L174; }
+   if (l3 == (l1 = l7 + l1)) { break L174; }
+   if ((l16 = (int) b[((int) (l0 = l0 + l7)) - 60720]) > -1) { break L174; }
+   if (l16 + Integer.MIN_VALUE < 2147483616) { break L174; }
    l17 = l16 & 255;
    l18 = (b[((int) l0) - 60719] & 0xff) & 63;
    l19 = (b[((int) l0) - 60718] & 0xff) & 63;
-   L176: {
-    L177: {
-     if (l16 + Integer.MIN_VALUE < 2147483632) { break L177; }
+   L177: {
+    L178: {
+     if (l16 + Integer.MIN_VALUE < 2147483632) { break L178; }
      l16 = ((l19 << 6) | ((l18 << 12) | ((l17 << 18) & 1835008))) | ((b[((int) l0) - 60717] & 0xff) & 63);
      l7 = 4L;
-     break L176;
+     break L177;
     }
     l16 = ((l18 << 6) | ((l17 << 12) & 61440)) | l19;
     l7 = 3L;
    }
-   if (l16 != 38646) { break L173; }
-   if (l3 == (l1 = l7 + l1)) { break L173; }
-   if ((l16 = (int) b[((int) (l0 = l0 + l7)) - 60720]) > -1) { break L173; }
-   if (l16 + Integer.MIN_VALUE < 2147483616) { break L173; }
+   if (l16 != 38646) { break L174; }
+   if (l3 == (l1 = l7 + l1)) { break L174; }
+   if ((l16 = (int) b[((int) (l0 = l0 + l7)) - 60720]) > -1) { break L174; }
+   if (l16 + Integer.MIN_VALUE < 2147483616) { break L174; }
    l17 = l16 & 255;
    l18 = (b[((int) l0) - 60719] & 0xff) & 63;
    l19 = (b[((int) l0) - 60718] & 0xff) & 63;
-   L178: {
-    L179: {
-     if (l16 + Integer.MIN_VALUE < 2147483632) { break L179; }
+   L179: {
+    L180: {
+     if (l16 + Integer.MIN_VALUE < 2147483632) { break L180; }
      l16 = ((l19 << 6) | ((l18 << 12) | ((l17 << 18) & 1835008))) | ((b[((int) l0) - 60717] & 0xff) & 63);
      l0 = 4L;
-     break L178;
+     break L179;
     }
     l16 = ((l18 << 6) | ((l17 << 12) & 61440)) | l19;
     l0 = 3L;
    }
-   if (l16 != 19968) { break L173; }
-   if (l15 != 0) { break L173; }
-   if (l3 != (l0 + l1)) { break L173; }
-   if ((l16 = (int) b[((int) l4) - 60720]) > -1) { break L173; }
-   if (l16 + Integer.MIN_VALUE < 2147483616) { break L173; }
+   if (l16 != 19968) { break L174; }
+   if (l15 != 0) { break L174; }
+   if (l3 != (l0 + l1)) { break L174; }
+   if ((l16 = (int) b[((int) l4) - 60720]) > -1) { break L174; }
+   if (l16 + Integer.MIN_VALUE < 2147483616) { break L174; }
    l17 = l16 & 255;
    l18 = (b[((int) l4) - 60719] & 0xff) & 63;
    l19 = (b[((int) l4) - 60718] & 0xff) & 63;
-   L180: {
-    L181: {
-     if (l16 + Integer.MIN_VALUE > 2147483631) { break L181; }
+   L181: {
+    L182: {
+     if (l16 + Integer.MIN_VALUE > 2147483631) { break L182; }
      l16 = ((l18 << 6) | ((l17 << 12) & 61440)) | l19;
-     break L180;
+     break L181;
     }
     l16 = ((l19 << 6) | ((l18 << 12) | ((l17 << 18) & 1835008))) | ((b[((int) l4) - 60717] & 0xff) & 63);
    }
@@ -1122,62 +1124,62 @@ static int f149_11(State m, long l0, long l1, long l2, long l3, long l4, long l7
  return exit;
 }
 
-static int f149_12(State m, long l0, long l1, long l2, long l3, long l4, long l5, int l11, int l12, int l13, int l14, int l16, int l17, int l18, int l19) {
+static int f149_13(State m, long l0, long l1, long l2, long l3, long l4, long l5, int l11, int l12, int l13, int l14, int l16, int l17, int l18, int l19) {
  final byte[] b = m.bytes;
  int exit = 0;
  PART: {
-  L190: {
-   L191: {
-    L192: {
-     if (l3 == l1) { break L192; }
-     if (l16 != 21313) { break L192; }
-     if ((l16 = (int) b[((int) (l0 = l2 + l1)) - 60720]) > -1) { break L192; }
-     if (l16 + Integer.MIN_VALUE < 2147483616) { break L192; }
+  L191: {
+   L192: {
+    L193: {
+     if (l3 == l1) { break L193; }
+     if (l16 != 21313) { break L193; }
+     if ((l16 = (int) b[((int) (l0 = l2 + l1)) - 60720]) > -1) { break L193; }
+     if (l16 + Integer.MIN_VALUE < 2147483616) { break L193; }
      l17 = l16 & 255;
      l18 = (b[((int) l0) - 60719] & 0xff) & 63;
      l19 = (b[((int) l0) - 60718] & 0xff) & 63;
-     L193: {
-      L194: {
-       if (l16 + Integer.MIN_VALUE < 2147483632) { break L194; }
+     L194: {
+      L195: {
+       if (l16 + Integer.MIN_VALUE < 2147483632) { break L195; }
        l16 = ((l19 << 6) | ((l18 << 12) | ((l17 << 18) & 1835008))) | ((b[((int) l0) - 60717] & 0xff) & 63);
        l0 = 4L;
-       break L193;
+       break L194;
       }
       l16 = ((l18 << 6) | ((l17 << 12) & 61440)) | l19;
       l0 = 3L;
      }
-     if (l16 != 19975) { break L192; }
-     if (l3 == (l0 + l1)) { break L191; }
+     if (l16 != 19975) { break L193; }
+     if (l3 == (l0 + l1)) { break L192; }
     }
-    L195: {
-     L196: {
-      if (l11 + Integer.MIN_VALUE > 2147483631) { break L196; }
+    L196: {
+     L197: {
+      if (l11 + Integer.MIN_VALUE > 2147483631) { break L197; }
       l16 = ((l13 << 6) | ((l12 << 12) & 61440)) | l14;
       l1 = 3L;
-      break L195;
+      break L196;
      }
      l16 = ((l14 << 6) | ((l13 << 12) | ((l12 << 18) & 1835008))) | ((b[((int) l2) - 60717] & 0xff) & 63);
      l1 = 4L;
     }
-    if (l3 == l1) { break L190; }
-    if (l16 != 21313) { break L190; }
-    if ((l16 = (int) b[((int) (l0 = l2 + l1)) - 60720]) > -1) { break L190; }
-    if (l16 + Integer.MIN_VALUE < 2147483616) { break L190; }
+    if (l3 == l1) { break L191; }
+    if (l16 != 21313) { break L191; }
+    if ((l16 = (int) b[((int) (l0 = l2 + l1)) - 60720]) > -1) { break L191; }
+    if (l16 + Integer.MIN_VALUE < 2147483616) { break L191; }
     l17 = l16 & 255;
     l18 = (b[((int) l0) - 60719] & 0xff) & 63;
     l19 = (b[((int) l0) - 60718] & 0xff) & 63;
-    L197: {
-     L198: {
-      if (l16 + Integer.MIN_VALUE < 2147483632) { break L198; }
+    L198: {
+     L199: {
+      if (l16 + Integer.MIN_VALUE < 2147483632) { break L199; }
       l16 = ((l19 << 6) | ((l18 << 12) | ((l17 << 18) & 1835008))) | ((b[((int) l0) - 60717] & 0xff) & 63);
       l0 = 4L;
-      break L197;
+      break L198;
      }
      l16 = ((l18 << 6) | ((l17 << 12) & 61440)) | l19;
      l0 = 3L;
     }
-    if (l16 != 33836) { break L190; }
-    if (l3 != (l0 + l1)) { break L190; }
+    if (l16 != 33836) { break L191; }
+    if (l3 != (l0 + l1)) { break L191; }
    }
    if (Core4.f122(m, 84704L, 1L, 84708L, 1L, l4, l5) != 0) { exit = 1; break PART; }
   }
@@ -1191,146 +1193,146 @@ static int f149_12(State m, long l0, long l1, long l2, long l3, long l4, long l5
  return exit;
 }
 
-static int f149_13(State m, long l0, long l1, long l2, long l3, long l4, long l7, int l11, int l12, int l13, int l14, int l15, int l16, int l17, int l18, int l19) {
+static int f149_14(State m, long l0, long l1, long l2, long l3, long l4, long l7, int l11, int l12, int l13, int l14, int l15, int l16, int l17, int l18, int l19) {
  final byte[] b = m.bytes;
  int exit = 0;
  PART: {
-  L202: {
-   L203: {
-    L204: {
-     L205: {
-      if (l3 == l1) { break L205; }
-      if (l16 != 21313) { break L205; }
-      if ((l16 = (int) b[((int) (l0 = l2 + l1)) - 60720]) > -1) { break L205; }
-      if (l16 + Integer.MIN_VALUE < 2147483616) { break L205; }
+  L203: {
+   L204: {
+    L205: {
+     L206: {
+      if (l3 == l1) { break L206; }
+      if (l16 != 21313) { break L206; }
+      if ((l16 = (int) b[((int) (l0 = l2 + l1)) - 60720]) > -1) { break L206; }
+      if (l16 + Integer.MIN_VALUE < 2147483616) { break L206; }
       l17 = l16 & 255;
       l18 = (b[((int) l0) - 60719] & 0xff) & 63;
       l19 = (b[((int) l0) - 60718] & 0xff) & 63;
-      L206: {
-       L207: {
-        if (l16 + Integer.MIN_VALUE < 2147483632) { break L207; }
+      L207: {
+       L208: {
+        if (l16 + Integer.MIN_VALUE < 2147483632) { break L208; }
         l16 = ((l19 << 6) | ((l18 << 12) | ((l17 << 18) & 1835008))) | ((b[((int) l0) - 60717] & 0xff) & 63);
         l7 = 4L;
-        break L206;
+        break L207;
        }
        l16 = ((l18 << 6) | ((l17 << 12) & 61440)) | l19;
        l7 = 3L;
       }
-      if (l16 != 19975) { break L205; }
-      if (l3 == (l1 = l7 + l1)) { break L205; }
-      if ((l16 = (int) b[((int) (l0 = l0 + l7)) - 60720]) > -1) { break L205; }
-      if (l16 + Integer.MIN_VALUE < 2147483616) { break L205; }
+      if (l16 != 19975) { break L206; }
+      if (l3 == (l1 = l7 + l1)) { break L206; }
+      if ((l16 = (int) b[((int) (l0 = l0 + l7)) - 60720]) > -1) { break L206; }
+      if (l16 + Integer.MIN_VALUE < 2147483616) { break L206; }
       l17 = l16 & 255;
       l18 = (b[((int) l0) - 60719] & 0xff) & 63;
       l19 = (b[((int) l0) - 60718] & 0xff) & 63;
-      L208: {
-       L209: {
-        if (l16 + Integer.MIN_VALUE < 2147483632) { break L209; }
+      L209: {
+       L210: {
+        if (l16 + Integer.MIN_VALUE < 2147483632) { break L210; }
         l16 = ((l19 << 6) | ((l18 << 12) | ((l17 << 18) & 1835008))) | ((b[((int) l0) - 60717] & 0xff) & 63);
         l7 = 4L;
-        break L208;
+        break L209;
        }
        l16 = ((l18 << 6) | ((l17 << 12) & 61440)) | l19;
        l7 = 3L;
       }
-      if (l16 != 20843) { break L205; }
-      if (l3 == (l1 = l7 + l1)) { break L205; }
-      if ((l16 = (int) b[((int) (l0 = l0 + l7)) - 60720]) > -1) { break L205; }
-      if (l16 + Integer.MIN_VALUE < 2147483616) { break L205; }
+      if (l16 != 20843) { break L206; }
+      if (l3 == (l1 = l7 + l1)) { break L206; }
+      if ((l16 = (int) b[((int) (l0 = l0 + l7)) - 60720]) > -1) { break L206; }
+      if (l16 + Integer.MIN_VALUE < 2147483616) { break L206; }
       l17 = l16 & 255;
       l18 = (b[((int) l0) - 60719] & 0xff) & 63;
       l19 = (b[((int) l0) - 60718] & 0xff) & 63;
-      L210: {
-       L211: {
-        if (l16 + Integer.MIN_VALUE < 2147483632) { break L211; }
+      L211: {
+       L212: {
+        if (l16 + Integer.MIN_VALUE < 2147483632) { break L212; }
         l16 = ((l19 << 6) | ((l18 << 12) | ((l17 << 18) & 1835008))) | ((b[((int) l0) - 60717] & 0xff) & 63);
         l0 = 4L;
-        break L210;
+        break L211;
        }
        l16 = ((l18 << 6) | ((l17 << 12) & 61440)) | l19;
        l0 = 3L;
       }
-      if (l16 != 21315) { break L205; }
-      if (l3 == (l0 + l1)) { break L204; }
+      if (l16 != 21315) { break L206; }
+      if (l3 == (l0 + l1)) { break L205; }
      }
-     L212: {
-      L213: {
-       if (l11 + Integer.MIN_VALUE > 2147483631) { break L213; }
+     L213: {
+      L214: {
+       if (l11 + Integer.MIN_VALUE > 2147483631) { break L214; }
        l16 = ((l13 << 6) | ((l12 << 12) & 61440)) | l14;
        l1 = 3L;
-       break L212;
+       break L213;
       }
       l16 = ((l14 << 6) | ((l13 << 12) | ((l12 << 18) & 1835008))) | ((b[((int) l2) - 60717] & 0xff) & 63);
       l1 = 4L;
      }
-     if (l3 == l1) { break L202; }
-     if (l16 != 21313) { break L202; }
-     if ((l16 = (int) b[((int) (l0 = l2 + l1)) - 60720]) > -1) { break L202; }
-     if (l16 + Integer.MIN_VALUE < 2147483616) { break L202; }
+     if (l3 == l1) { break L203; }
+     if (l16 != 21313) { break L203; }
+     if ((l16 = (int) b[((int) (l0 = l2 + l1)) - 60720]) > -1) { break L203; }
+     if (l16 + Integer.MIN_VALUE < 2147483616) { break L203; }
      l17 = l16 & 255;
      l18 = (b[((int) l0) - 60719] & 0xff) & 63;
      l19 = (b[((int) l0) - 60718] & 0xff) & 63;
-     L214: {
-      L215: {
-       if (l16 + Integer.MIN_VALUE < 2147483632) { break L215; }
+     L215: {
+      L216: {
+       if (l16 + Integer.MIN_VALUE < 2147483632) { break L216; }
        l16 = ((l19 << 6) | ((l18 << 12) | ((l17 << 18) & 1835008))) | ((b[((int) l0) - 60717] & 0xff) & 63);
        l7 = 4L;
-       break L214;
+       break L215;
       }
       l16 = ((l18 << 6) | ((l17 << 12) & 61440)) | l19;
       l7 = 3L;
      }
-     if (l16 != 33836) { break L202; }
-     if (l3 == (l1 = l7 + l1)) { break L202; }
-     if ((l16 = (int) b[((int) (l0 = l0 + l7)) - 60720]) > -1) { break L202; }
-     if (l16 + Integer.MIN_VALUE < 2147483616) { break L202; }
+     if (l16 != 33836) { break L203; }
+     if (l3 == (l1 = l7 + l1)) { break L203; }
+     if ((l16 = (int) b[((int) (l0 = l0 + l7)) - 60720]) > -1) { break L203; }
+     if (l16 + Integer.MIN_VALUE < 2147483616) { break L203; }
      l17 = l16 & 255;
      l18 = (b[((int) l0) - 60719] & 0xff) & 63;
      l19 = (b[((int) l0) - 60718] & 0xff) & 63;
-     L216: {
-      L217: {
-       if (l16 + Integer.MIN_VALUE < 2147483632) { break L217; }
+     L217: {
+      L218: {
+       if (l16 + Integer.MIN_VALUE < 2147483632) { break L218; }
        l16 = ((l19 << 6) | ((l18 << 12) | ((l17 << 18) & 1835008))) | ((b[((int) l0) - 60717] & 0xff) & 63);
        l7 = 4L;
-       break L216;
+       break L217;
       }
       l16 = ((l18 << 6) | ((l17 << 12) & 61440)) | l19;
       l7 = 3L;
      }
-     if (l16 != 20843) { break L202; }
-     if (l3 == (l1 = l7 + l1)) { break L202; }
-     if ((l16 = (int) b[((int) (l0 = l0 + l7)) - 60720]) > -1) { break L202; }
-     if (l16 + Integer.MIN_VALUE < 2147483616) { break L202; }
+     if (l16 != 20843) { break L203; }
+     if (l3 == (l1 = l7 + l1)) { break L203; }
+     if ((l16 = (int) b[((int) (l0 = l0 + l7)) - 60720]) > -1) { break L203; }
+     if (l16 + Integer.MIN_VALUE < 2147483616) { break L203; }
      l17 = l16 & 255;
      l18 = (b[((int) l0) - 60719] & 0xff) & 63;
      l19 = (b[((int) l0) - 60718] & 0xff) & 63;
-     L218: {
-      L219: {
-       if (l16 + Integer.MIN_VALUE < 2147483632) { break L219; }
+     L219: {
+      L220: {
+       if (l16 + Integer.MIN_VALUE < 2147483632) { break L220; }
        l16 = ((l19 << 6) | ((l18 << 12) | ((l17 << 18) & 1835008))) | ((b[((int) l0) - 60717] & 0xff) & 63);
        l0 = 4L;
-       break L218;
+       break L219;
       }
       l16 = ((l18 << 6) | ((l17 << 12) & 61440)) | l19;
       l0 = 3L;
      }
-     if (l16 != 21315) { break L202; }
-     if (l15 != 0) { break L202; }
-     if (l3 == (l0 + l1)) { break L203; }
-     break L202;
+     if (l16 != 21315) { break L203; }
+     if (l15 != 0) { break L203; }
+     if (l3 == (l0 + l1)) { break L204; }
+     break L203;
     }
-    if (l15 != 0) { break L202; }
+    if (l15 != 0) { break L203; }
    }
-   if ((l15 = (int) b[((int) l4) - 60720]) > -1) { break L202; }
-   if (l15 + Integer.MIN_VALUE < 2147483616) { break L202; }
+   if ((l15 = (int) b[((int) l4) - 60720]) > -1) { break L203; }
+   if (l15 + Integer.MIN_VALUE < 2147483616) { break L203; }
    l16 = l15 & 255;
    l17 = (b[((int) l4) - 60719] & 0xff) & 63;
    l18 = (b[((int) l4) - 60718] & 0xff) & 63;
-   L220: {
-    L221: {
-     if (l15 + Integer.MIN_VALUE > 2147483631) { break L221; }
+   L221: {
+    L222: {
+     if (l15 + Integer.MIN_VALUE > 2147483631) { break L222; }
      l15 = ((l17 << 6) | ((l16 << 12) & 61440)) | l18;
-     break L220;
+     break L221;
     }
     l15 = ((l18 << 6) | ((l17 << 12) | ((l16 << 18) & 1835008))) | ((b[((int) l4) - 60717] & 0xff) & 63);
    }
@@ -1348,46 +1350,46 @@ static int f149_13(State m, long l0, long l1, long l2, long l3, long l4, long l7
  return exit;
 }
 
-static int f149_14(State m, long l0, long l1, long l2, long l3, long l5, int l15, int l16, int l17, int l18) {
+static int f149_15(State m, long l0, long l1, long l2, long l3, long l5, int l15, int l16, int l17, int l18) {
  final byte[] b = m.bytes;
  int exit = 0;
  PART: {
-  L250: {
-   if (l3 == l1) { break L250; }
-   if (l15 != 20108) { break L250; }
-   if ((l15 = (int) b[((int) (l0 = l2 + l1)) - 60720]) > -1) { break L250; }
-   if (l15 + Integer.MIN_VALUE < 2147483616) { break L250; }
+  L251: {
+   if (l3 == l1) { break L251; }
+   if (l15 != 20108) { break L251; }
+   if ((l15 = (int) b[((int) (l0 = l2 + l1)) - 60720]) > -1) { break L251; }
+   if (l15 + Integer.MIN_VALUE < 2147483616) { break L251; }
    l16 = l15 & 255;
    l17 = (b[((int) l0) - 60719] & 0xff) & 63;
    l18 = (b[((int) l0) - 60718] & 0xff) & 63;
-   L251: {
-    L252: {
-     if (l15 + Integer.MIN_VALUE < 2147483632) { break L252; }
+   L252: {
+    L253: {
+     if (l15 + Integer.MIN_VALUE < 2147483632) { break L253; }
      l15 = ((l18 << 6) | ((l17 << 12) | ((l16 << 18) & 1835008))) | ((b[((int) l0) - 60717] & 0xff) & 63);
      l5 = 4L;
-     break L251;
+     break L252;
     }
     l15 = ((l17 << 6) | ((l16 << 12) & 61440)) | l18;
     l5 = 3L;
    }
-   if (l15 != 30334) { break L250; }
-   if (l3 == (l1 = l5 + l1)) { break L250; }
-   if ((l15 = (int) b[((int) (l0 = l0 + l5)) - 60720]) > -1) { break L250; }
-   if (l15 + Integer.MIN_VALUE < 2147483616) { break L250; }
+   if (l15 != 30334) { break L251; }
+   if (l3 == (l1 = l5 + l1)) { break L251; }
+   if ((l15 = (int) b[((int) (l0 = l0 + l5)) - 60720]) > -1) { break L251; }
+   if (l15 + Integer.MIN_VALUE < 2147483616) { break L251; }
    l16 = l15 & 255;
    l17 = (b[((int) l0) - 60719] & 0xff) & 63;
    l18 = (b[((int) l0) - 60718] & 0xff) & 63;
-   L253: {
-    L254: {
-     if (l15 + Integer.MIN_VALUE < 2147483632) { break L254; }
+   L254: {
+    L255: {
+     if (l15 + Integer.MIN_VALUE < 2147483632) { break L255; }
      l15 = ((l18 << 6) | ((l17 << 12) | ((l16 << 18) & 1835008))) | ((b[((int) l0) - 60717] & 0xff) & 63);
      l0 = 4L;
-     break L253;
+     break L254;
     }
     l15 = ((l17 << 6) | ((l16 << 12) & 61440)) | l18;
     l0 = 3L;
    }
-   if (l15 != 20116) { break L250; }
+   if (l15 != 20116) { break L251; }
    if (l3 == (l0 + l1)) { exit = 1; break PART; }
   }
  }
@@ -1418,22 +1420,59 @@ static int f149(State m, long l0, long l1, long l2, long l3, long l4, long l5) {
  int l18 = 0;
  int l19 = 0;
  L1: {
-  final int x63 = f149_1(m, l0, l1, l2, l3, l6, l7, l8, l9, l10, l11, l12, l13, l14, l15, l16, l17);
-  l6 = m.kept[0];
-  l7 = m.kept[1];
-  l8 = m.kept[2];
-  l9 = m.kept[3];
-  l10 = (int) m.kept[4];
-  l11 = (int) m.kept[5];
-  l12 = (int) m.kept[6];
-  l13 = (int) m.kept[7];
-  l14 = (int) m.kept[8];
-  l15 = (int) m.kept[9];
-  l16 = (int) m.kept[10];
-  l17 = (int) m.kept[11];
-  switch (x63) {
-  case 1: return m.intResult;
-  case 2: break L1;
+  L2: {
+   L3: {
+    final int x59 = f149_1(m, l0, l1, l2, l3, l6, l7, l8, l9, l10, l11, l12, l13, l14, l15, l16, l17);
+    l6 = m.kept[0];
+    l7 = m.kept[1];
+    l8 = m.kept[2];
+    l9 = m.kept[3];
+    l10 = (int) m.kept[4];
+    l11 = (int) m.kept[5];
+    l12 = (int) m.kept[6];
+    l13 = (int) m.kept[7];
+    l14 = (int) m.kept[8];
+    l15 = (int) m.kept[9];
+    l16 = (int) m.kept[10];
+    l17 = (int) m.kept[11];
+    switch (x59) {
+    case 1: break L2;
+    case 2: break L3;
+    case 3: return m.intResult;
+    case 4: break L1;
+    }
+    l13 = (b[((int) l2) - 60718] & 0xff) & 63;
+    L60: {
+     if (l11 + Integer.MIN_VALUE > 2147483631) { break L60; }
+     l10 = ((l12 << 6) | ((l10 << 12) & 61440)) | l13;
+     l7 = -3L;
+     break L3;
+    }
+    l10 = ((l13 << 6) | ((l12 << 12) | ((l10 << 18) & 1835008))) | ((b[((int) l2) - 60717] & 0xff) & 63);
+    l7 = -4L;
+   }
+   L61: {
+    L62: {
+     if (l10 > 20844) { break L62; }
+     L63: {
+      switch (l10 + -19968) {
+      case 0: case 9: break L61;
+      case 1: case 2: case 3: case 4: case 5: case 6: case 7: case 8: break L2;
+      default: break L63;
+      }
+     }
+     switch (l10 + -20108) {
+     case 0: case 8: break L61;
+     default: break L2;
+     }
+    }
+    if (l10 == 22235) { break L61; }
+    if (l10 != 20845) { break L2; }
+   }
+   if (l7 == (0L - l3)) { break L2; }
+   if (Core4.f118(m, l0, l1) == 0) { break L2; }
+   m.g0 = l6;
+   return 1;
   }
   l10 = 1;
   if (Core4.f148(m, l0, l1) != 0) { break L1; }
@@ -1489,99 +1528,84 @@ static int f149(State m, long l0, long l1, long l2, long l3, long l4, long l5) {
    l16 = ((l14 << 6) | ((l13 << 12) | ((l12 << 18) & 1835008))) | ((b[((int) l2) - 60717] & 0xff) & 63);
    l1 = 4L;
   }
-  L73: {
-   if (l3 == l1) { break L73; }
-   if (l16 != 21313) { break L73; }
-   if ((l16 = (int) b[((int) (l0 = l2 + l1)) - 60720]) > -1) { break L73; }
-   if (l16 + Integer.MIN_VALUE < 2147483616) { break L73; }
-   l17 = l16 & 255;
-   l18 = (b[((int) l0) - 60719] & 0xff) & 63;
-   l19 = (b[((int) l0) - 60718] & 0xff) & 63;
-   L74: {
-    L75: {
-     if (l16 + Integer.MIN_VALUE < 2147483632) { break L75; }
-     l16 = ((l19 << 6) | ((l18 << 12) | ((l17 << 18) & 1835008))) | ((b[((int) l0) - 60717] & 0xff) & 63);
-     l0 = 4L;
-     break L74;
-    }
-    l16 = ((l18 << 6) | ((l17 << 12) & 61440)) | l19;
-    l0 = 3L;
-   }
-   if (l16 != 20108) { break L73; }
-   if (l3 != (l0 + l1)) { break L73; }
-   if (Core4.f122(m, 84596L, 1L, 84600L, 2L, l4, l5) != 0) { break L1; }
-   if (Core4.f122(m, 84608L, 1L, 84612L, 1L, l4, l5) != 0) { break L1; }
-   if (Core4.f122(m, 82772L, 1L, 84616L, 2L, l4, l5) != 0) { break L1; }
-  }
-  L76: {
-   L77: {
-    if (l11 + Integer.MIN_VALUE > 2147483631) { break L77; }
-    l16 = ((l13 << 6) | ((l12 << 12) & 61440)) | l14;
-    l1 = 3L;
-    break L76;
-   }
-   l16 = ((l14 << 6) | ((l13 << 12) | ((l12 << 18) & 1835008))) | ((b[((int) l2) - 60717] & 0xff) & 63);
-   l1 = 4L;
-  }
-  final int x84 = f149_2(m, l0, l1, l2, l3, l4, l5, l15, l16, l17, l18, l19);
+  final int x76 = f149_2(m, l0, l1, l2, l3, l4, l5, l16, l17, l18, l19);
   l0 = m.kept[0];
   l16 = (int) m.kept[1];
   l17 = (int) m.kept[2];
   l18 = (int) m.kept[3];
   l19 = (int) m.kept[4];
-  switch (x84) {
+  switch (x76) {
   case 1: break L1;
   }
-  L85: {
-   L86: {
-    if (l11 + Integer.MIN_VALUE > 2147483631) { break L86; }
+  L77: {
+   L78: {
+    if (l11 + Integer.MIN_VALUE > 2147483631) { break L78; }
     l16 = ((l13 << 6) | ((l12 << 12) & 61440)) | l14;
     l1 = 3L;
-    break L85;
+    break L77;
    }
    l16 = ((l14 << 6) | ((l13 << 12) | ((l12 << 18) & 1835008))) | ((b[((int) l2) - 60717] & 0xff) & 63);
    l1 = 4L;
   }
-  final int x99 = f149_3(m, l0, l1, l2, l3, l4, l5, l11, l12, l13, l14, l15, l16, l17, l18, l19);
+  final int x85 = f149_3(m, l0, l1, l2, l3, l4, l5, l15, l16, l17, l18, l19);
+  l0 = m.kept[0];
+  l16 = (int) m.kept[1];
+  l17 = (int) m.kept[2];
+  l18 = (int) m.kept[3];
+  l19 = (int) m.kept[4];
+  switch (x85) {
+  case 1: break L1;
+  }
+  L86: {
+   L87: {
+    if (l11 + Integer.MIN_VALUE > 2147483631) { break L87; }
+    l16 = ((l13 << 6) | ((l12 << 12) & 61440)) | l14;
+    l1 = 3L;
+    break L86;
+   }
+   l16 = ((l14 << 6) | ((l13 << 12) | ((l12 << 18) & 1835008))) | ((b[((int) l2) - 60717] & 0xff) & 63);
+   l1 = 4L;
+  }
+  final int x100 = f149_4(m, l0, l1, l2, l3, l4, l5, l11, l12, l13, l14, l15, l16, l17, l18, l19);
   l0 = m.kept[0];
   l1 = m.kept[1];
   l16 = (int) m.kept[2];
   l17 = (int) m.kept[3];
   l18 = (int) m.kept[4];
   l19 = (int) m.kept[5];
-  switch (x99) {
+  switch (x100) {
   case 1: break L1;
   }
-  L100: {
-   L101: {
-    if (l11 + Integer.MIN_VALUE > 2147483631) { break L101; }
+  L101: {
+   L102: {
+    if (l11 + Integer.MIN_VALUE > 2147483631) { break L102; }
     l16 = ((l13 << 6) | ((l12 << 12) & 61440)) | l14;
     l1 = 3L;
-    break L100;
+    break L101;
    }
    l16 = ((l14 << 6) | ((l13 << 12) | ((l12 << 18) & 1835008))) | ((b[((int) l2) - 60717] & 0xff) & 63);
    l1 = 4L;
   }
-  final int x109 = f149_4(m, l0, l1, l2, l3, l4, l5, l15, l16, l17, l18, l19);
+  final int x110 = f149_5(m, l0, l1, l2, l3, l4, l5, l15, l16, l17, l18, l19);
   l0 = m.kept[0];
   l16 = (int) m.kept[1];
   l17 = (int) m.kept[2];
   l18 = (int) m.kept[3];
   l19 = (int) m.kept[4];
-  switch (x109) {
+  switch (x110) {
   case 1: break L1;
   }
-  L110: {
-   L111: {
-    if (l11 + Integer.MIN_VALUE > 2147483631) { break L111; }
+  L111: {
+   L112: {
+    if (l11 + Integer.MIN_VALUE > 2147483631) { break L112; }
     l16 = ((l13 << 6) | ((l12 << 12) & 61440)) | l14;
     l1 = 3L;
-    break L110;
+    break L111;
    }
    l16 = ((l14 << 6) | ((l13 << 12) | ((l12 << 18) & 1835008))) | ((b[((int) l2) - 60717] & 0xff) & 63);
    l1 = 4L;
   }
-  final int x119 = f149_5(m, l0, l1, l2, l3, l4, l7, l15, l16, l17, l18, l19);
+  final int x120 = f149_6(m, l0, l1, l2, l3, l4, l7, l15, l16, l17, l18, l19);
   l0 = m.kept[0];
   l1 = m.kept[1];
   l7 = m.kept[2];
@@ -1589,20 +1613,20 @@ static int f149(State m, long l0, long l1, long l2, long l3, long l4, long l5) {
   l17 = (int) m.kept[4];
   l18 = (int) m.kept[5];
   l19 = (int) m.kept[6];
-  switch (x119) {
+  switch (x120) {
   case 1: break L1;
   }
-  L120: {
-   L121: {
-    if (l11 + Integer.MIN_VALUE > 2147483631) { break L121; }
+  L121: {
+   L122: {
+    if (l11 + Integer.MIN_VALUE > 2147483631) { break L122; }
     l16 = ((l13 << 6) | ((l12 << 12) & 61440)) | l14;
     l1 = 3L;
-    break L120;
+    break L121;
    }
    l16 = ((l14 << 6) | ((l13 << 12) | ((l12 << 18) & 1835008))) | ((b[((int) l2) - 60717] & 0xff) & 63);
    l1 = 4L;
   }
-  final int x129 = f149_6(m, l0, l1, l2, l3, l4, l7, l15, l16, l17, l18, l19);
+  final int x130 = f149_7(m, l0, l1, l2, l3, l4, l7, l15, l16, l17, l18, l19);
   l0 = m.kept[0];
   l1 = m.kept[1];
   l7 = m.kept[2];
@@ -1610,20 +1634,20 @@ static int f149(State m, long l0, long l1, long l2, long l3, long l4, long l5) {
   l17 = (int) m.kept[4];
   l18 = (int) m.kept[5];
   l19 = (int) m.kept[6];
-  switch (x129) {
+  switch (x130) {
   case 1: break L1;
   }
-  L130: {
-   L131: {
-    if (l11 + Integer.MIN_VALUE > 2147483631) { break L131; }
+  L131: {
+   L132: {
+    if (l11 + Integer.MIN_VALUE > 2147483631) { break L132; }
     l16 = ((l13 << 6) | ((l12 << 12) & 61440)) | l14;
     l1 = 3L;
-    break L130;
+    break L131;
    }
    l16 = ((l14 << 6) | ((l13 << 12) | ((l12 << 18) & 1835008))) | ((b[((int) l2) - 60717] & 0xff) & 63);
    l1 = 4L;
   }
-  final int x141 = f149_7(m, l0, l1, l2, l3, l4, l7, l15, l16, l17, l18, l19);
+  final int x142 = f149_8(m, l0, l1, l2, l3, l4, l7, l15, l16, l17, l18, l19);
   l0 = m.kept[0];
   l1 = m.kept[1];
   l7 = m.kept[2];
@@ -1631,20 +1655,20 @@ static int f149(State m, long l0, long l1, long l2, long l3, long l4, long l5) {
   l17 = (int) m.kept[4];
   l18 = (int) m.kept[5];
   l19 = (int) m.kept[6];
-  switch (x141) {
+  switch (x142) {
   case 1: break L1;
   }
-  L142: {
-   L143: {
-    if (l11 + Integer.MIN_VALUE > 2147483631) { break L143; }
+  L143: {
+   L144: {
+    if (l11 + Integer.MIN_VALUE > 2147483631) { break L144; }
     l16 = ((l13 << 6) | ((l12 << 12) & 61440)) | l14;
     l1 = 3L;
-    break L142;
+    break L143;
    }
    l16 = ((l14 << 6) | ((l13 << 12) | ((l12 << 18) & 1835008))) | ((b[((int) l2) - 60717] & 0xff) & 63);
    l1 = 4L;
   }
-  final int x152 = f149_8(m, l0, l1, l2, l3, l4, l5, l7, l15, l16, l17, l18, l19);
+  final int x153 = f149_9(m, l0, l1, l2, l3, l4, l5, l7, l15, l16, l17, l18, l19);
   l0 = m.kept[0];
   l1 = m.kept[1];
   l7 = m.kept[2];
@@ -1652,20 +1676,20 @@ static int f149(State m, long l0, long l1, long l2, long l3, long l4, long l5) {
   l17 = (int) m.kept[4];
   l18 = (int) m.kept[5];
   l19 = (int) m.kept[6];
-  switch (x152) {
+  switch (x153) {
   case 1: break L1;
   }
-  L153: {
-   L154: {
-    if (l11 + Integer.MIN_VALUE > 2147483631) { break L154; }
+  L154: {
+   L155: {
+    if (l11 + Integer.MIN_VALUE > 2147483631) { break L155; }
     l16 = ((l13 << 6) | ((l12 << 12) & 61440)) | l14;
     l1 = 3L;
-    break L153;
+    break L154;
    }
    l16 = ((l14 << 6) | ((l13 << 12) | ((l12 << 18) & 1835008))) | ((b[((int) l2) - 60717] & 0xff) & 63);
    l1 = 4L;
   }
-  final int x162 = f149_9(m, l0, l1, l2, l3, l4, l7, l15, l16, l17, l18, l19);
+  final int x163 = f149_10(m, l0, l1, l2, l3, l4, l7, l15, l16, l17, l18, l19);
   l0 = m.kept[0];
   l1 = m.kept[1];
   l7 = m.kept[2];
@@ -1673,39 +1697,39 @@ static int f149(State m, long l0, long l1, long l2, long l3, long l4, long l5) {
   l17 = (int) m.kept[4];
   l18 = (int) m.kept[5];
   l19 = (int) m.kept[6];
-  switch (x162) {
+  switch (x163) {
   case 1: break L1;
   }
-  L163: {
-   L164: {
-    if (l11 + Integer.MIN_VALUE > 2147483631) { break L164; }
+  L164: {
+   L165: {
+    if (l11 + Integer.MIN_VALUE > 2147483631) { break L165; }
     l16 = ((l13 << 6) | ((l12 << 12) & 61440)) | l14;
     l1 = 3L;
-    break L163;
+    break L164;
    }
    l16 = ((l14 << 6) | ((l13 << 12) | ((l12 << 18) & 1835008))) | ((b[((int) l2) - 60717] & 0xff) & 63);
    l1 = 4L;
   }
-  final int x170 = f149_10(m, l0, l1, l2, l3, l4, l15, l16, l17, l18, l19);
+  final int x171 = f149_11(m, l0, l1, l2, l3, l4, l15, l16, l17, l18, l19);
   l0 = m.kept[0];
   l16 = (int) m.kept[1];
   l17 = (int) m.kept[2];
   l18 = (int) m.kept[3];
   l19 = (int) m.kept[4];
-  switch (x170) {
+  switch (x171) {
   case 1: break L1;
   }
-  L171: {
-   L172: {
-    if (l11 + Integer.MIN_VALUE > 2147483631) { break L172; }
+  L172: {
+   L173: {
+    if (l11 + Integer.MIN_VALUE > 2147483631) { break L173; }
     l16 = ((l13 << 6) | ((l12 << 12) & 61440)) | l14;
     l1 = 3L;
-    break L171;
+    break L172;
    }
    l16 = ((l14 << 6) | ((l13 << 12) | ((l12 << 18) & 1835008))) | ((b[((int) l2) - 60717] & 0xff) & 63);
    l1 = 4L;
   }
-  final int x182 = f149_11(m, l0, l1, l2, l3, l4, l7, l15, l16, l17, l18, l19);
+  final int x183 = f149_12(m, l0, l1, l2, l3, l4, l7, l15, l16, l17, l18, l19);
   l0 = m.kept[0];
   l1 = m.kept[1];
   l7 = m.kept[2];
@@ -1713,73 +1737,73 @@ static int f149(State m, long l0, long l1, long l2, long l3, long l4, long l5) {
   l17 = (int) m.kept[4];
   l18 = (int) m.kept[5];
   l19 = (int) m.kept[6];
-  switch (x182) {
+  switch (x183) {
   case 1: break L1;
   }
-  L183: {
-   L184: {
-    if (l11 + Integer.MIN_VALUE > 2147483631) { break L184; }
+  L184: {
+   L185: {
+    if (l11 + Integer.MIN_VALUE > 2147483631) { break L185; }
     l14 = ((l13 << 6) | ((l12 << 12) & 61440)) | l14;
     l1 = 3L;
-    break L183;
+    break L184;
    }
    l14 = ((l14 << 6) | ((l13 << 12) | ((l12 << 18) & 1835008))) | ((b[((int) l2) - 60717] & 0xff) & 63);
    l1 = 4L;
   }
-  L185: {
-   if (l3 == l1) { break L185; }
-   if (l14 != 20108) { break L185; }
-   if ((l14 = (int) b[((int) (l0 = l2 + l1)) - 60720]) > -1) { break L185; }
-   if (l14 + Integer.MIN_VALUE < 2147483616) { break L185; }
+  L186: {
+   if (l3 == l1) { break L186; }
+   if (l14 != 20108) { break L186; }
+   if ((l14 = (int) b[((int) (l0 = l2 + l1)) - 60720]) > -1) { break L186; }
+   if (l14 + Integer.MIN_VALUE < 2147483616) { break L186; }
    l16 = l14 & 255;
    l17 = (b[((int) l0) - 60719] & 0xff) & 63;
    l18 = (b[((int) l0) - 60718] & 0xff) & 63;
-   L186: {
-    L187: {
-     if (l14 + Integer.MIN_VALUE < 2147483632) { break L187; }
+   L187: {
+    L188: {
+     if (l14 + Integer.MIN_VALUE < 2147483632) { break L188; }
      l14 = ((l18 << 6) | ((l17 << 12) | ((l16 << 18) & 1835008))) | ((b[((int) l0) - 60717] & 0xff) & 63);
      l0 = 4L;
-     break L186;
+     break L187;
     }
     l14 = ((l17 << 6) | ((l16 << 12) & 61440)) | l18;
     l0 = 3L;
    }
-   if (l14 != 20843) { break L185; }
-   if (l3 != (l0 + l1)) { break L185; }
+   if (l14 != 20843) { break L186; }
+   if (l3 != (l0 + l1)) { break L186; }
    if (Core4.f122(m, 82768L, 1L, 83452L, 2L, l4, l5) != 0) { break L1; }
   }
   l14 = (b[((int) l2) - 60718] & 0xff) & 63;
-  L188: {
-   L189: {
-    if (l11 + Integer.MIN_VALUE > 2147483631) { break L189; }
+  L189: {
+   L190: {
+    if (l11 + Integer.MIN_VALUE > 2147483631) { break L190; }
     l16 = ((l13 << 6) | ((l12 << 12) & 61440)) | l14;
     l1 = 3L;
-    break L188;
+    break L189;
    }
    l16 = ((l14 << 6) | ((l13 << 12) | ((l12 << 18) & 1835008))) | ((b[((int) l2) - 60717] & 0xff) & 63);
    l1 = 4L;
   }
-  final int x199 = f149_12(m, l0, l1, l2, l3, l4, l5, l11, l12, l13, l14, l16, l17, l18, l19);
+  final int x200 = f149_13(m, l0, l1, l2, l3, l4, l5, l11, l12, l13, l14, l16, l17, l18, l19);
   l0 = m.kept[0];
   l1 = m.kept[1];
   l16 = (int) m.kept[2];
   l17 = (int) m.kept[3];
   l18 = (int) m.kept[4];
   l19 = (int) m.kept[5];
-  switch (x199) {
+  switch (x200) {
   case 1: break L1;
   }
-  L200: {
-   L201: {
-    if (l11 + Integer.MIN_VALUE > 2147483631) { break L201; }
+  L201: {
+   L202: {
+    if (l11 + Integer.MIN_VALUE > 2147483631) { break L202; }
     l16 = ((l13 << 6) | ((l12 << 12) & 61440)) | l14;
     l1 = 3L;
-    break L200;
+    break L201;
    }
    l16 = ((l14 << 6) | ((l13 << 12) | ((l12 << 18) & 1835008))) | ((b[((int) l2) - 60717] & 0xff) & 63);
    l1 = 4L;
   }
-  final int x222 = f149_13(m, l0, l1, l2, l3, l4, l7, l11, l12, l13, l14, l15, l16, l17, l18, l19);
+  final int x223 = f149_14(m, l0, l1, l2, l3, l4, l7, l11, l12, l13, l14, l15, l16, l17, l18, l19);
   l0 = m.kept[0];
   l1 = m.kept[1];
   l7 = m.kept[2];
@@ -1788,181 +1812,181 @@ static int f149(State m, long l0, long l1, long l2, long l3, long l4, long l5) {
   l17 = (int) m.kept[5];
   l18 = (int) m.kept[6];
   l19 = (int) m.kept[7];
-  switch (x222) {
+  switch (x223) {
   case 1: break L1;
   }
-  L223: {
-   L224: {
-    if (l11 + Integer.MIN_VALUE > 2147483631) { break L224; }
+  L224: {
+   L225: {
+    if (l11 + Integer.MIN_VALUE > 2147483631) { break L225; }
     l15 = ((l13 << 6) | ((l12 << 12) & 61440)) | l14;
     l1 = 3L;
-    break L223;
+    break L224;
    }
    l15 = ((l14 << 6) | ((l13 << 12) | ((l12 << 18) & 1835008))) | ((b[((int) l2) - 60717] & 0xff) & 63);
    l1 = 4L;
   }
-  L225: {
-   if (l3 == l1) { break L225; }
-   if (l15 != 19968) { break L225; }
-   if ((l15 = (int) b[((int) (l0 = l2 + l1)) - 60720]) > -1) { break L225; }
-   if (l15 + Integer.MIN_VALUE < 2147483616) { break L225; }
+  L226: {
+   if (l3 == l1) { break L226; }
+   if (l15 != 19968) { break L226; }
+   if ((l15 = (int) b[((int) (l0 = l2 + l1)) - 60720]) > -1) { break L226; }
+   if (l15 + Integer.MIN_VALUE < 2147483616) { break L226; }
    l16 = l15 & 255;
    l17 = (b[((int) l0) - 60719] & 0xff) & 63;
    l18 = (b[((int) l0) - 60718] & 0xff) & 63;
-   L226: {
-    L227: {
-     if (l15 + Integer.MIN_VALUE < 2147483632) { break L227; }
+   L227: {
+    L228: {
+     if (l15 + Integer.MIN_VALUE < 2147483632) { break L228; }
      l15 = ((l18 << 6) | ((l17 << 12) | ((l16 << 18) & 1835008))) | ((b[((int) l0) - 60717] & 0xff) & 63);
      l0 = 4L;
-     break L226;
+     break L227;
     }
     l15 = ((l17 << 6) | ((l16 << 12) & 61440)) | l18;
     l0 = 3L;
    }
-   if (l15 != 21315) { break L225; }
-   if (l3 != (l0 + l1)) { break L225; }
+   if (l15 != 21315) { break L226; }
+   if (l3 != (l0 + l1)) { break L226; }
    if (Core4.f122(m, 84348L, 1L, 83144L, 1L, l4, l5) != 0) { break L1; }
   }
-  L228: {
-   L229: {
-    if (l11 + Integer.MIN_VALUE > 2147483631) { break L229; }
+  L229: {
+   L230: {
+    if (l11 + Integer.MIN_VALUE > 2147483631) { break L230; }
     l15 = ((l13 << 6) | ((l12 << 12) & 61440)) | l14;
     l1 = 3L;
-    break L228;
+    break L229;
    }
    l15 = ((l14 << 6) | ((l13 << 12) | ((l12 << 18) & 1835008))) | ((b[((int) l2) - 60717] & 0xff) & 63);
    l1 = 4L;
   }
-  L230: {
-   if (l3 == l1) { break L230; }
-   if (l15 != 19977) { break L230; }
-   if ((l15 = (int) b[((int) (l0 = l2 + l1)) - 60720]) > -1) { break L230; }
-   if (l15 + Integer.MIN_VALUE < 2147483616) { break L230; }
+  L231: {
+   if (l3 == l1) { break L231; }
+   if (l15 != 19977) { break L231; }
+   if ((l15 = (int) b[((int) (l0 = l2 + l1)) - 60720]) > -1) { break L231; }
+   if (l15 + Integer.MIN_VALUE < 2147483616) { break L231; }
    l16 = l15 & 255;
    l17 = (b[((int) l0) - 60719] & 0xff) & 63;
    l18 = (b[((int) l0) - 60718] & 0xff) & 63;
-   L231: {
-    L232: {
-     if (l15 + Integer.MIN_VALUE < 2147483632) { break L232; }
+   L232: {
+    L233: {
+     if (l15 + Integer.MIN_VALUE < 2147483632) { break L233; }
      l15 = ((l18 << 6) | ((l17 << 12) | ((l16 << 18) & 1835008))) | ((b[((int) l0) - 60717] & 0xff) & 63);
      l0 = 4L;
-     break L231;
+     break L232;
     }
     l15 = ((l17 << 6) | ((l16 << 12) & 61440)) | l18;
     l0 = 3L;
    }
-   if (l15 != 21313) { break L230; }
-   if (l3 != (l0 + l1)) { break L230; }
+   if (l15 != 21313) { break L231; }
+   if (l3 != (l0 + l1)) { break L231; }
    if (Core4.f122(m, 84712L, 1L, 84716L, 1L, l4, l5) != 0) { break L1; }
    if (Core4.f122(m, 82768L, 1L, 84720L, 1L, l4, l5) != 0) { break L1; }
   }
-  L233: {
-   L234: {
-    if (l11 + Integer.MIN_VALUE > 2147483631) { break L234; }
+  L234: {
+   L235: {
+    if (l11 + Integer.MIN_VALUE > 2147483631) { break L235; }
     l15 = ((l13 << 6) | ((l12 << 12) & 61440)) | l14;
     l1 = 3L;
-    break L233;
+    break L234;
    }
    l15 = ((l14 << 6) | ((l13 << 12) | ((l12 << 18) & 1835008))) | ((b[((int) l2) - 60717] & 0xff) & 63);
    l1 = 4L;
   }
-  L235: {
-   if (l3 == l1) { break L235; }
-   if (l15 != 22235) { break L235; }
-   if ((l15 = (int) b[((int) (l0 = l2 + l1)) - 60720]) > -1) { break L235; }
-   if (l15 + Integer.MIN_VALUE < 2147483616) { break L235; }
+  L236: {
+   if (l3 == l1) { break L236; }
+   if (l15 != 22235) { break L236; }
+   if ((l15 = (int) b[((int) (l0 = l2 + l1)) - 60720]) > -1) { break L236; }
+   if (l15 + Integer.MIN_VALUE < 2147483616) { break L236; }
    l16 = l15 & 255;
    l17 = (b[((int) l0) - 60719] & 0xff) & 63;
    l18 = (b[((int) l0) - 60718] & 0xff) & 63;
-   L236: {
-    L237: {
-     if (l15 + Integer.MIN_VALUE < 2147483632) { break L237; }
+   L237: {
+    L238: {
+     if (l15 + Integer.MIN_VALUE < 2147483632) { break L238; }
      l15 = ((l18 << 6) | ((l17 << 12) | ((l16 << 18) & 1835008))) | ((b[((int) l0) - 60717] & 0xff) & 63);
      l0 = 4L;
-     break L236;
+     break L237;
     }
     l15 = ((l17 << 6) | ((l16 << 12) & 61440)) | l18;
     l0 = 3L;
    }
-   if (l15 != 21313) { break L235; }
-   if (l3 != (l0 + l1)) { break L235; }
+   if (l15 != 21313) { break L236; }
+   if (l3 != (l0 + l1)) { break L236; }
    if (Core4.f122(m, 84724L, 1L, 84728L, 1L, l4, l5) != 0) { break L1; }
   }
-  L238: {
-   L239: {
-    if (l11 + Integer.MIN_VALUE > 2147483631) { break L239; }
+  L239: {
+   L240: {
+    if (l11 + Integer.MIN_VALUE > 2147483631) { break L240; }
     l15 = ((l13 << 6) | ((l12 << 12) & 61440)) | l14;
     l1 = 3L;
-    break L238;
+    break L239;
    }
    l15 = ((l14 << 6) | ((l13 << 12) | ((l12 << 18) & 1835008))) | ((b[((int) l2) - 60717] & 0xff) & 63);
    l1 = 4L;
   }
-  L240: {
-   if (l3 == l1) { break L240; }
-   if (l15 != 20116) { break L240; }
-   if ((l15 = (int) b[((int) (l0 = l2 + l1)) - 60720]) > -1) { break L240; }
-   if (l15 + Integer.MIN_VALUE < 2147483616) { break L240; }
+  L241: {
+   if (l3 == l1) { break L241; }
+   if (l15 != 20116) { break L241; }
+   if ((l15 = (int) b[((int) (l0 = l2 + l1)) - 60720]) > -1) { break L241; }
+   if (l15 + Integer.MIN_VALUE < 2147483616) { break L241; }
    l16 = l15 & 255;
    l17 = (b[((int) l0) - 60719] & 0xff) & 63;
    l18 = (b[((int) l0) - 60718] & 0xff) & 63;
-   L241: {
-    L242: {
-     if (l15 + Integer.MIN_VALUE < 2147483632) { break L242; }
+   L242: {
+    L243: {
+     if (l15 + Integer.MIN_VALUE < 2147483632) { break L243; }
      l15 = ((l18 << 6) | ((l17 << 12) | ((l16 << 18) & 1835008))) | ((b[((int) l0) - 60717] & 0xff) & 63);
      l0 = 4L;
-     break L241;
+     break L242;
     }
     l15 = ((l17 << 6) | ((l16 << 12) & 61440)) | l18;
     l0 = 3L;
    }
-   if (l15 != 21313) { break L240; }
-   if (l3 != (l0 + l1)) { break L240; }
+   if (l15 != 21313) { break L241; }
+   if (l3 != (l0 + l1)) { break L241; }
    if (Core4.f122(m, 84732L, 1L, 84736L, 1L, l4, l5) != 0) { break L1; }
   }
-  L243: {
-   L244: {
-    if (l11 + Integer.MIN_VALUE > 2147483631) { break L244; }
+  L244: {
+   L245: {
+    if (l11 + Integer.MIN_VALUE > 2147483631) { break L245; }
     l15 = ((l13 << 6) | ((l12 << 12) & 61440)) | l14;
     l1 = 3L;
-    break L243;
+    break L244;
    }
    l15 = ((l14 << 6) | ((l13 << 12) | ((l12 << 18) & 1835008))) | ((b[((int) l2) - 60717] & 0xff) & 63);
    l1 = 4L;
   }
-  L245: {
-   if (l3 == l1) { break L245; }
-   if (l15 != 21313) { break L245; }
-   if ((l15 = (int) b[((int) (l0 = l2 + l1)) - 60720]) > -1) { break L245; }
-   if (l15 + Integer.MIN_VALUE < 2147483616) { break L245; }
+  L246: {
+   if (l3 == l1) { break L246; }
+   if (l15 != 21313) { break L246; }
+   if ((l15 = (int) b[((int) (l0 = l2 + l1)) - 60720]) > -1) { break L246; }
+   if (l15 + Integer.MIN_VALUE < 2147483616) { break L246; }
    l16 = l15 & 255;
    l17 = (b[((int) l0) - 60719] & 0xff) & 63;
    l18 = (b[((int) l0) - 60718] & 0xff) & 63;
-   L246: {
-    L247: {
-     if (l15 + Integer.MIN_VALUE < 2147483632) { break L247; }
+   L247: {
+    L248: {
+     if (l15 + Integer.MIN_VALUE < 2147483632) { break L248; }
      l15 = ((l18 << 6) | ((l17 << 12) | ((l16 << 18) & 1835008))) | ((b[((int) l0) - 60717] & 0xff) & 63);
      l0 = 4L;
-     break L246;
+     break L247;
     }
     l15 = ((l17 << 6) | ((l16 << 12) & 61440)) | l18;
     l0 = 3L;
    }
-   if (l15 != 20116) { break L245; }
-   if (l3 != (l0 + l1)) { break L245; }
+   if (l15 != 20116) { break L246; }
+   if (l3 != (l0 + l1)) { break L246; }
    if (Core4.f122(m, 84740L, 4L, 84756L, 1L, l4, l5) != 0) { break L1; }
   }
-  L248: {
-   L249: {
-    if (l11 + Integer.MIN_VALUE > 2147483631) { break L249; }
+  L249: {
+   L250: {
+    if (l11 + Integer.MIN_VALUE > 2147483631) { break L250; }
     l15 = ((l13 << 6) | ((l12 << 12) & 61440)) | l14;
     l1 = 3L;
-    break L248;
+    break L249;
    }
    l15 = ((l14 << 6) | ((l13 << 12) | ((l12 << 18) & 1835008))) | ((b[((int) l2) - 60717] & 0xff) & 63);
    l1 = 4L;
   }
-  final int x255 = f149_14(m, l0, l1, l2, l3, l5, l15, l16, l17, l18);
+  final int x256 = f149_15(m, l0, l1, l2, l3, l5, l15, l16, l17, l18);
   l0 = m.kept[0];
   l1 = m.kept[1];
   l5 = m.kept[2];
@@ -1970,79 +1994,79 @@ static int f149(State m, long l0, long l1, long l2, long l3, long l4, long l5) {
   l16 = (int) m.kept[4];
   l17 = (int) m.kept[5];
   l18 = (int) m.kept[6];
-  switch (x255) {
+  switch (x256) {
   case 1: break L1;
   }
-  L256: {
-   L257: {
-    if (l11 + Integer.MIN_VALUE > 2147483631) { break L257; }
+  L257: {
+   L258: {
+    if (l11 + Integer.MIN_VALUE > 2147483631) { break L258; }
     l15 = ((l13 << 6) | ((l12 << 12) & 61440)) | l14;
     l1 = 3L;
-    break L256;
+    break L257;
    }
    l15 = ((l14 << 6) | ((l13 << 12) | ((l12 << 18) & 1835008))) | ((b[((int) l2) - 60717] & 0xff) & 63);
    l1 = 4L;
   }
-  L258: {
-   if (l3 == l1) { break L258; }
-   if (l15 != 20159) { break L258; }
-   if ((l15 = (int) b[((int) (l0 = l2 + l1)) - 60720]) > -1) { break L258; }
-   if (l15 + Integer.MIN_VALUE < 2147483616) { break L258; }
+  L259: {
+   if (l3 == l1) { break L259; }
+   if (l15 != 20159) { break L259; }
+   if ((l15 = (int) b[((int) (l0 = l2 + l1)) - 60720]) > -1) { break L259; }
+   if (l15 + Integer.MIN_VALUE < 2147483616) { break L259; }
    l16 = l15 & 255;
    l17 = (b[((int) l0) - 60719] & 0xff) & 63;
    l18 = (b[((int) l0) - 60718] & 0xff) & 63;
-   L259: {
-    L260: {
-     if (l15 + Integer.MIN_VALUE < 2147483632) { break L260; }
+   L260: {
+    L261: {
+     if (l15 + Integer.MIN_VALUE < 2147483632) { break L261; }
      l15 = ((l18 << 6) | ((l17 << 12) | ((l16 << 18) & 1835008))) | ((b[((int) l0) - 60717] & 0xff) & 63);
      l0 = 4L;
-     break L259;
+     break L260;
     }
     l15 = ((l17 << 6) | ((l16 << 12) & 61440)) | l18;
     l0 = 3L;
    }
-   if (l15 != 19975) { break L258; }
+   if (l15 != 19975) { break L259; }
    if (l3 == (l0 + l1)) { break L1; }
   }
-  L261: {
-   L262: {
-    if (l11 + Integer.MIN_VALUE > 2147483631) { break L262; }
+  L262: {
+   L263: {
+    if (l11 + Integer.MIN_VALUE > 2147483631) { break L263; }
     l10 = ((l13 << 6) | ((l12 << 12) & 61440)) | l14;
     l1 = 3L;
-    break L261;
+    break L262;
    }
    l10 = ((l14 << 6) | ((l13 << 12) | ((l12 << 18) & 1835008))) | ((b[((int) l2) - 60717] & 0xff) & 63);
    l1 = 4L;
   }
-  L263: {
-   if (l3 != l1) { break L263; }
-   m.g0 = l6;
-   return 0;
-  }
   L264: {
-   if (l10 == 20740) { break L264; }
+   if (l3 != l1) { break L264; }
    m.g0 = l6;
    return 0;
   }
   L265: {
-   if ((l10 = (int) b[((int) (l2 = l2 + l1)) - 60720]) <= -1) { break L265; }
+   if (l10 == 20740) { break L265; }
    m.g0 = l6;
    return 0;
   }
   L266: {
-   if (l10 + Integer.MIN_VALUE >= 2147483616) { break L266; }
+   if ((l10 = (int) b[((int) (l2 = l2 + l1)) - 60720]) <= -1) { break L266; }
+   m.g0 = l6;
+   return 0;
+  }
+  L267: {
+   if (l10 + Integer.MIN_VALUE >= 2147483616) { break L267; }
    m.g0 = l6;
    return 0;
   }
   l11 = l10 & 255;
   l12 = (b[((int) l2) - 60719] & 0xff) & 63;
   l13 = (b[((int) l2) - 60718] & 0xff) & 63;
-  L267: {
-   L268: {
-    if (l10 + Integer.MIN_VALUE < 2147483632) { break L268; }
+  L268: {
+   L269: {
+    if (l10 + Integer.MIN_VALUE < 2147483632) { break L269; }
     l11 = ((l13 << 6) | ((l12 << 12) | ((l11 << 18) & 1835008))) | ((b[((int) l2) - 60717] & 0xff) & 63);
     l2 = 4L;
-    break L267;
+    break L268;
    }
    l11 = ((l12 << 6) | ((l11 << 12) & 61440)) | l13;
    l2 = 3L;
@@ -2505,559 +2529,232 @@ static int f151(State m, int l0, long l1, long l2, long l3, long l4) {
  return l19;
 }
 
-static int f152_1(State m, long l0, long l1, long l2, int l3, int l4, long l5, long l6, long l8, long l9, long l10, long l11, long l12, long l13, long l14, long l15, long l16, long l17, long l18, int l20, int l21, int l22, int l23, int l24, int l25) {
+static int f152_1(State m, long l8, long l11, long l14, long l15, long l16, long l17, long l18, int l20, int l21, int l22, int l23, int l24) {
  final byte[] b = m.bytes;
  int exit = 0;
  PART: {
-  L4: while (true) {
-   Words.put64(b, ((int) l8) - 60664, 0L);
-   Words.put64(b, ((int) l8) - 60672, 0L);
-   Words.put64(b, ((int) l8) - 60680, 0L);
-   Words.put64(b, ((int) l8) - 60688, 0L);
-   Words.put64(b, ((int) l8) - 60696, 0L);
-   Words.put64(b, ((int) l8) - 60704, 0L);
-   Words.put64(b, ((int) l8) - 60712, 0L);
-   if (l2 == 0L) { exit = 1; break PART; }
-   f153(m, l8 + 8L, l3, l4, l0, l1, l10, l2);
-   if ((b[((int) l8) - 60712] & 0xff) != 1) { exit = 1; break PART; }
-   l12 = Words.get64(b, ((int) l8) - 60680);
-   l13 = Words.get64(b, ((int) l8) - 60688);
-   l14 = Words.get64(b, ((int) l8) - 60704);
-   l2 = Words.get64(b, ((int) l8) - 60664);
-   l10 = Words.get64(b, ((int) l8) - 60672);
-   L5: {
-    L6: {
-     L7: {
-      L8: {
-       L9: {
-        L10: {
-         L11: {
-          L12: {
-           L13: {
-            L14: {
-             L15: {
-              if ((l15 = Words.get64(b, ((int) l8) - 60696)) + Long.MIN_VALUE < -9223372036854775805L) { break L15; }
-              if (((l20 = b[((int) ((l16 = l14 + l15) + -3L)) - 60720] & 0xff) & 240) != 224) { break L14; }
-              l23 = (((l20 << 12) | (l21 = b[((int) (l16 + -1L)) - 60720] & 0xff)) + ((l22 = b[((int) (l16 + -2L)) - 60720] & 0xff) << 6)) + -925824;
-              l16 = l15 + -3L;
-              if (Words.get32(b, ((int) ((l17 = ((((l20 = ((l22 << 8) | (l21 << 16)) | l20) & 0xffffffffL) * 953497L) >>> 22L) & 1016L) + 80936L)) - 60720) == l20) { break L13; }
-              break L11;
-             }
-             if (l15 == 0L) { break L6; }
+  L5: {
+   L6: {
+    L7: {
+     L8: {
+      L9: {
+       L10: {
+        L11: {
+         L12: {
+          L13: {
+           L14: {
+            L15: {
+             if ((l15 = Words.get64(b, ((int) l8) - 60696)) + Long.MIN_VALUE < -9223372036854775805L) { break L15; }
+             if (((l20 = b[((int) ((l16 = l14 + l15) + -3L)) - 60720] & 0xff) & 240) != 224) { break L14; }
+             l23 = (((l20 << 12) | (l21 = b[((int) (l16 + -1L)) - 60720] & 0xff)) + ((l22 = b[((int) (l16 + -2L)) - 60720] & 0xff) << 6)) + -925824;
+             l16 = l15 + -3L;
+             if (Words.get32(b, ((int) ((l17 = ((((l20 = ((l22 << 8) | (l21 << 16)) | l20) & 0xffffffffL) * 953497L) >>> 22L) & 1016L) + 80936L)) - 60720) == l20) { break L13; }
+             break L11;
             }
-            l20 = 0;
-            if ((l23 = (int) b[((int) (l14 + (l16 = l15 + -1L))) - 60720]) >= 0) { break L12; }
-            l16 = -2L;
-            L16: {
-             if ((b[((int) ((l17 = l14 + l15) + -2L)) - 60720] & 0xff) + Integer.MIN_VALUE > -2147483457) { break L16; }
-             l16 = ((b[((int) (l17 + -3L)) - 60720] & 0xff) + Integer.MIN_VALUE > -2147483457) ? -3L : -4L;
-            }
-            l23 = (l21 = (int) b[((int) (l17 = l14 + (l16 = l16 + l15))) - 60720]) & 255;
-            if (l21 > -1) { break L12; }
-            l22 = (b[((int) l17) - 60719] & 0xff) & 63;
-            L17: {
-             if (l21 + Integer.MIN_VALUE > 2147483615) { break L17; }
-             l23 = ((l23 << 6) & 1984) | l22;
-             break L12;
-            }
-            l24 = (b[((int) l17) - 60718] & 0xff) & 63;
-            L18: {
-             L19: {
-              if (l21 + Integer.MIN_VALUE > 2147483631) { break L19; }
-              l23 = ((l22 << 6) | ((l23 << 12) & 61440)) | l24;
-              break L18;
-             }
-             l23 = ((l24 << 6) | ((l22 << 12) | ((l23 << 18) & 1835008))) | ((b[((int) l17) - 60717] & 0xff) & 63);
-            }
-            if ((l23 + -2048) + Integer.MIN_VALUE > -2147420161) { break L12; }
-            if (Words.get32(b, ((int) ((l17 = ((((l20 = (((l23 >>> 12) | ((l23 << 2) & 16128)) | ((l23 << 16) & 4128768)) | 8421600) & 0xffffffffL) * 953497L) >>> 22L) & 1016L) + 80936L)) - 60720) != l20) { break L10; }
+            if (l15 == 0L) { break L6; }
            }
-           if ((b[((int) (l17 + 80940L)) - 60720] & 0xff) != 0) { break L11; }
-           break L8;
+           l20 = 0;
+           if ((l23 = (int) b[((int) (l14 + (l16 = l15 + -1L))) - 60720]) >= 0) { break L12; }
+           l16 = -2L;
+           L16: {
+            if ((b[((int) ((l17 = l14 + l15) + -2L)) - 60720] & 0xff) + Integer.MIN_VALUE > -2147483457) { break L16; }
+            l16 = ((b[((int) (l17 + -3L)) - 60720] & 0xff) + Integer.MIN_VALUE > -2147483457) ? -3L : -4L;
+           }
+           l23 = (l21 = (int) b[((int) (l17 = l14 + (l16 = l16 + l15))) - 60720]) & 255;
+           if (l21 > -1) { break L12; }
+           l22 = (b[((int) l17) - 60719] & 0xff) & 63;
+           L17: {
+            if (l21 + Integer.MIN_VALUE > 2147483615) { break L17; }
+            l23 = ((l23 << 6) & 1984) | l22;
+            break L12;
+           }
+           l24 = (b[((int) l17) - 60718] & 0xff) & 63;
+           L18: {
+            L19: {
+             if (l21 + Integer.MIN_VALUE > 2147483631) { break L19; }
+             l23 = ((l22 << 6) | ((l23 << 12) & 61440)) | l24;
+             break L18;
+            }
+            l23 = ((l24 << 6) | ((l22 << 12) | ((l23 << 18) & 1835008))) | ((b[((int) l17) - 60717] & 0xff) & 63);
+           }
+           if ((l23 + -2048) + Integer.MIN_VALUE > -2147420161) { break L12; }
+           if (Words.get32(b, ((int) ((l17 = ((((l20 = (((l23 >>> 12) | ((l23 << 2) & 16128)) | ((l23 << 16) & 4128768)) | 8421600) & 0xffffffffL) * 953497L) >>> 22L) & 1016L) + 80936L)) - 60720) != l20) { break L10; }
           }
-          if ((l23 + -48) + Integer.MIN_VALUE >= -2147483638) { break L11; }
-          l22 = 1;
-          break L5;
+          if ((b[((int) (l17 + 80940L)) - 60720] & 0xff) != 0) { break L11; }
+          break L8;
          }
-         if (l23 + Integer.MIN_VALUE > -2147483521) { break L10; }
+         if ((l23 + -48) + Integer.MIN_VALUE >= -2147483638) { break L11; }
          l22 = 1;
-         l20 = 0;
-         if (l23 == 95) { break L5; }
-         if ((l23 + -44) + Integer.MIN_VALUE < -2147483645) { break L9; }
-         if ((l23 + -48) + Integer.MIN_VALUE < -2147483638) { break L5; }
-         if (((l23 & 95) + -65) + Integer.MIN_VALUE >= -2147483622) { break L6; }
          break L5;
         }
-        l22 = 0;
-        l20 = 1;
-        L20: {
-         L21: {
-          if (l23 > 24185) { break L21; }
-          L22: {
-           if (l23 > 21316) { break L22; }
-           L23: {
-            if (l23 > 20959) { break L23; }
-            if (l23 == 20313) { break L6; }
-            if (l23 == 20358) { break L6; }
-            break L20;
-           }
-           if (l23 == 20960) { break L5; }
-           if (l23 == 20986) { break L6; }
+        if (l23 + Integer.MIN_VALUE > -2147483521) { break L10; }
+        l22 = 1;
+        l20 = 0;
+        if (l23 == 95) { break L5; }
+        if ((l23 + -44) + Integer.MIN_VALUE < -2147483645) { break L9; }
+        if ((l23 + -48) + Integer.MIN_VALUE < -2147483638) { break L5; }
+        if (((l23 & 95) + -65) + Integer.MIN_VALUE >= -2147483622) { break L6; }
+        break L5;
+       }
+       l22 = 0;
+       l20 = 1;
+       L20: {
+        L21: {
+         if (l23 > 24185) { break L21; }
+         L22: {
+          if (l23 > 21316) { break L22; }
+          L23: {
+           if (l23 > 20959) { break L23; }
+           if (l23 == 20313) { break L6; }
+           if (l23 == 20358) { break L6; }
            break L20;
           }
-          L24: {
-           switch (l23 + -21317) {
-           case 0: case 7: break L8;
-           case 1: case 2: case 3: case 4: case 5: case 6: break L20;
-           default: break L24;
-           }
-          }
-          if (l23 == 22810) { break L6; }
-          if (l23 == 22909) { break L6; }
+          if (l23 == 20960) { break L5; }
+          if (l23 == 20986) { break L6; }
           break L20;
          }
-         L25: {
-          if (l23 > 26468) { break L25; }
-          L26: {
-           switch (l23 + -24186) {
-           case 0: break L8;
-           case 1: case 2: case 3: break L20;
-           case 4: break L5;
-           default: break L26;
-           }
+         L24: {
+          switch (l23 + -21317) {
+          case 0: case 7: break L8;
+          case 1: case 2: case 3: case 4: case 5: case 6: break L20;
+          default: break L24;
           }
-          L27: {
-           switch (l23 + -25968) {
-           case 0: case 8: break L5;
-           case 1: case 2: case 3: case 4: case 5: case 6: case 7: break L20;
-           default: break L27;
-           }
-          }
-          if (l23 == 24319) { break L8; }
-          break L20;
          }
-         L28: {
-          if (l23 > 39191) { break L28; }
-          if (l23 == 26469) { break L6; }
-          if (l23 != 28857) { break L20; }
-          break L9;
-         }
-         if (l23 == 39192) { break L6; }
-         if (l23 == 40670) { break L9; }
+         if (l23 == 22810) { break L6; }
+         if (l23 == 22909) { break L6; }
+         break L20;
         }
-        if ((l23 + -65296) + Integer.MIN_VALUE > -2147483639) { break L6; }
-        break L8;
-       }
-       Words.put64(b, ((int) l8) - 60688, 0L);
-       Words.put64(b, ((int) l8) - 60696, 0L);
-       Words.put64(b, ((int) l8) - 60704, 0L);
-       Words.put64(b, ((int) l8) - 60712, 0L);
-       L29: {
-        L30: {
-         L31: {
-          L32: {
-           L33: {
-            L34: {
-             if (l16 + Long.MIN_VALUE < -9223372036854775805L) { break L34; }
-             if (((l23 = b[((int) ((l17 = l14 + l16) + -3L)) - 60720] & 0xff) & 240) != 224) { break L33; }
-             Words.put64(b, ((int) l8) - 60696, l14);
-             Words.put64(b, ((int) l8) - 60712, 1L);
-             Words.put64(b, ((int) l8) - 60688, l16 + -3L);
-             Words.put32(b, ((int) l8) - 60704, (((l23 << 12) | (l20 = b[((int) (l17 + -1L)) - 60720] & 0xff)) + ((l21 = b[((int) (l17 + -2L)) - 60720] & 0xff) << 6)) + -925824);
-             final int t35 = (int) l8;
-             final int t36 = b[((int) ((l16 = ((((l23 = ((l21 << 8) | (l20 << 16)) | l23) & 0xffffffffL) * 953497L) >>> 22L) & 1016L) + 80941L)) - 60720] & 0xff;
-             final int t37 = l23 = (Words.get32(b, State.far((int) l16, 80936)) == l23) ? 1 : 0;
-             b[t35 - 60699] = (byte) (t37 != 0 ? t36 : 0);
-             final int t38 = (int) l8;
-             final int t39 = b[((int) (l16 + 80940L)) - 60720] & 0xff;
-             final int t40 = l23;
-             b[t38 - 60700] = (byte) (t40 != 0 ? t39 : 2);
-             break L29;
-            }
-            if (l16 == 0L) { break L32; }
-           }
-           if ((l23 = (int) b[((int) (l14 + (l17 = l16 + -1L))) - 60720]) >= 0) { break L31; }
-           l17 = -2L;
-           L41: {
-            if ((b[((int) ((l18 = l14 + l16) + -2L)) - 60720] & 0xff) + Integer.MIN_VALUE > -2147483457) { break L41; }
-            l17 = ((b[((int) (l18 + -3L)) - 60720] & 0xff) + Integer.MIN_VALUE > -2147483457) ? -3L : -4L;
-           }
-           l23 = (l20 = (int) b[((int) (l16 = l14 + (l17 = l17 + l16))) - 60720]) & 255;
-           if (l20 > -1) { break L31; }
-           l21 = (b[((int) l16) - 60719] & 0xff) & 63;
-           L42: {
-            if (l20 + Integer.MIN_VALUE > 2147483615) { break L42; }
-            l23 = ((l23 << 6) & 1984) | l21;
-            break L31;
-           }
-           l22 = (b[((int) l16) - 60718] & 0xff) & 63;
-           L43: {
-            L44: {
-             if (l20 + Integer.MIN_VALUE > 2147483631) { break L44; }
-             l23 = ((l21 << 6) | ((l23 << 12) & 61440)) | l22;
-             break L43;
-            }
-            l23 = ((l22 << 6) | ((l21 << 12) | ((l23 << 18) & 1835008))) | ((b[((int) l16) - 60717] & 0xff) & 63);
-           }
-           if ((l23 + -2048) + Integer.MIN_VALUE > -2147420161) { break L31; }
-           final int t45 = b[((int) ((l16 = ((((l20 = (((l23 >>> 12) | ((l23 << 2) & 16128)) | ((l23 << 16) & 4128768)) | 8421600) & 0xffffffffL) * 953497L) >>> 22L) & 1016L) + 80941L)) - 60720] & 0xff;
-           final int t46 = l21 = (Words.get32(b, State.far((int) l16, 80936)) == l20) ? 1 : 0;
-           l20 = t46 != 0 ? t45 : 0;
-           final int t47 = b[((int) (l16 + 80940L)) - 60720] & 0xff;
-           final int t48 = l21;
-           l21 = t48 != 0 ? t47 : 2;
-           break L30;
+        L25: {
+         if (l23 > 26468) { break L25; }
+         L26: {
+          switch (l23 + -24186) {
+          case 0: break L8;
+          case 1: case 2: case 3: break L20;
+          case 4: break L5;
+          default: break L26;
           }
-          Words.put64(b, ((int) l11) - 60720, 0L);
-          Words.put64(b, ((int) l11) - 60712, 0L);
-          Words.put64(b, ((int) l8) - 60706, 0L);
-          Words.put64(b, ((int) l8) - 60712, 0L);
-          break L29;
          }
-         final int t49 = l20 = l23 + -48;
-         final int t50 = l21 = (l20 + Integer.MIN_VALUE < -2147483638) ? 1 : 0;
-         l20 = t50 != 0 ? t49 : 0;
-         l21 = l21 != 0 ? 0 : 2;
+         L27: {
+          switch (l23 + -25968) {
+          case 0: case 8: break L5;
+          case 1: case 2: case 3: case 4: case 5: case 6: case 7: break L20;
+          default: break L27;
+          }
+         }
+         if (l23 == 24319) { break L8; }
+         break L20;
         }
-        Words.put64(b, ((int) l8) - 60688, l17);
-        Words.put64(b, ((int) l8) - 60696, l14);
-        b[((int) l8) - 60699] = (byte) l20;
-        b[((int) l8) - 60700] = (byte) l21;
-        Words.put32(b, ((int) l8) - 60704, l23);
-        Words.put64(b, ((int) l8) - 60712, 1L);
+        L28: {
+         if (l23 > 39191) { break L28; }
+         if (l23 == 26469) { break L6; }
+         if (l23 != 28857) { break L20; }
+         break L9;
+        }
+        if (l23 == 39192) { break L6; }
+        if (l23 == 40670) { break L9; }
        }
-       l22 = Core3.f94(m, l8 + 8L);
-       break L7;
+       if ((l23 + -65296) + Integer.MIN_VALUE > -2147483639) { break L6; }
+       break L8;
       }
-      l22 = 1;
+      Words.put64(b, ((int) l8) - 60688, 0L);
+      Words.put64(b, ((int) l8) - 60696, 0L);
+      Words.put64(b, ((int) l8) - 60704, 0L);
+      Words.put64(b, ((int) l8) - 60712, 0L);
+      L29: {
+       L30: {
+        L31: {
+         L32: {
+          L33: {
+           L34: {
+            if (l16 + Long.MIN_VALUE < -9223372036854775805L) { break L34; }
+            if (((l23 = b[((int) ((l17 = l14 + l16) + -3L)) - 60720] & 0xff) & 240) != 224) { break L33; }
+            Words.put64(b, ((int) l8) - 60696, l14);
+            Words.put64(b, ((int) l8) - 60712, 1L);
+            Words.put64(b, ((int) l8) - 60688, l16 + -3L);
+            Words.put32(b, ((int) l8) - 60704, (((l23 << 12) | (l20 = b[((int) (l17 + -1L)) - 60720] & 0xff)) + ((l21 = b[((int) (l17 + -2L)) - 60720] & 0xff) << 6)) + -925824);
+            final int t35 = (int) l8;
+            final int t36 = b[((int) ((l16 = ((((l23 = ((l21 << 8) | (l20 << 16)) | l23) & 0xffffffffL) * 953497L) >>> 22L) & 1016L) + 80941L)) - 60720] & 0xff;
+            final int t37 = l23 = (Words.get32(b, State.far((int) l16, 80936)) == l23) ? 1 : 0;
+            b[t35 - 60699] = (byte) (t37 != 0 ? t36 : 0);
+            final int t38 = (int) l8;
+            final int t39 = b[((int) (l16 + 80940L)) - 60720] & 0xff;
+            final int t40 = l23;
+            b[t38 - 60700] = (byte) (t40 != 0 ? t39 : 2);
+            break L29;
+           }
+           if (l16 == 0L) { break L32; }
+          }
+          if ((l23 = (int) b[((int) (l14 + (l17 = l16 + -1L))) - 60720]) >= 0) { break L31; }
+          l17 = -2L;
+          L41: {
+           if ((b[((int) ((l18 = l14 + l16) + -2L)) - 60720] & 0xff) + Integer.MIN_VALUE > -2147483457) { break L41; }
+           l17 = ((b[((int) (l18 + -3L)) - 60720] & 0xff) + Integer.MIN_VALUE > -2147483457) ? -3L : -4L;
+          }
+          l23 = (l20 = (int) b[((int) (l16 = l14 + (l17 = l17 + l16))) - 60720]) & 255;
+          if (l20 > -1) { break L31; }
+          l21 = (b[((int) l16) - 60719] & 0xff) & 63;
+          L42: {
+           if (l20 + Integer.MIN_VALUE > 2147483615) { break L42; }
+           l23 = ((l23 << 6) & 1984) | l21;
+           break L31;
+          }
+          l22 = (b[((int) l16) - 60718] & 0xff) & 63;
+          L43: {
+           L44: {
+            if (l20 + Integer.MIN_VALUE > 2147483631) { break L44; }
+            l23 = ((l21 << 6) | ((l23 << 12) & 61440)) | l22;
+            break L43;
+           }
+           l23 = ((l22 << 6) | ((l21 << 12) | ((l23 << 18) & 1835008))) | ((b[((int) l16) - 60717] & 0xff) & 63);
+          }
+          if ((l23 + -2048) + Integer.MIN_VALUE > -2147420161) { break L31; }
+          final int t45 = b[((int) ((l16 = ((((l20 = (((l23 >>> 12) | ((l23 << 2) & 16128)) | ((l23 << 16) & 4128768)) | 8421600) & 0xffffffffL) * 953497L) >>> 22L) & 1016L) + 80941L)) - 60720] & 0xff;
+          final int t46 = l21 = (Words.get32(b, State.far((int) l16, 80936)) == l20) ? 1 : 0;
+          l20 = t46 != 0 ? t45 : 0;
+          final int t47 = b[((int) (l16 + 80940L)) - 60720] & 0xff;
+          final int t48 = l21;
+          l21 = t48 != 0 ? t47 : 2;
+          break L30;
+         }
+         Words.put64(b, ((int) l11) - 60720, 0L);
+         Words.put64(b, ((int) l11) - 60712, 0L);
+         Words.put64(b, ((int) l8) - 60706, 0L);
+         Words.put64(b, ((int) l8) - 60712, 0L);
+         break L29;
+        }
+        final int t49 = l20 = l23 + -48;
+        final int t50 = l21 = (l20 + Integer.MIN_VALUE < -2147483638) ? 1 : 0;
+        l20 = t50 != 0 ? t49 : 0;
+        l21 = l21 != 0 ? 0 : 2;
+       }
+       Words.put64(b, ((int) l8) - 60688, l17);
+       Words.put64(b, ((int) l8) - 60696, l14);
+       b[((int) l8) - 60699] = (byte) l20;
+       b[((int) l8) - 60700] = (byte) l21;
+       Words.put32(b, ((int) l8) - 60704, l23);
+       Words.put64(b, ((int) l8) - 60712, 1L);
+      }
+      l22 = Core3.f94(m, l8 + 8L);
+      break L7;
      }
-     l20 = 0;
-     break L5;
+     l22 = 1;
     }
     l20 = 0;
-    l22 = 0;
+    break L5;
    }
-   L51: {
-    L52: {
-     L53: {
-      L54: {
-       L55: {
-        L56: {
-         L57: {
-          L58: {
-           L59: {
-            L60: {
-             if (l2 + Long.MIN_VALUE < -9223372036854775805L) { break L60; }
-             if (((l23 = b[((int) l10) - 60720] & 0xff) & 240) != 224) { break L59; }
-             l21 = (((l24 = b[((int) l10) - 60719] & 0xff) << 8) | ((l25 = b[((int) l10) - 60718] & 0xff) << 16)) | l23;
-             l23 = (((l23 << 12) | l25) + (l24 << 6)) + -925824;
-             l17 = l2 + -3L;
-             l16 = l10 + 3L;
-             if (l21 != Words.get32(b, ((int) ((l18 = (((l21 & 0xffffffffL) * 953497L) >>> 22L) & 1016L) + 80936L)) - 60720)) { break L57; }
-             break L58;
-            }
-            if (l2 == 0L) { break L52; }
-            l23 = b[((int) l10) - 60720] & 0xff;
-           }
-           l16 = 1L;
-           L61: {
-            if (((int) (byte) l23) > -1) { break L61; }
-            l21 = (b[((int) l10) - 60719] & 0xff) & 63;
-            L62: {
-             if (l23 + Integer.MIN_VALUE > -2147483425) { break L62; }
-             l23 = ((l23 << 6) & 1984) | l21;
-             l16 = 2L;
-             break L61;
-            }
-            l24 = (b[((int) l10) - 60718] & 0xff) & 63;
-            L63: {
-             if (l23 + Integer.MIN_VALUE > -2147483409) { break L63; }
-             l23 = ((l21 << 6) | ((l23 << 12) & 61440)) | l24;
-             l16 = 3L;
-             break L61;
-            }
-            l23 = ((l24 << 6) | ((l21 << 12) | ((l23 << 18) & 1835008))) | ((b[((int) l10) - 60717] & 0xff) & 63);
-            l16 = 4L;
-           }
-           l17 = l2 - l16;
-           l16 = l10 + l16;
-           L64: {
-            if ((l23 + -2048) + Integer.MIN_VALUE > -2147420161) { break L64; }
-            if (Words.get32(b, ((int) ((l18 = ((((l21 = (((l23 >>> 12) | ((l23 << 2) & 16128)) | ((l23 << 16) & 4128768)) | 8421600) & 0xffffffffL) * 953497L) >>> 22L) & 1016L) + 80936L)) - 60720) == l21) { break L58; }
-            break L56;
-           }
-           if ((l23 + -48) + Integer.MIN_VALUE >= -2147483638) { break L57; }
-           break L54;
-          }
-          if ((b[((int) (l18 + 80940L)) - 60720] & 0xff) == 0) { break L54; }
-         }
-         if (l23 + Integer.MIN_VALUE > -2147483521) { break L56; }
-         l24 = 1;
-         l21 = 0;
-         if (l23 == 95) { break L51; }
-         if ((l23 + -44) + Integer.MIN_VALUE < -2147483645) { break L55; }
-         if ((l23 + -48) + Integer.MIN_VALUE < -2147483638) { break L51; }
-         if (((l23 & 95) + -65) + Integer.MIN_VALUE >= -2147483622) { break L52; }
-         break L51;
-        }
-        l24 = 0;
-        l21 = 1;
-        L65: {
-         L66: {
-          if (l23 > 24185) { break L66; }
-          L67: {
-           L68: {
-            if (l23 > 21316) { break L68; }
-            L69: {
-             if (l23 > 20959) { break L69; }
-             if (l23 == 20313) { break L51; }
-             if (l23 != 20358) { break L65; }
-             break L51;
-            }
-            if (l23 == 20960) { break L51; }
-            if (l23 == 20986) { break L67; }
-            break L65;
-           }
-           L70: {
-            switch (l23 + -21317) {
-            case 0: case 7: break L54;
-            case 1: case 2: case 3: case 4: case 5: case 6: break L65;
-            default: break L70;
-            }
-           }
-           if (l23 == 22810) { break L51; }
-           if (l23 != 22909) { break L65; }
-          }
-          l21 = Core3.f95(m, l23, l16, l17);
-          break L51;
-         }
-         L71: {
-          if (l23 > 26468) { break L71; }
-          L72: {
-           switch (l23 + -24186) {
-           case 0: break L54;
-           case 1: case 2: case 3: break L65;
-           case 4: break L51;
-           default: break L72;
-           }
-          }
-          L73: {
-           switch (l23 + -25968) {
-           case 0: case 8: break L52;
-           case 1: case 2: case 3: case 4: case 5: case 6: case 7: break L65;
-           default: break L73;
-           }
-          }
-          if (l23 == 24319) { break L54; }
-          break L65;
-         }
-         L74: {
-          if (l23 > 39191) { break L74; }
-          if (l23 == 26469) { break L51; }
-          if (l23 != 28857) { break L65; }
-          break L55;
-         }
-         if (l23 == 39192) { break L51; }
-         if (l23 == 40670) { break L55; }
-        }
-        if ((l23 + -65296) + Integer.MIN_VALUE > -2147483639) { break L52; }
-        break L54;
-       }
-       Words.put64(b, ((int) l8) - 60688, 0L);
-       Words.put64(b, ((int) l8) - 60696, 0L);
-       Words.put64(b, ((int) l8) - 60704, 0L);
-       Words.put64(b, ((int) l8) - 60712, 0L);
-       L75: {
-        L76: {
-         L77: {
-          L78: {
-           if (l17 + Long.MIN_VALUE < -9223372036854775805L) { break L78; }
-           if (((l23 = b[((int) l16) - 60720] & 0xff) & 240) != 224) { break L77; }
-           l21 = b[((int) l16) - 60718] & 0xff;
-           l24 = b[((int) l16) - 60719] & 0xff;
-           Words.put64(b, ((int) l8) - 60688, l17 + -3L);
-           Words.put64(b, ((int) l8) - 60696, l16 + 3L);
-           Words.put64(b, ((int) l8) - 60712, 1L);
-           Words.put32(b, ((int) l8) - 60704, ((l21 | (l23 << 12)) + (l24 << 6)) + -925824);
-           final int t79 = (int) l8;
-           final int t80 = b[((int) ((l16 = ((((l23 = ((l24 << 8) | (l21 << 16)) | l23) & 0xffffffffL) * 953497L) >>> 22L) & 1016L) + 80941L)) - 60720] & 0xff;
-           final int t81 = l23 = (Words.get32(b, State.far((int) l16, 80936)) == l23) ? 1 : 0;
-           b[t79 - 60699] = (byte) (t81 != 0 ? t80 : 0);
-           final int t82 = (int) l8;
-           final int t83 = b[((int) (l16 + 80940L)) - 60720] & 0xff;
-           final int t84 = l23;
-           b[t82 - 60700] = (byte) (t84 != 0 ? t83 : 2);
-           break L75;
-          }
-          if (l17 == 0L) { break L76; }
-          l23 = b[((int) l16) - 60720] & 0xff;
-         }
-         l18 = 1L;
-         L85: {
-          if (((int) (byte) l23) > -1) { break L85; }
-          l21 = (b[((int) l16) - 60719] & 0xff) & 63;
-          L86: {
-           if (l23 + Integer.MIN_VALUE > -2147483425) { break L86; }
-           l23 = ((l23 << 6) & 1984) | l21;
-           l18 = 2L;
-           break L85;
-          }
-          l24 = (b[((int) l16) - 60718] & 0xff) & 63;
-          L87: {
-           if (l23 + Integer.MIN_VALUE > -2147483409) { break L87; }
-           l23 = ((l21 << 6) | ((l23 << 12) & 61440)) | l24;
-           l18 = 3L;
-           break L85;
-          }
-          l23 = ((l24 << 6) | ((l21 << 12) | ((l23 << 18) & 1835008))) | ((b[((int) l16) - 60717] & 0xff) & 63);
-          l18 = 4L;
-         }
-         l17 = l17 - l18;
-         l16 = l16 + l18;
-         L88: {
-          L89: {
-           if ((l23 + -2048) + Integer.MIN_VALUE > -2147420161) { break L89; }
-           final int t90 = b[((int) ((l18 = ((((l21 = (((l23 >>> 12) | ((l23 << 2) & 16128)) | ((l23 << 16) & 4128768)) | 8421600) & 0xffffffffL) * 953497L) >>> 22L) & 1016L) + 80941L)) - 60720] & 0xff;
-           final int t91 = l24 = (Words.get32(b, State.far((int) l18, 80936)) == l21) ? 1 : 0;
-           l21 = t91 != 0 ? t90 : 0;
-           final int t92 = b[((int) (l18 + 80940L)) - 60720] & 0xff;
-           final int t93 = l24;
-           l24 = t93 != 0 ? t92 : 2;
-           break L88;
-          }
-          final int t94 = l21 = l23 + -48;
-          final int t95 = l24 = (l21 + Integer.MIN_VALUE < -2147483638) ? 1 : 0;
-          l21 = t95 != 0 ? t94 : 0;
-          l24 = l24 != 0 ? 0 : 2;
-         }
-         Words.put64(b, ((int) l8) - 60688, l17);
-         Words.put64(b, ((int) l8) - 60696, l16);
-         b[((int) l8) - 60699] = (byte) l21;
-         b[((int) l8) - 60700] = (byte) l24;
-         Words.put32(b, ((int) l8) - 60704, l23);
-         Words.put64(b, ((int) l8) - 60712, 1L);
-         break L75;
-        }
-        Words.put64(b, ((int) l11) - 60720, 0L);
-        Words.put64(b, ((int) l11) - 60712, 0L);
-        Words.put64(b, ((int) l8) - 60706, 0L);
-        Words.put64(b, ((int) l8) - 60712, 0L);
-       }
-       l24 = Core3.f96(m, l8 + 8L);
-       break L53;
-      }
-      l24 = 1;
-     }
-     l21 = 0;
-     break L51;
-    }
-    l21 = 0;
-    l24 = 0;
-   }
-   l16 = l12 + l15;
-   Words.put32(b, ((int) l8) - 60712, 0);
-   l23 = l22 | l24;
-   L96: {
-    L97: {
-     L98: {
-      L99: {
-       L100: {
-        L101: {
-         L102: {
-          L103: {
-           if ((l17 = l12 + -1L) + Long.MIN_VALUE > -9223372036854775806L) { break L103; }
-           L104: {
-            switch ((int) l17) {
-            case 1: break L103;
-            case 2: break L104;
-            default: break L100;
-            }
-           }
-           if ((l24 = (Words.get32(b, State.far((int) (l17 = ((((l22 = (((b[((int) l13) - 60719] & 0xff) << 8) | (l25 = b[((int) l13) - 60720] & 0xff)) | ((b[((int) l13) - 60718] & 0xff) << 16)) & 0xffffffffL) * 953497L) >>> 22L) & 1016L), 80936)) != l22) ? 1 : 0) != 0) { break L102; }
-           l22 = 1;
-           final int t105 = b[((int) (l17 + 80940L)) - 60720] & 0xff;
-           final int t106 = l24;
-           if (((l24 = t106 != 0 ? 0 : t105) & 255) == 2) { break L102; }
-           break L99;
-          }
-          if (l12 + Long.MIN_VALUE > -9223372036854775804L) { break L98; }
-          if (l12 == 0L) { break L101; }
-          l25 = b[((int) l13) - 60720] & 0xff;
-         }
-         if (((int) (byte) l25) > -1) { break L98; }
-        }
-        Core3.f97(m, l8 + 8L, l13, l12);
-        if ((b[((int) l8) - 60712] & 0xff) != 1) { break L98; }
-        l22 = b[((int) l8) - 60709] & 0xff;
-        l24 = b[((int) l8) - 60711] & 0xff;
-        break L99;
-       }
-       l24 = ((l22 = ((((b[((int) l13) - 60720] & 0xff) + -58) & 255) + Integer.MIN_VALUE < -2147483402) ? 1 : 0) != 0) ? 2 : 0;
-      }
-      l23 = (l23 != 0 ? 0 : 2) | (((l24 = l24 & 255) == 0) ? 1 : 0);
-      l22 = ((l22 & 1) != 0) ? 8 : 0;
-      if ((l21 | (l20 & ((l24 == 1) ? 1 : 0))) != 0) { break L97; }
-      break L96;
-     }
-     l24 = Core3.f98(m, l13, l12);
-     L107: {
-      L108: {
-       L109: {
-        if (l20 == 0) { break L109; }
-        if ((l21 | Core3.f99(m, l13, l12)) != 0) { break L108; }
-        break L107;
-       }
-       if (l21 == 0) { break L107; }
-      }
-      l22 = 0;
-      l23 = (l23 != 0 ? 0 : 2) | l24;
-      break L97;
-     }
-     l22 = 0;
-     l23 = (l23 != 0 ? 0 : 2) | l24;
-     if (Core3.f100(m, l13, l12) == 0) { break L96; }
-    }
-    l23 = l23 | 4;
-   }
-   Words.put64(b, ((int) l8) - 60672, l2);
-   Words.put64(b, ((int) l8) - 60680, l10);
-   Words.put64(b, ((int) l8) - 60688, l12);
-   Words.put64(b, ((int) l8) - 60696, l13);
-   Words.put64(b, ((int) l8) - 60704, l15);
-   Words.put64(b, ((int) l8) - 60712, l14);
-   Core3.f108(m, l8, l8 + 8L);
-   l20 = b[((int) l8) - 60719] & 0xff;
-   l21 = b[((int) l8) - 60720] & 0xff;
-   Words.put32(b, ((int) (l5 + 20L)) - 60720, 0);
-   Words.put64(b, ((int) (l5 + 8L)) - 60720, l16);
-   Words.put64(b, ((int) l5) - 60720, l15);
-   final int t110 = (int) (l5 + 16L);
-   final int t111 = l22 | l23;
-   final int t112 = ((l20 + 1) & 255) << 4;
-   final int t113 = l21 & 1;
-   Words.put32(b, t110 - 60720, t111 | (t113 != 0 ? t112 : 0));
-   l5 = l5 + 24L;
-   if (l6 != (l9 = l9 + 1L)) { continue L4; }
-   break L4;
+   l20 = 0;
+   l22 = 0;
   }
  }
- m.kept[0] = l2;
- m.kept[1] = l5;
- m.kept[2] = l9;
- m.kept[3] = l10;
- m.kept[4] = l12;
- m.kept[5] = l13;
- m.kept[6] = l14;
- m.kept[7] = l15;
- m.kept[8] = l16;
- m.kept[9] = l17;
- m.kept[10] = l18;
- m.kept[11] = l20;
- m.kept[12] = l21;
- m.kept[13] = l22;
- m.kept[14] = l23;
- m.kept[15] = l24;
- m.kept[16] = l25;
+ m.kept[0] = l15;
+ m.kept[1] = l16;
+ m.kept[2] = l17;
+ m.kept[3] = l18;
+ m.kept[4] = l20;
+ m.kept[5] = l21;
+ m.kept[6] = l22;
+ m.kept[7] = l23;
+ m.kept[8] = l24;
  return exit;
 }
 
@@ -3101,34 +2798,342 @@ static int f152(State m, long l0, long l1, long l2, int l3, int l4, long l5, lon
    l2 = l1 - l2;
    l11 = l8 + 24L;
    l9 = 0L;
-   final int x114 = f152_1(m, l0, l1, l2, l3, l4, l5, l6, l8, l9, l10, l11, l12, l13, l14, l15, l16, l17, l18, l20, l21, l22, l23, l24, l25);
-   l2 = m.kept[0];
-   l5 = m.kept[1];
-   l9 = m.kept[2];
-   l10 = m.kept[3];
-   l12 = m.kept[4];
-   l13 = m.kept[5];
-   l14 = m.kept[6];
-   l15 = m.kept[7];
-   l16 = m.kept[8];
-   l17 = m.kept[9];
-   l18 = m.kept[10];
-   l20 = (int) m.kept[11];
-   l21 = (int) m.kept[12];
-   l22 = (int) m.kept[13];
-   l23 = (int) m.kept[14];
-   l24 = (int) m.kept[15];
-   l25 = (int) m.kept[16];
-   switch (x114) {
-   case 1: break L2;
+   L4: while (true) {
+    Words.put64(b, ((int) l8) - 60664, 0L);
+    Words.put64(b, ((int) l8) - 60672, 0L);
+    Words.put64(b, ((int) l8) - 60680, 0L);
+    Words.put64(b, ((int) l8) - 60688, 0L);
+    Words.put64(b, ((int) l8) - 60696, 0L);
+    Words.put64(b, ((int) l8) - 60704, 0L);
+    Words.put64(b, ((int) l8) - 60712, 0L);
+    if (l2 == 0L) { break L2; }
+    f153(m, l8 + 8L, l3, l4, l0, l1, l10, l2);
+    if ((b[((int) l8) - 60712] & 0xff) != 1) { break L2; }
+    l12 = Words.get64(b, ((int) l8) - 60680);
+    l13 = Words.get64(b, ((int) l8) - 60688);
+    l14 = Words.get64(b, ((int) l8) - 60704);
+    l2 = Words.get64(b, ((int) l8) - 60664);
+    l10 = Words.get64(b, ((int) l8) - 60672);
+    f152_1(m, l8, l11, l14, l15, l16, l17, l18, l20, l21, l22, l23, l24);
+    l15 = m.kept[0];
+    l16 = m.kept[1];
+    l17 = m.kept[2];
+    l18 = m.kept[3];
+    l20 = (int) m.kept[4];
+    l21 = (int) m.kept[5];
+    l22 = (int) m.kept[6];
+    l23 = (int) m.kept[7];
+    l24 = (int) m.kept[8];
+    L51: {
+     L52: {
+      L53: {
+       L54: {
+        L55: {
+         L56: {
+          L57: {
+           L58: {
+            L59: {
+             L60: {
+              if (l2 + Long.MIN_VALUE < -9223372036854775805L) { break L60; }
+              if (((l23 = b[((int) l10) - 60720] & 0xff) & 240) != 224) { break L59; }
+              l21 = (((l24 = b[((int) l10) - 60719] & 0xff) << 8) | ((l25 = b[((int) l10) - 60718] & 0xff) << 16)) | l23;
+              l23 = (((l23 << 12) | l25) + (l24 << 6)) + -925824;
+              l17 = l2 + -3L;
+              l16 = l10 + 3L;
+              if (l21 != Words.get32(b, ((int) ((l18 = (((l21 & 0xffffffffL) * 953497L) >>> 22L) & 1016L) + 80936L)) - 60720)) { break L57; }
+              break L58;
+             }
+             if (l2 == 0L) { break L52; }
+             l23 = b[((int) l10) - 60720] & 0xff;
+            }
+            l16 = 1L;
+            L61: {
+             if (((int) (byte) l23) > -1) { break L61; }
+             l21 = (b[((int) l10) - 60719] & 0xff) & 63;
+             L62: {
+              if (l23 + Integer.MIN_VALUE > -2147483425) { break L62; }
+              l23 = ((l23 << 6) & 1984) | l21;
+              l16 = 2L;
+              break L61;
+             }
+             l24 = (b[((int) l10) - 60718] & 0xff) & 63;
+             L63: {
+              if (l23 + Integer.MIN_VALUE > -2147483409) { break L63; }
+              l23 = ((l21 << 6) | ((l23 << 12) & 61440)) | l24;
+              l16 = 3L;
+              break L61;
+             }
+             l23 = ((l24 << 6) | ((l21 << 12) | ((l23 << 18) & 1835008))) | ((b[((int) l10) - 60717] & 0xff) & 63);
+             l16 = 4L;
+            }
+            l17 = l2 - l16;
+            l16 = l10 + l16;
+            L64: {
+             if ((l23 + -2048) + Integer.MIN_VALUE > -2147420161) { break L64; }
+             if (Words.get32(b, ((int) ((l18 = ((((l21 = (((l23 >>> 12) | ((l23 << 2) & 16128)) | ((l23 << 16) & 4128768)) | 8421600) & 0xffffffffL) * 953497L) >>> 22L) & 1016L) + 80936L)) - 60720) == l21) { break L58; }
+             break L56;
+            }
+            if ((l23 + -48) + Integer.MIN_VALUE >= -2147483638) { break L57; }
+            break L54;
+           }
+           if ((b[((int) (l18 + 80940L)) - 60720] & 0xff) == 0) { break L54; }
+          }
+          if (l23 + Integer.MIN_VALUE > -2147483521) { break L56; }
+          l24 = 1;
+          l21 = 0;
+          if (l23 == 95) { break L51; }
+          if ((l23 + -44) + Integer.MIN_VALUE < -2147483645) { break L55; }
+          if ((l23 + -48) + Integer.MIN_VALUE < -2147483638) { break L51; }
+          if (((l23 & 95) + -65) + Integer.MIN_VALUE >= -2147483622) { break L52; }
+          break L51;
+         }
+         l24 = 0;
+         l21 = 1;
+         L65: {
+          L66: {
+           if (l23 > 24185) { break L66; }
+           L67: {
+            L68: {
+             if (l23 > 21316) { break L68; }
+             L69: {
+              if (l23 > 20959) { break L69; }
+              if (l23 == 20313) { break L51; }
+              if (l23 != 20358) { break L65; }
+              break L51;
+             }
+             if (l23 == 20960) { break L51; }
+             if (l23 == 20986) { break L67; }
+             break L65;
+            }
+            L70: {
+             switch (l23 + -21317) {
+             case 0: case 7: break L54;
+             case 1: case 2: case 3: case 4: case 5: case 6: break L65;
+             default: break L70;
+             }
+            }
+            if (l23 == 22810) { break L51; }
+            if (l23 != 22909) { break L65; }
+           }
+           l21 = Core3.f95(m, l23, l16, l17);
+           break L51;
+          }
+          L71: {
+           if (l23 > 26468) { break L71; }
+           L72: {
+            switch (l23 + -24186) {
+            case 0: break L54;
+            case 1: case 2: case 3: break L65;
+            case 4: break L51;
+            default: break L72;
+            }
+           }
+           L73: {
+            switch (l23 + -25968) {
+            case 0: case 8: break L52;
+            case 1: case 2: case 3: case 4: case 5: case 6: case 7: break L65;
+            default: break L73;
+            }
+           }
+           if (l23 == 24319) { break L54; }
+           break L65;
+          }
+          L74: {
+           if (l23 > 39191) { break L74; }
+           if (l23 == 26469) { break L51; }
+           if (l23 != 28857) { break L65; }
+           break L55;
+          }
+          if (l23 == 39192) { break L51; }
+          if (l23 == 40670) { break L55; }
+         }
+         if ((l23 + -65296) + Integer.MIN_VALUE > -2147483639) { break L52; }
+         break L54;
+        }
+        Words.put64(b, ((int) l8) - 60688, 0L);
+        Words.put64(b, ((int) l8) - 60696, 0L);
+        Words.put64(b, ((int) l8) - 60704, 0L);
+        Words.put64(b, ((int) l8) - 60712, 0L);
+        L75: {
+         L76: {
+          L77: {
+           L78: {
+            if (l17 + Long.MIN_VALUE < -9223372036854775805L) { break L78; }
+            if (((l23 = b[((int) l16) - 60720] & 0xff) & 240) != 224) { break L77; }
+            l21 = b[((int) l16) - 60718] & 0xff;
+            l24 = b[((int) l16) - 60719] & 0xff;
+            Words.put64(b, ((int) l8) - 60688, l17 + -3L);
+            Words.put64(b, ((int) l8) - 60696, l16 + 3L);
+            Words.put64(b, ((int) l8) - 60712, 1L);
+            Words.put32(b, ((int) l8) - 60704, ((l21 | (l23 << 12)) + (l24 << 6)) + -925824);
+            final int t79 = (int) l8;
+            final int t80 = b[((int) ((l16 = ((((l23 = ((l24 << 8) | (l21 << 16)) | l23) & 0xffffffffL) * 953497L) >>> 22L) & 1016L) + 80941L)) - 60720] & 0xff;
+            final int t81 = l23 = (Words.get32(b, State.far((int) l16, 80936)) == l23) ? 1 : 0;
+            b[t79 - 60699] = (byte) (t81 != 0 ? t80 : 0);
+            final int t82 = (int) l8;
+            final int t83 = b[((int) (l16 + 80940L)) - 60720] & 0xff;
+            final int t84 = l23;
+            b[t82 - 60700] = (byte) (t84 != 0 ? t83 : 2);
+            break L75;
+           }
+           if (l17 == 0L) { break L76; }
+           l23 = b[((int) l16) - 60720] & 0xff;
+          }
+          l18 = 1L;
+          L85: {
+           if (((int) (byte) l23) > -1) { break L85; }
+           l21 = (b[((int) l16) - 60719] & 0xff) & 63;
+           L86: {
+            if (l23 + Integer.MIN_VALUE > -2147483425) { break L86; }
+            l23 = ((l23 << 6) & 1984) | l21;
+            l18 = 2L;
+            break L85;
+           }
+           l24 = (b[((int) l16) - 60718] & 0xff) & 63;
+           L87: {
+            if (l23 + Integer.MIN_VALUE > -2147483409) { break L87; }
+            l23 = ((l21 << 6) | ((l23 << 12) & 61440)) | l24;
+            l18 = 3L;
+            break L85;
+           }
+           l23 = ((l24 << 6) | ((l21 << 12) | ((l23 << 18) & 1835008))) | ((b[((int) l16) - 60717] & 0xff) & 63);
+           l18 = 4L;
+          }
+          l17 = l17 - l18;
+          l16 = l16 + l18;
+          L88: {
+           L89: {
+            if ((l23 + -2048) + Integer.MIN_VALUE > -2147420161) { break L89; }
+            final int t90 = b[((int) ((l18 = ((((l21 = (((l23 >>> 12) | ((l23 << 2) & 16128)) | ((l23 << 16) & 4128768)) | 8421600) & 0xffffffffL) * 953497L) >>> 22L) & 1016L) + 80941L)) - 60720] & 0xff;
+            final int t91 = l24 = (Words.get32(b, State.far((int) l18, 80936)) == l21) ? 1 : 0;
+            l21 = t91 != 0 ? t90 : 0;
+            final int t92 = b[((int) (l18 + 80940L)) - 60720] & 0xff;
+            final int t93 = l24;
+            l24 = t93 != 0 ? t92 : 2;
+            break L88;
+           }
+           final int t94 = l21 = l23 + -48;
+           final int t95 = l24 = (l21 + Integer.MIN_VALUE < -2147483638) ? 1 : 0;
+           l21 = t95 != 0 ? t94 : 0;
+           l24 = l24 != 0 ? 0 : 2;
+          }
+          Words.put64(b, ((int) l8) - 60688, l17);
+          Words.put64(b, ((int) l8) - 60696, l16);
+          b[((int) l8) - 60699] = (byte) l21;
+          b[((int) l8) - 60700] = (byte) l24;
+          Words.put32(b, ((int) l8) - 60704, l23);
+          Words.put64(b, ((int) l8) - 60712, 1L);
+          break L75;
+         }
+         Words.put64(b, ((int) l11) - 60720, 0L);
+         Words.put64(b, ((int) l11) - 60712, 0L);
+         Words.put64(b, ((int) l8) - 60706, 0L);
+         Words.put64(b, ((int) l8) - 60712, 0L);
+        }
+        l24 = Core3.f96(m, l8 + 8L);
+        break L53;
+       }
+       l24 = 1;
+      }
+      l21 = 0;
+      break L51;
+     }
+     l21 = 0;
+     l24 = 0;
+    }
+    l16 = l12 + l15;
+    Words.put32(b, ((int) l8) - 60712, 0);
+    l23 = l22 | l24;
+    L96: {
+     L97: {
+      L98: {
+       L99: {
+        L100: {
+         L101: {
+          L102: {
+           L103: {
+            if ((l17 = l12 + -1L) + Long.MIN_VALUE > -9223372036854775806L) { break L103; }
+            L104: {
+             switch ((int) l17) {
+             case 1: break L103;
+             case 2: break L104;
+             default: break L100;
+             }
+            }
+            if ((l24 = (Words.get32(b, State.far((int) (l17 = ((((l22 = (((b[((int) l13) - 60719] & 0xff) << 8) | (l25 = b[((int) l13) - 60720] & 0xff)) | ((b[((int) l13) - 60718] & 0xff) << 16)) & 0xffffffffL) * 953497L) >>> 22L) & 1016L), 80936)) != l22) ? 1 : 0) != 0) { break L102; }
+            l22 = 1;
+            final int t105 = b[((int) (l17 + 80940L)) - 60720] & 0xff;
+            final int t106 = l24;
+            if (((l24 = t106 != 0 ? 0 : t105) & 255) == 2) { break L102; }
+            break L99;
+           }
+           if (l12 + Long.MIN_VALUE > -9223372036854775804L) { break L98; }
+           if (l12 == 0L) { break L101; }
+           l25 = b[((int) l13) - 60720] & 0xff;
+          }
+          if (((int) (byte) l25) > -1) { break L98; }
+         }
+         Core3.f97(m, l8 + 8L, l13, l12);
+         if ((b[((int) l8) - 60712] & 0xff) != 1) { break L98; }
+         l22 = b[((int) l8) - 60709] & 0xff;
+         l24 = b[((int) l8) - 60711] & 0xff;
+         break L99;
+        }
+        l24 = ((l22 = ((((b[((int) l13) - 60720] & 0xff) + -58) & 255) + Integer.MIN_VALUE < -2147483402) ? 1 : 0) != 0) ? 2 : 0;
+       }
+       l23 = (l23 != 0 ? 0 : 2) | (((l24 = l24 & 255) == 0) ? 1 : 0);
+       l22 = ((l22 & 1) != 0) ? 8 : 0;
+       if ((l21 | (l20 & ((l24 == 1) ? 1 : 0))) != 0) { break L97; }
+       break L96;
+      }
+      l24 = Core3.f98(m, l13, l12);
+      L107: {
+       L108: {
+        L109: {
+         if (l20 == 0) { break L109; }
+         if ((l21 | Core3.f99(m, l13, l12)) != 0) { break L108; }
+         break L107;
+        }
+        if (l21 == 0) { break L107; }
+       }
+       l22 = 0;
+       l23 = (l23 != 0 ? 0 : 2) | l24;
+       break L97;
+      }
+      l22 = 0;
+      l23 = (l23 != 0 ? 0 : 2) | l24;
+      if (Core3.f100(m, l13, l12) == 0) { break L96; }
+     }
+     l23 = l23 | 4;
+    }
+    Words.put64(b, ((int) l8) - 60672, l2);
+    Words.put64(b, ((int) l8) - 60680, l10);
+    Words.put64(b, ((int) l8) - 60688, l12);
+    Words.put64(b, ((int) l8) - 60696, l13);
+    Words.put64(b, ((int) l8) - 60704, l15);
+    Words.put64(b, ((int) l8) - 60712, l14);
+    Core3.f108(m, l8, l8 + 8L);
+    l20 = b[((int) l8) - 60719] & 0xff;
+    l21 = b[((int) l8) - 60720] & 0xff;
+    Words.put32(b, ((int) (l5 + 20L)) - 60720, 0);
+    Words.put64(b, ((int) (l5 + 8L)) - 60720, l16);
+    Words.put64(b, ((int) l5) - 60720, l15);
+    final int t110 = (int) (l5 + 16L);
+    final int t111 = l22 | l23;
+    final int t112 = ((l20 + 1) & 255) << 4;
+    final int t113 = l21 & 1;
+    Words.put32(b, t110 - 60720, t111 | (t113 != 0 ? t112 : 0));
+    l5 = l5 + 24L;
+    if (l6 != (l9 = l9 + 1L)) { continue L4; }
+    break L4;
    }
    l9 = l6;
    l19 = 0;
   }
   Words.put64(b, ((int) l7) - 60720, l9);
   m.g0 = l8 + 64L;
-  final int t115 = l19;
-  return t115;
+  final int t114 = l19;
+  return t114;
  }
  throw State.trap();
 }

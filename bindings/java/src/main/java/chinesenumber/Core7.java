@@ -1913,437 +1913,347 @@ static int f267_1(State m, long l0, long l1, int l2, int l3, int l4, long l6, lo
  return exit;
 }
 
-static int f267_2(State m, long l0, int l3, int l4, int l5, long l6, long l9, long l10, long l11, long l13, long l14, long l15, long l16, long l17, long l18, long l19, long l34, long l35, long l36, long l37, long l38, long l39, long l40, long l41, int l46, int l48, int l50, int l51, int l52, int l53, int l54, int l55, int l56) {
+static int f267_2(State m, long l0, int l3, int l4, int l5, long l6, long l9, long l10, long l11, long l13, long l14, long l15, long l34, long l35, long l36, long l37, long l38, long l39, long l40, long l41, int l46, int l48, int l50, int l51, int l52, int l53, int l54, int l55, int l56) {
  final byte[] b = m.bytes;
  int exit = 0;
  PART: {
-  L34: {
-   L35: {
-    L36: {
-     switch (l3) {
-     case 1: break L35;
-     case 2: break L34;
-     default: break L36;
-     }
+  L35: {
+   L36: {
+    switch (l3) {
+    case 1: break L35;
+    case 2: exit = 1; break PART;
+    default: break L36;
     }
-    Words.put32(b, ((int) l15) - 60720, Words.get32(b, ((int) l10) - 60440));
-    Words.put16(b, ((int) l15) - 60716, (short) (Words.get16(b, ((int) l10) - 60436) & 0xffff));
-    b[((int) l10) - 60393] = (byte) l48;
-    b[((int) l10) - 60394] = (byte) l50;
-    b[((int) l10) - 60395] = (byte) l51;
-    b[((int) l10) - 60396] = (byte) l52;
-    Words.put16(b, ((int) l10) - 60398, (short) l46);
-    b[((int) l10) - 60423] = (byte) l53;
-    b[((int) l10) - 60424] = (byte) l54;
-    Words.put64(b, ((int) l10) - 60408, l9);
-    Words.put64(b, ((int) l10) - 60416, l39);
-    if (Core6.f188(m, l10 + 322L, l36, l35, l10 + 296L, l37, l40) == 0) { exit = 1; break PART; }
-    L37: {
-     if (((int) (byte) l5) > -1) { break L37; }
-     Words.put32(b, ((int) l14) - 60720, Words.get32(b, ((int) l10) - 60440));
-     Words.put16(b, ((int) l14) - 60716, (short) (Words.get16(b, ((int) l10) - 60436) & 0xffff));
-     b[((int) l10) - 60095] = (byte) l53;
-     b[((int) l10) - 60096] = (byte) l54;
-     Words.put64(b, ((int) l10) - 60080, l9);
-     Words.put64(b, ((int) l10) - 60088, l39);
-     if ((Core6.f189(m, l36, l35, l10 + 624L, l37, l40) & 1) == 0) { break L37; }
-     Words.put32(b, ((int) l10) - 60256, 0);
-     Words.put64(b, ((int) l10) - 60264, 0L);
-     Core3.f104(m, l10 + 456L, l53, l10 + 280L);
-     if ((b[((int) l10) - 60264] & 0xff) != 1) { exit = 2; break PART; }
-     l11 = Words.get64(b, ((int) l10) - 60260);
-     L38: {
-      L39: {
-       L40: {
-        switch ((int) (b[((int) l10) - 60262] & 0xffL)) {
-        case 1: case 2: case 3: case 5: case 7: case 8: exit = 2; break PART;
-        case 4: break L39;
-        case 6: break L38;
-        default: break L40;
-        }
+   }
+   Words.put32(b, ((int) l15) - 60720, Words.get32(b, ((int) l10) - 60440));
+   Words.put16(b, ((int) l15) - 60716, (short) (Words.get16(b, ((int) l10) - 60436) & 0xffff));
+   b[((int) l10) - 60393] = (byte) l48;
+   b[((int) l10) - 60394] = (byte) l50;
+   b[((int) l10) - 60395] = (byte) l51;
+   b[((int) l10) - 60396] = (byte) l52;
+   Words.put16(b, ((int) l10) - 60398, (short) l46);
+   b[((int) l10) - 60423] = (byte) l53;
+   b[((int) l10) - 60424] = (byte) l54;
+   Words.put64(b, ((int) l10) - 60408, l9);
+   Words.put64(b, ((int) l10) - 60416, l39);
+   if (Core6.f188(m, l10 + 322L, l36, l35, l10 + 296L, l37, l40) == 0) { exit = 2; break PART; }
+   L37: {
+    if (((int) (byte) l5) > -1) { break L37; }
+    Words.put32(b, ((int) l14) - 60720, Words.get32(b, ((int) l10) - 60440));
+    Words.put16(b, ((int) l14) - 60716, (short) (Words.get16(b, ((int) l10) - 60436) & 0xffff));
+    b[((int) l10) - 60095] = (byte) l53;
+    b[((int) l10) - 60096] = (byte) l54;
+    Words.put64(b, ((int) l10) - 60080, l9);
+    Words.put64(b, ((int) l10) - 60088, l39);
+    if ((Core6.f189(m, l36, l35, l10 + 624L, l37, l40) & 1) == 0) { break L37; }
+    Words.put32(b, ((int) l10) - 60256, 0);
+    Words.put64(b, ((int) l10) - 60264, 0L);
+    Core3.f104(m, l10 + 456L, l53, l10 + 280L);
+    if ((b[((int) l10) - 60264] & 0xff) != 1) { exit = 3; break PART; }
+    l11 = Words.get64(b, ((int) l10) - 60260);
+    L38: {
+     L39: {
+      L40: {
+       switch ((int) (b[((int) l10) - 60262] & 0xffL)) {
+       case 1: case 2: case 3: case 5: case 7: case 8: exit = 3; break PART;
+       case 4: break L39;
+       case 6: break L38;
+       default: break L40;
        }
-       if (Core6.f194(m, l39, l9) != 0) { exit = 2; break PART; }
-       if ((l11 & 71777214277878015L) != 281479271677953L) { exit = 2; break PART; }
-       if (((((int) (l0 = l11 >>> 16L)) + -10000) & 65535) + Integer.MIN_VALUE < -2147427112) { exit = 2; break PART; }
-       Words.put64(b, ((int) l13) - 60713, 0L);
-       Words.put64(b, ((int) l13) - 60720, 0L);
-       Words.put64(b, ((int) l10) - 60344, 0L);
-       l6 = 1L;
-       Words.put64(b, ((int) l10) - 60352, 1L);
-       Words.put64(b, ((int) l10) - 60360, 0L);
-       b[((int) l10) - 60336] = (byte) 0;
-       Words.put64(b, ((int) l10) - 60368, l0 & 65535L);
-       m.fill((int) (l10 + 624L), 0, (int) 80L);
-       Core2.f38(m, l10 + 8L, l10 + 624L, l10 + 352L);
-       Core2.f39(m, l10 + 152L, Words.get64(b, ((int) l10) - 60712), Words.get64(b, ((int) l10) - 60704));
-       Core6.f199(m, l10 + 152L, (int) (l11 >>> 40L));
-       Core6.f199(m, l10 + 152L, (int) (l11 >>> 56L));
-       Words.put64(b, ((int) l10) - 60080, 0L);
-       Words.put64(b, ((int) l10) - 60088, 0L);
-       Words.put64(b, ((int) l10) - 60096, 0L);
-       l11 = 85469L;
-       L41: {
-        if (Core3.f110(m, l39, l9) != 0) { break L41; }
-        Core3.f114(m, l10 + 624L, 21, l39, l9);
-        l11 = ((l4 = (((b[((int) l10) - 60096] & 0xff) & 255) == 1) ? 1 : 0) != 0) ? 85469L : 79940L;
-        l6 = l4 & 0xffffffffL;
-       }
-       Core2.f39(m, l10 + 152L, l11, l6);
-       exit = 2; break PART;
       }
-      b[((int) l10) - 60392] = (byte) (b[((int) l10) - 60261] & 0xff);
-      Words.put16(b, ((int) l10) - 60391, (short) l11);
-      if (Core6.f195(m, l54, l36, l35, l39, l9) != 0) { exit = 2; break PART; }
-      L42: {
-       if (l9 == 0L) { break L42; }
-       if ((l4 = (int) b[((int) l39) - 60720]) > -1) { break L42; }
-       if (l4 + Integer.MIN_VALUE < 2147483616) { break L42; }
-       l3 = l4 & 255;
-       l55 = (b[((int) l39) - 60719] & 0xff) & 63;
-       l56 = (b[((int) l39) - 60718] & 0xff) & 63;
-       L43: {
-        L44: {
-         if (l4 + Integer.MIN_VALUE > 2147483631) { break L44; }
-         l4 = ((l55 << 6) | ((l3 << 12) & 61440)) | l56;
-         break L43;
-        }
-        l4 = ((l56 << 6) | ((l55 << 12) | ((l3 << 18) & 1835008))) | ((b[((int) l39) - 60717] & 0xff) & 63);
-       }
-       if (l4 == 37912) { exit = 2; break PART; }
-       if (l4 == 38047) { exit = 2; break PART; }
-      }
-      Core3.f106(m, l10 + 40L, l54, l37, l40, l10 + 328L);
-      if ((b[((int) l10) - 60680] & 0xff) != 1) { exit = 2; break PART; }
-      l4 = b[((int) l10) - 60679] & 0xff;
-      L45: {
-       if ((l54 & 255) != 2) { break L45; }
-       Words.put64(b, ((int) l10) - 60080, 0L);
-       Words.put64(b, ((int) l10) - 60088, 0L);
-       Words.put64(b, ((int) l10) - 60096, 0L);
-       Core3.f114(m, l10 + 624L, 22, l37, l40);
-       if ((b[((int) l10) - 60096] & 0xff) != 1) { break L45; }
-       Core2.f39(m, l10 + 152L, l37, l40 - Words.get64(b, ((int) l10) - 60080));
-      }
-      l0 = l11 >>> 8L;
-      l3 = (int) l11;
-      L46: {
-       L47: {
-        if ((l4 & 255) + Integer.MIN_VALUE > -2147483639) { break L47; }
-        Core2.f39(m, l10 + 152L, 85360L, 1L);
-        break L46;
-       }
-       Core2.f39(m, l10 + 152L, 79940L, 0L);
-      }
-      l54 = (int) l0;
+      if (Core6.f194(m, l39, l9) != 0) { exit = 3; break PART; }
+      if ((l11 & 71777214277878015L) != 281479271677953L) { exit = 3; break PART; }
+      if (((((int) (l0 = l11 >>> 16L)) + -10000) & 65535) + Integer.MIN_VALUE < -2147427112) { exit = 3; break PART; }
       Words.put64(b, ((int) l13) - 60713, 0L);
       Words.put64(b, ((int) l13) - 60720, 0L);
       Words.put64(b, ((int) l10) - 60344, 0L);
+      l6 = 1L;
       Words.put64(b, ((int) l10) - 60352, 1L);
       Words.put64(b, ((int) l10) - 60360, 0L);
       b[((int) l10) - 60336] = (byte) 0;
-      Words.put64(b, ((int) l10) - 60368, (l4 & 0xffffffffL) & 255L);
+      Words.put64(b, ((int) l10) - 60368, l0 & 65535L);
       m.fill((int) (l10 + 624L), 0, (int) 80L);
-      Core2.f38(m, l10 + 24L, l10 + 624L, l10 + 352L);
-      Core2.f39(m, l10 + 152L, Words.get64(b, ((int) l10) - 60696), Words.get64(b, ((int) l10) - 60688));
-      Core6.f200(m, l10 + 152L, l3);
-      L48: {
-       if (((1 << l53) & -1064961) != 0) { break L48; }
-       Core6.f200(m, l10 + 152L, l54);
-      }
+      Core2.f38(m, l10 + 8L, l10 + 624L, l10 + 352L);
+      Core2.f39(m, l10 + 152L, Words.get64(b, ((int) l10) - 60712), Words.get64(b, ((int) l10) - 60704));
+      Core6.f199(m, l10 + 152L, (int) (l11 >>> 40L));
+      Core6.f199(m, l10 + 152L, (int) (l11 >>> 56L));
       Words.put64(b, ((int) l10) - 60080, 0L);
       Words.put64(b, ((int) l10) - 60088, 0L);
       Words.put64(b, ((int) l10) - 60096, 0L);
-      L49: {
-       L50: {
-        if (Core3.f110(m, l39, l9) == 0) { break L50; }
-        l9 = 85469L;
-        l11 = 1L;
-        break L49;
-       }
+      l11 = 85469L;
+      L41: {
+       if (Core3.f110(m, l39, l9) != 0) { break L41; }
        Core3.f114(m, l10 + 624L, 21, l39, l9);
-       l9 = ((l4 = (((b[((int) l10) - 60096] & 0xff) & 255) == 1) ? 1 : 0) != 0) ? 85469L : 79940L;
-       l11 = l4 & 0xffffffffL;
+       l11 = ((l4 = (((b[((int) l10) - 60096] & 0xff) & 255) == 1) ? 1 : 0) != 0) ? 85469L : 79940L;
+       l6 = l4 & 0xffffffffL;
       }
-      Core2.f39(m, l10 + 152L, l9, l11);
-      exit = 2; break PART;
+      Core2.f39(m, l10 + 152L, l11, l6);
+      exit = 3; break PART;
      }
+     b[((int) l10) - 60392] = (byte) (b[((int) l10) - 60261] & 0xff);
+     Words.put16(b, ((int) l10) - 60391, (short) l11);
+     if (Core6.f195(m, l54, l36, l35, l39, l9) != 0) { exit = 3; break PART; }
+     L42: {
+      if (l9 == 0L) { break L42; }
+      if ((l4 = (int) b[((int) l39) - 60720]) > -1) { break L42; }
+      if (l4 + Integer.MIN_VALUE < 2147483616) { break L42; }
+      l3 = l4 & 255;
+      l55 = (b[((int) l39) - 60719] & 0xff) & 63;
+      l56 = (b[((int) l39) - 60718] & 0xff) & 63;
+      L43: {
+       L44: {
+        if (l4 + Integer.MIN_VALUE > 2147483631) { break L44; }
+        l4 = ((l55 << 6) | ((l3 << 12) & 61440)) | l56;
+        break L43;
+       }
+       l4 = ((l56 << 6) | ((l55 << 12) | ((l3 << 18) & 1835008))) | ((b[((int) l39) - 60717] & 0xff) & 63);
+      }
+      if (l4 == 37912) { exit = 3; break PART; }
+      if (l4 == 38047) { exit = 3; break PART; }
+     }
+     Core3.f106(m, l10 + 40L, l54, l37, l40, l10 + 328L);
+     if ((b[((int) l10) - 60680] & 0xff) != 1) { exit = 3; break PART; }
+     l4 = b[((int) l10) - 60679] & 0xff;
+     L45: {
+      if ((l54 & 255) != 2) { break L45; }
+      Words.put64(b, ((int) l10) - 60080, 0L);
+      Words.put64(b, ((int) l10) - 60088, 0L);
+      Words.put64(b, ((int) l10) - 60096, 0L);
+      Core3.f114(m, l10 + 624L, 22, l37, l40);
+      if ((b[((int) l10) - 60096] & 0xff) != 1) { break L45; }
+      Core2.f39(m, l10 + 152L, l37, l40 - Words.get64(b, ((int) l10) - 60080));
+     }
+     l0 = l11 >>> 8L;
+     l3 = (int) l11;
+     L46: {
+      L47: {
+       if ((l4 & 255) + Integer.MIN_VALUE > -2147483639) { break L47; }
+       Core2.f39(m, l10 + 152L, 85360L, 1L);
+       break L46;
+      }
+      Core2.f39(m, l10 + 152L, 79940L, 0L);
+     }
+     l54 = (int) l0;
      Words.put64(b, ((int) l13) - 60713, 0L);
      Words.put64(b, ((int) l13) - 60720, 0L);
      Words.put64(b, ((int) l10) - 60344, 0L);
+     Words.put64(b, ((int) l10) - 60352, 1L);
      Words.put64(b, ((int) l10) - 60360, 0L);
-     b[((int) l10) - 60336] = (byte) 1;
-     Words.put64(b, ((int) l10) - 60352, 10L);
-     Words.put64(b, ((int) l10) - 60368, ((l11 & 65535L) * 10L) + 5L);
+     b[((int) l10) - 60336] = (byte) 0;
+     Words.put64(b, ((int) l10) - 60368, (l4 & 0xffffffffL) & 255L);
      m.fill((int) (l10 + 624L), 0, (int) 80L);
-     Core2.f38(m, l10 + 64L, l10 + 624L, l10 + 352L);
-     Core2.f39(m, l10 + 152L, Words.get64(b, ((int) l10) - 60656), Words.get64(b, ((int) l10) - 60648));
-     Core6.f196(m, l10 + 48L, l37, l40);
-     l11 = Words.get64(b, ((int) l10) - 60664);
-     l9 = Words.get64(b, ((int) l10) - 60672);
-     Words.put64(b, ((int) l10) - 60352, 0L);
-     Words.put64(b, ((int) l10) - 60360, 0L);
-     Words.put64(b, ((int) l10) - 60368, 0L);
-     L51: {
-      if (l53 != 26) { break L51; }
-      Core4.f124(m, l10 + 352L, 82828L, 2L, 82788L, 1L, l9, l11);
-      if ((b[((int) l10) - 60368] & 0xff) != 1) { exit = 2; break PART; }
-      l6 = Words.get64(b, ((int) l10) - 60360);
-      l0 = Words.get64(b, ((int) l10) - 60352);
+     Core2.f38(m, l10 + 24L, l10 + 624L, l10 + 352L);
+     Core2.f39(m, l10 + 152L, Words.get64(b, ((int) l10) - 60696), Words.get64(b, ((int) l10) - 60688));
+     Core6.f200(m, l10 + 152L, l3);
+     L48: {
+      if (((1 << l53) & -1064961) != 0) { break L48; }
+      Core6.f200(m, l10 + 152L, l54);
+     }
+     Words.put64(b, ((int) l10) - 60080, 0L);
+     Words.put64(b, ((int) l10) - 60088, 0L);
+     Words.put64(b, ((int) l10) - 60096, 0L);
+     L49: {
+      L50: {
+       if (Core3.f110(m, l39, l9) == 0) { break L50; }
+       l9 = 85469L;
+       l11 = 1L;
+       break L49;
+      }
+      Core3.f114(m, l10 + 624L, 21, l39, l9);
+      l9 = ((l4 = (((b[((int) l10) - 60096] & 0xff) & 255) == 1) ? 1 : 0) != 0) ? 85469L : 79940L;
+      l11 = l4 & 0xffffffffL;
+     }
+     Core2.f39(m, l10 + 152L, l9, l11);
+     exit = 3; break PART;
+    }
+    Words.put64(b, ((int) l13) - 60713, 0L);
+    Words.put64(b, ((int) l13) - 60720, 0L);
+    Words.put64(b, ((int) l10) - 60344, 0L);
+    Words.put64(b, ((int) l10) - 60360, 0L);
+    b[((int) l10) - 60336] = (byte) 1;
+    Words.put64(b, ((int) l10) - 60352, 10L);
+    Words.put64(b, ((int) l10) - 60368, ((l11 & 65535L) * 10L) + 5L);
+    m.fill((int) (l10 + 624L), 0, (int) 80L);
+    Core2.f38(m, l10 + 64L, l10 + 624L, l10 + 352L);
+    Core2.f39(m, l10 + 152L, Words.get64(b, ((int) l10) - 60656), Words.get64(b, ((int) l10) - 60648));
+    Core6.f196(m, l10 + 48L, l37, l40);
+    l11 = Words.get64(b, ((int) l10) - 60664);
+    l9 = Words.get64(b, ((int) l10) - 60672);
+    Words.put64(b, ((int) l10) - 60352, 0L);
+    Words.put64(b, ((int) l10) - 60360, 0L);
+    Words.put64(b, ((int) l10) - 60368, 0L);
+    L51: {
+     if (l53 != 26) { break L51; }
+     Core4.f124(m, l10 + 352L, 82828L, 2L, 82788L, 1L, l9, l11);
+     if ((b[((int) l10) - 60368] & 0xff) != 1) { exit = 3; break PART; }
+     l6 = Words.get64(b, ((int) l10) - 60360);
+     l0 = Words.get64(b, ((int) l10) - 60352);
+     Words.put64(b, ((int) l10) - 60080, 0L);
+     Words.put64(b, ((int) l10) - 60088, 0L);
+     Words.put64(b, ((int) l10) - 60096, 0L);
+     L52: {
+      L53: {
+       L54: {
+        if (l0 == 0L) { break L54; }
+        if ((l4 = (int) b[((int) l6) - 60720]) > -1) { break L54; }
+        if (l4 + Integer.MIN_VALUE < 2147483616) { break L54; }
+        l3 = l4 & 255;
+        l54 = (b[((int) l6) - 60719] & 0xff) & 63;
+        l53 = (b[((int) l6) - 60718] & 0xff) & 63;
+        L55: {
+         L56: {
+          if (l4 + Integer.MIN_VALUE > 2147483631) { break L56; }
+          l4 = ((l54 << 6) | ((l3 << 12) & 61440)) | l53;
+          break L55;
+         }
+         l4 = ((l53 << 6) | ((l54 << 12) | ((l3 << 18) & 1835008))) | ((b[((int) l6) - 60717] & 0xff) & 63);
+        }
+        if (l11 == 0L) { break L52; }
+        if (l4 != 23567) { break L53; }
+        break L52;
+       }
+       if (l11 == 0L) { break L52; }
+      }
+      L57: {
+       L58: {
+        if ((l4 = (int) b[((int) l9) - 60720]) <= -1) { break L58; }
+        l11 = 1L;
+        break L57;
+       }
+       L59: {
+        if (l4 + Integer.MIN_VALUE >= 2147483616) { break L59; }
+        l11 = 2L;
+        break L57;
+       }
+       l11 = (l4 + Integer.MIN_VALUE < 2147483632) ? 3L : 4L;
+      }
+      Core2.f39(m, l10 + 152L, l9, l11);
+     }
+     Core4.f126(m, l10 + 624L, l6, l0);
+     if ((b[((int) l10) - 60096] & 0xff) != 1) { exit = 3; break PART; }
+     Core2.f39(m, l10 + 152L, l6, l0 - Words.get64(b, ((int) l10) - 60080));
+     exit = 3; break PART;
+    }
+    if (l11 == 0L) { exit = 3; break PART; }
+    L60: {
+     L61: {
+      if ((l4 = (int) b[((int) l9) - 60720]) <= -1) { break L61; }
+      l11 = 1L;
+      break L60;
+     }
+     L62: {
+      if (l4 + Integer.MIN_VALUE >= 2147483616) { break L62; }
+      l11 = 2L;
+      break L60;
+     }
+     l11 = (l4 + Integer.MIN_VALUE < 2147483632) ? 3L : 4L;
+    }
+    Core2.f39(m, l10 + 152L, l9, l11);
+    exit = 3; break PART;
+   }
+   l6 = 0L;
+   Words.put64(b, ((int) l10) - 60376, 0L);
+   Words.put64(b, ((int) l10) - 60384, 0L);
+   Words.put64(b, ((int) l10) - 60392, 0L);
+   Core4.f120(m, l10 + 328L, l54, l37, l40);
+   if ((b[((int) l10) - 60392] & 0xff) != 1) { exit = 3; break PART; }
+   l38 = Words.get64(b, ((int) l10) - 60384);
+   Core2.f39(m, l10 + 152L, l37, l40 - (l39 = Words.get64(b, ((int) l10) - 60376)));
+   Words.put64(b, ((int) l10) - 60368, 0L);
+   Words.put64(b, ((int) l10) - 60360, 0L);
+   Words.put64(b, ((int) l10) - 60352, 0L);
+   Words.put64(b, ((int) l10) - 60344, 0L);
+   l37 = Words.get64(b, State.far((int) (l9 = (l53 & 0xffffffffL) << 3L), 88352));
+   l40 = Words.get64(b, State.far((int) l9, 88096));
+   l54 = 0;
+   l9 = 0L;
+   l53 = 0;
+   L63: while (true) {
+    Words.put64(b, ((int) l10) - 60248, l11 = l39);
+    Words.put64(b, ((int) l10) - 60256, l0 = l38);
+    b[((int) l10) - 60257] = (byte) l53;
+    b[((int) l10) - 60258] = (byte) (l4 = l54);
+    Words.put32(b, ((int) l10) - 60264, (int) l9);
+    Words.put16(b, ((int) l10) - 60260, (short) (l9 >>> 32L));
+    Core4.f121(m, l10 + 352L, b[((int) (l9 = l37 + (l6 << 1L))) - 60720] & 0xff, b[((int) (l9 + 1L)) - 60720] & 0xff, l10 + 456L);
+    if ((b[((int) l10) - 60368] & 0xff) != 1) { exit = 3; break PART; }
+    l39 = Words.get64(b, ((int) l10) - 60344);
+    l38 = Words.get64(b, ((int) l10) - 60352);
+    l53 = b[((int) l10) - 60353] & 0xff;
+    l54 = b[((int) l10) - 60354] & 0xff;
+    L64: {
+     L65: {
+      L66: {
+       switch ((int) (b[((int) l9) - 60720] & 0xffL)) {
+       case 1: break L65;
+       case 2: case 3: break L64;
+       default: break L66;
+       }
+      }
+      L67: {
+       if ((b[((int) (l9 + 1L)) - 60720] & 0xff) != 9) { break L67; }
+       Core2.f39(m, l10 + 152L, l0, l11 - l39);
+       break L64;
+      }
+      Words.put64(b, ((int) l10) - 60072, 0L);
       Words.put64(b, ((int) l10) - 60080, 0L);
       Words.put64(b, ((int) l10) - 60088, 0L);
       Words.put64(b, ((int) l10) - 60096, 0L);
-      L52: {
-       L53: {
-        L54: {
-         if (l0 == 0L) { break L54; }
-         if ((l4 = (int) b[((int) l6) - 60720]) > -1) { break L54; }
-         if (l4 + Integer.MIN_VALUE < 2147483616) { break L54; }
-         l3 = l4 & 255;
-         l54 = (b[((int) l6) - 60719] & 0xff) & 63;
-         l53 = (b[((int) l6) - 60718] & 0xff) & 63;
-         L55: {
-          L56: {
-           if (l4 + Integer.MIN_VALUE > 2147483631) { break L56; }
-           l4 = ((l54 << 6) | ((l3 << 12) & 61440)) | l53;
-           break L55;
-          }
-          l4 = ((l53 << 6) | ((l54 << 12) | ((l3 << 18) & 1835008))) | ((b[((int) l6) - 60717] & 0xff) & 63);
+      Core3.f112(m, l10 + 80L, l4 & 1, l0, l11);
+      l9 = Words.get64(b, ((int) l10) - 60640);
+      Core2.f39(m, l10 + 152L, l0, l11 - (l41 = Words.get64(b, ((int) l10) - 60632)));
+      Core3.f111(m, l10 + 624L, l9, l41);
+      l9 = l41 = Words.get64(b, ((int) l10) - 60096);
+      l0 = l34 = Words.get64(b, ((int) l10) - 60088);
+      L68: {
+       L69: while (true) {
+        if (l0 == 0L) { break L68; }
+        l4 = (l3 = (int) b[((int) l9) - 60720]) & 255;
+        l11 = 1L;
+        L70: {
+         if (l3 > -1) { break L70; }
+         l55 = (b[((int) l9) - 60719] & 0xff) & 63;
+         L71: {
+          if (l3 + Integer.MIN_VALUE > 2147483615) { break L71; }
+          l4 = ((l4 << 6) & 1984) | l55;
+          l11 = 2L;
+          break L70;
          }
-         if (l11 == 0L) { break L52; }
-         if (l4 != 23567) { break L53; }
-         break L52;
-        }
-        if (l11 == 0L) { break L52; }
-       }
-       L57: {
-        L58: {
-         if ((l4 = (int) b[((int) l9) - 60720]) <= -1) { break L58; }
-         l11 = 1L;
-         break L57;
-        }
-        L59: {
-         if (l4 + Integer.MIN_VALUE >= 2147483616) { break L59; }
-         l11 = 2L;
-         break L57;
-        }
-        l11 = (l4 + Integer.MIN_VALUE < 2147483632) ? 3L : 4L;
-       }
-       Core2.f39(m, l10 + 152L, l9, l11);
-      }
-      Core4.f126(m, l10 + 624L, l6, l0);
-      if ((b[((int) l10) - 60096] & 0xff) != 1) { exit = 2; break PART; }
-      Core2.f39(m, l10 + 152L, l6, l0 - Words.get64(b, ((int) l10) - 60080));
-      exit = 2; break PART;
-     }
-     if (l11 == 0L) { exit = 2; break PART; }
-     L60: {
-      L61: {
-       if ((l4 = (int) b[((int) l9) - 60720]) <= -1) { break L61; }
-       l11 = 1L;
-       break L60;
-      }
-      L62: {
-       if (l4 + Integer.MIN_VALUE >= 2147483616) { break L62; }
-       l11 = 2L;
-       break L60;
-      }
-      l11 = (l4 + Integer.MIN_VALUE < 2147483632) ? 3L : 4L;
-     }
-     Core2.f39(m, l10 + 152L, l9, l11);
-     exit = 2; break PART;
-    }
-    l6 = 0L;
-    Words.put64(b, ((int) l10) - 60376, 0L);
-    Words.put64(b, ((int) l10) - 60384, 0L);
-    Words.put64(b, ((int) l10) - 60392, 0L);
-    Core4.f120(m, l10 + 328L, l54, l37, l40);
-    if ((b[((int) l10) - 60392] & 0xff) != 1) { exit = 2; break PART; }
-    l38 = Words.get64(b, ((int) l10) - 60384);
-    Core2.f39(m, l10 + 152L, l37, l40 - (l39 = Words.get64(b, ((int) l10) - 60376)));
-    Words.put64(b, ((int) l10) - 60368, 0L);
-    Words.put64(b, ((int) l10) - 60360, 0L);
-    Words.put64(b, ((int) l10) - 60352, 0L);
-    Words.put64(b, ((int) l10) - 60344, 0L);
-    l37 = Words.get64(b, State.far((int) (l9 = (l53 & 0xffffffffL) << 3L), 88352));
-    l40 = Words.get64(b, State.far((int) l9, 88096));
-    l54 = 0;
-    l9 = 0L;
-    l53 = 0;
-    L63: while (true) {
-     Words.put64(b, ((int) l10) - 60248, l11 = l39);
-     Words.put64(b, ((int) l10) - 60256, l0 = l38);
-     b[((int) l10) - 60257] = (byte) l53;
-     b[((int) l10) - 60258] = (byte) (l4 = l54);
-     Words.put32(b, ((int) l10) - 60264, (int) l9);
-     Words.put16(b, ((int) l10) - 60260, (short) (l9 >>> 32L));
-     Core4.f121(m, l10 + 352L, b[((int) (l9 = l37 + (l6 << 1L))) - 60720] & 0xff, b[((int) (l9 + 1L)) - 60720] & 0xff, l10 + 456L);
-     if ((b[((int) l10) - 60368] & 0xff) != 1) { exit = 2; break PART; }
-     l39 = Words.get64(b, ((int) l10) - 60344);
-     l38 = Words.get64(b, ((int) l10) - 60352);
-     l53 = b[((int) l10) - 60353] & 0xff;
-     l54 = b[((int) l10) - 60354] & 0xff;
-     L64: {
-      L65: {
-       L66: {
-        switch ((int) (b[((int) l9) - 60720] & 0xffL)) {
-        case 1: break L65;
-        case 2: case 3: break L64;
-        default: break L66;
-        }
-       }
-       L67: {
-        if ((b[((int) (l9 + 1L)) - 60720] & 0xff) != 9) { break L67; }
-        Core2.f39(m, l10 + 152L, l0, l11 - l39);
-        break L64;
-       }
-       Words.put64(b, ((int) l10) - 60072, 0L);
-       Words.put64(b, ((int) l10) - 60080, 0L);
-       Words.put64(b, ((int) l10) - 60088, 0L);
-       Words.put64(b, ((int) l10) - 60096, 0L);
-       Core3.f112(m, l10 + 80L, l4 & 1, l0, l11);
-       l9 = Words.get64(b, ((int) l10) - 60640);
-       Core2.f39(m, l10 + 152L, l0, l11 - (l41 = Words.get64(b, ((int) l10) - 60632)));
-       Core3.f111(m, l10 + 624L, l9, l41);
-       l9 = l41 = Words.get64(b, ((int) l10) - 60096);
-       l0 = l34 = Words.get64(b, ((int) l10) - 60088);
-       L68: {
-        L69: while (true) {
-         if (l0 == 0L) { break L68; }
-         l4 = (l3 = (int) b[((int) l9) - 60720]) & 255;
-         l11 = 1L;
-         L70: {
-          if (l3 > -1) { break L70; }
-          l55 = (b[((int) l9) - 60719] & 0xff) & 63;
-          L71: {
-           if (l3 + Integer.MIN_VALUE > 2147483615) { break L71; }
-           l4 = ((l4 << 6) & 1984) | l55;
-           l11 = 2L;
-           break L70;
-          }
-          l56 = (b[((int) l9) - 60718] & 0xff) & 63;
-          L72: {
-           if (l3 + Integer.MIN_VALUE > 2147483631) { break L72; }
-           l4 = ((l55 << 6) | ((l4 << 12) & 61440)) | l56;
-           l11 = 3L;
-           break L70;
-          }
-          l4 = ((l56 << 6) | ((l55 << 12) | ((l4 << 18) & 1835008))) | ((b[((int) l9) - 60717] & 0xff) & 63);
-          l11 = 4L;
+         l56 = (b[((int) l9) - 60718] & 0xff) & 63;
+         L72: {
+          if (l3 + Integer.MIN_VALUE > 2147483631) { break L72; }
+          l4 = ((l55 << 6) | ((l4 << 12) & 61440)) | l56;
+          l11 = 3L;
+          break L70;
          }
-         L73: {
-          if ((l4 + -48) + Integer.MIN_VALUE < -2147483638) { break L73; }
-          l0 = l0 - l11;
-          l9 = l9 + l11;
-          if ((l4 + -65296) + Integer.MIN_VALUE > -2147483639) { continue L69; }
-         }
-         break L69;
+         l4 = ((l56 << 6) | ((l55 << 12) | ((l4 << 18) & 1835008))) | ((b[((int) l9) - 60717] & 0xff) & 63);
+         l11 = 4L;
         }
-        Core2.f39(m, l10 + 152L, l41, l34);
-        break L64;
+        L73: {
+         if ((l4 + -48) + Integer.MIN_VALUE < -2147483638) { break L73; }
+         l0 = l0 - l11;
+         l9 = l9 + l11;
+         if ((l4 + -65296) + Integer.MIN_VALUE > -2147483639) { continue L69; }
+        }
+        break L69;
        }
-       L74: {
-        if ((Core6.f190(m, 1, l41, l34) & 1) != 0) { break L74; }
-        Core2.f39(m, l10 + 152L, l41, l34);
-        break L64;
-       }
-       final int t75 = Core6.f201(m, l10 + 152L, 1, l41, l34);
+       Core2.f39(m, l10 + 152L, l41, l34);
        break L64;
       }
-      Core2.f39(m, l10 + 152L, l0, l11 - l39);
+      L74: {
+       if ((Core6.f190(m, 1, l41, l34) & 1) != 0) { break L74; }
+       Core2.f39(m, l10 + 152L, l41, l34);
+       break L64;
+      }
+      final int t75 = Core6.f201(m, l10 + 152L, 1, l41, l34);
+      break L64;
      }
-     l9 = (Words.get32(b, ((int) l10) - 60360) & 0xffffffffL) | ((Words.get16(b, ((int) (l10 + 364L)) - 60720) & 0xffffL) << 32L);
-     if ((l6 = l6 + 1L) != l40) { continue L63; }
-     exit = 2; break PART;
+     Core2.f39(m, l10 + 152L, l0, l11 - l39);
     }
+    l9 = (Words.get32(b, ((int) l10) - 60360) & 0xffffffffL) | ((Words.get16(b, ((int) (l10 + 364L)) - 60720) & 0xffffL) << 32L);
+    if ((l6 = l6 + 1L) != l40) { continue L63; }
+    exit = 3; break PART;
    }
-   m.fill((int) (l10 + 624L), 0, (int) 112L);
-   Core2.f59(m, l10 + 624L, l9, l11, l0, l6);
-   if ((b[((int) l10) - 60096] & 0xff) != 1) { exit = 1; break PART; }
-   L76: {
-    if (l52 != 0) { break L76; }
-    Words.put32(b, ((int) l19) - 60720, Words.get32(b, ((int) l10) - 60440));
-    Words.put16(b, ((int) l19) - 60716, (short) (Words.get16(b, ((int) l10) - 60436) & 0xffff));
-    Words.put64(b, ((int) l18) - 60720, Words.get64(b, ((int) l10) - 60456));
-    Words.put64(b, ((int) l18) - 60712, Words.get64(b, ((int) l10) - 60448));
-    Words.put64(b, ((int) l17) - 60720, Words.get64(b, ((int) l10) - 60480));
-    Words.put64(b, ((int) l17) - 60712, Words.get64(b, ((int) l10) - 60472));
-    Words.put32(b, ((int) l17) - 60704, Words.get32(b, ((int) l10) - 60464));
-    b[((int) l10) - 60367] = (byte) l53;
-    b[((int) l10) - 60368] = (byte) l54;
-    Words.put64(b, ((int) l10) - 60344, l11);
-    Words.put64(b, ((int) l10) - 60352, l9);
-    Words.put64(b, ((int) l10) - 60360, l39);
-    Words.put32(b, ((int) l10) - 60320, l55);
-    Words.put64(b, ((int) l16) - 60720, Words.get64(b, ((int) l10) - 60496));
-    Words.put64(b, ((int) l16) - 60712, Words.get64(b, ((int) l10) - 60488));
-    Words.put64(b, ((int) l10) - 60288, l6);
-    Words.put64(b, ((int) l10) - 60296, l0);
-    if (Core3.f107(m, l10 + 352L) != 0) { exit = 1; break PART; }
-   }
-   L77: {
-    if (Core6.f191(m, l9, l11, l0, l6) == 0) { break L77; }
-    if (Core6.f192(m, l51, l9, l11, l0, l6) == 0) { exit = 1; break PART; }
-   }
-   Core2.f60(m, l10 + 96L, l9, l11, l0, l6);
-   if ((Core6.f205(m, l10 + 152L, l51, l9, l11, Words.get64(b, ((int) l10) - 60624), Words.get64(b, ((int) l10) - 60616)) & 1) == 0) { exit = 1; break PART; }
-   Words.put32(b, ((int) l10) - 60368, 0);
-   L78: {
-    L79: {
-     if (l55 + Integer.MIN_VALUE > -2147483521) { break L79; }
-     b[((int) l10) - 60368] = (byte) l55;
-     l39 = 1L;
-     break L78;
-    }
-    L80: {
-     if (l55 + Integer.MIN_VALUE > -2147481601) { break L80; }
-     b[((int) l10) - 60367] = (byte) ((l55 & 63) | 128);
-     b[((int) l10) - 60368] = (byte) ((l55 >>> 6) | 192);
-     l39 = 2L;
-     break L78;
-    }
-    L81: {
-     if (l55 + Integer.MIN_VALUE > -2147418113) { break L81; }
-     b[((int) l10) - 60366] = (byte) ((l55 & 63) | 128);
-     b[((int) l10) - 60368] = (byte) ((l55 >>> 12) | 224);
-     b[((int) l10) - 60367] = (byte) (((l55 >>> 6) & 63) | 128);
-     l39 = 3L;
-     break L78;
-    }
-    b[((int) l10) - 60365] = (byte) ((l55 & 63) | 128);
-    b[((int) l10) - 60368] = (byte) ((l55 >>> 18) + -16);
-    b[((int) l10) - 60366] = (byte) (((l55 >>> 6) & 63) | 128);
-    b[((int) l10) - 60367] = (byte) (((l55 >>> 12) & 63) | 128);
-    l39 = 4L;
-   }
-   Core2.f39(m, l10 + 152L, l10 + 352L, l39);
-   l39 = 0L;
-   Words.put64(b, ((int) l10) - 60040, 0L);
-   Words.put64(b, ((int) l10) - 60048, 0L);
-   Words.put64(b, ((int) l10) - 60056, 0L);
-   Words.put64(b, ((int) l10) - 60064, 0L);
-   Words.put64(b, ((int) l10) - 60072, 0L);
-   Words.put64(b, ((int) l10) - 60080, 0L);
-   Words.put64(b, ((int) l10) - 60088, 0L);
-   Words.put64(b, ((int) l10) - 60096, 0L);
-   Core2.f62(m, l10 + 624L, l9, l11, 1);
-   l9 = 79940L;
-   L82: {
-    if ((b[((int) l10) - 60096] & 0xff) != 0) { break L82; }
-    if (((b[((int) l10) - 60048] & 0xff) & 255) != 2) { break L82; }
-    Words.put64(b, ((int) l10) - 60040, 0L);
-    Words.put64(b, ((int) l10) - 60048, 0L);
-    Words.put64(b, ((int) l10) - 60056, 0L);
-    Words.put64(b, ((int) l10) - 60064, 0L);
-    Words.put64(b, ((int) l10) - 60072, 0L);
-    Words.put64(b, ((int) l10) - 60080, 0L);
-    Words.put64(b, ((int) l10) - 60088, 0L);
-    Words.put64(b, ((int) l10) - 60096, 0L);
-    Core2.f62(m, l10 + 624L, l0, l6, 1);
-    l9 = ((l4 = ((((b[((int) l10) - 60096] & 0xff) & 255) != 0) | (((b[((int) l10) - 60048] & 0xff) & 255) != 2)) ? 1 : 0) != 0) ? 73821L : 79940L;
-    l39 = l4 & 0xffffffffL;
-   }
-   if ((Core6.f205(m, l10 + 152L, l51, l0, l6, l9, l39) & 1) == 0) { exit = 1; break PART; }
-   exit = 2; break PART;
   }
  }
  m.kept[0] = l0;
@@ -2588,26 +2498,117 @@ static int f267(State m, long l0, long l1, int l2, int l3, int l4, int l5, long 
      L33: {
       if (Core6.f187(m, l10 + 287L, l12, l1, l10 + 176L, l10 + 504L) == 0) { break L33; }
       if ((l4 & 255) == 0) { break L33; }
-      final int x83 = f267_2(m, l0, l3, l4, l5, l6, l9, l10, l11, l13, l14, l15, l16, l17, l18, l19, l34, l35, l36, l37, l38, l39, l40, l41, l46, l48, l50, l51, l52, l53, l54, l55, l56);
-      l0 = m.kept[0];
-      l3 = (int) m.kept[1];
-      l4 = (int) m.kept[2];
-      l6 = m.kept[3];
-      l9 = m.kept[4];
-      l11 = m.kept[5];
-      l34 = m.kept[6];
-      l37 = m.kept[7];
-      l38 = m.kept[8];
-      l39 = m.kept[9];
-      l40 = m.kept[10];
-      l41 = m.kept[11];
-      l53 = (int) m.kept[12];
-      l54 = (int) m.kept[13];
-      l55 = (int) m.kept[14];
-      l56 = (int) m.kept[15];
-      switch (x83) {
-      case 1: break L33;
-      case 2: break L31;
+      L34: {
+       final int x76 = f267_2(m, l0, l3, l4, l5, l6, l9, l10, l11, l13, l14, l15, l34, l35, l36, l37, l38, l39, l40, l41, l46, l48, l50, l51, l52, l53, l54, l55, l56);
+       l0 = m.kept[0];
+       l3 = (int) m.kept[1];
+       l4 = (int) m.kept[2];
+       l6 = m.kept[3];
+       l9 = m.kept[4];
+       l11 = m.kept[5];
+       l34 = m.kept[6];
+       l37 = m.kept[7];
+       l38 = m.kept[8];
+       l39 = m.kept[9];
+       l40 = m.kept[10];
+       l41 = m.kept[11];
+       l53 = (int) m.kept[12];
+       l54 = (int) m.kept[13];
+       l55 = (int) m.kept[14];
+       l56 = (int) m.kept[15];
+       switch (x76) {
+       case 1: break L34;
+       case 2: break L33;
+       case 3: break L31;
+       }
+       m.fill((int) (l10 + 624L), 0, (int) 112L);
+       Core2.f59(m, l10 + 624L, l9, l11, l0, l6);
+       if ((b[((int) l10) - 60096] & 0xff) != 1) { break L33; }
+       L77: {
+        if (l52 != 0) { break L77; }
+        Words.put32(b, ((int) l19) - 60720, Words.get32(b, ((int) l10) - 60440));
+        Words.put16(b, ((int) l19) - 60716, (short) (Words.get16(b, ((int) l10) - 60436) & 0xffff));
+        Words.put64(b, ((int) l18) - 60720, Words.get64(b, ((int) l10) - 60456));
+        Words.put64(b, ((int) l18) - 60712, Words.get64(b, ((int) l10) - 60448));
+        Words.put64(b, ((int) l17) - 60720, Words.get64(b, ((int) l10) - 60480));
+        Words.put64(b, ((int) l17) - 60712, Words.get64(b, ((int) l10) - 60472));
+        Words.put32(b, ((int) l17) - 60704, Words.get32(b, ((int) l10) - 60464));
+        b[((int) l10) - 60367] = (byte) l53;
+        b[((int) l10) - 60368] = (byte) l54;
+        Words.put64(b, ((int) l10) - 60344, l11);
+        Words.put64(b, ((int) l10) - 60352, l9);
+        Words.put64(b, ((int) l10) - 60360, l39);
+        Words.put32(b, ((int) l10) - 60320, l55);
+        Words.put64(b, ((int) l16) - 60720, Words.get64(b, ((int) l10) - 60496));
+        Words.put64(b, ((int) l16) - 60712, Words.get64(b, ((int) l10) - 60488));
+        Words.put64(b, ((int) l10) - 60288, l6);
+        Words.put64(b, ((int) l10) - 60296, l0);
+        if (Core3.f107(m, l10 + 352L) != 0) { break L33; }
+       }
+       L78: {
+        if (Core6.f191(m, l9, l11, l0, l6) == 0) { break L78; }
+        if (Core6.f192(m, l51, l9, l11, l0, l6) == 0) { break L33; }
+       }
+       Core2.f60(m, l10 + 96L, l9, l11, l0, l6);
+       if ((Core6.f205(m, l10 + 152L, l51, l9, l11, Words.get64(b, ((int) l10) - 60624), Words.get64(b, ((int) l10) - 60616)) & 1) == 0) { break L33; }
+       Words.put32(b, ((int) l10) - 60368, 0);
+       L79: {
+        L80: {
+         if (l55 + Integer.MIN_VALUE > -2147483521) { break L80; }
+         b[((int) l10) - 60368] = (byte) l55;
+         l39 = 1L;
+         break L79;
+        }
+        L81: {
+         if (l55 + Integer.MIN_VALUE > -2147481601) { break L81; }
+         b[((int) l10) - 60367] = (byte) ((l55 & 63) | 128);
+         b[((int) l10) - 60368] = (byte) ((l55 >>> 6) | 192);
+         l39 = 2L;
+         break L79;
+        }
+        L82: {
+         if (l55 + Integer.MIN_VALUE > -2147418113) { break L82; }
+         b[((int) l10) - 60366] = (byte) ((l55 & 63) | 128);
+         b[((int) l10) - 60368] = (byte) ((l55 >>> 12) | 224);
+         b[((int) l10) - 60367] = (byte) (((l55 >>> 6) & 63) | 128);
+         l39 = 3L;
+         break L79;
+        }
+        b[((int) l10) - 60365] = (byte) ((l55 & 63) | 128);
+        b[((int) l10) - 60368] = (byte) ((l55 >>> 18) + -16);
+        b[((int) l10) - 60366] = (byte) (((l55 >>> 6) & 63) | 128);
+        b[((int) l10) - 60367] = (byte) (((l55 >>> 12) & 63) | 128);
+        l39 = 4L;
+       }
+       Core2.f39(m, l10 + 152L, l10 + 352L, l39);
+       l39 = 0L;
+       Words.put64(b, ((int) l10) - 60040, 0L);
+       Words.put64(b, ((int) l10) - 60048, 0L);
+       Words.put64(b, ((int) l10) - 60056, 0L);
+       Words.put64(b, ((int) l10) - 60064, 0L);
+       Words.put64(b, ((int) l10) - 60072, 0L);
+       Words.put64(b, ((int) l10) - 60080, 0L);
+       Words.put64(b, ((int) l10) - 60088, 0L);
+       Words.put64(b, ((int) l10) - 60096, 0L);
+       Core2.f62(m, l10 + 624L, l9, l11, 1);
+       l9 = 79940L;
+       L83: {
+        if ((b[((int) l10) - 60096] & 0xff) != 0) { break L83; }
+        if (((b[((int) l10) - 60048] & 0xff) & 255) != 2) { break L83; }
+        Words.put64(b, ((int) l10) - 60040, 0L);
+        Words.put64(b, ((int) l10) - 60048, 0L);
+        Words.put64(b, ((int) l10) - 60056, 0L);
+        Words.put64(b, ((int) l10) - 60064, 0L);
+        Words.put64(b, ((int) l10) - 60072, 0L);
+        Words.put64(b, ((int) l10) - 60080, 0L);
+        Words.put64(b, ((int) l10) - 60088, 0L);
+        Words.put64(b, ((int) l10) - 60096, 0L);
+        Core2.f62(m, l10 + 624L, l0, l6, 1);
+        l9 = ((l4 = ((((b[((int) l10) - 60096] & 0xff) & 255) != 0) | (((b[((int) l10) - 60048] & 0xff) & 255) != 2)) ? 1 : 0) != 0) ? 73821L : 79940L;
+        l39 = l4 & 0xffffffffL;
+       }
+       if ((Core6.f205(m, l10 + 152L, l51, l0, l6, l9, l39) & 1) == 0) { break L33; }
+       break L31;
       }
       b[((int) l10) - 60390] = (byte) l52;
       Words.put16(b, ((int) l10) - 60392, (short) l46);
@@ -2806,371 +2807,331 @@ static int f269_1(State m, long l0, int l1, int l2, int l3, long l7, long l8, lo
  final byte[] b = m.bytes;
  int exit = 0;
  PART: {
-  L59: {
-   L60: {
-    L61: {
-     L62: {
-      L63: {
-       L64: {
-        L65: {
-         L66: {
-          L67: {
-           L68: {
-            switch (l28) {
-            case 1: break L67;
-            case 2: break L68;
-            case 3: break L62;
-            default: break L66;
-            }
+  L60: {
+   L61: {
+    L62: {
+     L63: {
+      L64: {
+       L65: {
+        L66: {
+         L67: {
+          L68: {
+           switch (l28) {
+           case 1: break L67;
+           case 2: break L68;
+           case 3: break L62;
+           default: break L66;
            }
-           l17 = 100L;
-           if (!(((l9 ^ 100L) | l7) == 0L)) { break L65; }
-           l0 = 1L;
-           l15 = 471L;
-           break L63;
           }
-          l16 = 10L;
-          l21 = 1L;
-          if (((l9 ^ 10L) | l7) == 0L) { break L64; }
-          l17 = 0L;
-          l0 = 0L;
-          L69: {
-           L70: while (true) {
-            Core1.f3(m, l8 + 192L, l16, 0L, 10L, 0L);
-            Core1.f3(m, l8 + 176L, l17, 0L, 0L, 10L);
-            if ((((l16 = (l17 = Words.get64(b, ((int) l8) - 60528)) & -2L) ^ l9) | ((l17 = (Words.get64(b, ((int) l8) - 60520) + Words.get64(b, ((int) l8) - 60536)) + (((l17 + Words.get64(b, ((int) l8) - 60544)) + Long.MIN_VALUE < l17 + Long.MIN_VALUE) ? 1L : 0L)) ^ l7)) == 0L) { break L69; }
-            if (l0 == 36L) { break L62; }
-            Core1.f3(m, l8 + 160L, l16, 0L, 10L, 0L);
-            Core1.f3(m, l8 + 144L, l17, 0L, 0L, 10L);
-            l0 = l0 + 2L;
-            if (!((((l16 = (l17 = Words.get64(b, ((int) l8) - 60560)) & -4L) ^ l9) | ((l17 = (Words.get64(b, ((int) l8) - 60552) + Words.get64(b, ((int) l8) - 60568)) + (((l17 + Words.get64(b, ((int) l8) - 60576)) + Long.MIN_VALUE < l17 + Long.MIN_VALUE) ? 1L : 0L)) ^ l7)) == 0L)) { continue L70; }
-            break L70;
-           }
-           l0 = l0 + -1L;
-          }
-          l21 = l0 + 2L;
-          break L64;
+          l17 = 100L;
+          if (!(((l9 ^ 100L) | l7) == 0L)) { break L65; }
+          l0 = 1L;
+          l15 = 471L;
+          break L63;
          }
-         l0 = 1L;
-         if (!(((l9 ^ 1L) | l7) == 0L)) { break L62; }
-         l15 = 471L;
-         break L63;
-        }
-        l0 = 0L;
-        l21 = 1L;
-        L71: while (true) {
-         if (l21 == 37L) { break L62; }
-         Core1.f3(m, l8 + 256L, l17, 0L, 10L, 0L);
-         Core1.f3(m, l8 + 240L, l0, 0L, 0L, 10L);
-         if ((((l17 = (l0 = Words.get64(b, ((int) l8) - 60464)) & -2L) ^ l9) | ((l0 = (Words.get64(b, ((int) l8) - 60456) + Words.get64(b, ((int) l8) - 60472)) + (((l0 + Words.get64(b, ((int) l8) - 60480)) + Long.MIN_VALUE < l0 + Long.MIN_VALUE) ? 1L : 0L)) ^ l7)) == 0L) { break L64; }
-         Core1.f3(m, l8 + 224L, l17, 0L, 10L, 0L);
-         Core1.f3(m, l8 + 208L, l0, 0L, 0L, 10L);
-         l21 = l21 + 2L;
-         if ((((l17 = (l0 = Words.get64(b, ((int) l8) - 60496)) & -4L) ^ l9) | ((l0 = (Words.get64(b, ((int) l8) - 60488) + Words.get64(b, ((int) l8) - 60504)) + (((l0 + Words.get64(b, ((int) l8) - 60512)) + Long.MIN_VALUE < l0 + Long.MIN_VALUE) ? 1L : 0L)) ^ l7)) != 0L) { continue L71; }
-         break L71;
-        }
-        l21 = l21 + -1L;
-       }
-       final long t72 = ((l27 = (l3 == 1) ? 1 : 0) != 0) ? 80504L : 80720L;
-       final long t73 = l27 != 0 ? 80072L : 80288L;
-       final int t74 = l2;
-       l26 = (t74 != 0 ? t72 : t73) + 108L;
-       l16 = 471L;
-       l12 = l24;
-       l17 = l25;
-       l15 = 0L;
-       L75: while (true) {
-        l20 = l16;
-        final long t76 = l17;
-        final int t77 = ((l12 | l17) == 0L) ? 1 : 0;
-        final long t78 = (long) Long.numberOfLeadingZeros(l17);
-        final long t79 = ((long) Long.numberOfLeadingZeros(l12)) + 64L;
-        final int t80 = (l17 != 0L) ? 1 : 0;
-        final int t81 = ((l0 = 124L - (l7 = t80 != 0 ? t78 : t79)) + Long.MIN_VALUE > -9223372036854775681L) ? 1 : 0;
-        final int t82 = ((l16 = 0L - ((l7 + Long.MIN_VALUE > -9223372036854775684L) ? 1L : 0L)) != 0L) ? 1 : 0;
-        final int t83 = (l16 == 0L) ? 1 : 0;
-        l9 = ((l27 = t77 | (t83 != 0 ? t81 : t82)) != 0) ? 0L : t76;
-        l7 = l27 != 0 ? 0L : l12;
-        L84: {
-         if (l27 != 0) { break L84; }
-         if (((l0 ^ 127L) | l16) == 0L) { break L84; }
-         Core1.f4(m, l8 + 128L, l12, l17, 127 - ((int) l0));
-         l9 = Words.get64(b, ((int) l8) - 60584);
-         l7 = Words.get64(b, ((int) l8) - 60592);
-         L85: {
-          L86: {
-           if (((l0 = l0 + 1L) | (l13 = l16 + ((l0 == 0L) ? 1L : 0L))) == 0L) { break L86; }
-           Core1.f5(m, l8 + 112L, l12, l17, (int) l0);
-           l22 = 10L + -1L;
-           l23 = 0L - ((10L == 0L) ? 1L : 0L);
-           l16 = Words.get64(b, ((int) l8) - 60600);
-           l17 = Words.get64(b, ((int) l8) - 60608);
-           l14 = 0L;
-           L87: while (true) {
-            l11 = l14;
-            l14 = (l17 = ((l23 - (l18 = (l16 << 1L) | (l17 >>> 63L))) - ((l22 + Long.MIN_VALUE < (l16 = (l17 << 1L) | (l9 >>> 63L)) + Long.MIN_VALUE) ? 1L : 0L)) >> 63L) & 1L;
-            l17 = l16 - (l19 = l17 & 10L);
-            l16 = l18 - ((l16 + Long.MIN_VALUE < l19 + Long.MIN_VALUE) ? 1L : 0L);
-            l9 = 0L | ((l9 << 1L) | (l7 >>> 63L));
-            l27 = (l0 == 0L) ? 1 : 0;
-            l7 = l11 | (l7 << 1L);
-            l0 = l11 = l0 + -1L;
-            if (!((l11 | (l13 = l13 - (l27 & 0xffffffffL))) == 0L)) { continue L87; }
-            break L85;
-           }
+         l16 = 10L;
+         l21 = 1L;
+         if (((l9 ^ 10L) | l7) == 0L) { break L64; }
+         l17 = 0L;
+         l0 = 0L;
+         L69: {
+          L70: while (true) {
+           Core1.f3(m, l8 + 192L, l16, 0L, 10L, 0L);
+           Core1.f3(m, l8 + 176L, l17, 0L, 0L, 10L);
+           if ((((l16 = (l17 = Words.get64(b, ((int) l8) - 60528)) & -2L) ^ l9) | ((l17 = (Words.get64(b, ((int) l8) - 60520) + Words.get64(b, ((int) l8) - 60536)) + (((l17 + Words.get64(b, ((int) l8) - 60544)) + Long.MIN_VALUE < l17 + Long.MIN_VALUE) ? 1L : 0L)) ^ l7)) == 0L) { break L69; }
+           if (l0 == 36L) { break L62; }
+           Core1.f3(m, l8 + 160L, l16, 0L, 10L, 0L);
+           Core1.f3(m, l8 + 144L, l17, 0L, 0L, 10L);
+           l0 = l0 + 2L;
+           if (!((((l16 = (l17 = Words.get64(b, ((int) l8) - 60560)) & -4L) ^ l9) | ((l17 = (Words.get64(b, ((int) l8) - 60552) + Words.get64(b, ((int) l8) - 60568)) + (((l17 + Words.get64(b, ((int) l8) - 60576)) + Long.MIN_VALUE < l17 + Long.MIN_VALUE) ? 1L : 0L)) ^ l7)) == 0L)) { continue L70; }
+           break L70;
           }
-          l14 = 0L;
+          l0 = l0 + -1L;
          }
-         l9 = (l9 << 1L) | (l7 >>> 63L);
-         l7 = l14 | (l7 << 1L);
+         l21 = l0 + 2L;
+         break L64;
         }
-        Core1.f3(m, l8 + 96L, l7, l7, 10L, 0L);
-        if (((l27 = Words.get32(b, ((int) (l26 + ((l12 - Words.get64(b, ((int) l8) - 60624)) << 2L))) - 60720)) + -55296) + Integer.MIN_VALUE <= 2147430399) { exit = 1; break PART; }
-        b[((int) (l0 = (l8 + 494L) + (l16 = l20 + -3L))) - 60718] = (byte) ((l27 & 63) | 128);
-        b[((int) l0) - 60720] = (byte) ((l27 >>> 12) | 224);
-        b[((int) l0) - 60719] = (byte) (((l27 >>> 6) & 63) | 128);
         l0 = 1L;
-        l12 = l7;
-        l17 = l9;
-        if ((l15 = l15 + 1L) != l21) { continue L75; }
-        break L75;
-       }
-       b[((int) (l7 = (l8 + 494L) + (l15 = l20 + -6L))) - 60718] = (byte) ((l27 = l2 != 0 ? 28857 : 40670) & 191);
-       b[((int) l7) - 60720] = (byte) ((l27 >>> 12) | 224);
-       b[((int) l7) - 60719] = (byte) (((l27 >>> 6) & 59) | 128);
-       l22 = 0L;
-       L88: {
-        L89: {
-         switch ((int) (l21 & 4294967295L)) {
-         case 0: break L63;
-         case 1: break L89;
-         default: break L88;
-         }
-        }
-        l0 = 10L;
+        if (!(((l9 ^ 1L) | l7) == 0L)) { break L62; }
+        l15 = 471L;
         break L63;
        }
-       l27 = (int) l21;
-       l7 = 10L;
-       l9 = 1L;
-       l17 = 0L;
        l0 = 0L;
-       L90: while (true) {
-        Core1.f3(m, l8 + 64L, ((l1 = l27 & 1) != 0) ? l7 : 1L, l1 != 0 ? l0 : 0L, l9, l17);
-        Core1.f3(m, l8 + 80L, l7, l0, l7, l0);
-        l1 = (l27 + Integer.MIN_VALUE > -2147483645) ? 1 : 0;
-        l0 = Words.get64(b, ((int) l8) - 60632);
-        l7 = Words.get64(b, ((int) l8) - 60640);
-        l17 = Words.get64(b, ((int) l8) - 60648);
-        l9 = Words.get64(b, ((int) l8) - 60656);
-        l27 = l27 >>> 1;
-        if (l1 != 0) { continue L90; }
-        break L90;
+       l21 = 1L;
+       L71: while (true) {
+        if (l21 == 37L) { break L62; }
+        Core1.f3(m, l8 + 256L, l17, 0L, 10L, 0L);
+        Core1.f3(m, l8 + 240L, l0, 0L, 0L, 10L);
+        if ((((l17 = (l0 = Words.get64(b, ((int) l8) - 60464)) & -2L) ^ l9) | ((l0 = (Words.get64(b, ((int) l8) - 60456) + Words.get64(b, ((int) l8) - 60472)) + (((l0 + Words.get64(b, ((int) l8) - 60480)) + Long.MIN_VALUE < l0 + Long.MIN_VALUE) ? 1L : 0L)) ^ l7)) == 0L) { break L64; }
+        Core1.f3(m, l8 + 224L, l17, 0L, 10L, 0L);
+        Core1.f3(m, l8 + 208L, l0, 0L, 0L, 10L);
+        l21 = l21 + 2L;
+        if ((((l17 = (l0 = Words.get64(b, ((int) l8) - 60496)) & -4L) ^ l9) | ((l0 = (Words.get64(b, ((int) l8) - 60488) + Words.get64(b, ((int) l8) - 60504)) + (((l0 + Words.get64(b, ((int) l8) - 60512)) + Long.MIN_VALUE < l0 + Long.MIN_VALUE) ? 1L : 0L)) ^ l7)) != 0L) { continue L71; }
+        break L71;
        }
-       Core1.f3(m, l8 + 48L, l9, l17, l7, l0);
-       if (((l0 = Words.get64(b, ((int) l8) - 60672)) | (l22 = Words.get64(b, ((int) l8) - 60664))) == 0L) { exit = 1; break PART; }
+       l21 = l21 + -1L;
       }
-      final long t91 = l25;
-      final int t92 = (((l0 | l22) == 0L) | ((l24 | l25) == 0L)) ? 1 : 0;
-      final long t93 = (long) Long.numberOfLeadingZeros(l22);
-      final long t94 = ((long) Long.numberOfLeadingZeros(l0)) + 64L;
-      final int t95 = (l22 != 0L) ? 1 : 0;
-      final long t96 = l7 = t95 != 0 ? t93 : t94;
-      final long t97 = (long) Long.numberOfLeadingZeros(l25);
-      final long t98 = ((long) Long.numberOfLeadingZeros(l24)) + 64L;
-      final int t99 = (l25 != 0L) ? 1 : 0;
-      final int t100 = ((l14 = t96 - (l9 = t99 != 0 ? t97 : t98)) + Long.MIN_VALUE > -9223372036854775681L) ? 1 : 0;
-      final int t101 = ((l16 = 0L - ((l7 + Long.MIN_VALUE < l9 + Long.MIN_VALUE) ? 1L : 0L)) != 0L) ? 1 : 0;
-      final int t102 = (l16 == 0L) ? 1 : 0;
-      l9 = ((l27 = t92 | (t102 != 0 ? t100 : t101)) != 0) ? 0L : t91;
-      l7 = l27 != 0 ? 0L : l24;
-      if (l27 != 0) { break L60; }
-      if (((l14 ^ 127L) | l16) == 0L) { break L60; }
-      Core1.f4(m, l8 + 16L, l24, l25, 127 - ((int) l14));
-      l17 = Words.get64(b, ((int) l8) - 60696);
-      l7 = Words.get64(b, ((int) l8) - 60704);
-      L103: {
-       if (((l9 = l14 + 1L) | (l13 = l16 + ((l9 == 0L) ? 1L : 0L))) == 0L) { break L103; }
-       Core1.f5(m, l8, l24, l25, (int) l9);
-       l23 = l0 + -1L;
-       l12 = l22 - ((l0 == 0L) ? 1L : 0L);
-       l11 = Words.get64(b, ((int) l8) - 60712);
-       l16 = Words.get64(b, ((int) l8) - 60720);
-       l14 = 0L;
-       L104: while (true) {
-        l18 = l14;
-        l11 = ((l14 = (l11 << 1L) | (l16 >>> 63L)) - ((l14 = ((l12 - l14) - ((l23 + Long.MIN_VALUE < (l16 = (l16 << 1L) | (l17 >>> 63L)) + Long.MIN_VALUE) ? 1L : 0L)) >> 63L) & l22)) - ((l16 + Long.MIN_VALUE < (l19 = l14 & l0) + Long.MIN_VALUE) ? 1L : 0L);
-        l14 = l14 & 1L;
-        l16 = l16 - l19;
-        l17 = 0L | ((l17 << 1L) | (l7 >>> 63L));
-        l27 = (l9 == 0L) ? 1 : 0;
-        l7 = l18 | (l7 << 1L);
-        l9 = l18 = l9 + -1L;
-        if (!((l18 | (l13 = l13 - (l27 & 0xffffffffL))) == 0L)) { continue L104; }
-        break L61;
-       }
-      }
-      l14 = 0L;
-      break L61;
-     }
-     m.fill((int) (l8 + 965L), 0, (int) 235L);
-     L105: {
-      final int t106 = (l24 + Long.MIN_VALUE < -9213372036854775808L) ? 1 : 0;
-      final int t107 = (l25 == 0L) ? 1 : 0;
-      if ((t107 != 0 ? t106 : 0) != 0) { break L105; }
-      if ((l31 & 255) == 0) { exit = 2; break PART; }
-     }
-     Words.put32(b, ((int) l8) - 59518, 0);
-     b[((int) l8) - 59519] = (byte) l30;
-     b[((int) l8) - 59520] = (byte) l29;
-     Words.put16(b, ((int) l8) - 59514, (short) 0);
-     final int t108 = (int) l8;
-     final long t109 = ((l27 = (l3 == 1) ? 1 : 0) != 0) ? 80504L : 80720L;
-     final long t110 = l27 != 0 ? 80072L : 80288L;
-     final int t111 = l2;
-     Words.put64(b, t108 - 59512, l16 = t111 != 0 ? t109 : t110);
-     L112: {
-      if ((l17 = 235L - (l0 = Core6.f206(m, l8 + 965L, l8 + 1200L, l31, 0, l24, l25))) == 0L) { break L112; }
-      m.copy((int) (((l8 + 494L) + l0) + 236L), (int) ((l8 + 965L) + l0), (int) l17);
-     }
-     L113: {
-      L114: {
-       if (((l17 = (l8 + 494L) + (l0 = l0 + 230L)) - 85603L) + Long.MIN_VALUE > -9223372036854775803L) { break L114; }
-       Words.put16(b, ((int) l17) - 60716, (short) 35769);
-       Words.put32(b, ((int) l17) - 60720, -460945179);
-       break L113;
-      }
-      Words.put16(b, ((int) l17) - 60716, (short) (Words.get16(b, State.far((int) 0L, 85607)) & 0xffff));
-      Words.put32(b, ((int) l17) - 60720, Words.get32(b, State.far((int) 0L, 85603)));
-     }
-     m.fill((int) (l8 + 965L), 0, (int) 235L);
-     L115: {
-      if ((l31 & 255) != 0) { break L115; }
-      final int t116 = (l9 + Long.MIN_VALUE > -9213372036854775809L) ? 1 : 0;
-      final int t117 = (l7 != 0L) ? 1 : 0;
-      final int t118 = (l7 == 0L) ? 1 : 0;
-      if ((t118 != 0 ? t116 : t117) != 0) { exit = 2; break PART; }
-     }
-     Words.put32(b, ((int) l8) - 59518, 0);
-     b[((int) l8) - 59519] = (byte) l30;
-     b[((int) l8) - 59520] = (byte) l29;
-     Words.put16(b, ((int) l8) - 59514, (short) 0);
-     Words.put64(b, ((int) l8) - 59512, l16);
-     l9 = Core6.f206(m, l8 + 965L, l8 + 1200L, l31, 0, l9, l7);
-     if (((l27 = Words.get32(b, ((int) (l16 + 112L)) - 60720)) + -55296) + Integer.MIN_VALUE <= 2147430399) { exit = 1; break PART; }
-     l16 = (l8 + 965L) + l9;
-     l7 = 0L;
-     L119: {
-      L120: {
-       if (l9 == 235L) { break L120; }
-       l3 = (l1 = (int) b[((int) l16) - 60720]) & 255;
-       l17 = 1L;
-       L121: {
-        if (l1 > -1) { break L121; }
-        l28 = (b[((int) l16) - 60719] & 0xff) & 63;
-        L122: {
-         if (l1 + Integer.MIN_VALUE > 2147483615) { break L122; }
-         l3 = ((l3 << 6) & 1984) | l28;
-         l17 = 2L;
-         break L121;
-        }
-        l29 = (b[((int) l16) - 60718] & 0xff) & 63;
-        L123: {
-         if (l1 + Integer.MIN_VALUE > 2147483631) { break L123; }
-         l3 = ((l28 << 6) | ((l3 << 12) & 61440)) | l29;
-         l17 = 3L;
-         break L121;
-        }
-        l3 = ((l29 << 6) | ((l28 << 12) | ((l3 << 18) & 1835008))) | ((b[((int) l16) - 60717] & 0xff) & 63);
-        l17 = 4L;
-       }
-       l7 = 235L - l9;
-       L124: {
-        if (l3 != l27) { break L124; }
-        Words.put64(b, ((int) l8) - 59496, 0L);
-        Words.put64(b, ((int) l8) - 59504, 0L);
-        Words.put64(b, ((int) l8) - 59512, 0L);
-        Words.put64(b, ((int) l8) - 59520, 0L);
-        Core2.f67(m, l8 + 1200L, l14 = l16 + l17, l13 = l7 - l17);
-        if ((b[((int) l8) - 59520] & 0xff) != 1) { break L124; }
-        Core2.f48(m, l8 + 40L, Words.get32(b, ((int) l8) - 59512));
-        if ((b[((int) l8) - 60680] & 0xff) != 1) { break L124; }
-        if (((b[((int) l8) - 60679] & 0xff) & 255) + Integer.MIN_VALUE > -2147483643) { break L124; }
-        Words.put64(b, ((int) l8) - 59496, 0L);
-        Words.put64(b, ((int) l8) - 59504, 0L);
-        Words.put64(b, ((int) l8) - 59512, 0L);
-        Words.put64(b, ((int) l8) - 59520, 0L);
-        l27 = 1;
-        l9 = l14;
-        l17 = l13;
-        L125: while (true) {
-         Core2.f67(m, l8 + 1200L, l9, l17);
-         L126: {
-          if ((b[((int) l8) - 59520] & 0xff) == 1) { break L126; }
-          l16 = l14;
-          l7 = l13;
-          break L124;
+      final long t72 = ((l27 = (l3 == 1) ? 1 : 0) != 0) ? 80504L : 80720L;
+      final long t73 = l27 != 0 ? 80072L : 80288L;
+      final int t74 = l2;
+      l26 = (t74 != 0 ? t72 : t73) + 108L;
+      l16 = 471L;
+      l12 = l24;
+      l17 = l25;
+      l15 = 0L;
+      L75: while (true) {
+       l20 = l16;
+       final long t76 = l17;
+       final int t77 = ((l12 | l17) == 0L) ? 1 : 0;
+       final long t78 = (long) Long.numberOfLeadingZeros(l17);
+       final long t79 = ((long) Long.numberOfLeadingZeros(l12)) + 64L;
+       final int t80 = (l17 != 0L) ? 1 : 0;
+       final int t81 = ((l0 = 124L - (l7 = t80 != 0 ? t78 : t79)) + Long.MIN_VALUE > -9223372036854775681L) ? 1 : 0;
+       final int t82 = ((l16 = 0L - ((l7 + Long.MIN_VALUE > -9223372036854775684L) ? 1L : 0L)) != 0L) ? 1 : 0;
+       final int t83 = (l16 == 0L) ? 1 : 0;
+       l9 = ((l27 = t77 | (t83 != 0 ? t81 : t82)) != 0) ? 0L : t76;
+       l7 = l27 != 0 ? 0L : l12;
+       L84: {
+        if (l27 != 0) { break L84; }
+        if (((l0 ^ 127L) | l16) == 0L) { break L84; }
+        Core1.f4(m, l8 + 128L, l12, l17, 127 - ((int) l0));
+        l9 = Words.get64(b, ((int) l8) - 60584);
+        l7 = Words.get64(b, ((int) l8) - 60592);
+        L85: {
+         L86: {
+          if (((l0 = l0 + 1L) | (l13 = l16 + ((l0 == 0L) ? 1L : 0L))) == 0L) { break L86; }
+          Core1.f5(m, l8 + 112L, l12, l17, (int) l0);
+          l22 = 10L + -1L;
+          l23 = 0L - ((10L == 0L) ? 1L : 0L);
+          l16 = Words.get64(b, ((int) l8) - 60600);
+          l17 = Words.get64(b, ((int) l8) - 60608);
+          l14 = 0L;
+          L87: while (true) {
+           l11 = l14;
+           l14 = (l17 = ((l23 - (l18 = (l16 << 1L) | (l17 >>> 63L))) - ((l22 + Long.MIN_VALUE < (l16 = (l17 << 1L) | (l9 >>> 63L)) + Long.MIN_VALUE) ? 1L : 0L)) >> 63L) & 1L;
+           l17 = l16 - (l19 = l17 & 10L);
+           l16 = l18 - ((l16 + Long.MIN_VALUE < l19 + Long.MIN_VALUE) ? 1L : 0L);
+           l9 = 0L | ((l9 << 1L) | (l7 >>> 63L));
+           l27 = (l0 == 0L) ? 1 : 0;
+           l7 = l11 | (l7 << 1L);
+           l0 = l11 = l0 + -1L;
+           if (!((l11 | (l13 = l13 - (l27 & 0xffffffffL))) == 0L)) { continue L87; }
+           break L85;
+          }
          }
-         l17 = Words.get64(b, ((int) l8) - 59496);
-         l9 = Words.get64(b, ((int) l8) - 59504);
-         Core2.f48(m, l8 + 32L, Words.get32(b, ((int) l8) - 59512));
-         if ((b[((int) l8) - 60688] & 0xff) != 1) { break L124; }
-         l3 = l27 & 255;
-         l27 = l1 = b[((int) l8) - 60687] & 0xff;
-         if (l3 + Integer.MIN_VALUE < (l1 & 255) + Integer.MIN_VALUE) { continue L125; }
-         break L125;
+         l14 = 0L;
+        }
+        l9 = (l9 << 1L) | (l7 >>> 63L);
+        l7 = l14 | (l7 << 1L);
+       }
+       Core1.f3(m, l8 + 96L, l7, l7, 10L, 0L);
+       if (((l27 = Words.get32(b, ((int) (l26 + ((l12 - Words.get64(b, ((int) l8) - 60624)) << 2L))) - 60720)) + -55296) + Integer.MIN_VALUE <= 2147430399) { exit = 1; break PART; }
+       b[((int) (l0 = (l8 + 494L) + (l16 = l20 + -3L))) - 60718] = (byte) ((l27 & 63) | 128);
+       b[((int) l0) - 60720] = (byte) ((l27 >>> 12) | 224);
+       b[((int) l0) - 60719] = (byte) (((l27 >>> 6) & 63) | 128);
+       l0 = 1L;
+       l12 = l7;
+       l17 = l9;
+       if ((l15 = l15 + 1L) != l21) { continue L75; }
+       break L75;
+      }
+      b[((int) (l7 = (l8 + 494L) + (l15 = l20 + -6L))) - 60718] = (byte) ((l27 = l2 != 0 ? 28857 : 40670) & 191);
+      b[((int) l7) - 60720] = (byte) ((l27 >>> 12) | 224);
+      b[((int) l7) - 60719] = (byte) (((l27 >>> 6) & 59) | 128);
+      l22 = 0L;
+      L88: {
+       L89: {
+        switch ((int) (l21 & 4294967295L)) {
+        case 0: break L63;
+        case 1: break L89;
+        default: break L88;
         }
        }
-       if (((l17 = (l8 + 494L) + (l0 = l0 - l7)) - l16) + Long.MIN_VALUE >= l7 + Long.MIN_VALUE) { break L120; }
-       if (!(l7 == 0L)) { break L119; }
-       break L59;
+       l0 = 10L;
+       break L63;
       }
-      if (l7 == 0L) { break L59; }
+      l27 = (int) l21;
+      l7 = 10L;
+      l9 = 1L;
+      l17 = 0L;
+      l0 = 0L;
+      L90: while (true) {
+       Core1.f3(m, l8 + 64L, ((l1 = l27 & 1) != 0) ? l7 : 1L, l1 != 0 ? l0 : 0L, l9, l17);
+       Core1.f3(m, l8 + 80L, l7, l0, l7, l0);
+       l1 = (l27 + Integer.MIN_VALUE > -2147483645) ? 1 : 0;
+       l0 = Words.get64(b, ((int) l8) - 60632);
+       l7 = Words.get64(b, ((int) l8) - 60640);
+       l17 = Words.get64(b, ((int) l8) - 60648);
+       l9 = Words.get64(b, ((int) l8) - 60656);
+       l27 = l27 >>> 1;
+       if (l1 != 0) { continue L90; }
+       break L90;
+      }
+      Core1.f3(m, l8 + 48L, l9, l17, l7, l0);
+      if (((l0 = Words.get64(b, ((int) l8) - 60672)) | (l22 = Words.get64(b, ((int) l8) - 60664))) == 0L) { exit = 1; break PART; }
      }
-     m.copy((int) l17, (int) l16, (int) l7);
-     break L59;
+     final long t91 = l25;
+     final int t92 = (((l0 | l22) == 0L) | ((l24 | l25) == 0L)) ? 1 : 0;
+     final long t93 = (long) Long.numberOfLeadingZeros(l22);
+     final long t94 = ((long) Long.numberOfLeadingZeros(l0)) + 64L;
+     final int t95 = (l22 != 0L) ? 1 : 0;
+     final long t96 = l7 = t95 != 0 ? t93 : t94;
+     final long t97 = (long) Long.numberOfLeadingZeros(l25);
+     final long t98 = ((long) Long.numberOfLeadingZeros(l24)) + 64L;
+     final int t99 = (l25 != 0L) ? 1 : 0;
+     final int t100 = ((l14 = t96 - (l9 = t99 != 0 ? t97 : t98)) + Long.MIN_VALUE > -9223372036854775681L) ? 1 : 0;
+     final int t101 = ((l16 = 0L - ((l7 + Long.MIN_VALUE < l9 + Long.MIN_VALUE) ? 1L : 0L)) != 0L) ? 1 : 0;
+     final int t102 = (l16 == 0L) ? 1 : 0;
+     l9 = ((l27 = t92 | (t102 != 0 ? t100 : t101)) != 0) ? 0L : t91;
+     l7 = l27 != 0 ? 0L : l24;
+     if (l27 != 0) { break L60; }
+     if (((l14 ^ 127L) | l16) == 0L) { break L60; }
+     Core1.f4(m, l8 + 16L, l24, l25, 127 - ((int) l14));
+     l17 = Words.get64(b, ((int) l8) - 60696);
+     l7 = Words.get64(b, ((int) l8) - 60704);
+     L103: {
+      if (((l9 = l14 + 1L) | (l13 = l16 + ((l9 == 0L) ? 1L : 0L))) == 0L) { break L103; }
+      Core1.f5(m, l8, l24, l25, (int) l9);
+      l23 = l0 + -1L;
+      l12 = l22 - ((l0 == 0L) ? 1L : 0L);
+      l11 = Words.get64(b, ((int) l8) - 60712);
+      l16 = Words.get64(b, ((int) l8) - 60720);
+      l14 = 0L;
+      L104: while (true) {
+       l18 = l14;
+       l11 = ((l14 = (l11 << 1L) | (l16 >>> 63L)) - ((l14 = ((l12 - l14) - ((l23 + Long.MIN_VALUE < (l16 = (l16 << 1L) | (l17 >>> 63L)) + Long.MIN_VALUE) ? 1L : 0L)) >> 63L) & l22)) - ((l16 + Long.MIN_VALUE < (l19 = l14 & l0) + Long.MIN_VALUE) ? 1L : 0L);
+       l14 = l14 & 1L;
+       l16 = l16 - l19;
+       l17 = 0L | ((l17 << 1L) | (l7 >>> 63L));
+       l27 = (l9 == 0L) ? 1 : 0;
+       l7 = l18 | (l7 << 1L);
+       l9 = l18 = l9 + -1L;
+       if (!((l18 | (l13 = l13 - (l27 & 0xffffffffL))) == 0L)) { continue L104; }
+       break L61;
+      }
+     }
+     l14 = 0L;
+     break L61;
     }
-    l9 = (l17 << 1L) | (l7 >>> 63L);
-    l7 = l14 | (l7 << 1L);
-   }
-   m.fill((int) (l8 + 965L), 0, (int) 235L);
-   L127: {
-    if ((l31 & 255) != 0) { break L127; }
-    final int t128 = (l7 + Long.MIN_VALUE > -9213372036854775809L) ? 1 : 0;
-    final int t129 = (l9 != 0L) ? 1 : 0;
-    final int t130 = (l9 == 0L) ? 1 : 0;
-    if ((t130 != 0 ? t128 : t129) != 0) { exit = 2; break PART; }
-   }
-   Words.put32(b, ((int) l8) - 59518, 0);
-   b[((int) l8) - 59519] = (byte) l30;
-   b[((int) l8) - 59520] = (byte) l29;
-   Words.put16(b, ((int) l8) - 59514, (short) 0);
-   final int t131 = (int) l8;
-   final long t132 = ((l27 = (l3 == 1) ? 1 : 0) != 0) ? 80504L : 80720L;
-   final long t133 = l27 != 0 ? 80072L : 80288L;
-   final int t134 = l2;
-   Words.put64(b, t131 - 59512, l17 = t134 != 0 ? t132 : t133);
-   l9 = (l8 + 494L) + (l0 = l15 - (l7 = 235L - (l16 = Core6.f206(m, l8 + 965L, l8 + 1200L, l31, 0, l7, l9))));
-   L135: {
-    if (l7 == 0L) { break L135; }
-    m.copy((int) l9, (int) ((l8 + 965L) + l16), (int) l7);
-   }
-   if (l28 != 2) { break L59; }
-   L136: {
-    L137: {
-     if (((l7 = l9 + -6L) - 85603L) + Long.MIN_VALUE > -9223372036854775803L) { break L137; }
-     b[((int) l7) - 60720] = (byte) 229;
-     b[((int) (l9 + -1L)) - 60720] = (byte) 139;
-     Words.put32(b, ((int) (l9 + -5L)) - 60720, -1176205688);
-     break L136;
+    m.fill((int) (l8 + 965L), 0, (int) 235L);
+    L105: {
+     final int t106 = (l24 + Long.MIN_VALUE < -9213372036854775808L) ? 1 : 0;
+     final int t107 = (l25 == 0L) ? 1 : 0;
+     if ((t107 != 0 ? t106 : 0) != 0) { break L105; }
+     if ((l31 & 255) == 0) { exit = 2; break PART; }
     }
-    Words.put16(b, ((int) l7) - 60716, (short) (Words.get16(b, State.far((int) 0L, 85607)) & 0xffff));
-    Words.put32(b, ((int) l7) - 60720, Words.get32(b, State.far((int) 0L, 85603)));
+    Words.put32(b, ((int) l8) - 59518, 0);
+    b[((int) l8) - 59519] = (byte) l30;
+    b[((int) l8) - 59520] = (byte) l29;
+    Words.put16(b, ((int) l8) - 59514, (short) 0);
+    final int t108 = (int) l8;
+    final long t109 = ((l27 = (l3 == 1) ? 1 : 0) != 0) ? 80504L : 80720L;
+    final long t110 = l27 != 0 ? 80072L : 80288L;
+    final int t111 = l2;
+    Words.put64(b, t108 - 59512, l16 = t111 != 0 ? t109 : t110);
+    L112: {
+     if ((l17 = 235L - (l0 = Core6.f206(m, l8 + 965L, l8 + 1200L, l31, 0, l24, l25))) == 0L) { break L112; }
+     m.copy((int) (((l8 + 494L) + l0) + 236L), (int) ((l8 + 965L) + l0), (int) l17);
+    }
+    L113: {
+     L114: {
+      if (((l17 = (l8 + 494L) + (l0 = l0 + 230L)) - 85603L) + Long.MIN_VALUE > -9223372036854775803L) { break L114; }
+      Words.put16(b, ((int) l17) - 60716, (short) 35769);
+      Words.put32(b, ((int) l17) - 60720, -460945179);
+      break L113;
+     }
+     Words.put16(b, ((int) l17) - 60716, (short) (Words.get16(b, State.far((int) 0L, 85607)) & 0xffff));
+     Words.put32(b, ((int) l17) - 60720, Words.get32(b, State.far((int) 0L, 85603)));
+    }
+    m.fill((int) (l8 + 965L), 0, (int) 235L);
+    L115: {
+     if ((l31 & 255) != 0) { break L115; }
+     final int t116 = (l9 + Long.MIN_VALUE > -9213372036854775809L) ? 1 : 0;
+     final int t117 = (l7 != 0L) ? 1 : 0;
+     final int t118 = (l7 == 0L) ? 1 : 0;
+     if ((t118 != 0 ? t116 : t117) != 0) { exit = 2; break PART; }
+    }
+    Words.put32(b, ((int) l8) - 59518, 0);
+    b[((int) l8) - 59519] = (byte) l30;
+    b[((int) l8) - 59520] = (byte) l29;
+    Words.put16(b, ((int) l8) - 59514, (short) 0);
+    Words.put64(b, ((int) l8) - 59512, l16);
+    l9 = Core6.f206(m, l8 + 965L, l8 + 1200L, l31, 0, l9, l7);
+    if (((l27 = Words.get32(b, ((int) (l16 + 112L)) - 60720)) + -55296) + Integer.MIN_VALUE <= 2147430399) { exit = 1; break PART; }
+    l16 = (l8 + 965L) + l9;
+    l7 = 0L;
+    L119: {
+     L120: {
+      if (l9 == 235L) { break L120; }
+      l3 = (l1 = (int) b[((int) l16) - 60720]) & 255;
+      l17 = 1L;
+      L121: {
+       if (l1 > -1) { break L121; }
+       l28 = (b[((int) l16) - 60719] & 0xff) & 63;
+       L122: {
+        if (l1 + Integer.MIN_VALUE > 2147483615) { break L122; }
+        l3 = ((l3 << 6) & 1984) | l28;
+        l17 = 2L;
+        break L121;
+       }
+       l29 = (b[((int) l16) - 60718] & 0xff) & 63;
+       L123: {
+        if (l1 + Integer.MIN_VALUE > 2147483631) { break L123; }
+        l3 = ((l28 << 6) | ((l3 << 12) & 61440)) | l29;
+        l17 = 3L;
+        break L121;
+       }
+       l3 = ((l29 << 6) | ((l28 << 12) | ((l3 << 18) & 1835008))) | ((b[((int) l16) - 60717] & 0xff) & 63);
+       l17 = 4L;
+      }
+      l7 = 235L - l9;
+      L124: {
+       if (l3 != l27) { break L124; }
+       Words.put64(b, ((int) l8) - 59496, 0L);
+       Words.put64(b, ((int) l8) - 59504, 0L);
+       Words.put64(b, ((int) l8) - 59512, 0L);
+       Words.put64(b, ((int) l8) - 59520, 0L);
+       Core2.f67(m, l8 + 1200L, l14 = l16 + l17, l13 = l7 - l17);
+       if ((b[((int) l8) - 59520] & 0xff) != 1) { break L124; }
+       Core2.f48(m, l8 + 40L, Words.get32(b, ((int) l8) - 59512));
+       if ((b[((int) l8) - 60680] & 0xff) != 1) { break L124; }
+       if (((b[((int) l8) - 60679] & 0xff) & 255) + Integer.MIN_VALUE > -2147483643) { break L124; }
+       Words.put64(b, ((int) l8) - 59496, 0L);
+       Words.put64(b, ((int) l8) - 59504, 0L);
+       Words.put64(b, ((int) l8) - 59512, 0L);
+       Words.put64(b, ((int) l8) - 59520, 0L);
+       l27 = 1;
+       l9 = l14;
+       l17 = l13;
+       L125: while (true) {
+        Core2.f67(m, l8 + 1200L, l9, l17);
+        L126: {
+         if ((b[((int) l8) - 59520] & 0xff) == 1) { break L126; }
+         l16 = l14;
+         l7 = l13;
+         break L124;
+        }
+        l17 = Words.get64(b, ((int) l8) - 59496);
+        l9 = Words.get64(b, ((int) l8) - 59504);
+        Core2.f48(m, l8 + 32L, Words.get32(b, ((int) l8) - 59512));
+        if ((b[((int) l8) - 60688] & 0xff) != 1) { break L124; }
+        l3 = l27 & 255;
+        l27 = l1 = b[((int) l8) - 60687] & 0xff;
+        if (l3 + Integer.MIN_VALUE < (l1 & 255) + Integer.MIN_VALUE) { continue L125; }
+        break L125;
+       }
+      }
+      if (((l17 = (l8 + 494L) + (l0 = l0 - l7)) - l16) + Long.MIN_VALUE >= l7 + Long.MIN_VALUE) { break L120; }
+      if (!(l7 == 0L)) { break L119; }
+      exit = 3; break PART;
+     }
+     if (l7 == 0L) { exit = 3; break PART; }
+    }
+    m.copy((int) l17, (int) l16, (int) l7);
+    exit = 3; break PART;
    }
-   if (((l27 = Words.get32(b, ((int) (l17 + 156L)) - 60720)) + -55296) + Integer.MIN_VALUE <= 2147430399) { exit = 1; break PART; }
-   b[((int) (l7 = (l8 + 494L) + (l0 = l0 + -9L))) - 60718] = (byte) ((l27 & 63) | 128);
-   b[((int) l7) - 60720] = (byte) ((l27 >>> 12) | 224);
-   b[((int) l7) - 60719] = (byte) (((l27 >>> 6) & 63) | 128);
+   l9 = (l17 << 1L) | (l7 >>> 63L);
+   l7 = l14 | (l7 << 1L);
   }
  }
  m.kept[0] = l0;
@@ -3440,32 +3401,73 @@ static int f269(State m, long l0, int l1, int l2, int l3, long l4, long l5, long
     final long t57 = l10;
     final int t58 = l27;
     l25 = t58 != 0 ? t56 : t57;
-    final int x138 = f269_1(m, l0, l1, l2, l3, l7, l8, l9, l11, l12, l13, l14, l15, l16, l17, l18, l19, l20, l21, l22, l23, l24, l25, l26, l27, l28, l29, l30, l31);
-    l0 = m.kept[0];
-    l1 = (int) m.kept[1];
-    l3 = (int) m.kept[2];
-    l7 = m.kept[3];
-    l9 = m.kept[4];
-    l11 = m.kept[5];
-    l12 = m.kept[6];
-    l13 = m.kept[7];
-    l14 = m.kept[8];
-    l15 = m.kept[9];
-    l16 = m.kept[10];
-    l17 = m.kept[11];
-    l18 = m.kept[12];
-    l19 = m.kept[13];
-    l20 = m.kept[14];
-    l21 = m.kept[15];
-    l22 = m.kept[16];
-    l23 = m.kept[17];
-    l26 = m.kept[18];
-    l27 = (int) m.kept[19];
-    l28 = (int) m.kept[20];
-    l29 = (int) m.kept[21];
-    switch (x138) {
-    case 1: break L3;
-    case 2: break L2;
+    L59: {
+     final int x127 = f269_1(m, l0, l1, l2, l3, l7, l8, l9, l11, l12, l13, l14, l15, l16, l17, l18, l19, l20, l21, l22, l23, l24, l25, l26, l27, l28, l29, l30, l31);
+     l0 = m.kept[0];
+     l1 = (int) m.kept[1];
+     l3 = (int) m.kept[2];
+     l7 = m.kept[3];
+     l9 = m.kept[4];
+     l11 = m.kept[5];
+     l12 = m.kept[6];
+     l13 = m.kept[7];
+     l14 = m.kept[8];
+     l15 = m.kept[9];
+     l16 = m.kept[10];
+     l17 = m.kept[11];
+     l18 = m.kept[12];
+     l19 = m.kept[13];
+     l20 = m.kept[14];
+     l21 = m.kept[15];
+     l22 = m.kept[16];
+     l23 = m.kept[17];
+     l26 = m.kept[18];
+     l27 = (int) m.kept[19];
+     l28 = (int) m.kept[20];
+     l29 = (int) m.kept[21];
+     switch (x127) {
+     case 1: break L3;
+     case 2: break L2;
+     case 3: break L59;
+     }
+     m.fill((int) (l8 + 965L), 0, (int) 235L);
+     L128: {
+      if ((l31 & 255) != 0) { break L128; }
+      final int t129 = (l7 + Long.MIN_VALUE > -9213372036854775809L) ? 1 : 0;
+      final int t130 = (l9 != 0L) ? 1 : 0;
+      final int t131 = (l9 == 0L) ? 1 : 0;
+      if ((t131 != 0 ? t129 : t130) != 0) { break L2; }
+     }
+     Words.put32(b, ((int) l8) - 59518, 0);
+     b[((int) l8) - 59519] = (byte) l30;
+     b[((int) l8) - 59520] = (byte) l29;
+     Words.put16(b, ((int) l8) - 59514, (short) 0);
+     final int t132 = (int) l8;
+     final long t133 = ((l27 = (l3 == 1) ? 1 : 0) != 0) ? 80504L : 80720L;
+     final long t134 = l27 != 0 ? 80072L : 80288L;
+     final int t135 = l2;
+     Words.put64(b, t132 - 59512, l17 = t135 != 0 ? t133 : t134);
+     l9 = (l8 + 494L) + (l0 = l15 - (l7 = 235L - (l16 = Core6.f206(m, l8 + 965L, l8 + 1200L, l31, 0, l7, l9))));
+     L136: {
+      if (l7 == 0L) { break L136; }
+      m.copy((int) l9, (int) ((l8 + 965L) + l16), (int) l7);
+     }
+     if (l28 != 2) { break L59; }
+     L137: {
+      L138: {
+       if (((l7 = l9 + -6L) - 85603L) + Long.MIN_VALUE > -9223372036854775803L) { break L138; }
+       b[((int) l7) - 60720] = (byte) 229;
+       b[((int) (l9 + -1L)) - 60720] = (byte) 139;
+       Words.put32(b, ((int) (l9 + -5L)) - 60720, -1176205688);
+       break L137;
+      }
+      Words.put16(b, ((int) l7) - 60716, (short) (Words.get16(b, State.far((int) 0L, 85607)) & 0xffff));
+      Words.put32(b, ((int) l7) - 60720, Words.get32(b, State.far((int) 0L, 85603)));
+     }
+     if (((l27 = Words.get32(b, ((int) (l17 + 156L)) - 60720)) + -55296) + Integer.MIN_VALUE <= 2147430399) { break L3; }
+     b[((int) (l7 = (l8 + 494L) + (l0 = l0 + -9L))) - 60718] = (byte) ((l27 & 63) | 128);
+     b[((int) l7) - 60720] = (byte) ((l27 >>> 12) | 224);
+     b[((int) l7) - 60719] = (byte) (((l27 >>> 6) & 63) | 128);
     }
     L139: {
      if (l10 > -1L) { break L139; }
