@@ -53,7 +53,10 @@ REPEATED = {
     ("version", r"^export const VERSION = '(.*)'"): "bindings/web/chinese-number.mjs",
     ("version", r'^  "version": "(.*)"'): "bindings/web/package.json",
     ("version", r"^  <version>(.*)</version>"): "bindings/java/pom.xml",
-    ("version", r' VERSION = "(.*)"'): "bindings/java/src/main/java/chinesenumber/ChineseNumbers.java",
+    (
+        "version",
+        r' VERSION = "(.*)"',
+    ): "bindings/java/src/main/java/chinesenumber/ChineseNumbers.java",
     ("version", r"chinese.number[a-z-_]*-(\d[\d.]*\d)\b"): (
         "bindings/README.md bindings/web/README.md bindings/web/README.zh.md "
         "bindings/java/README.md bindings/java/README.zh.md"

@@ -12,7 +12,12 @@ SIZES = {"i32": ["", "8_u", "8_s", "16_u", "16_s"]}
 SIZES["i64"] = [*SIZES["i32"], "32_u", "32_s"]
 FOR_INT = ["(i32.wrap_i64 {long})", "(i32.extend8_s {int})", "(i32.extend16_s {int})"]
 FOR_INT += ["(i32.rotl {int} {int})", "(global.get 1)"]
-FOR_LONG = ["(i64.extend_i32_s {int})", "(i64.extend_i32_u {int})", "(i64.clz {long})", "(i64.ctz {long})"]
+FOR_LONG = [
+    "(i64.extend_i32_s {int})",
+    "(i64.extend_i32_u {int})",
+    "(i64.clz {long})",
+    "(i64.ctz {long})",
+]
 
 
 class Function:
@@ -66,7 +71,9 @@ class Function:
 
     def divided(self, kind, depth):
         by = self.one(1, 3, 10, 1000, -1, -7)
-        other = self.one(f"({kind}.const {by})", f"({kind}.or {self.value(kind, depth)} ({kind}.const 1))")
+        other = self.one(
+            f"({kind}.const {by})", f"({kind}.or {self.value(kind, depth)} ({kind}.const 1))"
+        )
         return f"({kind}.{self.one('div_u', 'rem_u')} {self.value(kind, depth)} {other})"
 
     def converted(self, kind, depth):
@@ -139,7 +146,9 @@ class Function:
         body = self.statements(depth)
         less = f"(local.tee {count} (i32.sub (local.get {count}) (i32.const 1)))"
         rounds = self.chance.randrange(1, 4)
-        return f"(local.set {count} (i32.const {rounds})) (loop {name} {body} (br_if {name} {less}))"
+        return (
+            f"(local.set {count} (i32.const {rounds})) (loop {name} {body} (br_if {name} {less}))"
+        )
 
     def jump_if(self, depth):
         if not self.labels:
