@@ -110,8 +110,8 @@ class Function:
         if depth <= 0:
             return self.assign(0)
         write = self.one(
-            *[self.assign] * 3, *[self.store] * 3, *[self.block] * 3, self.loop, self.jump_if, self.jump_if,
-            self.switch, self.move, self.drop, self.leave,
+            *[self.assign] * 3, *[self.store] * 3, *[self.block] * 5, *[self.jump_if] * 5, *[self.between] * 2,
+            self.loop, self.switch, self.move, self.drop, self.leave,
         )  # fmt: skip
         return write(depth - 1)
 
@@ -126,6 +126,13 @@ class Function:
         offset, address = self.place(depth)
         size = self.one(*SIZES[kind]).partition("_")[0]
         return f"({kind}.store{size} offset={offset} {address} {self.value(kind, depth)})"
+
+    def between(self, depth):
+        """A statement while a value is on the stack."""
+        kind = self.one("i32", "i64")
+        first, other = self.value(kind, depth), self.value(kind, depth)
+        end = f"{kind}.{self.one(*BINARY)} local.set {self.local(kind)}"
+        return f"{first} {self.statement(depth - 1)} {other} {end}"
 
     def drop(self, depth):
         return f"(drop {self.value(self.one('i32', 'i64'), depth)})"
@@ -153,7 +160,9 @@ class Function:
     def jump_if(self, depth):
         if not self.labels:
             return self.assign(depth)
-        return f"(br_if {self.one(*self.labels)} {self.value('i32', depth)})"
+        value = self.value("i32", depth)
+        seldom = f"(i32.eqz (i32.and {value} (i32.const 7)))"
+        return f"(br_if {self.one(*self.labels)} {self.one(value, seldom, seldom)})"
 
     def guarded(self, statement, depth):
         name = self.label()
@@ -175,23 +184,38 @@ class Function:
         if self.chance.random() < 0.2:
             name = self.label()
             return f"(block {name} (br_if {name} (i32.const 1)) unreachable)"
-        end = f"(return {self.value('i64', depth)})"
+        end = f"(return (i64.add {self.value('i64', depth)} {MIXED}))"
         kept = f"(local.set $i64_0 {self.value('i64', depth)})"
         return self.guarded(f"{kept} {RESTORED} {end}", depth)
 
     def text(self):
-        body = " ".join(self.statement(5) for _ in range(5))
+        # All is in two blocks, so that parts can go to several labels.
+        self.labels = ["$outer", "$inner"]
+        first = " ".join(self.statement(5) for _ in range(4))
+        self.labels = ["$outer"]
+        body = f"(block $outer (block $inner {first}) {self.statement(5)} {self.statement(5)})"
         kinds = [f"(local ${kind}_{at} {kind})" for kind in ("i32", "i64") for at in (1, 2)]
         counts = [f"(local $count{at} i32)" for at in range(4)]
         return (
             f'(func $f{self.index} (export "chinese_{self.index}") (param $i32_0 i32) (param $i64_0 i64)'
-            f" (result i64) {' '.join(kinds + counts)} (local $frame i64)\n{TAKEN}\n{body}\n"
-            f"{RESTORED} {self.value('i64', 4)})"
+            f" (result i64) {' '.join(kinds + counts)} (local $frame i64)\n{TAKEN} {SPREAD}\n{body}\n"
+            f"{RESTORED} (i64.add {self.value('i64', 4)} {MIXED}))"
         )
 
 
 TAKEN = f"(global.set 0 (local.tee $frame (i64.sub (global.get 0) (i64.const {FRAME}))))"
 RESTORED = f"(global.set 0 (i64.add (local.get $frame) (i64.const {FRAME})))"
+
+
+# All variables begin with a part of the arguments, and are a part of the answer.
+SPREAD = """(local.set $i32_1 (i32.mul (local.get $i32_0) (i32.const -1640531527)))
+(local.set $i32_2 (i32.add (i32.wrap_i64 (local.get $i64_0)) (local.get $i32_1)))
+(local.set $i64_1 (i64.mul (local.get $i64_0) (i64.const -7046029254386353131)))
+(local.set $i64_2 (i64.add (i64.extend_i32_s (local.get $i32_1)) (local.get $i64_1)))"""
+MIXED = "(local.get $i64_0)"
+for other in ("(i64.extend_i32_s (local.get $i32_{}))", "(local.get $i64_{})"):
+    for at in range(3):
+        MIXED = f"(i64.add (i64.mul {MIXED} (i64.const 31)) {other.format(at)})"
 
 
 def module(seed):
