@@ -256,7 +256,7 @@ FAULTS = {
 @pytest.mark.by_hand
 def test_faults(tmp_path):
     """Each fault in the translator changes an answer of a few random modules."""
-    binaries, jobs = binaries_of(tmp_path, 6), []
+    binaries, jobs = binaries_of(tmp_path, 12), []
     for fault in FAULTS.items():
         jobs += map(translator(*fault), binaries)
     wanted = answers_of_node(tmp_path, binaries * len(FAULTS)).splitlines()

@@ -48,7 +48,7 @@ class Function:
             return self.one(self.constant(kind), f"(local.get {self.local(kind)})")
         write = self.one(
             *[self.binary] * 4, *[self.comparison] * 2, *[self.tee] * 2, *[self.select] * 2,
-            self.divided, self.converted, self.load, self.called,
+            self.divided, *[self.converted] * 3, self.load, self.called,
         )  # fmt: skip
         return write(kind, depth - 1 - self.chance.randrange(2))
 
@@ -128,11 +128,14 @@ class Function:
         return f"({kind}.store{size} offset={offset} {address} {self.value(kind, depth)})"
 
     def between(self, depth):
-        """A statement while a value is on the stack."""
+        """A statement while a value is on the stack, which may change what the value is made of."""
         kind = self.one("i32", "i64")
-        first, other = self.value(kind, depth), self.value(kind, depth)
-        end = f"{kind}.{self.one(*BINARY)} local.set {self.local(kind)}"
-        return f"{first} {self.statement(depth - 1)} {other} {end}"
+        name, end = self.local(kind), f"{kind}.{self.one(*BINARY)} local.set {self.local(kind)}"
+        first = self.one(f"(local.get {name})", self.value(kind, depth))
+        change = f"(local.set {name} {self.value(kind, depth)})"
+        return (
+            f"{first} {self.one(change, self.statement(depth - 1))} {self.value(kind, depth)} {end}"
+        )
 
     def drop(self, depth):
         return f"(drop {self.value(self.one('i32', 'i64'), depth)})"
