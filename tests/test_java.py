@@ -1,5 +1,5 @@
-"""The Java binding: its answers, its limits, the same sum as the C source, and its translator, whose random
-modules answer as in node. It is compiled once, without Maven."""
+"""The Java binding: its answers, its limits, the same sum as the C source, and its translator, by
+which random modules answer as in node. It is compiled once, without Maven."""
 import os
 import re
 import subprocess
@@ -128,8 +128,8 @@ def same_in_java(classes, folder, count):
 
 
 def test_same(classes, of_c_source, tmp_path):
-    """The sum of same.c over Java is that over the C source. With 1000 in place of 10 it is the one that
-    dist/PROVENANCE.json names."""
+    """The sum of same.c over Java is that over the C source. With 1000 in place of 10 it is the one
+    that dist/PROVENANCE.json names."""
     program, library = tmp_path / "of_c", of_c_source / "libchinese_number.a"
     words = ("-I", TOP / "bindings/c", TOP / "bindings/source/same.c", library, "-o", program)
     run("cc", "-O1", *words, cwd=tmp_path)
@@ -243,9 +243,9 @@ FAULTS = {
     "if not all(map(is_same, self.stack[-2:])):": "if False:",
     'def statement(self, *texts):\n        self.keep()': "def statement(self, *texts):",
     '8: " & 0xff",': '8: " & 0x7f",',
-    "for at, index in enumerate(writes))\n        body": "for at, index in enumerate(writes[1:]))\n        body",
-    "for at, label in enumerate(part.exits, 1):": "for at, label in enumerate(part.exits[::-1], 1):",
-    "count, other, to = self.pop(), self.pop(), self.pop()": "other, count, to = self.pop(), self.pop(), self.pop()",
+    "in enumerate(writes))\n        body": "in enumerate(writes[1:]))\n        body",
+    "in enumerate(part.exits, 1):": "in enumerate(part.exits[::-1], 1):",
+    "count, other, to = self.pop()": "other, count, to = self.pop()",
     "Integer.rotateLeft(": "Integer.rotateRight(",
     '"(int) (byte) {}"': '"(int) (short) {}"',
     '"{} & 0xffffffffL", "long"': '"(long) {}", "long"',

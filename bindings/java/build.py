@@ -4,9 +4,9 @@ documentation, and the file for Maven.
 
 Usage: build.py [--all] OUT
 
-It needs a JDK from 9 on, which compiles for Java 8; two classes are for Java from 9 on. The jars are the
-same, byte for byte, where the JDK is the same. A method of more than 8,000 bytes is refused, since the
-virtual machine would leave it to its interpreter.
+It needs a JDK from 9 on, which compiles for Java 8; two classes are for Java from 9 on. The jars
+are the same, byte for byte, where the JDK is the same. A method of more than 8,000 bytes is
+refused, since the virtual machine would leave it to its interpreter.
 """
 import re
 import struct

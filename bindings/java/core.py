@@ -3,14 +3,15 @@
 
 Usage: core.py MODULE OUT
 
-MODULE is `dist/chinese-number.32.wasm`; `wasm.py` reads it. State has the memory and the globals, Core the
-calls that the module exports, and the classes with a number its other functions. Each instruction becomes an expression that Java evaluates
-when the module's stack machine would: both evaluate from left to right, wrap integers, and mask the
-number of bits of a shift. What cannot stay in an expression is kept in a variable first.
+MODULE is `dist/chinese-number.32.wasm`; `wasm.py` reads it. State has the memory and the globals,
+Core the calls that the module exports, and the classes with a number its other functions. Each
+instruction becomes an expression that Java evaluates when the module's stack machine would: both
+evaluate from left to right, wrap integers, and mask the number of bits of a shift. What cannot stay
+in an expression is kept in a variable first.
 
-The virtual machine compiles no method of more than 8,000 bytes. So blocks of a large function become
-methods of their own, parts, which are given the variables that they read. A part returns which label it
-goes to, and leaves the variables that it writes in the memory's list `kept`.
+The virtual machine compiles no method of more than 8,000 bytes. So blocks of a large function
+become methods of their own, parts, which are given the variables that they read. A part returns
+which label it goes to, and leaves the variables that it writes in the list `kept` of the state.
 """
 import base64
 import re
@@ -26,18 +27,18 @@ HEAD = """\
 package chinesenumber;
 
 """
-# About how many bytes of Java's code a method may have, and a block that becomes a part, of which a third
-# and two thirds more were seen; how many bytes of the module go into a class.
+# About how many bytes of Java's code a method may have, and a block that becomes a part; a third and
+# two thirds more were seen. How many bytes of the module go into a class.
 MOST_OF_METHOD, MOST_OF_PART, LEAST_OF_PART, MOST_OF_CLASS = 5000, 4000, 300, 56000
 # About how many bytes of Java's code an instruction becomes, where that is not 3.
 COSTS = {
-    "local.get": 2, "local.set": 2, "local.tee": 4, "i32.wrap_i64": 1, "block": 0, "loop": 0, "br_if": 5,
-    "select": 8, "call": 4, "i64.store": 7, "i32.and": 1, "i32.or": 1, "i64.add": 1, "i32.add": 1,
+    "local.get": 2, "local.set": 2, "local.tee": 4, "i32.wrap_i64": 1, "block": 0, "loop": 0,
+    "br_if": 5, "select": 8, "call": 4, "i64.store": 7, "i32.and": 1, "i32.or": 1, "i64.add": 1, "i32.add": 1,
     "i32.shl": 1, "i32.load8_u": 8, "i32.gt_u": 9, "i32.lt_u": 9, "i64.eqz": 4,
 }  # fmt: skip
 SIGNS = {
-    "add": "+", "sub": "-", "mul": "*", "and": "&", "or": "|", "xor": "^", "shl": "<<", "shr_s": ">>",
-    "shr_u": ">>>", "div_u": "/", "rem_u": "%",
+    "add": "+", "sub": "-", "mul": "*", "and": "&", "or": "|", "xor": "^", "shl": "<<",
+    "shr_s": ">>", "shr_u": ">>>", "div_u": "/", "rem_u": "%",
 }  # fmt: skip
 COMPARED = {"eq": "==", "ne": "!=", "lt": "<", "gt": ">", "le": "<=", "ge": ">="}
 ONE = {
@@ -178,8 +179,8 @@ class Method:
         return is_ended, label
 
     def jump(self, depth):
-        """The statements that go to a label, or end the function with what is uppermost on the stack,
-        which stays there."""
+        """The statements that go to a label, or end the function with what is uppermost on the
+        stack, which stays there."""
         if depth == len(self.labels):
             return self.returned()
         at = len(self.labels) - 1 - depth
@@ -254,8 +255,8 @@ class Method:
         self.stack.pop()
 
     def select(self, _):
-        """The condition is the last on the stack, and the first in Java. What it could change, or what
-        could change it, is kept before."""
+        """The condition is the last on the stack, and the first in Java. What it could change, or
+        what could change it, is kept before."""
         condition = self.stack.pop()
         written = set(map(int, WRITTEN.findall(condition.text)))
         is_same = lambda it: it.stays() or it.variable is not None and it.variable not in written
@@ -309,8 +310,8 @@ class Method:
     # The memory. Its first byte has the address BASE.
 
     def place(self, offset):
-        """Where an address plus an offset is in the array, by an expression that is outside of it if
-        their exact sum is."""
+        """Where an address plus an offset is in the array, by an expression that is outside of it
+        if their exact sum is."""
         value, shift = self.pop(), offset - self.core.base
         if value.constant is not None:
             return str((value.constant & 0xFFFFFFFF) + shift)
@@ -423,7 +424,7 @@ class Core:
         self.share_out()
 
     def share_out(self):
-        """Chooses a class for each function: calls that are exported are in Core, the others in order."""
+        """Chooses a class for each function: Core for calls that are exported, others in order."""
         number = filled = 0
         for index, function in enumerate(self.module.functions):
             if index in self.calls:
@@ -444,7 +445,7 @@ class Core:
         return self.name(index) if own == method.home else f"{own}.{self.name(index)}"
 
     def choose_parts(self, method):
-        """Chooses blocks that become parts, the largest first, until what is left is small enough."""
+        """Chooses blocks that become parts, the largest first, until what is left is small."""
 
         def blocks(nodes):
             for node in nodes:

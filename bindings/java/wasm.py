@@ -1,7 +1,7 @@
 """Reads a module for WebAssembly, for core.py.
 
-It must be of the form that `bindings/web/build.sh` makes: one memory of 32 bits, one piece of constants,
-no imports and no table. Anything else is refused, and so is an instruction that is not known here.
+It must be of the form that `bindings/web/build.sh` makes: one memory of 32 bits, one piece of
+constants, no imports and no table. Anything else is refused, and so is an unknown instruction.
 """
 import sys
 from collections import namedtuple
@@ -9,18 +9,19 @@ from collections import namedtuple
 TYPES = {0x7F: "int", 0x7E: "long"}
 # The codes of the instructions, in hexadecimal, and their names.
 NAMES = """
-00 unreachable 02 block 03 loop 0b end 0c br 0d br_if 0e br_table 0f return 10 call 1a drop 1b select
-20 local.get 21 local.set 22 local.tee 23 global.get 24 global.set 41 i32.const 42 i64.const
-28 i32.load 29 i64.load 2c i32.load8_s 2d i32.load8_u 2e i32.load16_s 2f i32.load16_u 30 i64.load8_s
-31 i64.load8_u 32 i64.load16_s 33 i64.load16_u 34 i64.load32_s 35 i64.load32_u 36 i32.store
-37 i64.store 3a i32.store8 3b i32.store16 3c i64.store8 3d i64.store16 3e i64.store32
-45 i32.eqz 46 i32.eq 47 i32.ne 48 i32.lt_s 49 i32.lt_u 4a i32.gt_s 4b i32.gt_u 4c i32.le_s 4d i32.le_u
-4e i32.ge_s 4f i32.ge_u 50 i64.eqz 51 i64.eq 52 i64.ne 53 i64.lt_s 54 i64.lt_u 55 i64.gt_s 56 i64.gt_u
-57 i64.le_s 58 i64.le_u 59 i64.ge_s 5a i64.ge_u 6a i32.add 6b i32.sub 6c i32.mul 6e i32.div_u
-70 i32.rem_u 71 i32.and 72 i32.or 73 i32.xor 74 i32.shl 75 i32.shr_s 76 i32.shr_u 77 i32.rotl
-79 i64.clz 7a i64.ctz 7c i64.add 7d i64.sub 7e i64.mul 80 i64.div_u 82 i64.rem_u 83 i64.and 84 i64.or
-85 i64.xor 86 i64.shl 87 i64.shr_s 88 i64.shr_u a7 i32.wrap_i64 ac i64.extend_i32_s
-ad i64.extend_i32_u c0 i32.extend8_s c1 i32.extend16_s fc0a memory.copy fc0b memory.fill
+00 unreachable 02 block 03 loop 0b end 0c br 0d br_if 0e br_table 0f return 10 call 1a drop
+1b select 20 local.get 21 local.set 22 local.tee 23 global.get 24 global.set 41 i32.const
+42 i64.const 28 i32.load 29 i64.load 2c i32.load8_s 2d i32.load8_u 2e i32.load16_s 2f i32.load16_u
+30 i64.load8_s 31 i64.load8_u 32 i64.load16_s 33 i64.load16_u 34 i64.load32_s 35 i64.load32_u
+36 i32.store 37 i64.store 3a i32.store8 3b i32.store16 3c i64.store8 3d i64.store16 3e i64.store32
+45 i32.eqz 46 i32.eq 47 i32.ne 48 i32.lt_s 49 i32.lt_u 4a i32.gt_s 4b i32.gt_u 4c i32.le_s
+4d i32.le_u 4e i32.ge_s 4f i32.ge_u 50 i64.eqz 51 i64.eq 52 i64.ne 53 i64.lt_s 54 i64.lt_u
+55 i64.gt_s 56 i64.gt_u 57 i64.le_s 58 i64.le_u 59 i64.ge_s 5a i64.ge_u 6a i32.add 6b i32.sub
+6c i32.mul 6e i32.div_u 70 i32.rem_u 71 i32.and 72 i32.or 73 i32.xor 74 i32.shl 75 i32.shr_s
+76 i32.shr_u 77 i32.rotl 79 i64.clz 7a i64.ctz 7c i64.add 7d i64.sub 7e i64.mul 80 i64.div_u
+82 i64.rem_u 83 i64.and 84 i64.or 85 i64.xor 86 i64.shl 87 i64.shr_s 88 i64.shr_u a7 i32.wrap_i64
+ac i64.extend_i32_s ad i64.extend_i32_u c0 i32.extend8_s c1 i32.extend16_s fc0a memory.copy
+fc0b memory.fill
 """.split()
 NAMES = {int(code, 16): name for code, name in zip(NAMES[::2], NAMES[1::2])}
 WITH_INDEX = {"br", "br_if", "call", *(it for it in NAMES.values() if it[:5] in ("local", "globa"))}
@@ -223,7 +224,7 @@ def flat(nodes):
 
 
 def frame_of(index, function):
-    """How many bytes of the stack a function takes. It may compare the pointer with a constant too."""
+    """How many bytes of the stack a function takes. It may also compare the pointer."""
     nodes, taken = [it for it in flat(function.nodes) if it.name != "local.tee"], {0}
     for at, node in enumerate(nodes):
         if (node.name, node.given) == ("global.get", 0):

@@ -13,15 +13,16 @@ import java.util.HashMap;
 import java.util.Map;
 
 /**
- * Makes the calls of the module that same.c asks for through calls.h: of each the name, the count of the
- * arguments, and these: a number, or how many bytes there are behind a pointer, and these bytes. The answer is
- * the status and all these bytes.
+ * Makes the calls of the module that same.c asks for through calls.c: of each the name, the count
+ * of the arguments, and these: a number, or how many bytes there are behind a pointer, and these
+ * bytes. The answer is the status and all these bytes.
  */
 public final class Same extends State {
     private static final int ROOM = 1 << 17;
     private static final int FIRST_LENT = (HEAP + 15) / 16 * 16;
 
-    private final DataInputStream in = new DataInputStream(new BufferedInputStream(System.in, 1 << 16));
+    private final DataInputStream in =
+        new DataInputStream(new BufferedInputStream(System.in, 1 << 16));
     private final OutputStream out = new FileOutputStream(FileDescriptor.out);
     private final Map<String, Method> calls = new HashMap<>();
     private final ByteBuffer answer = ByteBuffer.allocate(ROOM).order(ByteOrder.LITTLE_ENDIAN);

@@ -1,5 +1,5 @@
-/* The calls of chinese_number.h, made by a process of Java, Same.java: its standard input and output are the
- * descriptors 4 and 3 here. */
+/* The calls of chinese_number.h, made by a process of Java, Same.java: its standard input and output
+ * are the descriptors 4 and 3 here. */
 #include "chinese_number.h"
 #include <stdio.h>
 #include <stdlib.h>

@@ -1,6 +1,6 @@
-"""Random modules for WebAssembly in wabt's text format, with the instructions that the translator to Java
-knows, for a comparison with node. Their functions, chinese_0 and so on, take an i32 and an i64, and return an
-i64; the module's stack is used as LLVM does."""
+"""Random modules for WebAssembly in wabt's text format, with the instructions that the translator to
+Java knows, for a comparison with node. Their functions, chinese_0 and so on, take an i32 and an
+i64, and return an i64. They use the module's stack as LLVM does."""
 import random
 
 FUNCTIONS, MEMORY, FIRST, FRAME = 6, 131072, 65536, 32
@@ -67,7 +67,8 @@ class Function:
         return f"(local.tee {self.local(kind)} {self.value(kind, depth)})"
 
     def select(self, kind, depth):
-        return f"(select {self.value(kind, depth)} {self.value(kind, depth)} {self.value('i32', depth)})"
+        both = f"{self.value(kind, depth)} {self.value(kind, depth)}"
+        return f"(select {both} {self.value('i32', depth)})"
 
     def divided(self, kind, depth):
         by = self.one(1, 3, 10, 1000, -1, -7)
@@ -81,7 +82,7 @@ class Function:
         return text.format(int=self.value("i32", depth), long=self.value("i64", depth))
 
     def place(self, depth):
-        """An address in the constants, behind them or in the function's frame, as an offset and a value."""
+        """An address in the constants, behind them or in the function's frame: an offset, a value."""
         near = f"(i32.and {self.value('i32', depth)} (i32.const 255))"
         frame = "(i32.wrap_i64 (local.get $frame))"
         return self.one(
@@ -110,8 +111,8 @@ class Function:
         if depth <= 0:
             return self.assign(0)
         write = self.one(
-            *[self.assign] * 3, *[self.store] * 3, *[self.block] * 5, *[self.jump_if] * 5, *[self.between] * 2,
-            self.loop, self.switch, self.move, self.drop, self.leave,
+            *[self.assign] * 3, *[self.store] * 3, *[self.block] * 5, *[self.jump_if] * 5,
+            *[self.between] * 2, self.loop, self.switch, self.move, self.drop, self.leave,
         )  # fmt: skip
         return write(depth - 1)
 
@@ -200,8 +201,9 @@ class Function:
         kinds = [f"(local ${kind}_{at} {kind})" for kind in ("i32", "i64") for at in (1, 2)]
         counts = [f"(local $count{at} i32)" for at in range(4)]
         return (
-            f'(func $f{self.index} (export "chinese_{self.index}") (param $i32_0 i32) (param $i64_0 i64)'
-            f" (result i64) {' '.join(kinds + counts)} (local $frame i64)\n{TAKEN} {SPREAD}\n{body}\n"
+            f'(func $f{self.index} (export "chinese_{self.index}") (param $i32_0 i32)'
+            f" (param $i64_0 i64) (result i64) {' '.join(kinds + counts)} (local $frame i64)"
+            f"\n{TAKEN} {SPREAD}\n{body}\n"
             f"{RESTORED} (i64.add {self.value('i64', 4)} {MIXED}))"
         )
 

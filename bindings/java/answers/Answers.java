@@ -12,6 +12,7 @@ import java.time.LocalTime;
 import java.util.HashMap;
 import java.util.Locale;
 import java.util.Map;
+import java.util.Optional;
 import java.util.function.Function;
 import java.util.function.Supplier;
 import java.util.function.UnaryOperator;
@@ -51,10 +52,11 @@ public final class Answers {
 
     private static void addNumbers() {
         CALLS.put("read", w -> toBigInteger(w[3], way(w[2]), of(Kind.class, w[1])));
-        CALLS.put("print", w -> toChinese(new BigInteger(w[5]), style(w[2], w[3], w[4]), of(Kind.class, w[1])));
+        CALLS.put("print",
+            w -> toChinese(new BigInteger(w[5]), style(w[2], w[3], w[4]), of(Kind.class, w[1])));
         CALLS.put("find", w -> inPlace(w[1], findNumbers(w[1]), it -> told(it::bigInteger)));
         CALLS.put("flags", w -> inPlace(w[1], findNumbers(w[1]), Answers::flags));
-        CALLS.put("explain", w -> explainNumber(w[3], way(w[2]), of(Kind.class, w[1])).map(Answers::word).orElse("none"));
+        CALLS.put("explain", w -> word(explainNumber(w[3], way(w[2]), of(Kind.class, w[1]))));
     }
 
     private static void addCapitals() {
@@ -73,27 +75,31 @@ public final class Answers {
 
     private static void addQuantities() {
         CALLS.put("read_quantity", w -> shown(toQuantity(w[2], way(w[1]))));
-        CALLS.put("find_quantities", w -> inPlace(w[1], findQuantities(w[1]), it -> told(() -> shown(it.quantity()))));
-        CALLS.put("doubts", w -> inPlace(w[1], findQuantities(w[1]), it -> it.doubt().map(Answers::word).orElse("none")));
+        CALLS.put("find_quantities",
+            w -> inPlace(w[1], findQuantities(w[1]), it -> told(() -> shown(it.quantity()))));
+        CALLS.put("doubts", w -> inPlace(w[1], findQuantities(w[1]), it -> word(it.doubt())));
         CALLS.put("print_quantity", w -> quantity(w[4]).toChinese(style(w[1], w[2], w[3])));
         CALLS.put("quantity_figures", w -> quantity(w[1]).toFigures());
         CALLS.put("trim_quantity", w -> shown(quantity(w[1]).trimmed()));
-        CALLS.put("explain_quantity", w -> explainQuantity(w[2], way(w[1])).map(Answers::word).orElse("none"));
+        CALLS.put("explain_quantity", w -> word(explainQuantity(w[2], way(w[1]))));
     }
 
     private static void addTexts() {
         CALLS.put("quantities_to_figures", w -> quantitiesToFigures(w[2], options(w[1])));
         CALLS.put("text_to_figures", w -> textToFigures(w[2], options(w[1])));
-        CALLS.put("replace_quantities", w -> replaceQuantities(w[2], Answers::numeralsUnlessFraction, options(w[1])));
+        CALLS.put("replace_quantities",
+            w -> replaceQuantities(w[2], Answers::numeralsUnlessFraction, options(w[1])));
         CALLS.put("phrases", w -> findPhrases(w[1]).filter(it -> it instanceof Phrase)
             .map(it -> shown((Phrase) it)).collect(Collectors.joining("\t")));
     }
 
     private static void addReasons() {
         CALLS.put("expected", w -> shown(inputExpected(w[2], of(Input.class, w[1]))));
-        CALLS.put("repair", w -> inputRepair(w[2], of(Input.class, w[1])).map(Answers::shown).orElse("none"));
+        CALLS.put("repair",
+            w -> inputRepair(w[2], of(Input.class, w[1])).map(Answers::shown).orElse("none"));
         CALLS.put("input_message", w -> inputMessage(w[3], of(Input.class, w[2]), locale(w[1])));
-        CALLS.put("number_message", w -> numberMessage(w[4], locale(w[1]), way(w[3]), of(Kind.class, w[2])));
+        CALLS.put("number_message",
+            w -> numberMessage(w[4], locale(w[1]), way(w[3]), of(Kind.class, w[2])));
         CALLS.put("quantity_message", w -> quantityMessage(w[3], locale(w[1]), way(w[2])));
     }
 
@@ -112,7 +118,8 @@ public final class Answers {
     }
 
     private static Style style(String way, String script, String letterCase) {
-        return Style.DEFAULT.withWay(way(way)).withScript(script(script)).withCase(of(Case.class, letterCase));
+        Style style = Style.DEFAULT.withWay(way(way)).withScript(script(script));
+        return style.withCase(of(Case.class, letterCase));
     }
 
     private static AmountForm form(String script, String words) {
@@ -143,13 +150,18 @@ public final class Answers {
 
     private static Quantity quantity(String words) {
         String[] parts = words.split("[/ ]");
-        return new Quantity(new BigInteger(parts[0]), new BigInteger(parts[1]), of(QuantityForm.class, parts[2]));
+        BigInteger denominator = new BigInteger(parts[1]);
+        return new Quantity(new BigInteger(parts[0]), denominator, of(QuantityForm.class, parts[2]));
     }
 
     // What was answered, in words.
 
     private static String word(Enum<?> it) {
         return it.name().toLowerCase(Locale.ROOT);
+    }
+
+    private static String word(Optional<? extends Enum<?>> it) {
+        return it.isPresent() ? word(it.get()) : "none";
     }
 
     private static String exact(Quantity it) {
@@ -161,8 +173,9 @@ public final class Answers {
     }
 
     private static String shown(Expected it) {
-        String words = it.charIndex() + (it.mayEnd() ? " end" : " -") + (it.whiteSpace() ? " space " : " - ");
-        return (words + it.characters()).trim();
+        String end = it.mayEnd() ? "end" : "-";
+        String space = it.whiteSpace() ? "space" : "-";
+        return String.join(" ", "" + it.charIndex(), end, space, it.characters()).trim();
     }
 
     private static String shown(Repair it) {
@@ -194,7 +207,8 @@ public final class Answers {
         }
         if (value instanceof Pair) {
             Pair<?> both = (Pair<?>) value;
-            return exactOf(both.first()) + (it.kind() == PhraseKind.SCORE ? ":" : "..") + exactOf(both.second());
+            String between = it.kind() == PhraseKind.SCORE ? ":" : "..";
+            return exactOf(both.first()) + between + exactOf(both.second());
         }
         return exactOf(value);
     }
@@ -203,7 +217,10 @@ public final class Answers {
         return it instanceof Quantity ? exact((Quantity) it) : it.toString();
     }
 
-    /** The hour as it is written, which a LocalTime does not have; a weekday before it has a number too. */
+    /**
+     * The hour as it is written, which a LocalTime does not have; a weekday before it has a number
+     * too.
+     */
     private static long hourOf(Phrase it) {
         String text = it.text().replaceFirst("^(周|週|星期|[礼禮]拜).", "");
         return findNumbers(text).findFirst().get().number();
@@ -221,7 +238,8 @@ public final class Answers {
     }
 
     /** The text, with what is told of everything found in its place. */
-    private static <T extends Found> String inPlace(String text, Stream<T> all, Function<T, String> tell) {
+    private static <T extends Found> String inPlace(String text, Stream<T> all,
+        Function<T, String> tell) {
         StringBuilder done = new StringBuilder();
         int at = 0;
         for (T found : all.collect(Collectors.toList())) {
@@ -241,7 +259,8 @@ public final class Answers {
 
     public static void main(String[] arguments) throws Exception {
         PrintStream out = new PrintStream(System.out, false, "UTF-8");
-        BufferedReader lines = new BufferedReader(new InputStreamReader(System.in, StandardCharsets.UTF_8));
+        InputStreamReader in = new InputStreamReader(System.in, StandardCharsets.UTF_8);
+        BufferedReader lines = new BufferedReader(in);
         for (String line = lines.readLine(); line != null; line = lines.readLine()) {
             String[] words = line.split("\t", -1);
             out.print(told(() -> CALLS.get(words[0]).answer(words)) + "\n");

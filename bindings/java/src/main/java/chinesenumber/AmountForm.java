@@ -3,8 +3,8 @@ package chinesenumber;
 import static java.util.Objects.requireNonNull;
 
 /**
- * The form in which an amount is written; all are read. {@code AmountForm.DEFAULT.withCurrency()} writes
- * 人民币壹拾伍元整.
+ * The form in which an amount is written; all are read. {@code AmountForm.DEFAULT.withCurrency()}
+ * writes 人民币壹拾伍元整.
  */
 public final class AmountForm {
     /** In simplified script, with 元, 整 and 负. */

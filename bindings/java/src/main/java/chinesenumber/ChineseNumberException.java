@@ -44,14 +44,14 @@ public final class ChineseNumberException extends IllegalArgumentException {
     }
 
     private static String textOf(Status status, Source source, int charIndex) {
-        boolean isNumber = source.input == null;
         boolean isDate = source.input == Input.DATE;
         switch (status) {
             case EMPTY:
                 return Codes.EMPTY_TEXT;
             case INCORRECT:
-                return (isNumber ? Codes.INCORRECT_TEXT : isDate ? Codes.DATE_INCORRECT_TEXT : Codes.AMOUNT_INCORRECT_TEXT)
-                    + " (position: " + charIndex + ")";
+                String ofInput = isDate ? Codes.DATE_INCORRECT_TEXT : Codes.AMOUNT_INCORRECT_TEXT;
+                String text = source.input == null ? Codes.INCORRECT_TEXT : ofInput;
+                return text + " (position: " + charIndex + ")";
             case UNFINISHED:
                 return isDate ? Codes.DATE_UNFINISHED_TEXT : Codes.AMOUNT_UNFINISHED_TEXT;
             default:
@@ -80,25 +80,27 @@ public final class ChineseNumberException extends IllegalArgumentException {
     }
 
     /**
-     * How many characters come before the wrong one, white space included, if the status is
-     * {@link Status#INCORRECT}; otherwise -1. A character outside of the Basic Multilingual Plane counts
+     * How many characters come before the wrong one, white space included, if the status is {@link
+     * Status#INCORRECT}; otherwise -1. A character outside of the Basic Multilingual Plane counts
      * as one.
      */
     public int charIndex() {
         return charIndex;
     }
 
-    /** The index of the wrong character in the {@code CharSequence}; -1 where {@link #charIndex} is. */
+    /**
+     * The index of the wrong character in the {@code CharSequence}; -1 where {@link #charIndex} is.
+     */
     public int index() {
         return index;
     }
 
     /**
-     * The message for the person who typed the text: why it is refused, and how it can be repaired if a
-     * change of one character does that. If no text was read, it says what the status means.
+     * The message for the person who typed the text: why it is refused, and how it can be repaired
+     * if a change of one character does that. If no text was read, it says what the status means.
      *
-     * <p>Chinese locales have messages in simplified or traditional characters, all others in English. The
-     * message is composed by each call.
+     * <p>Chinese locales have messages in simplified or traditional characters, all others in
+     * English. The message is composed by each call.
      */
     public String messageIn(Locale locale) {
         Objects.requireNonNull(locale, "locale");
@@ -110,7 +112,10 @@ public final class ChineseNumberException extends IllegalArgumentException {
         return input().map(it -> ChineseNumbers.inputExpected(source.text, it));
     }
 
-    /** The change that repairs the text that was to be an amount, a date or figures, if there is one. */
+    /**
+     * The change that repairs the text that was to be an amount, a date or figures, if there is
+     * one.
+     */
     public Optional<Repair> repair() {
         return input().flatMap(it -> ChineseNumbers.inputRepair(source.text, it));
     }

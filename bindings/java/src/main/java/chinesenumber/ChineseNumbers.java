@@ -19,8 +19,8 @@ import java.util.function.Supplier;
 import java.util.stream.Stream;
 
 /**
- * Reads, writes, finds and replaces Chinese numerals, amounts of money, dates, quantities and phrases, by a
- * proved library.
+ * Reads, writes, finds and replaces Chinese numerals, amounts of money, dates, quantities and
+ * phrases, by a proved library.
  *
  * <pre>{@code
  * toNumber("一百二")                                        120
@@ -32,9 +32,10 @@ import java.util.stream.Stream;
  * inputMessage("壹佰贰元整", Input.AMOUNT, Locale.CHINA)     第3个字“贰”前缺“零”。
  * }</pre>
  *
- * <p>Any number of threads may call at once. No argument and no result is null; a null argument is refused
- * by a {@link NullPointerException} that names it. What cannot be read or written is refused by a
- * {@link ChineseNumberException}. Half of a surrogate pair is a character that is in no numeral.
+ * <p>Any number of threads may call at once. No argument and no result is null; a null argument is
+ * refused by a {@link NullPointerException} that names it. What cannot be read or written is
+ * refused by a {@link ChineseNumberException}. Half of a surrogate pair is a character that is in
+ * no numeral.
  */
 public final class ChineseNumbers {
     /** The version of the library. */
@@ -52,7 +53,8 @@ public final class ChineseNumbers {
     /**
      * Reads a numeral: {@code toNumber("一百二")} is 120.
      *
-     * @throws ChineseNumberException if the text is no numeral, or a {@code long} does not hold its number
+     * @throws ChineseNumberException if the text is no numeral, or a {@code long} does not hold its
+     *     number
      */
     public static long toNumber(CharSequence text) {
         return toNumber(text, Way.ANY);
@@ -77,8 +79,8 @@ public final class ChineseNumbers {
     }
 
     /**
-     * Reads a numeral whose number fits an integer type:
-     * {@code toBigInteger("一百二", Way.ANY, Kind.U8)} is 120.
+     * Reads a numeral whose number fits an integer type: {@code toBigInteger("一百二", Way.ANY,
+     * Kind.U8)} is 120.
      *
      * @throws ChineseNumberException if the text is no numeral, or its number does not fit
      */
@@ -110,8 +112,8 @@ public final class ChineseNumbers {
     }
 
     /**
-     * Writes a number in a style:
-     * {@code toChinese(105000, Style.DEFAULT.withScript(Script.TRADITIONAL))} is 十萬五千.
+     * Writes a number in a style: {@code toChinese(105000,
+     * Style.DEFAULT.withScript(Script.TRADITIONAL))} is 十萬五千.
      *
      * @throws ChineseNumberException if {@link Way#LOW} cannot write the number
      */
@@ -125,18 +127,19 @@ public final class ChineseNumbers {
     }
 
     /**
-     * Writes a number of up to 128 bits in a style:
-     * {@code toChinese(BigInteger.TEN.pow(12), Style.DEFAULT.withScript(Script.TRADITIONAL))} is 一兆.
+     * Writes a number of up to 128 bits in a style: {@code toChinese(BigInteger.TEN.pow(12),
+     * Style.DEFAULT.withScript(Script.TRADITIONAL))} is 一兆.
      */
     public static String toChinese(BigInteger number, Style style) {
         return toChinese(number, style, Kind.I128);
     }
 
     /**
-     * Writes a number that an integer type holds:
-     * {@code toChinese(BigInteger.valueOf(120), Style.DEFAULT, Kind.U8)} is 一百二十.
+     * Writes a number that an integer type holds: {@code toChinese(BigInteger.valueOf(120),
+     * Style.DEFAULT, Kind.U8)} is 一百二十.
      *
-     * @throws ChineseNumberException if the type does not hold the number, or {@link Way#LOW} cannot write it
+     * @throws ChineseNumberException if the type does not hold the number, or {@link Way#LOW}
+     *     cannot write it
      */
     public static String toChinese(BigInteger number, Style style, Kind kind) {
         requireNonNull(kind, "kind");
@@ -146,7 +149,8 @@ public final class ChineseNumbers {
 
     /** The number, if its halves have the bits of it for a type. */
     static BigInteger held(BigInteger number, Kind kind) {
-        boolean isHeld = isSigned(kind) ? number.bitLength() < 128 : number.signum() >= 0 && number.bitLength() <= 128;
+        boolean isHeld = isSigned(kind)
+            ? number.bitLength() < 128 : number.signum() >= 0 && number.bitLength() <= 128;
         if (!isHeld) {
             throw notHeld(kind);
         }
@@ -183,35 +187,35 @@ public final class ChineseNumbers {
     // Amounts of money.
 
     /**
-     * Writes an amount of money in capitals, as on a cheque:
-     * {@code yuanToChinese(new BigDecimal("1409.50"))} is 壹仟肆佰零玖元伍角整. Nothing is rounded.
+     * Writes an amount of money in capitals, as on a cheque: {@code yuanToChinese(new
+     * BigDecimal("1409.50"))} is 壹仟肆佰零玖元伍角整. Nothing is rounded.
      *
-     * @throws ChineseNumberException as {@link #yuanToFen(BigDecimal)} and {@link #amountToChinese(long)} do
+     * @throws ChineseNumberException as {@link #yuanToFen(BigDecimal)} and {@link
+     *     #amountToChinese(long)} do
      */
     public static String yuanToChinese(BigDecimal yuan) {
         return amountToChinese(yuanToFen(yuan));
     }
 
     /**
-     * Writes an amount of money in a form:
-     * {@code yuanToChinese(new BigDecimal("15"), AmountForm.DEFAULT.withCurrency())} is 人民币壹拾伍元整.
+     * Writes an amount of money in a form: {@code yuanToChinese(new BigDecimal("15"),
+     * AmountForm.DEFAULT.withCurrency())} is 人民币壹拾伍元整.
      */
     public static String yuanToChinese(BigDecimal yuan, AmountForm form) {
         return amountToChinese(yuanToFen(yuan), form);
     }
 
     /**
-     * Writes an amount that may be negative, as on a red invoice:
-     * {@code signedYuanToChinese(new BigDecimal("-15"))} is 负壹拾伍元整.
+     * Writes an amount that may be negative, as on a red invoice: {@code signedYuanToChinese(new
+     * BigDecimal("-15"))} is 负壹拾伍元整.
      */
     public static String signedYuanToChinese(BigDecimal yuan) {
         return signedAmountToChinese(yuanToFen(yuan));
     }
 
     /**
-     * Writes an amount that may be negative in a form:
-     * {@code signedYuanToChinese(new BigDecimal("-15"), AmountForm.DEFAULT.withBracketedSign())} is
-     * （负数）壹拾伍元整.
+     * Writes an amount that may be negative in a form: {@code signedYuanToChinese(new
+     * BigDecimal("-15"), AmountForm.DEFAULT.withBracketedSign())} is （负数）壹拾伍元整.
      */
     public static String signedYuanToChinese(BigDecimal yuan, AmountForm form) {
         return signedAmountToChinese(yuanToFen(yuan), form);
@@ -223,8 +227,8 @@ public final class ChineseNumbers {
     }
 
     /**
-     * Writes an amount of fen in a form:
-     * {@code amountToChinese(1500, AmountForm.DEFAULT.withUprightClosing())} is 壹拾伍元正.
+     * Writes an amount of fen in a form: {@code amountToChinese(1500,
+     * AmountForm.DEFAULT.withUprightClosing())} is 壹拾伍元正.
      *
      * @throws ChineseNumberException if the amount is below zero, or 10^18 fen or more
      */
@@ -240,15 +244,16 @@ public final class ChineseNumbers {
         return printed(it, status);
     }
 
-    /** Writes an amount of fen that may be negative: {@code signedAmountToChinese(-1500)} is 负壹拾伍元整. */
+    /**
+     * Writes an amount of fen that may be negative: {@code signedAmountToChinese(-1500)} is 负壹拾伍元整.
+     */
     public static String signedAmountToChinese(long fen) {
         return signedAmountToChinese(fen, AmountForm.DEFAULT);
     }
 
     /**
-     * Writes an amount of fen that may be negative in a form:
-     * {@code signedAmountToChinese(-1500, AmountForm.DEFAULT.withScript(Script.TRADITIONAL))} is
-     * 負壹拾伍元整.
+     * Writes an amount of fen that may be negative in a form: {@code signedAmountToChinese(-1500,
+     * AmountForm.DEFAULT.withScript(Script.TRADITIONAL))} is 負壹拾伍元整.
      *
      * @throws ChineseNumberException if the amount is 10^18 fen or more, or -10^18 or less
      */
@@ -261,35 +266,38 @@ public final class ChineseNumbers {
     }
 
     /**
-     * Reads an amount of money in capitals, in fen: {@code chineseToAmount("壹拾伍元整")} is 1500. {@link #fenToYuan}
-     * makes 15.00 of it.
+     * Reads an amount of money in capitals, in fen: {@code chineseToAmount("壹拾伍元整")} is 1500.
+     * {@link #fenToYuan} makes 15.00 of it.
      *
-     * @throws ChineseNumberException if the text is no amount; white space is refused like any other
-     *     character
+     * @throws ChineseNumberException if the text is no amount; white space is refused like any
+     *     other character
      */
     public static long chineseToAmount(CharSequence text) {
         Machine it = Machine.of(text);
-        return fen(it, Core.chinese_amount_read(it, TEXT, it.length, TOLD), text, Input.AMOUNT);
+        int status = Core.chinese_amount_read(it, TEXT, it.length, TOLD);
+        return fen(it, status, text, Input.AMOUNT);
     }
 
     /** Reads an amount that may be negative: {@code chineseToSignedAmount("负壹拾伍元整")} is -1500. */
     public static long chineseToSignedAmount(CharSequence text) {
         Machine it = Machine.of(text);
-        return fen(it, Core.chinese_signed_amount_read(it, TEXT, it.length, TOLD), text, Input.SIGNED_AMOUNT);
+        int status = Core.chinese_signed_amount_read(it, TEXT, it.length, TOLD);
+        return fen(it, status, text, Input.SIGNED_AMOUNT);
     }
 
     /**
-     * Reads an amount as people type it, with white space, ⊗ or a colon after 人民币:
-     * {@code chineseToAmountAsTyped("⊗ 人民币：壹拾 伍元整")} is 1500.
+     * Reads an amount as people type it, with white space, ⊗ or a colon after 人民币: {@code
+     * chineseToAmountAsTyped("⊗ 人民币：壹拾 伍元整")} is 1500.
      */
     public static long chineseToAmountAsTyped(CharSequence text) {
         Machine it = Machine.of(text);
-        return fen(it, Core.chinese_typed_amount_read(it, TEXT, it.length, TOLD), text, Input.TYPED_AMOUNT);
+        int status = Core.chinese_typed_amount_read(it, TEXT, it.length, TOLD);
+        return fen(it, status, text, Input.TYPED_AMOUNT);
     }
 
     /**
-     * Reads an amount that may be negative, as people type it or copy it from an invoice:
-     * {@code chineseToSignedAmountAsTyped("⊗（负数）壹拾伍元整")} is -1500.
+     * Reads an amount that may be negative, as people type it or copy it from an invoice: {@code
+     * chineseToSignedAmountAsTyped("⊗（负数）壹拾伍元整")} is -1500.
      */
     public static long chineseToSignedAmountAsTyped(CharSequence text) {
         Machine it = Machine.of(text);
@@ -300,19 +308,20 @@ public final class ChineseNumbers {
     /**
      * The fen of figures in yuan, exactly: {@code yuanToFen("¥1,409.50")} is 140950.
      *
-     * @throws ChineseNumberException for any other text, such as 1.005, and for 10^16 yuan or more on either
-     *     side of zero
+     * @throws ChineseNumberException for any other text, such as 1.005, and for 10^16 yuan or more
+     *     on either side of zero
      */
     public static long yuanToFen(CharSequence text) {
         Machine it = Machine.of(text);
-        return fen(it, Core.chinese_figures_read(it, TEXT, it.length, TOLD), text, Input.FIGURES);
+        int status = Core.chinese_figures_read(it, TEXT, it.length, TOLD);
+        return fen(it, status, text, Input.FIGURES);
     }
 
     /**
      * The fen of an amount in yuan, exactly: {@code yuanToFen(new BigDecimal("15.5"))} is 1550.
      *
-     * @throws ChineseNumberException as for the same figures in a text: if the amount has parts of a fen, or
-     *     is too large
+     * @throws ChineseNumberException as for the same figures in a text: if the amount has parts of
+     *     a fen, or is too large
      */
     public static long yuanToFen(BigDecimal yuan) {
         BigDecimal exact = requireNonNull(yuan, "yuan").stripTrailingZeros();
@@ -340,16 +349,16 @@ public final class ChineseNumbers {
     // Dates.
 
     /**
-     * Writes a date in capitals, as on a cheque:
-     * {@code dateToChinese(LocalDate.of(2026, 1, 15))} is 贰零贰陆年零壹月壹拾伍日.
+     * Writes a date in capitals, as on a cheque: {@code dateToChinese(LocalDate.of(2026, 1, 15))}
+     * is 贰零贰陆年零壹月壹拾伍日.
      */
     public static String dateToChinese(LocalDate date) {
         return dateToChinese(date, Script.SIMPLIFIED);
     }
 
     /**
-     * Writes a date in a script:
-     * {@code dateToChinese(LocalDate.of(2036, 2, 3), Script.TRADITIONAL)} is 貳零參陸年零貳月零參日.
+     * Writes a date in a script: {@code dateToChinese(LocalDate.of(2036, 2, 3),
+     * Script.TRADITIONAL)} is 貳零參陸年零貳月零參日.
      *
      * @throws ChineseNumberException if the year is not from 1 to 9999
      */
@@ -357,8 +366,8 @@ public final class ChineseNumbers {
         requireNonNull(date, "date");
         int code = requireNonNull(script, "script").ordinal();
         Machine it = Machine.take();
-        int status = Core.chinese_date_print(it, date.getYear(), date.getMonthValue(), date.getDayOfMonth(), code,
-            TEXT, Codes.MOST_DATE_BYTES, LENGTH);
+        int status = Core.chinese_date_print(it, date.getYear(), date.getMonthValue(),
+            date.getDayOfMonth(), code, TEXT, Codes.MOST_DATE_BYTES, LENGTH);
         return printed(it, status);
     }
 
@@ -381,8 +390,8 @@ public final class ChineseNumbers {
     // Quantities.
 
     /**
-     * Reads an exact quantity: {@code toQuantity("三分之一")} is 1/3. It is the call for text that people
-     * type.
+     * Reads an exact quantity: {@code toQuantity("三分之一")} is 1/3. It is the call for text that
+     * people type.
      *
      * @throws ChineseNumberException if the text is no quantity, or its numbers are too large
      */
@@ -391,8 +400,8 @@ public final class ChineseNumbers {
     }
 
     /**
-     * Reads an exact quantity by a method, which is not {@link Way#DIGITS}:
-     * {@code toQuantity("一兆", Way.MIDDLE)} is 10000000000000000.
+     * Reads an exact quantity by a method, which is not {@link Way#DIGITS}: {@code toQuantity("一兆",
+     * Way.MIDDLE)} is 10000000000000000.
      */
     public static Quantity toQuantity(CharSequence text, Way method) {
         int code = method(method).ordinal();
@@ -417,42 +426,43 @@ public final class ChineseNumbers {
     // What is found in a text.
 
     /**
-     * Finds the numbers of a text:
-     * {@code findNumbers("第二十三回").map(FoundNumber::number).findFirst().get()} is 23. Sentences are not
-     * understood: 一起 contains a 1, and 3.5万 is two numbers. The call itself searches the whole text.
+     * Finds the numbers of a text: {@code
+     * findNumbers("第二十三回").map(FoundNumber::number).findFirst().get()} is 23. Sentences are not
+     * understood: 一起 contains a 1, and 3.5万 is two numbers. The call itself searches the whole
+     * text.
      */
     public static Stream<FoundNumber> findNumbers(CharSequence text) {
         return findNumbers(text, Wanted.DEFAULT);
     }
 
     /**
-     * Finds the numbers of a text that have the wanted characters:
-     * {@code findNumbers("壹佰", Wanted.DEFAULT.withUpper()).count()} is 1.
+     * Finds the numbers of a text that have the wanted characters: {@code findNumbers("壹佰",
+     * Wanted.DEFAULT.withUpper()).count()} is 1.
      */
     public static Stream<FoundNumber> findNumbers(CharSequence text, Wanted wanted) {
         return Search.NUMBERS.in(text, wanted).stream();
     }
 
     /**
-     * Finds the expressions of a text, numbers with their sign, figures, point and units, percentages and
-     * fractions: {@code findQuantities("占12.5%，共3.5万").count()} is 2.
+     * Finds the expressions of a text, numbers with their sign, figures, point and units,
+     * percentages and fractions: {@code findQuantities("占12.5%，共3.5万").count()} is 2.
      */
     public static Stream<FoundQuantity> findQuantities(CharSequence text) {
         return findQuantities(text, Wanted.DEFAULT);
     }
 
     /**
-     * Finds the expressions of a text that have the wanted characters:
-     * {@code findQuantities("一京", Wanted.DEFAULT.withGreatest(Unit.JING)).count()} is 1.
+     * Finds the expressions of a text that have the wanted characters: {@code findQuantities("一京",
+     * Wanted.DEFAULT.withGreatest(Unit.JING)).count()} is 1.
      */
     public static Stream<FoundQuantity> findQuantities(CharSequence text, Wanted wanted) {
         return Search.QUANTITIES.in(text, wanted).stream();
     }
 
     /**
-     * Finds the phrases of a text, each a {@link Phrase}, and its expressions that are in none, each a
-     * {@link FoundQuantity}: {@code findPhrases("一月五日下午三点半，二十人").count()} is 3. Of the second of
-     * these {@code value(LocalTime.class)} has the time 15:30.
+     * Finds the phrases of a text, each a {@link Phrase}, and its expressions that are in none,
+     * each a {@link FoundQuantity}: {@code findPhrases("一月五日下午三点半，二十人").count()} is 3. Of the
+     * second of these {@code value(LocalTime.class)} has the time 15:30.
      */
     public static Stream<Found> findPhrases(CharSequence text) {
         return findPhrases(text, Wanted.DEFAULT);
@@ -478,33 +488,33 @@ public final class ChineseNumbers {
     // Texts that are rewritten.
 
     /**
-     * Rewrites a text in figures, as an editor does, with its dates, times, ranges and other phrases:
-     * {@code textToFigures("一月五日下午三点半，三到五万元")} is 1月5日下午3点半，3万到5万元.
+     * Rewrites a text in figures, as an editor does, with its dates, times, ranges and other
+     * phrases: {@code textToFigures("一月五日下午三点半，三到五万元")} is 1月5日下午3点半，3万到5万元.
      */
     public static String textToFigures(CharSequence text) {
         return textToFigures(text, TextOptions.DEFAULT);
     }
 
     /**
-     * Rewrites a text in figures with options:
-     * {@code textToFigures("下午三点半", TextOptions.DEFAULT.withCompact())} is 15:30. Phrases without a value
-     * stay, and doubtful ones without that option.
+     * Rewrites a text in figures with options: {@code textToFigures("下午三点半",
+     * TextOptions.DEFAULT.withCompact())} is 15:30. Phrases without a value stay, and doubtful ones
+     * without that option.
      */
     public static String textToFigures(CharSequence text, TextOptions options) {
         return Figures.written(Core::chinese_text_to_figures, text, requireNonNull(options, "options"));
     }
 
     /**
-     * Rewrites the numerals of a text in figures, but no dates and times:
-     * {@code quantitiesToFigures("市值三点五亿元，占百分之十二点五")} is 市值3.5亿元，占12.5%.
+     * Rewrites the numerals of a text in figures, but no dates and times: {@code
+     * quantitiesToFigures("市值三点五亿元，占百分之十二点五")} is 市值3.5亿元，占12.5%.
      */
     public static String quantitiesToFigures(CharSequence text) {
         return quantitiesToFigures(text, TextOptions.DEFAULT);
     }
 
     /**
-     * Rewrites the numerals of a text in figures with options:
-     * {@code quantitiesToFigures("三千五百亿", TextOptions.DEFAULT.withExpanded())} is 350000000000.
+     * Rewrites the numerals of a text in figures with options: {@code quantitiesToFigures("三千五百亿",
+     * TextOptions.DEFAULT.withExpanded())} is 350000000000.
      *
      * @throws IllegalArgumentException for the option {@link TextOptions#withCompact}
      */
@@ -514,22 +524,23 @@ public final class ChineseNumbers {
     }
 
     /**
-     * Replaces the expressions of a text by texts of a function:
-     * {@code replaceQuantities("占12.5%", it -> it.quantity().toChinese())} is 占百分之十二点五.
+     * Replaces the expressions of a text by texts of a function: {@code replaceQuantities("占12.5%",
+     * it -> it.quantity().toChinese())} is 占百分之十二点五.
      */
-    public static String replaceQuantities(CharSequence text, Function<? super FoundQuantity, String> replacement) {
+    public static String replaceQuantities(CharSequence text,
+        Function<? super FoundQuantity, String> replacement) {
         return replaceQuantities(text, replacement, TextOptions.DEFAULT);
     }
 
     /**
-     * Replaces the expressions of a text that the options include and the method reads:
-     * {@code replaceQuantities("三百多", it -> "300", TextOptions.DEFAULT.withAbout())} is 300多. To keep one
+     * Replaces the expressions of a text that the options include and the method reads: {@code
+     * replaceQuantities("三百多", it -> "300", TextOptions.DEFAULT.withAbout())} is 300多. To keep one
      * the function returns its {@link Found#text}.
      *
      * @throws IllegalArgumentException for the options of texts in figures
      */
-    public static String replaceQuantities(CharSequence text, Function<? super FoundQuantity, String> replacement,
-        TextOptions options) {
+    public static String replaceQuantities(CharSequence text,
+        Function<? super FoundQuantity, String> replacement, TextOptions options) {
         requireNonNull(replacement, "replacement");
         int others = Codes.EXPANDED | Codes.CANONICAL | Codes.COMPACT;
         requireNonNull(options, "options").refuse(others, "replaceQuantities");
@@ -537,7 +548,8 @@ public final class ChineseNumbers {
         int at = 0;
         for (FoundQuantity found : Search.QUANTITIES.in(text, options.wanted)) {
             if (options.has(found) && unlessRefused(() -> found.quantity(options.method)).isPresent()) {
-                String other = requireNonNull(replacement.apply(found), "the text that replacement returned");
+                String other = replacement.apply(found);
+                requireNonNull(other, "the text that replacement returned");
                 replaced.append(text, at, found.start()).append(other);
                 at = found.end();
             }
@@ -548,8 +560,8 @@ public final class ChineseNumbers {
     // What may follow a text, and why it is refused.
 
     /**
-     * Says what may come next in a text, for example to offer keys:
-     * {@code inputExpected("壹佰", Input.AMOUNT).characters().contains("元")} is true.
+     * Says what may come next in a text, for example to offer keys: {@code inputExpected("壹佰",
+     * Input.AMOUNT).characters().contains("元")} is true.
      */
     public static Expected inputExpected(CharSequence text, Input input) {
         int code = requireNonNull(input, "input").ordinal();
@@ -561,9 +573,9 @@ public final class ChineseNumbers {
     }
 
     /**
-     * Finds one change of a text after which it goes on past its wrong character:
-     * {@code inputRepair("壹佰贰元整", Input.AMOUNT).get().character()} is 零. Nothing if the text is right, or if no
-     * change is found. Only a person can say that the change is what was meant.
+     * Finds one change of a text after which it goes on past its wrong character: {@code
+     * inputRepair("壹佰贰元整", Input.AMOUNT).get().character()} is 零. Nothing if the text is right, or
+     * if no change is found. Only a person can say that the change is what was meant.
      */
     public static Optional<Repair> inputRepair(CharSequence text, Input input) {
         int code = requireNonNull(input, "input").ordinal();
@@ -576,16 +588,16 @@ public final class ChineseNumbers {
     }
 
     /**
-     * Says why {@link #toBigInteger(CharSequence)} refuses a text: {@code explainNumber("一百十").get()} is
-     * UNITS.
+     * Says why {@link #toBigInteger(CharSequence)} refuses a text: {@code
+     * explainNumber("一百十").get()} is UNITS.
      */
     public static Optional<Fault> explainNumber(CharSequence text) {
         return explainNumber(text, Way.ANY, Kind.I128);
     }
 
     /**
-     * Says why a text is no numeral by a way whose number fits a type; nothing if it is:
-     * {@code explainNumber("三百", Way.ANY, Kind.U8).get()} is TOO_LARGE.
+     * Says why a text is no numeral by a way whose number fits a type; nothing if it is: {@code
+     * explainNumber("三百", Way.ANY, Kind.U8).get()} is TOO_LARGE.
      */
     public static Optional<Fault> explainNumber(CharSequence text, Way way, Kind kind) {
         int codeOfWay = requireNonNull(way, "way").ordinal();
@@ -596,16 +608,16 @@ public final class ChineseNumbers {
     }
 
     /**
-     * Says why {@link #toQuantity(CharSequence)} refuses a text: {@code explainQuantity("零分之一").get()} is
-     * DENOMINATOR.
+     * Says why {@link #toQuantity(CharSequence)} refuses a text: {@code
+     * explainQuantity("零分之一").get()} is DENOMINATOR.
      */
     public static Optional<Fault> explainQuantity(CharSequence text) {
         return explainQuantity(text, Way.ANY);
     }
 
     /**
-     * Says why a text is no quantity by a method; nothing if it is:
-     * {@code explainQuantity("一百五万", Way.TEN_THOUSAND).get()} is TWO_READINGS.
+     * Says why a text is no quantity by a method; nothing if it is: {@code explainQuantity("一百五万",
+     * Way.TEN_THOUSAND).get()} is TWO_READINGS.
      */
     public static Optional<Fault> explainQuantity(CharSequence text, Way method) {
         int code = method(method).ordinal();
@@ -623,22 +635,23 @@ public final class ChineseNumbers {
     // Messages for a person.
 
     /**
-     * The message for the person who typed a text that is to be an input: why it is not, with the repair if
-     * there is one. {@code inputMessage("壹佰贰元整", Input.AMOUNT, Locale.CHINA)} is 第3个字“贰”前缺“零”。 It is
-     * empty if the text is right.
+     * The message for the person who typed a text that is to be an input: why it is not, with the
+     * repair if there is one. {@code inputMessage("壹佰贰元整", Input.AMOUNT, Locale.CHINA)} is
+     * 第3个字“贰”前缺“零”。 It is empty if the text is right.
      */
     public static String inputMessage(CharSequence text, Input input, Locale locale) {
         int code = requireNonNull(input, "input").ordinal();
         int language = language(locale);
         Machine it = Machine.of(text, Codes.MOST_MESSAGE_BYTES);
         int room = TEXT + it.length;
-        Core.chinese_input_message(it, TEXT, it.length, code, language, room, Codes.MOST_MESSAGE_BYTES, LENGTH);
+        Core.chinese_input_message(it, TEXT, it.length, code, language, room,
+            Codes.MOST_MESSAGE_BYTES, LENGTH);
         return it.printed(room);
     }
 
     /**
-     * The message for a text that {@link #toBigInteger(CharSequence)} refuses, likewise:
-     * {@code numberMessage("", Locale.CHINA)} is 缺少数字。
+     * The message for a text that {@link #toBigInteger(CharSequence)} refuses, likewise: {@code
+     * numberMessage("", Locale.CHINA)} is 缺少数字。
      */
     public static String numberMessage(CharSequence text, Locale locale) {
         return numberMessage(text, locale, Way.ANY, Kind.I128);
@@ -660,23 +673,24 @@ public final class ChineseNumbers {
     }
 
     /**
-     * The message for a text that {@link #toQuantity(CharSequence)} refuses, likewise:
-     * {@code quantityMessage("", Locale.CHINA)} is 缺少数字。
+     * The message for a text that {@link #toQuantity(CharSequence)} refuses, likewise: {@code
+     * quantityMessage("", Locale.CHINA)} is 缺少数字。
      */
     public static String quantityMessage(CharSequence text, Locale locale) {
         return quantityMessage(text, locale, Way.ANY);
     }
 
     /**
-     * The message for a text that {@link #toQuantity(CharSequence, Way)} refuses, likewise:
-     * {@code quantityMessage("", Locale.TAIWAN, Way.MIDDLE)} is 缺少數字。
+     * The message for a text that {@link #toQuantity(CharSequence, Way)} refuses, likewise: {@code
+     * quantityMessage("", Locale.TAIWAN, Way.MIDDLE)} is 缺少數字。
      */
     public static String quantityMessage(CharSequence text, Locale locale, Way method) {
         int code = method(method).ordinal();
         int language = language(locale);
         Machine it = Machine.of(text, Codes.MOST_MESSAGE_BYTES);
         int room = TEXT + it.length;
-        Core.chinese_quantity_message(it, TEXT, it.length, code, language, room, Codes.MOST_MESSAGE_BYTES, LENGTH);
+        Core.chinese_quantity_message(it, TEXT, it.length, code, language, room,
+            Codes.MOST_MESSAGE_BYTES, LENGTH);
         return it.printed(room);
     }
 
@@ -698,7 +712,8 @@ public final class ChineseNumbers {
             return Language.ENGLISH.ordinal();
         }
         String script = locale.getScript();
-        boolean isTraditional = script.isEmpty() ? TRADITIONAL.contains(locale.getCountry()) : script.equals("Hant");
+        boolean isTraditional =
+            script.isEmpty() ? TRADITIONAL.contains(locale.getCountry()) : script.equals("Hant");
         return (isTraditional ? Language.TRADITIONAL_CHINESE : Language.SIMPLIFIED_CHINESE).ordinal();
     }
 }

@@ -12,8 +12,8 @@ final class Figures {
 
     /** A call that writes a new text into the room after the text. */
     interface Call {
-        int write(State m, long text, long length, int upper, int greatest, int method, int flags, long room,
-            long bytes, long count);
+        int write(State m, long text, long length, int upper, int greatest, int method, int flags,
+            long room, long bytes, long count);
     }
 
     static String written(Call call, CharSequence text, TextOptions options) {
@@ -22,8 +22,8 @@ final class Figures {
         while (true) {
             Machine it = Machine.of(text, room);
             int at = TEXT + it.length;
-            int status = call.write(it, TEXT, it.length, options.wanted.upper, options.wanted.greatest.ordinal(),
-                options.method.ordinal(), options.flags, at, room, LENGTH);
+            int status = call.write(it, TEXT, it.length, options.wanted.upper,
+                options.wanted.greatest.ordinal(), options.method.ordinal(), options.flags, at, room, LENGTH);
             if (status == 0) {
                 return withHalves(it.printed(at), text);
             }
@@ -33,8 +33,8 @@ final class Figures {
     }
 
     /**
-     * Puts the halves of surrogate pairs back, which are U+FFFD in the new text. No expression has one, so
-     * those of the new text and of the text are the same, in order.
+     * Puts the halves of surrogate pairs back, which are U+FFFD in the new text. No expression has
+     * one, so those of the new text and of the text are the same, in order.
      */
     private static String withHalves(String anew, CharSequence text) {
         if (anew.indexOf(REPLACEMENT) < 0) {

@@ -60,8 +60,8 @@ public abstract class Found {
     public abstract Optional<?> value();
 
     /**
-     * What it means, if that is of a type: {@code found.value(LocalDate.class)} is the date of 一月五日 with
-     * its year.
+     * What it means, if that is of a type: {@code found.value(LocalDate.class)} is the date of 一月五日
+     * with its year.
      */
     public final <T> Optional<T> value(Class<T> type) {
         java.util.Objects.requireNonNull(type, "type");

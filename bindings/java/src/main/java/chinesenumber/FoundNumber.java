@@ -15,8 +15,8 @@ public final class FoundNumber extends Found {
     }
 
     /**
-     * The number, read as {@link ChineseNumbers#toNumber} does: plain digits as such, anything else by
-     * {@link Way#TEN_THOUSAND}. A place of a refusal counts within its own text.
+     * The number, read as {@link ChineseNumbers#toNumber} does: plain digits as such, anything else
+     * by {@link Way#TEN_THOUSAND}. A place of a refusal counts within its own text.
      */
     public long number() {
         return ChineseNumbers.toNumber(text(), way(Way.ANY));

@@ -12,15 +12,17 @@ public final class FoundQuantity extends Found {
         super(place, flags);
     }
 
-    /** Why a reader may understand something other than its quantity: {@link Doubt#DIGITS} for 五一. */
+    /**
+     * Why a reader may understand something other than its quantity: {@link Doubt#DIGITS} for 五一.
+     */
     public Optional<Doubt> doubt() {
         int code = flags >> BITS_OF_FLAGS;
         return code == 0 ? Optional.empty() : Optional.of(DOUBTS[code - 1]);
     }
 
     /**
-     * The quantity, as {@link ChineseNumbers#toQuantity} reads it. A place of a refusal counts within its
-     * own text.
+     * The quantity, as {@link ChineseNumbers#toQuantity} reads it. A place of a refusal counts
+     * within its own text.
      */
     public Quantity quantity() {
         return quantity(Way.ANY);

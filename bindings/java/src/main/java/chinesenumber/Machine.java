@@ -9,9 +9,9 @@ import java.util.concurrent.atomic.AtomicReferenceArray;
 /**
  * The module's memory, lent to one call at a time.
  *
- * <p>Some are kept for the next calls, in places that threads share by their number. None belongs to a
- * thread, so no thread keeps this class alive. A call that ends by an exception other than a refusal
- * does not give its machine back.
+ * <p>Some are kept for the next calls, in places that threads share by their number. None belongs
+ * to a thread, so no thread keeps this class alive. A call that ends by an exception other than a
+ * refusal does not give its machine back.
  */
 final class Machine extends State {
     // What is lent: a quantity (56 bytes; a reading, an amount, a date, a repair and a fault fit there
@@ -30,7 +30,9 @@ final class Machine extends State {
     private static final int LEAST_ROOM = 1024;
     private static final int MOST_KEPT = 1 << 17;
     private static final int PLACES = 16;
-    /** A line of a processor's cache has at most this many references, so each place has its own. */
+    /**
+     * A line of a processor's cache has at most this many references, so each place has its own.
+     */
     private static final int APART = 16;
     private static final AtomicReferenceArray<Machine> KEPT_MACHINES =
         new AtomicReferenceArray<>(PLACES * APART);
@@ -83,7 +85,9 @@ final class Machine extends State {
         }
     }
 
-    /** Writes a text in UTF-8, half of a surrogate pair as U+FFFD. Returns how many bytes it has. */
+    /**
+     * Writes a text in UTF-8, half of a surrogate pair as U+FFFD. Returns how many bytes it has.
+     */
     private int write(CharSequence text) {
         byte[] b = bytes;
         int at = BEFORE_TEXT;

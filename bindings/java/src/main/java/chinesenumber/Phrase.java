@@ -3,19 +3,20 @@ package chinesenumber;
 import java.util.Optional;
 
 /**
- * A phrase in a text, as {@link ChineseNumbers#findPhrases} finds it: a date, a time, a range and so on.
+ * A phrase in a text, as {@link ChineseNumbers#findPhrases} finds it: a date, a time, a range and
+ * so on.
  *
  * <p>By its kind the value is
  *
  * <ul>
- * <li>of a date: a {@link java.time.LocalDate}, or a {@link PartialDate} if a part is not given or the year
- * is below 1000;
- * <li>of a time: a {@link java.time.LocalTime}, or a {@link ClockTime} at 24:00 or if the half of the day is
- * not known, as for 三点半;
+ * <li>of a date: a {@link java.time.LocalDate}, or a {@link PartialDate} if a part is not given or
+ * the year is below 1000;
+ * <li>of a time: a {@link java.time.LocalTime}, or a {@link ClockTime} at 24:00 or if the half of
+ * the day is not known, as for 三点半;
  * <li>of a duration: a {@link java.time.Duration};
  * <li>of a half or a length: a {@link Quantity}, 1.5 for 一个半小时 and 1.75 for 一米七五;
- * <li>of years, months or days: a {@link Pair} of the first and the last as {@code Integer}s, of a score of
- * the two numbers;
+ * <li>of years, months or days: a {@link Pair} of the first and the last as {@code Integer}s, of a
+ * score of the two numbers;
  * <li>of a range: a {@link Pair} of quantities, 30000 and 50000 for 三到五万.
  * </ul>
  */

@@ -7,8 +7,8 @@ import java.math.BigInteger;
 import java.util.Optional;
 
 /**
- * An exact quantity, as it is written and not reduced: 12.5% is 125/1000 of {@link QuantityForm#PERCENT}.
- * It is immutable.
+ * An exact quantity, as it is written and not reduced: 12.5% is 125/1000 of {@link
+ * QuantityForm#PERCENT}. It is immutable.
  */
 public final class Quantity {
     static final QuantityForm[] FORMS = QuantityForm.values();
@@ -54,7 +54,8 @@ public final class Quantity {
 
     /** A fraction: {@code Quantity.ofFraction(1, 3)} is 三分之一. */
     public static Quantity ofFraction(long numerator, long denominator) {
-        return new Quantity(BigInteger.valueOf(numerator), BigInteger.valueOf(denominator), QuantityForm.FRACTION);
+        BigInteger below = BigInteger.valueOf(denominator);
+        return new Quantity(BigInteger.valueOf(numerator), below, QuantityForm.FRACTION);
     }
 
     private static Quantity of(BigDecimal number, int places, QuantityForm form) {
@@ -99,9 +100,9 @@ public final class Quantity {
     }
 
     /**
-     * The same without the zeros at the end of its decimals: 3.10 becomes 3.1, and 3.5万 becomes 35000 of
-     * {@link QuantityForm#WHOLE}. A fraction stays, and so does a quantity whose denominator does not match
-     * its form.
+     * The same without the zeros at the end of its decimals: 3.10 becomes 3.1, and 3.5万 becomes
+     * 35000 of {@link QuantityForm#WHOLE}. A fraction stays, and so does a quantity whose
+     * denominator does not match its form.
      */
     public Quantity trimmed() {
         BigInteger least = form == QuantityForm.PERCENT ? HUNDRED : BigInteger.ONE;
@@ -129,8 +130,9 @@ public final class Quantity {
     }
 
     /**
-     * Writes the quantity; {@link ChineseNumbers#toQuantity} reads the text by the same method as the same
-     * numbers. What has a denominator that does not match its form is written as a fraction.
+     * Writes the quantity; {@link ChineseNumbers#toQuantity} reads the text by the same method as
+     * the same numbers. What has a denominator that does not match its form is written as a
+     * fraction.
      *
      * @throws ChineseNumberException if {@link Way#LOW} cannot write one of its numbers
      */
@@ -144,14 +146,14 @@ public final class Quantity {
     }
 
     /**
-     * Writes the quantity in figures, without zeros at the end of its decimals: 35000 for 3.5万, 12.5%,
-     * 1/3.
+     * Writes the quantity in figures, without zeros at the end of its decimals: 35000 for 3.5万,
+     * 12.5%, 1/3.
      */
     public String toFigures() {
         Machine it = Machine.take();
         it.put(Machine.TOLD, this);
-        int status = Core.chinese_quantity_figures(it, Machine.TOLD, Machine.TEXT, Codes.MOST_FIGURES_BYTES,
-            Machine.LENGTH);
+        int status = Core.chinese_quantity_figures(it, Machine.TOLD, Machine.TEXT,
+            Codes.MOST_FIGURES_BYTES, Machine.LENGTH);
         return ChineseNumbers.printed(it, status);
     }
 

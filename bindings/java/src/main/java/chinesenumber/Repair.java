@@ -33,7 +33,9 @@ public final class Repair {
         return index;
     }
 
-    /** The character that is inserted or replaces the one there; empty for {@link Change#DELETE}. */
+    /**
+     * The character that is inserted or replaces the one there; empty for {@link Change#DELETE}.
+     */
     public String character() {
         return character;
     }

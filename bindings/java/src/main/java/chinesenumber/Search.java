@@ -19,7 +19,9 @@ import java.util.ArrayList;
 import java.util.List;
 import java.util.OptionalInt;
 
-/** A search of a text. It searches all of the text at once, since the machine is lent to one call. */
+/**
+ * A search of a text. It searches all of the text at once, since the machine is lent to one call.
+ */
 final class Search<T extends Found> {
     private static final PhraseKind[] KINDS = PhraseKind.values();
     private static final PhraseState[] STATES = PhraseState.values();
@@ -28,7 +30,8 @@ final class Search<T extends Found> {
 
     /** A search of the module: it writes up to so many spans or phrases from a byte on. */
     interface Call {
-        int find(State m, long text, long length, long from, int upper, int greatest, long spans, long most, long count);
+        int find(State m, long text, long length, long from, int upper, int greatest, long spans,
+            long most, long count);
     }
 
     /** What reads what was found, which begins at an address. */
@@ -36,11 +39,14 @@ final class Search<T extends Found> {
         T read(Machine it, int address, Found.Place place);
     }
 
-    static final Search<FoundNumber> NUMBERS = new Search<>(Core::chinese_number_find_utf8, SPAN_BYTES,
+    static final Search<FoundNumber> NUMBERS = new Search<>(
+        Core::chinese_number_find_utf8, SPAN_BYTES,
         (it, address, place) -> new FoundNumber(place, it.word(address + 16)));
-    static final Search<FoundQuantity> QUANTITIES = new Search<>(Core::chinese_quantity_find_utf8, SPAN_BYTES,
+    static final Search<FoundQuantity> QUANTITIES = new Search<>(
+        Core::chinese_quantity_find_utf8, SPAN_BYTES,
         (it, address, place) -> new FoundQuantity(place, it.word(address + 16)));
-    static final Search<Found> PHRASES = new Search<>(Core::chinese_phrase_find_utf8, PHRASE_BYTES, Search::phrase);
+    static final Search<Found> PHRASES = new Search<>(
+        Core::chinese_phrase_find_utf8, PHRASE_BYTES, Search::phrase);
 
     private final Call call;
     private final int bytes;
@@ -149,7 +155,10 @@ final class Search<T extends Found> {
         return Quantity.of(new BigDecimal(whole.add(BigInteger.valueOf(decimals & 0xffffffffL)), count));
     }
 
-    /** The two quantities of a range, whose ends are before and after its link, which is one character. */
+    /**
+     * The two quantities of a range, whose ends are before and after its link, which is one
+     * character.
+     */
     private static Pair<Quantity> range(Machine it, int address) {
         int start = it.word(address);
         int end = it.word(address + 8);

@@ -3,7 +3,10 @@ package chinesenumber;
 import java.io.Serializable;
 import java.util.Locale;
 
-/** What a text was read as: an input, a number or a quantity. From it come the message and the reason. */
+/**
+ * What a text was read as: an input, a number or a quantity. From it come the message and the
+ * reason.
+ */
 final class Source implements Serializable {
     private static final long serialVersionUID = 1;
 

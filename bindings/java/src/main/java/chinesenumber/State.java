@@ -5,9 +5,9 @@ import java.util.Arrays;
 import java.util.Base64;
 
 /**
- * What changes during a call: the module's memory and globals. The memory begins at the address BASE:
- * the end of the stack, the constants, and what is lent to the module from HEAP on. An access outside of
- * it ends the call by an IndexOutOfBoundsException.
+ * What changes during a call: the module's memory and globals. The memory begins at the address
+ * BASE: the end of the stack, the constants, and what is lent to the module from HEAP on. An access
+ * outside of it ends the call by an IndexOutOfBoundsException.
  */
 abstract class State {
     static final int BASE = 60720;

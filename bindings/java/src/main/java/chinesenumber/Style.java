@@ -3,7 +3,8 @@ package chinesenumber;
 import static java.util.Objects.requireNonNull;
 
 /**
- * How a number or a quantity is written. {@code Style.DEFAULT.withCase(Case.UPPER)} writes 120 as 壹佰贰拾.
+ * How a number or a quantity is written. {@code Style.DEFAULT.withCase(Case.UPPER)} writes 120 as
+ * 壹佰贰拾.
  */
 public final class Style {
     /** The way {@link Way#ANY}, in simplified script and in lower case. */

@@ -3,13 +3,13 @@ package chinesenumber;
 import static java.util.Objects.requireNonNull;
 
 /**
- * What is rewritten in a text, and how. With {@code TextOptions.DEFAULT.withExpanded()} 三千五百亿 becomes
- * 350000000000.
+ * What is rewritten in a text, and how. With {@code TextOptions.DEFAULT.withExpanded()} 三千五百亿
+ * becomes 350000000000.
  */
 public final class TextOptions {
     /**
-     * What {@link Wanted#DEFAULT} finds, read by {@link Way#ANY}, but nothing that is approximate, one
-     * Chinese character or doubtful.
+     * What {@link Wanted#DEFAULT} finds, read by {@link Way#ANY}, but nothing that is approximate,
+     * one Chinese character or doubtful.
      */
     public static final TextOptions DEFAULT = new TextOptions(Wanted.DEFAULT, Way.ANY, 0);
 
@@ -59,8 +59,8 @@ public final class TextOptions {
     }
 
     /**
-     * The same with dates, times and halves as short as possible, of {@link ChineseNumbers#textToFigures}
-     * only: 2026-01-05 15:30, 1.5小时.
+     * The same with dates, times and halves as short as possible, of {@link
+     * ChineseNumbers#textToFigures} only: 2026-01-05 15:30, 1.5小时.
      */
     public TextOptions withCompact() {
         return with(Codes.COMPACT);

@@ -4,7 +4,10 @@ import java.lang.invoke.MethodHandles;
 import java.lang.invoke.VarHandle;
 import java.nio.ByteOrder;
 
-/** Numbers of several bytes in an array, the least byte first; for Java from 9 on, where this is faster. */
+/**
+ * Numbers of several bytes in an array, the least byte first; for Java from 9 on, where this is
+ * faster.
+ */
 final class Words {
     private static final VarHandle SHORTS =
         MethodHandles.byteArrayViewVarHandle(short[].class, ByteOrder.LITTLE_ENDIAN);
