@@ -3,18 +3,25 @@ import static chinesenumber.ChineseNumbers.*;
 import chinesenumber.*;
 import java.io.ByteArrayInputStream;
 import java.io.ByteArrayOutputStream;
+import java.io.File;
 import java.io.ObjectInputStream;
 import java.io.ObjectOutputStream;
+import java.lang.ref.WeakReference;
 import java.lang.reflect.InvocationTargetException;
 import java.lang.reflect.Method;
 import java.lang.reflect.Modifier;
 import java.math.BigDecimal;
 import java.math.BigInteger;
+import java.net.URL;
+import java.net.URLClassLoader;
 import java.time.LocalDate;
 import java.time.LocalTime;
+import java.util.Arrays;
 import java.util.List;
 import java.util.Locale;
 import java.util.Random;
+import java.util.concurrent.ExecutorService;
+import java.util.concurrent.Executors;
 import java.util.concurrent.atomic.AtomicReference;
 import java.util.function.Function;
 import java.util.stream.Collectors;
@@ -24,6 +31,10 @@ import java.util.stream.Collectors;
  * are.
  */
 public final class Limits {
+    private static final List<String> PARAMETERS = Arrays.asList("text", "way", "kind", "number",
+        "style", "yuan", "form", "date", "script", "method", "wanted", "options", "replacement",
+        "input", "locale", "status");
+
     private static void same(Object found, Object wanted) {
         if (!found.equals(wanted)) {
             throw new AssertionError("found " + found + ", wanted " + wanted);
@@ -174,9 +185,7 @@ public final class Limits {
                     throw new AssertionError(call + " accepts null");
                 } catch (InvocationTargetException error) {
                     same(error.getCause().getClass(), NullPointerException.class);
-                    String named = call.getParameters()[at].getName();
-                    String wanted = named.startsWith("arg") ? "[a-zA-Z]+" : named;
-                    same(error.getCause().getMessage().matches(wanted), true);
+                    same(PARAMETERS.contains(error.getCause().getMessage()), true);
                 }
             }
         }
@@ -234,6 +243,30 @@ public final class Limits {
         }
     }
 
+    /** Threads that go on keep no class of the library, so its class loader can be collected. */
+    private static void unloaded() throws Exception {
+        ExecutorService pool = Executors.newFixedThreadPool(4);
+        WeakReference<ClassLoader> loader = new WeakReference<>(loaderOfCalls(pool));
+        for (int at = 0; loader.get() != null && at < 100; at++) {
+            System.gc();
+            Thread.sleep(20);
+        }
+        same(loader.get() == null, true);
+        pool.shutdown();
+    }
+
+    private static ClassLoader loaderOfCalls(ExecutorService pool) throws Exception {
+        String path = System.getProperty("java.class.path").split(File.pathSeparator)[0];
+        URL[] places = {new File(path).toURI().toURL()};
+        ClassLoader loader = new URLClassLoader(places, null);
+        Class<?> library = loader.loadClass("chinesenumber.ChineseNumbers");
+        Method call = library.getMethod("toChinese", long.class);
+        for (int at = 0; at < 20; at++) {
+            same(pool.submit(() -> call.invoke(null, 120L)).get(), "一百二十");
+        }
+        return loader;
+    }
+
     /**
      * Four million characters are searched, some of them rewritten; then no room for them is kept.
      */
@@ -263,6 +296,7 @@ public final class Limits {
         messages();
         nulls();
         threads(rounds);
+        unloaded();
         if (rounds > 1) {
             longText();
         }
