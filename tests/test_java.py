@@ -14,7 +14,7 @@ from running import ENVIRONMENT, TOP, fail, needs, once, run, write
 JAVA, OWN = TOP / "bindings/java", TOP / "tests/java"
 sys.path.insert(0, str(JAVA))
 sys.path.insert(0, str(OWN))
-import build
+import build_jar
 import core
 import modules
 import wasm
@@ -32,9 +32,9 @@ def classes(tmp_path_factory):
     needs("javac 9", "java")
 
     def make(folder):
-        build.compiled(folder / "classes")
+        build_jar.compiled(folder / "classes")
         own = [JAVA / "answers/Answers.java", OWN / "Limits.java", OWN / "Same.java"]
-        words = ("javac", *build.BRIEF, "-Xlint:all,-options", "-Werror", "-encoding", "UTF-8")
+        words = ("javac", *build_jar.BRIEF, "-Xlint:all,-options", "-Werror", "-encoding", "UTF-8")
         run(*words, "-cp", "classes", "-d", "classes", *own, cwd=folder)
 
     return once(tmp_path_factory, "java", make) / "classes"
@@ -78,7 +78,7 @@ def test_examples(classes, tmp_path):
     assert None not in found and len(found) > 50
     calls = "".join(f"        System.out.println({it[1]});\n" for it in found)
     write(tmp_path / "Examples.java", EXAMPLES.format(calls))
-    words = ("javac", *build.BRIEF, "-encoding", "UTF-8", "-cp", classes, "-d", tmp_path)
+    words = ("javac", *build_jar.BRIEF, "-encoding", "UTF-8", "-cp", classes, "-d", tmp_path)
     run(*words, "Examples.java", cwd=tmp_path)
     assert java(f"{classes}:{tmp_path}", "Examples") == "".join(f"{it[2]}\n" for it in found)
 
@@ -180,9 +180,9 @@ def test_large_method_refused(tmp_path):
     needs("javac 9")
     steps = "".join(f"n += n * {number};" for number in range(1200))
     write(tmp_path / "Large.java", f"class Large {{ int f(int n) {{ {steps} return n; }} }}")
-    run("javac", *build.BRIEF, "Large.java", cwd=tmp_path)
+    run("javac", *build_jar.BRIEF, "Large.java", cwd=tmp_path)
     with pytest.raises(SystemExit, match="Large.f has .* bytes of code"):
-        build.refuse_large(tmp_path)
+        build_jar.refuse_large(tmp_path)
 
 
 ALL = "public class All {{ public static void main(String[] words) throws Exception {{ {} }} }}"
@@ -200,7 +200,15 @@ def answers_of_java(folder, jobs):
             write(own / f"{name}.java", text.replace("package @PACKAGE@;", package))
         calls.append(f"m{number}.Driver.print({number}, System.out);")
     write(folder / "All.java", ALL.format(" ".join(calls)))
-    run("javac", *build.BRIEF, "-d", "classes", "All.java", *folder.glob("m*/*.java"), cwd=folder)
+    run(
+        "javac",
+        *build_jar.BRIEF,
+        "-d",
+        "classes",
+        "All.java",
+        *folder.glob("m*/*.java"),
+        cwd=folder,
+    )
     return java(folder / "classes", "All")
 
 

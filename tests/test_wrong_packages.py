@@ -95,7 +95,7 @@ def pack(packing, path, files):
         packing.build_wheel.write_wheel(path, info, files)
         return
     if path.suffix == ".jar":
-        packing.build.pack(path, files)
+        packing.build_jar.pack(path, files)
         return
     top = next(iter(files)).partition("/")[0]
     packing.write_tar(path, top, {name[len(top) + 1 :]: data for name, data in files.items()})

@@ -2,7 +2,7 @@
 """Makes the jar of this folder, without a network, and with --all those of the sources and the
 documentation, and the file for Maven.
 
-Usage: build.py [--all] OUT
+Usage: build_jar.py [--all] OUT
 
 It needs a JDK from 9 on, which compiles for Java 8; two classes are for Java from 9 on. The jars
 are the same, byte for byte, where the JDK is the same. A method of more than 8,000 bytes is
@@ -34,7 +34,7 @@ Implementation-Version: {version}
 
 
 def stop(why):
-    sys.exit(f"build: {why}")
+    sys.exit(f"build_jar: {why}")
 
 
 def version():
