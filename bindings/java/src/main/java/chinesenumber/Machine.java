@@ -14,9 +14,9 @@ import java.util.concurrent.atomic.AtomicReferenceArray;
  * refusal does not give its machine back.
  */
 final class Machine extends State {
-    // What is lent: a quantity (56 bytes; a reading, an amount, a date, a repair and a fault fit there
-    // too), a length (8), the second quantity of a range (56 of 64), spans (24 each) or phrases (56 each;
-    // what is expected, of 224 bytes, fits there too), and the text.
+    // What is lent: a quantity (56 bytes; a reading, an amount, a date, a repair and a fault fit
+    // there too), a length (8), the second quantity of a range (56 of 64), spans (24 each) or
+    // phrases (56 each; what is expected, of 224 bytes, fits there too), and the text.
     static final int TOLD = (HEAP + 15) / 16 * 16;
     static final int LENGTH = TOLD + 56;
     static final int HIGH = LENGTH + 8;
@@ -168,15 +168,6 @@ final class Machine extends State {
             units += count == 4 ? 1 : 0;
         }
         return units;
-    }
-
-    /** How many characters of two UTF-16 units are between two bytes of the text. */
-    int pairs(int start, int end) {
-        int pairs = 0;
-        for (int at = start; at < end; at += bytesOf(at)) {
-            pairs += bytesOf(at) == 4 ? 1 : 0;
-        }
-        return pairs;
     }
 
     /** How many bytes the character at a byte of the text has. */

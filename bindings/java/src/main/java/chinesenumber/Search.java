@@ -83,7 +83,7 @@ final class Search<T extends Found> {
         private final CharSequence text;
         private int from;
         private int index;
-        private int pairs;
+        private int characters;
 
         Cursor(Machine it, CharSequence text) {
             this.it = it;
@@ -92,14 +92,20 @@ final class Search<T extends Found> {
 
         /** Goes on to the end of what is between two bytes. */
         Found.Place place(int start, int end) {
-            index += it.units(from, start);
-            pairs += it.pairs(from, start);
+            goTo(start);
             int first = index;
-            int charStart = index - pairs;
-            index += it.units(start, end);
-            pairs += it.pairs(start, end);
-            from = end;
+            int charStart = characters;
+            goTo(end);
             return new Found.Place(text.subSequence(first, index).toString(), first, charStart);
+        }
+
+        private void goTo(int end) {
+            while (from < end) {
+                int count = it.bytesOf(from);
+                from += count;
+                index += count == 4 ? 2 : 1;
+                characters++;
+            }
         }
     }
 
