@@ -192,6 +192,10 @@ class Clone:
     def java(self, asked):
         for tool in ("javac", "java"):
             needs_tool(tool)
+        try:
+            run("javac", "-version")  # that of macOS is there without a JDK, and fails
+        except Failed:
+            raise LeftOut("javac has no JDK")
         classes, own = self.scratch / "java", BINDINGS / "java"
         sources = sorted(own.glob("src/main/java/chinesenumber/*.java"))
         # They run for a few seconds, in which compiling well does not pay off.
