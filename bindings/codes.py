@@ -39,6 +39,7 @@ NO_REFUSAL = "out of memory"
 LISTED = "docs/RULES.md", "crates/numeral/src/main.rt"  # the files that list those of numbers
 # What people write in several places: how it is found, and in which files. Once the project has an
 # address, it goes into package.json, Cargo.toml and METADATA of bindings/python/build_wheel.py.
+OF_JAVA = "bindings/java/src/main/java/chinesenumber/ChineseNumbers.java"
 AUTHORS = "authors", r"^Copyright \(c\) \d+ (.*)"
 PARTS = r"^#define CN_VERSION_MAJOR (\d+)\n#define \w+MINOR (\d+)\n#define \w+PATCH (\d+)"
 REPEATED = {
@@ -53,10 +54,7 @@ REPEATED = {
     ("version", r"^export const VERSION = '(.*)'"): "bindings/web/chinese-number.mjs",
     ("version", r'^  "version": "(.*)"'): "bindings/web/package.json",
     ("version", r"^  <version>(.*)</version>"): "bindings/java/pom.xml",
-    (
-        "version",
-        r' VERSION = "(.*)"',
-    ): "bindings/java/src/main/java/chinesenumber/ChineseNumbers.java",
+    ("version", r' VERSION = "(.*)"'): OF_JAVA,
     ("version", r"chinese.number[a-z-_]*-(\d[\d.]*\d)\b"): (
         "bindings/README.md bindings/web/README.md bindings/web/README.zh.md "
         "bindings/java/README.md bindings/java/README.zh.md"

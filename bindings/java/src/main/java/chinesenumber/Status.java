@@ -1,7 +1,8 @@
 // Made by bindings/codes.py.
 package chinesenumber;
 
-/** The status of a call. */
+/** The status of a call. No exception has {@link Status#DONE}, {@link Status#NOT_UTF8}, {@link
+ * Status#NO_ROOM}, {@link Status#UNKNOWN} or {@link Status#NONE}. */
 public enum Status {
     /** The text was read, written or searched. */
     DONE,
