@@ -226,12 +226,19 @@ def classes_here():
     return {path.relative_to(TOP).as_posix(): found(path) for path in paths}
 
 
+def provenance():
+    """The contents of PROVENANCE.json. Stops if there are none."""
+    try:
+        return json.loads(found(PROVENANCE))
+    except ValueError:
+        return stop(f"{PROVENANCE} is missing, or no JSON: {REMEDY}")
+
+
 def copies():
     files = all_files_of(made_here())
     for path in classes_here().keys() - files:
         (TOP / path).unlink()
-    told = json.loads(found(PROVENANCE))
-    write({**files, PROVENANCE: provenance_of(told, files)})
+    write({**files, PROVENANCE: provenance_of(provenance(), files)})
 
 
 def faults(told):
@@ -251,10 +258,7 @@ def faults(told):
 
 def check():
     """The contents of PROVENANCE.json. Stops if a check fails."""
-    try:
-        told = json.loads(found(PROVENANCE))
-    except ValueError:
-        stop(f"{PROVENANCE} is missing, or no JSON: {REMEDY}")
+    told = provenance()
     wrong = list(faults(told))
     if wrong:
         stop("\ndist: ".join([*wrong, REMEDY]))

@@ -198,6 +198,14 @@ def test_wrong_dist(copy, plant, file, change, wanted):
     assert wanted in report(copy, DIST)
 
 
+def test_copies(copy, plant):
+    """What is made of dist/ is made again without the toolchain."""
+    plant(f"{JAVA}/Core1.java", longer)
+    plant("bindings/web/compiled.mjs", longer)
+    run(sys.executable, "bindings/dist.py", "copies", cwd=copy)
+    run(sys.executable, *DIST, cwd=copy)
+
+
 @pytest.mark.parametrize("check, file, change", RIGHT.values(), ids=RIGHT)
 def test_nothing_wrong(copy, plant, check, file, change):
     plant(file, change)

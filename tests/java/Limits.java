@@ -89,6 +89,14 @@ public final class Limits {
         same(toNumber(new StringBuilder("一百二")), 120L);
     }
 
+    private static void dates() {
+        same(chineseToDate(dateToChinese(LocalDate.of(9999, 12, 31))), LocalDate.of(9999, 12, 31));
+        for (int year : new int[] {10000, 0, -1, 999_999_999, -999_999_999}) {
+            refused(() -> dateToChinese(LocalDate.of(year, 1, 1)), Status.NOT_A_DATE);
+        }
+        same(refusal(() -> chineseToDate("贰零贰伍年零贰月贰拾玖日")).charIndex(), 10);
+    }
+
     private static void quantities() {
         same(Quantity.of(new BigDecimal("3.10")).toChinese(), "三点一零");
         same(Quantity.of(new BigDecimal("3.10")).trimmed(), Quantity.of(new BigDecimal("3.1")));
@@ -290,6 +298,7 @@ public final class Limits {
         int rounds = Integer.parseInt(words[0]);
         yuan();
         numbers();
+        dates();
         quantities();
         places();
         texts();
