@@ -181,7 +181,7 @@ BY_MAVEN = """\
 cp -r "$CLONE/bindings/java" own
 cp -rs "$PLUGINS" repository
 mvn -o -q -B -Dmaven.repo.local="$PWD/repository" -f own/pom.xml package > log
-java -cp own/target/chinese-number-proved-*.jar Example.java
+java -Dfile.encoding=UTF-8 -cp own/target/chinese-number-proved-*.jar Example.java
 """
 
 

@@ -23,7 +23,7 @@ HEADER = (TOP / "bindings/c/chinese_number.h").read_text(encoding="utf-8")
 MODULE = (TOP / "dist/chinese-number.32.wasm").read_bytes()
 # How the virtual machine runs the code: with both compilers, with the first one, and with none.
 MODES = {"as usual": (), "C1": ("-XX:TieredStopAtLevel=1",), "no compiler": ("-Xint",)}
-BRIEF = ("-XX:TieredStopAtLevel=1", "-XX:+UseSerialGC")
+BRIEF = ("-XX:TieredStopAtLevel=1", "-XX:+UseSerialGC", "-Dfile.encoding=UTF-8")
 
 
 @pytest.fixture(scope="module")

@@ -292,9 +292,10 @@ def test_jar(packages, jar, tmp_path):
     readme = Readme(jar, "META-INF/README.md", "java")
     write(tmp_path / "user/Example.java", readme.example)
     readme.follow(packages, tmp_path / "user")
-    run("java", "-cp", jar, "Example.java", cwd=tmp_path / "user", wanted=readme.answer)
+    own = ("java", "-Dfile.encoding=UTF-8", "-cp", jar, "Example.java")
+    run(*own, cwd=tmp_path / "user", wanted=readme.answer)
     answers = TOP / "bindings/java/answers/Answers.java"
-    run("javac", "-cp", jar, "-d", tmp_path, answers, cwd=tmp_path)
+    run("javac", "-encoding", "UTF-8", "-cp", jar, "-d", tmp_path, answers, cwd=tmp_path)
     words = ("java", "-cp", f"{jar}:{tmp_path}", "Answers")
     assert wrong_answers(lambda asked: run(*words, cwd=tmp_path, stdin=asked)) == []
 
