@@ -104,8 +104,9 @@ class Label:
 class Method:
     """A function of the module, or a part of one, while it is written."""
 
-    def __init__(self, core, name, function, whole=None):
-        self.core, self.name, self.function, self.whole = core, name, function, whole or self
+    def __init__(self, core, name, function, home, whole=None):
+        self.core, self.name, self.function, self.home = core, name, function, home
+        self.whole = whole or self
         self.kinds = function.parameters + function.locals
         self.lines, self.stack, self.depth, self.made, self.parts = [], [], 1, 0, 0
         # A part has the labels around it too; exits are those of them that it goes to.
@@ -349,7 +350,7 @@ class Method:
     def call(self, node):
         function = self.core.module.functions[node.given]
         given = [self.pop().text for _ in function.parameters][::-1]
-        text = f"{self.core.name_from(self.whole, node.given)}({', '.join(['m', *given])})"
+        text = f"{self.core.name_from(self.home, node.given)}({', '.join(['m', *given])})"
         if function.result:
             return self.push(text, function.result, True)
         return self.statement(f"{text};")
@@ -361,31 +362,33 @@ class Method:
         self.keep()
         whole = self.whole
         whole.parts += 1
-        part = Method(self.core, f"{whole.name}_{whole.parts}", self.function, whole)
+        name = f"{whole.name}_{whole.parts}"
+        part = Method(self.core, name, self.function, self.home, whole)
         part.labels, part.outside, part.depth = list(self.labels), len(self.labels), 2
         is_ended, label = part.braces(node)
         is_ended = is_ended or label.is_used and not label.is_loop
         text = "\n".join(part.lines)
         writes, reads = (sorted({*map(int, it.findall(text))}) for it in (WRITTEN, NAMED))
         self.core.write_part(part, text, reads, writes)
-        self.call_part(part, reads, is_ended)
+        answer = self.call_part(part, reads)
         for at, index in enumerate(writes):
             cast = "(int) " if self.kinds[index] == "int" else ""
             self.line(f"l{index} = {cast}m.kept[{at}];")
-        return self.go_on(part, is_ended)
+        return self.go_on(part, answer, is_ended)
 
-    def call_part(self, part, reads, is_ended):
+    def call_part(self, part, reads):
+        """Calls a part; the variable with its answer, which says which label it goes to."""
         call = f"{part.name}({', '.join(['m', *(f'l{it}' for it in reads)])});"
-        part.answer = self.new("x") if part.exits else None
-        self.line(f"final int {part.answer} = {call}" if part.exits else call)
+        answer = self.new("x")
+        self.line(f"final int {answer} = {call}" if part.exits else call)
+        return answer
 
-    def go_on(self, part, is_ended):
-        """After the call of a part: goes to the label that it returned."""
+    def go_on(self, part, answer, is_ended):
         if not part.exits:
             if not is_ended:
                 self.line("throw State.trap();")
             return is_ended
-        self.line(f"switch ({part.answer}) {{")
+        self.line(f"switch ({answer}) {{")
         for at, label in enumerate(part.exits, 1):
             # The last of them is the default where nothing else is left.
             is_last = not is_ended and at == len(part.exits)
@@ -439,10 +442,10 @@ class Core:
     def name(self, index):
         return self.calls.get(index, f"f{index}")
 
-    def name_from(self, method, index):
-        """The name of a function in a method, with its class if that is another one."""
+    def name_from(self, home, index):
+        """The name of a function in a class, with its own class if that is another one."""
         own = self.place_of[index]
-        return self.name(index) if own == method.home else f"{own}.{self.name(index)}"
+        return self.name(index) if own == home else f"{own}.{self.name(index)}"
 
     def choose_parts(self, method):
         """Chooses blocks that become parts, the largest first, until what is left is small."""
@@ -463,8 +466,7 @@ class Core:
                 left -= cost(node)
 
     def write(self, index, function):
-        method = Method(self, self.name(index), function)
-        method.home = self.place_of[index]
+        method = Method(self, self.name(index), function, self.place_of[index])
         self.choose_parts(method)
         for it, kind in enumerate(function.locals, len(function.parameters)):
             method.line(f"{kind} l{it} = 0;")
@@ -479,7 +481,7 @@ class Core:
         kept = "".join(f" m.kept[{at}] = l{index};\n" for at, index in enumerate(writes))
         body = f" int exit = 0;\n PART: {{\n{text}\n }}\n{kept} return exit;"
         given = [f"{part.kinds[it]} l{it}" for it in reads]
-        self.add(part.whole.home, f"int {part.name}", given, body)
+        self.add(part.home, f"int {part.name}", given, body)
 
     def add(self, place, head, given, body):
         own = " final byte[] b = m.bytes;\n" if re.search(r"\bb\[|\(b,", body) else ""
@@ -492,13 +494,17 @@ class Core:
             self.write(*both)
         for name, methods in self.classes.items():
             yield name, f"{HEAD}final class {name} {{\n" + "\n".join(methods) + "}\n"
-        changing = [it for it in enumerate(self.module.globals) if it[1].changes]
+        changing = [
+            f"    {it.kind} g{at} = {constant(it.value, it.kind).text};"
+            for at, it in enumerate(self.module.globals)
+            if it.changes
+        ]
         fields = {
             "FIRST": self.module.first,
             "BASE": self.base,
             "HEAP": self.module.value_of("__heap_base"),
             "KEPT": self.most_kept,
-            "GLOBALS": "\n".join(f"    {it.kind} g{at} = {it.value};" for at, it in changing),
+            "GLOBALS": "\n".join(changing),
             "CONSTANTS": constants(self.module.constants),
         }
         text = TEMPLATE.read_text(encoding="utf-8")

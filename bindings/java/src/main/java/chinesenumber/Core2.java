@@ -838,12 +838,12 @@ static void f38(State m, long l0, long l1, long l2) {
       b[((int) (l1 + (l13 = l28 + -2L))) - 60720] = (byte) 46;
       l11 = 0L;
       l12 = 1L;
-      L212: {
-       L213: {
+      L213: {
+       L214: {
         switch ((int) (l24 & 4294967295L)) {
         case 0: break L4;
-        case 1: break L213;
-        default: break L212;
+        case 1: break L214;
+        default: break L213;
         }
        }
        l12 = 10L;
@@ -854,7 +854,7 @@ static void f38(State m, long l0, long l1, long l2) {
       l14 = 1L;
       l18 = 0L;
       l9 = 0L;
-      L214: while (true) {
+      L215: while (true) {
        Core1.f3(m, l3 + 192L, ((l31 = l30 & 1) != 0) ? l2 : 1L, l31 != 0 ? l9 : 0L, l14, l18);
        Core1.f3(m, l3 + 208L, l2, l9, l2, l9);
        l31 = (l30 + Integer.MIN_VALUE > -2147483645) ? 1 : 0;
@@ -863,8 +863,8 @@ static void f38(State m, long l0, long l1, long l2) {
        l18 = Words.get64(b, ((int) l3) - 60520);
        l14 = Words.get64(b, ((int) l3) - 60528);
        l30 = l30 >>> 1;
-       if (l31 != 0) { continue L214; }
-       break L214;
+       if (l31 != 0) { continue L215; }
+       break L215;
       }
       Core1.f3(m, l3 + 176L, l14, l18, l2, l9);
       if (((l12 = Words.get64(b, ((int) l3) - 60544)) | (l11 = Words.get64(b, ((int) l3) - 60536))) == 0L) { break L3; }
@@ -875,36 +875,36 @@ static void f38(State m, long l0, long l1, long l2) {
      l11 = 0L;
      l12 = 1L;
     }
-    final long t215 = l7;
-    final int t216 = (((l12 | l11) == 0L) | ((l8 | l7) == 0L)) ? 1 : 0;
-    final long t217 = (long) Long.numberOfLeadingZeros(l11);
-    final long t218 = ((long) Long.numberOfLeadingZeros(l12)) + 64L;
-    final int t219 = (l11 != 0L) ? 1 : 0;
-    final long t220 = l2 = t219 != 0 ? t217 : t218;
-    final long t221 = (long) Long.numberOfLeadingZeros(l7);
-    final long t222 = ((long) Long.numberOfLeadingZeros(l8)) + 64L;
-    final int t223 = (l7 != 0L) ? 1 : 0;
-    final int t224 = ((l9 = t220 - (l14 = t223 != 0 ? t221 : t222)) + Long.MIN_VALUE > -9223372036854775681L) ? 1 : 0;
-    final int t225 = ((l18 = 0L - ((l2 + Long.MIN_VALUE < l14 + Long.MIN_VALUE) ? 1L : 0L)) != 0L) ? 1 : 0;
-    final int t226 = (l18 == 0L) ? 1 : 0;
-    l14 = ((l30 = t216 | (t226 != 0 ? t224 : t225)) != 0) ? 0L : t215;
+    final long t216 = l7;
+    final int t217 = (((l12 | l11) == 0L) | ((l8 | l7) == 0L)) ? 1 : 0;
+    final long t218 = (long) Long.numberOfLeadingZeros(l11);
+    final long t219 = ((long) Long.numberOfLeadingZeros(l12)) + 64L;
+    final int t220 = (l11 != 0L) ? 1 : 0;
+    final long t221 = l2 = t220 != 0 ? t218 : t219;
+    final long t222 = (long) Long.numberOfLeadingZeros(l7);
+    final long t223 = ((long) Long.numberOfLeadingZeros(l8)) + 64L;
+    final int t224 = (l7 != 0L) ? 1 : 0;
+    final int t225 = ((l9 = t221 - (l14 = t224 != 0 ? t222 : t223)) + Long.MIN_VALUE > -9223372036854775681L) ? 1 : 0;
+    final int t226 = ((l18 = 0L - ((l2 + Long.MIN_VALUE < l14 + Long.MIN_VALUE) ? 1L : 0L)) != 0L) ? 1 : 0;
+    final int t227 = (l18 == 0L) ? 1 : 0;
+    l14 = ((l30 = t217 | (t227 != 0 ? t225 : t226)) != 0) ? 0L : t216;
     l2 = l30 != 0 ? 0L : l8;
-    L227: {
-     if (l30 != 0) { break L227; }
-     if (((l9 ^ 127L) | l18) == 0L) { break L227; }
+    L228: {
+     if (l30 != 0) { break L228; }
+     if (((l9 ^ 127L) | l18) == 0L) { break L228; }
      Core1.f4(m, l3 + 64L, l8, l7, 127 - ((int) l9));
      l14 = Words.get64(b, ((int) l3) - 60648);
      l2 = Words.get64(b, ((int) l3) - 60656);
-     L228: {
-      L229: {
-       if (((l9 = l9 + 1L) | (l21 = l18 + ((l9 == 0L) ? 1L : 0L))) == 0L) { break L229; }
+     L229: {
+      L230: {
+       if (((l9 = l9 + 1L) | (l21 = l18 + ((l9 == 0L) ? 1L : 0L))) == 0L) { break L230; }
        Core1.f5(m, l3 + 48L, l8, l7, (int) l9);
        l20 = l12 + -1L;
        l15 = l11 - ((l12 == 0L) ? 1L : 0L);
        l19 = Words.get64(b, ((int) l3) - 60664);
        l18 = Words.get64(b, ((int) l3) - 60672);
        l17 = 0L;
-       L230: while (true) {
+       L231: while (true) {
         l22 = l17;
         l19 = ((l17 = (l19 << 1L) | (l18 >>> 63L)) - ((l17 = ((l15 - l17) - ((l20 + Long.MIN_VALUE < (l18 = (l18 << 1L) | (l14 >>> 63L)) + Long.MIN_VALUE) ? 1L : 0L)) >> 63L) & l11)) - ((l18 + Long.MIN_VALUE < (l23 = l17 & l12) + Long.MIN_VALUE) ? 1L : 0L);
         l17 = l17 & 1L;
@@ -913,8 +913,8 @@ static void f38(State m, long l0, long l1, long l2) {
         l30 = (l9 == 0L) ? 1 : 0;
         l2 = l22 | (l2 << 1L);
         l9 = l22 = l9 + -1L;
-        if (!((l22 | (l21 = l21 - (l30 & 0xffffffffL))) == 0L)) { continue L230; }
-        break L228;
+        if (!((l22 | (l21 = l21 - (l30 & 0xffffffffL))) == 0L)) { continue L231; }
+        break L229;
        }
       }
       l17 = 0L;
@@ -922,37 +922,37 @@ static void f38(State m, long l0, long l1, long l2) {
      l14 = (l14 << 1L) | (l2 >>> 63L);
      l2 = l17 | (l2 << 1L);
     }
-    L231: {
-     final int t232 = (l2 + Long.MIN_VALUE < -9223372036854775798L) ? 1 : 0;
-     final int t233 = (l14 == 0L) ? 1 : 0;
-     if ((t233 != 0 ? t232 : 0) != 0) { break L231; }
-     L234: while (true) {
-      final long t235 = l15 = l14;
-      final int t236 = ((l15 | (l16 = l2)) == 0L) ? 1 : 0;
-      final long t237 = (long) Long.numberOfLeadingZeros(l15);
-      final long t238 = ((long) Long.numberOfLeadingZeros(l16)) + 64L;
-      final int t239 = l31 = (l15 != 0L) ? 1 : 0;
-      final int t240 = ((l9 = 124L - (l2 = t239 != 0 ? t237 : t238)) + Long.MIN_VALUE > -9223372036854775681L) ? 1 : 0;
-      final int t241 = ((l18 = 0L - ((l2 + Long.MIN_VALUE > -9223372036854775684L) ? 1L : 0L)) != 0L) ? 1 : 0;
-      final int t242 = (l18 == 0L) ? 1 : 0;
-      l14 = ((l30 = t236 | (t242 != 0 ? t240 : t241)) != 0) ? 0L : t235;
+    L232: {
+     final int t233 = (l2 + Long.MIN_VALUE < -9223372036854775798L) ? 1 : 0;
+     final int t234 = (l14 == 0L) ? 1 : 0;
+     if ((t234 != 0 ? t233 : 0) != 0) { break L232; }
+     L235: while (true) {
+      final long t236 = l15 = l14;
+      final int t237 = ((l15 | (l16 = l2)) == 0L) ? 1 : 0;
+      final long t238 = (long) Long.numberOfLeadingZeros(l15);
+      final long t239 = ((long) Long.numberOfLeadingZeros(l16)) + 64L;
+      final int t240 = l31 = (l15 != 0L) ? 1 : 0;
+      final int t241 = ((l9 = 124L - (l2 = t240 != 0 ? t238 : t239)) + Long.MIN_VALUE > -9223372036854775681L) ? 1 : 0;
+      final int t242 = ((l18 = 0L - ((l2 + Long.MIN_VALUE > -9223372036854775684L) ? 1L : 0L)) != 0L) ? 1 : 0;
+      final int t243 = (l18 == 0L) ? 1 : 0;
+      l14 = ((l30 = t237 | (t243 != 0 ? t241 : t242)) != 0) ? 0L : t236;
       l2 = l30 != 0 ? 0L : l16;
-      L243: {
-       if (l30 != 0) { break L243; }
-       if (((l9 ^ 127L) | l18) == 0L) { break L243; }
+      L244: {
+       if (l30 != 0) { break L244; }
+       if (((l9 ^ 127L) | l18) == 0L) { break L244; }
        Core1.f4(m, l3 + 32L, l16, l15, 127 - ((int) l9));
        l14 = Words.get64(b, ((int) l3) - 60680);
        l2 = Words.get64(b, ((int) l3) - 60688);
-       L244: {
-        L245: {
-         if (((l9 = l9 + 1L) | (l19 = l18 + ((l9 == 0L) ? 1L : 0L))) == 0L) { break L245; }
+       L245: {
+        L246: {
+         if (((l9 = l9 + 1L) | (l19 = l18 + ((l9 == 0L) ? 1L : 0L))) == 0L) { break L246; }
          Core1.f5(m, l3 + 16L, l16, l15, (int) l9);
          l12 = 10L + -1L;
          l20 = 0L - ((10L == 0L) ? 1L : 0L);
          l17 = Words.get64(b, ((int) l3) - 60696);
          l18 = Words.get64(b, ((int) l3) - 60704);
          l21 = 0L;
-         L246: while (true) {
+         L247: while (true) {
           l22 = l21;
           l21 = (l18 = ((l20 - (l23 = (l17 << 1L) | (l18 >>> 63L))) - ((l12 + Long.MIN_VALUE < (l17 = (l18 << 1L) | (l14 >>> 63L)) + Long.MIN_VALUE) ? 1L : 0L)) >> 63L) & 1L;
           l18 = l17 - (l11 = l18 & 10L);
@@ -961,8 +961,8 @@ static void f38(State m, long l0, long l1, long l2) {
           l30 = (l9 == 0L) ? 1 : 0;
           l2 = l22 | (l2 << 1L);
           l9 = l22 = l9 + -1L;
-          if (!((l22 | (l19 = l19 - (l30 & 0xffffffffL))) == 0L)) { continue L246; }
-          break L244;
+          if (!((l22 | (l19 = l19 - (l30 & 0xffffffffL))) == 0L)) { continue L247; }
+          break L245;
          }
         }
         l21 = 0L;
@@ -972,11 +972,11 @@ static void f38(State m, long l0, long l1, long l2) {
       }
       Core1.f3(m, l3, l2, l3, 10L, 0L);
       b[((int) (l1 + (l13 = l13 + -1L))) - 60720] = (byte) (((int) (l16 - Words.get64(b, ((int) l3) - 60720))) | 48);
-      final int t247 = (l16 + Long.MIN_VALUE > -9223372036854775709L) ? 1 : 0;
-      final int t248 = l31;
-      final int t249 = (l15 == 0L) ? 1 : 0;
-      if ((t249 != 0 ? t247 : t248) != 0) { continue L234; }
-      break L234;
+      final int t248 = (l16 + Long.MIN_VALUE > -9223372036854775709L) ? 1 : 0;
+      final int t249 = l31;
+      final int t250 = (l15 == 0L) ? 1 : 0;
+      if ((t250 != 0 ? t248 : t249) != 0) { continue L235; }
+      break L235;
      }
     }
     b[((int) (l1 + (l9 = l13 + -1L))) - 60720] = (byte) (((int) l2) | 48);
@@ -986,37 +986,37 @@ static void f38(State m, long l0, long l1, long l2) {
   }
   b[((int) (l1 + (l10 = l13 + -2L))) - 60720] = (byte) 47;
   b[((int) ((l1 + l13) + -1L)) - 60720] = (byte) (l30 | 48);
-  L250: {
-   final int t251 = (l8 + Long.MIN_VALUE < -9223372036854775798L) ? 1 : 0;
-   final int t252 = (l7 == 0L) ? 1 : 0;
-   if ((t252 != 0 ? t251 : 0) != 0) { break L250; }
-   L253: while (true) {
-    final long t254 = l15 = l7;
-    final int t255 = ((l15 | (l16 = l8)) == 0L) ? 1 : 0;
-    final long t256 = (long) Long.numberOfLeadingZeros(l15);
-    final long t257 = ((long) Long.numberOfLeadingZeros(l16)) + 64L;
-    final int t258 = l31 = (l15 != 0L) ? 1 : 0;
-    final int t259 = ((l9 = 124L - (l2 = t258 != 0 ? t256 : t257)) + Long.MIN_VALUE > -9223372036854775681L) ? 1 : 0;
-    final int t260 = ((l18 = 0L - ((l2 + Long.MIN_VALUE > -9223372036854775684L) ? 1L : 0L)) != 0L) ? 1 : 0;
-    final int t261 = (l18 == 0L) ? 1 : 0;
-    l7 = ((l30 = t255 | (t261 != 0 ? t259 : t260)) != 0) ? 0L : t254;
+  L251: {
+   final int t252 = (l8 + Long.MIN_VALUE < -9223372036854775798L) ? 1 : 0;
+   final int t253 = (l7 == 0L) ? 1 : 0;
+   if ((t253 != 0 ? t252 : 0) != 0) { break L251; }
+   L254: while (true) {
+    final long t255 = l15 = l7;
+    final int t256 = ((l15 | (l16 = l8)) == 0L) ? 1 : 0;
+    final long t257 = (long) Long.numberOfLeadingZeros(l15);
+    final long t258 = ((long) Long.numberOfLeadingZeros(l16)) + 64L;
+    final int t259 = l31 = (l15 != 0L) ? 1 : 0;
+    final int t260 = ((l9 = 124L - (l2 = t259 != 0 ? t257 : t258)) + Long.MIN_VALUE > -9223372036854775681L) ? 1 : 0;
+    final int t261 = ((l18 = 0L - ((l2 + Long.MIN_VALUE > -9223372036854775684L) ? 1L : 0L)) != 0L) ? 1 : 0;
+    final int t262 = (l18 == 0L) ? 1 : 0;
+    l7 = ((l30 = t256 | (t262 != 0 ? t260 : t261)) != 0) ? 0L : t255;
     l8 = l30 != 0 ? 0L : l16;
-    L262: {
-     if (l30 != 0) { break L262; }
-     if (((l9 ^ 127L) | l18) == 0L) { break L262; }
+    L263: {
+     if (l30 != 0) { break L263; }
+     if (((l9 ^ 127L) | l18) == 0L) { break L263; }
      Core1.f4(m, l3 + 112L, l16, l15, 127 - ((int) l9));
      l14 = Words.get64(b, ((int) l3) - 60600);
      l2 = Words.get64(b, ((int) l3) - 60608);
-     L263: {
-      L264: {
-       if (((l9 = l9 + 1L) | (l19 = l18 + ((l9 == 0L) ? 1L : 0L))) == 0L) { break L264; }
+     L264: {
+      L265: {
+       if (((l9 = l9 + 1L) | (l19 = l18 + ((l9 == 0L) ? 1L : 0L))) == 0L) { break L265; }
        Core1.f5(m, l3 + 96L, l16, l15, (int) l9);
        l12 = 10L + -1L;
        l20 = 0L - ((10L == 0L) ? 1L : 0L);
        l17 = Words.get64(b, ((int) l3) - 60616);
        l18 = Words.get64(b, ((int) l3) - 60624);
        l21 = 0L;
-       L265: while (true) {
+       L266: while (true) {
         l22 = l21;
         l21 = (l18 = ((l20 - (l23 = (l17 << 1L) | (l18 >>> 63L))) - ((l12 + Long.MIN_VALUE < (l17 = (l18 << 1L) | (l14 >>> 63L)) + Long.MIN_VALUE) ? 1L : 0L)) >> 63L) & 1L;
         l18 = l17 - (l11 = l18 & 10L);
@@ -1025,8 +1025,8 @@ static void f38(State m, long l0, long l1, long l2) {
         l30 = (l9 == 0L) ? 1 : 0;
         l2 = l22 | (l2 << 1L);
         l9 = l22 = l9 + -1L;
-        if (!((l22 | (l19 = l19 - (l30 & 0xffffffffL))) == 0L)) { continue L265; }
-        break L263;
+        if (!((l22 | (l19 = l19 - (l30 & 0xffffffffL))) == 0L)) { continue L266; }
+        break L264;
        }
       }
       l21 = 0L;
@@ -1036,17 +1036,17 @@ static void f38(State m, long l0, long l1, long l2) {
     }
     Core1.f3(m, l3 + 80L, l8, l3, 10L, 0L);
     b[((int) (l1 + (l10 = l10 + -1L))) - 60720] = (byte) (((int) (l16 - Words.get64(b, ((int) l3) - 60640))) | 48);
-    final int t266 = (l16 + Long.MIN_VALUE > -9223372036854775709L) ? 1 : 0;
-    final int t267 = l31;
-    final int t268 = (l15 == 0L) ? 1 : 0;
-    if ((t268 != 0 ? t266 : t267) != 0) { continue L253; }
-    break L253;
+    final int t267 = (l16 + Long.MIN_VALUE > -9223372036854775709L) ? 1 : 0;
+    final int t268 = l31;
+    final int t269 = (l15 == 0L) ? 1 : 0;
+    if ((t269 != 0 ? t267 : t268) != 0) { continue L254; }
+    break L254;
    }
   }
   b[((int) (l1 + (l9 = l10 + -1L))) - 60720] = (byte) (((int) l8) | 48);
  }
- L269: {
-  if (l6 > -1L) { break L269; }
+ L270: {
+  if (l6 > -1L) { break L270; }
   b[((int) (l1 + (l9 = l9 + -1L))) - 60720] = (byte) 45;
  }
  Words.put64(b, ((int) l0) - 60712, 80L - l9);

@@ -389,197 +389,197 @@ static int f91_2(State m, long l9, long l11, long l13, long l14, long l16, long 
  final byte[] b = m.bytes;
  int exit = 0;
  PART: {
-  L110: {
-   L111: {
-    L112: {
-     L113: {
-      L114: {
-       L115: {
-        L116: {
-         L117: {
-          L118: {
-           L119: {
-            if (l21 != 0) { break L119; }
-            if (((l19 = b[((int) l14) - 60720] & 0xff) & 240) != 224) { break L118; }
+  L111: {
+   L112: {
+    L113: {
+     L114: {
+      L115: {
+       L116: {
+        L117: {
+         L118: {
+          L119: {
+           L120: {
+            if (l21 != 0) { break L120; }
+            if (((l19 = b[((int) l14) - 60720] & 0xff) & 240) != 224) { break L119; }
             l20 = (((l21 = b[((int) l14) - 60719] & 0xff) << 8) | ((l24 = b[((int) l14) - 60718] & 0xff) << 16)) | l19;
             l19 = (((l19 << 12) | l24) + (l21 << 6)) + -925824;
             l17 = l16 + -3L;
             l11 = l14 + 3L;
-            if (l20 != Words.get32(b, ((int) ((l18 = (((l20 & 0xffffffffL) * 953497L) >>> 22L) & 1016L) + 80936L)) - 60720)) { break L116; }
-            break L117;
+            if (l20 != Words.get32(b, ((int) ((l18 = (((l20 & 0xffffffffL) * 953497L) >>> 22L) & 1016L) + 80936L)) - 60720)) { break L117; }
+            break L118;
            }
-           if (l16 == 0L) { break L111; }
+           if (l16 == 0L) { break L112; }
            l19 = b[((int) l14) - 60720] & 0xff;
           }
           l11 = 1L;
-          L120: {
-           if (((int) (byte) l19) > -1) { break L120; }
+          L121: {
+           if (((int) (byte) l19) > -1) { break L121; }
            l20 = (b[((int) l14) - 60719] & 0xff) & 63;
-           L121: {
-            if (l19 + Integer.MIN_VALUE > -2147483425) { break L121; }
+           L122: {
+            if (l19 + Integer.MIN_VALUE > -2147483425) { break L122; }
             l19 = ((l19 << 6) & 1984) | l20;
             l11 = 2L;
-            break L120;
+            break L121;
            }
            l21 = (b[((int) l14) - 60718] & 0xff) & 63;
-           L122: {
-            if (l19 + Integer.MIN_VALUE > -2147483409) { break L122; }
+           L123: {
+            if (l19 + Integer.MIN_VALUE > -2147483409) { break L123; }
             l19 = ((l20 << 6) | ((l19 << 12) & 61440)) | l21;
             l11 = 3L;
-            break L120;
+            break L121;
            }
            l19 = ((l21 << 6) | ((l20 << 12) | ((l19 << 18) & 1835008))) | ((b[((int) l14) - 60717] & 0xff) & 63);
            l11 = 4L;
           }
           l17 = l16 - l11;
           l11 = l14 + l11;
-          L123: {
-           if ((l19 + -2048) + Integer.MIN_VALUE > -2147420161) { break L123; }
-           if (Words.get32(b, ((int) ((l18 = ((((l20 = (((l19 >>> 12) | ((l19 << 2) & 16128)) | ((l19 << 16) & 4128768)) | 8421600) & 0xffffffffL) * 953497L) >>> 22L) & 1016L) + 80936L)) - 60720) == l20) { break L117; }
-           break L115;
+          L124: {
+           if ((l19 + -2048) + Integer.MIN_VALUE > -2147420161) { break L124; }
+           if (Words.get32(b, ((int) ((l18 = ((((l20 = (((l19 >>> 12) | ((l19 << 2) & 16128)) | ((l19 << 16) & 4128768)) | 8421600) & 0xffffffffL) * 953497L) >>> 22L) & 1016L) + 80936L)) - 60720) == l20) { break L118; }
+           break L116;
           }
-          if ((l19 + -48) + Integer.MIN_VALUE >= -2147483638) { break L116; }
-          break L113;
+          if ((l19 + -48) + Integer.MIN_VALUE >= -2147483638) { break L117; }
+          break L114;
          }
-         if ((b[((int) (l18 + 80940L)) - 60720] & 0xff) == 0) { break L113; }
+         if ((b[((int) (l18 + 80940L)) - 60720] & 0xff) == 0) { break L114; }
         }
-        if (l19 + Integer.MIN_VALUE > -2147483521) { break L115; }
+        if (l19 + Integer.MIN_VALUE > -2147483521) { break L116; }
         l21 = 1;
         l20 = 0;
-        if (l19 == 95) { break L110; }
-        if ((l19 + -44) + Integer.MIN_VALUE < -2147483645) { break L114; }
-        if ((l19 + -48) + Integer.MIN_VALUE < -2147483638) { break L110; }
-        if (((l19 & 95) + -65) + Integer.MIN_VALUE >= -2147483622) { break L111; }
-        break L110;
+        if (l19 == 95) { break L111; }
+        if ((l19 + -44) + Integer.MIN_VALUE < -2147483645) { break L115; }
+        if ((l19 + -48) + Integer.MIN_VALUE < -2147483638) { break L111; }
+        if (((l19 & 95) + -65) + Integer.MIN_VALUE >= -2147483622) { break L112; }
+        break L111;
        }
        l21 = 0;
        l20 = 1;
-       L124: {
-        L125: {
-         if (l19 > 24185) { break L125; }
-         L126: {
-          L127: {
-           if (l19 > 21316) { break L127; }
-           L128: {
-            if (l19 > 20959) { break L128; }
-            if (l19 == 20313) { break L110; }
-            if (l19 != 20358) { break L124; }
-            break L110;
+       L125: {
+        L126: {
+         if (l19 > 24185) { break L126; }
+         L127: {
+          L128: {
+           if (l19 > 21316) { break L128; }
+           L129: {
+            if (l19 > 20959) { break L129; }
+            if (l19 == 20313) { break L111; }
+            if (l19 != 20358) { break L125; }
+            break L111;
            }
-           if (l19 == 20960) { break L110; }
-           if (l19 == 20986) { break L126; }
-           break L124;
+           if (l19 == 20960) { break L111; }
+           if (l19 == 20986) { break L127; }
+           break L125;
           }
-          L129: {
+          L130: {
            switch (l19 + -21317) {
-           case 0: case 7: break L113;
-           case 1: case 2: case 3: case 4: case 5: case 6: break L124;
-           default: break L129;
+           case 0: case 7: break L114;
+           case 1: case 2: case 3: case 4: case 5: case 6: break L125;
+           default: break L130;
            }
           }
-          if (l19 == 22810) { break L110; }
-          if (l19 != 22909) { break L124; }
+          if (l19 == 22810) { break L111; }
+          if (l19 != 22909) { break L125; }
          }
          l20 = f95(m, l19, l11, l17);
-         break L110;
+         break L111;
         }
-        L130: {
-         if (l19 > 26468) { break L130; }
-         L131: {
-          switch (l19 + -24186) {
-          case 0: break L113;
-          case 1: case 2: case 3: break L124;
-          case 4: break L110;
-          default: break L131;
-          }
-         }
+        L131: {
+         if (l19 > 26468) { break L131; }
          L132: {
-          switch (l19 + -25968) {
-          case 0: case 8: break L111;
-          case 1: case 2: case 3: case 4: case 5: case 6: case 7: break L124;
+          switch (l19 + -24186) {
+          case 0: break L114;
+          case 1: case 2: case 3: break L125;
+          case 4: break L111;
           default: break L132;
           }
          }
-         if (l19 == 24319) { break L113; }
-         break L124;
+         L133: {
+          switch (l19 + -25968) {
+          case 0: case 8: break L112;
+          case 1: case 2: case 3: case 4: case 5: case 6: case 7: break L125;
+          default: break L133;
+          }
+         }
+         if (l19 == 24319) { break L114; }
+         break L125;
         }
-        L133: {
-         if (l19 > 39191) { break L133; }
-         if (l19 == 26469) { break L110; }
-         if (l19 != 28857) { break L124; }
-         break L114;
+        L134: {
+         if (l19 > 39191) { break L134; }
+         if (l19 == 26469) { break L111; }
+         if (l19 != 28857) { break L125; }
+         break L115;
         }
-        if (l19 == 39192) { break L110; }
-        if (l19 == 40670) { break L114; }
+        if (l19 == 39192) { break L111; }
+        if (l19 == 40670) { break L115; }
        }
-       if ((l19 + -65296) + Integer.MIN_VALUE > -2147483639) { break L111; }
-       break L113;
+       if ((l19 + -65296) + Integer.MIN_VALUE > -2147483639) { break L112; }
+       break L114;
       }
       Words.put64(b, ((int) l9) - 60680, 0L);
       Words.put64(b, ((int) l9) - 60688, 0L);
       Words.put64(b, ((int) l9) - 60696, 0L);
       Words.put64(b, ((int) l9) - 60704, 0L);
-      L134: {
-       L135: {
-        L136: {
-         L137: {
-          if (l17 + Long.MIN_VALUE < -9223372036854775805L) { break L137; }
-          if (((l19 = b[((int) l11) - 60720] & 0xff) & 240) != 224) { break L136; }
+      L135: {
+       L136: {
+        L137: {
+         L138: {
+          if (l17 + Long.MIN_VALUE < -9223372036854775805L) { break L138; }
+          if (((l19 = b[((int) l11) - 60720] & 0xff) & 240) != 224) { break L137; }
           l20 = b[((int) l11) - 60718] & 0xff;
           l21 = b[((int) l11) - 60719] & 0xff;
           Words.put64(b, ((int) l9) - 60680, l17 + -3L);
           Words.put64(b, ((int) l9) - 60688, l11 + 3L);
           Words.put64(b, ((int) l9) - 60704, 1L);
           Words.put32(b, ((int) l9) - 60696, ((l20 | (l19 << 12)) + (l21 << 6)) + -925824);
-          final int t138 = (int) l9;
-          final int t139 = b[((int) ((l11 = ((((l19 = ((l21 << 8) | (l20 << 16)) | l19) & 0xffffffffL) * 953497L) >>> 22L) & 1016L) + 80941L)) - 60720] & 0xff;
-          final int t140 = l19 = (Words.get32(b, State.far((int) l11, 80936)) == l19) ? 1 : 0;
-          b[t138 - 60691] = (byte) (t140 != 0 ? t139 : 0);
-          final int t141 = (int) l9;
-          final int t142 = b[((int) (l11 + 80940L)) - 60720] & 0xff;
-          final int t143 = l19;
-          b[t141 - 60692] = (byte) (t143 != 0 ? t142 : 2);
-          break L134;
+          final int t139 = (int) l9;
+          final int t140 = b[((int) ((l11 = ((((l19 = ((l21 << 8) | (l20 << 16)) | l19) & 0xffffffffL) * 953497L) >>> 22L) & 1016L) + 80941L)) - 60720] & 0xff;
+          final int t141 = l19 = (Words.get32(b, State.far((int) l11, 80936)) == l19) ? 1 : 0;
+          b[t139 - 60691] = (byte) (t141 != 0 ? t140 : 0);
+          final int t142 = (int) l9;
+          final int t143 = b[((int) (l11 + 80940L)) - 60720] & 0xff;
+          final int t144 = l19;
+          b[t142 - 60692] = (byte) (t144 != 0 ? t143 : 2);
+          break L135;
          }
-         if (l17 == 0L) { break L135; }
+         if (l17 == 0L) { break L136; }
          l19 = b[((int) l11) - 60720] & 0xff;
         }
         l18 = 1L;
-        L144: {
-         if (((int) (byte) l19) > -1) { break L144; }
+        L145: {
+         if (((int) (byte) l19) > -1) { break L145; }
          l20 = (b[((int) l11) - 60719] & 0xff) & 63;
-         L145: {
-          if (l19 + Integer.MIN_VALUE > -2147483425) { break L145; }
+         L146: {
+          if (l19 + Integer.MIN_VALUE > -2147483425) { break L146; }
           l19 = ((l19 << 6) & 1984) | l20;
           l18 = 2L;
-          break L144;
+          break L145;
          }
          l21 = (b[((int) l11) - 60718] & 0xff) & 63;
-         L146: {
-          if (l19 + Integer.MIN_VALUE > -2147483409) { break L146; }
+         L147: {
+          if (l19 + Integer.MIN_VALUE > -2147483409) { break L147; }
           l19 = ((l20 << 6) | ((l19 << 12) & 61440)) | l21;
           l18 = 3L;
-          break L144;
+          break L145;
          }
          l19 = ((l21 << 6) | ((l20 << 12) | ((l19 << 18) & 1835008))) | ((b[((int) l11) - 60717] & 0xff) & 63);
          l18 = 4L;
         }
         l17 = l17 - l18;
         l11 = l11 + l18;
-        L147: {
-         L148: {
-          if ((l19 + -2048) + Integer.MIN_VALUE > -2147420161) { break L148; }
-          final int t149 = b[((int) ((l18 = ((((l20 = (((l19 >>> 12) | ((l19 << 2) & 16128)) | ((l19 << 16) & 4128768)) | 8421600) & 0xffffffffL) * 953497L) >>> 22L) & 1016L) + 80941L)) - 60720] & 0xff;
-          final int t150 = l21 = (Words.get32(b, State.far((int) l18, 80936)) == l20) ? 1 : 0;
-          l20 = t150 != 0 ? t149 : 0;
-          final int t151 = b[((int) (l18 + 80940L)) - 60720] & 0xff;
-          final int t152 = l21;
-          l21 = t152 != 0 ? t151 : 2;
-          break L147;
+        L148: {
+         L149: {
+          if ((l19 + -2048) + Integer.MIN_VALUE > -2147420161) { break L149; }
+          final int t150 = b[((int) ((l18 = ((((l20 = (((l19 >>> 12) | ((l19 << 2) & 16128)) | ((l19 << 16) & 4128768)) | 8421600) & 0xffffffffL) * 953497L) >>> 22L) & 1016L) + 80941L)) - 60720] & 0xff;
+          final int t151 = l21 = (Words.get32(b, State.far((int) l18, 80936)) == l20) ? 1 : 0;
+          l20 = t151 != 0 ? t150 : 0;
+          final int t152 = b[((int) (l18 + 80940L)) - 60720] & 0xff;
+          final int t153 = l21;
+          l21 = t153 != 0 ? t152 : 2;
+          break L148;
          }
-         final int t153 = l20 = l19 + -48;
-         final int t154 = l21 = (l20 + Integer.MIN_VALUE < -2147483638) ? 1 : 0;
-         l20 = t154 != 0 ? t153 : 0;
+         final int t154 = l20 = l19 + -48;
+         final int t155 = l21 = (l20 + Integer.MIN_VALUE < -2147483638) ? 1 : 0;
+         l20 = t155 != 0 ? t154 : 0;
          l21 = l21 != 0 ? 0 : 2;
         }
         Words.put64(b, ((int) l9) - 60680, l17);
@@ -588,7 +588,7 @@ static int f91_2(State m, long l9, long l11, long l13, long l14, long l16, long 
         b[((int) l9) - 60692] = (byte) l21;
         Words.put32(b, ((int) l9) - 60696, l19);
         Words.put64(b, ((int) l9) - 60704, 1L);
-        break L134;
+        break L135;
        }
        Words.put64(b, ((int) l13) - 60720, 0L);
        Words.put64(b, ((int) l13) - 60712, 0L);
@@ -596,12 +596,12 @@ static int f91_2(State m, long l9, long l11, long l13, long l14, long l16, long 
        Words.put64(b, ((int) l9) - 60704, 0L);
       }
       l21 = f96(m, l9 + 16L);
-      break L112;
+      break L113;
      }
      l21 = 1;
     }
     l20 = 0;
-    break L110;
+    break L111;
    }
    l20 = 0;
    l21 = 0;
@@ -996,65 +996,65 @@ static int f91(State m, long l0, long l1, long l2, int l3, int l4, long l5, long
     l24 = (int) m.kept[6];
     Words.put32(b, ((int) l9) - 60704, 0);
     l19 = l22 | l21;
-    L155: {
-     L156: {
-      L157: {
-       L158: {
-        L159: {
-         L160: {
-          L161: {
-           L162: {
-            if ((l11 = (l8 = l8 - l16) + -1L) + Long.MIN_VALUE > -9223372036854775806L) { break L162; }
-            L163: {
+    L157: {
+     L158: {
+      L159: {
+       L160: {
+        L161: {
+         L162: {
+          L163: {
+           L164: {
+            if ((l11 = (l8 = l8 - l16) + -1L) + Long.MIN_VALUE > -9223372036854775806L) { break L164; }
+            L165: {
              switch ((int) l11) {
-             case 1: break L162;
-             case 2: break L163;
-             default: break L159;
+             case 1: break L164;
+             case 2: break L165;
+             default: break L161;
              }
             }
-            if ((l22 = (Words.get32(b, State.far((int) (l11 = ((((l22 = (((b[((int) l2) - 60719] & 0xff) << 8) | (l24 = b[((int) l2) - 60720] & 0xff)) | ((b[((int) l2) - 60718] & 0xff) << 16)) & 0xffffffffL) * 953497L) >>> 22L) & 1016L), 80936)) != l22) ? 1 : 0) != 0) { break L161; }
+            if ((l22 = (Words.get32(b, State.far((int) (l11 = ((((l22 = (((b[((int) l2) - 60719] & 0xff) << 8) | (l24 = b[((int) l2) - 60720] & 0xff)) | ((b[((int) l2) - 60718] & 0xff) << 16)) & 0xffffffffL) * 953497L) >>> 22L) & 1016L), 80936)) != l22) ? 1 : 0) != 0) { break L163; }
             l21 = 1;
-            final int t164 = b[((int) (l11 + 80940L)) - 60720] & 0xff;
-            final int t165 = l22;
-            if (((l22 = t165 != 0 ? 0 : t164) & 255) == 2) { break L161; }
-            break L158;
+            final int t166 = b[((int) (l11 + 80940L)) - 60720] & 0xff;
+            final int t167 = l22;
+            if (((l22 = t167 != 0 ? 0 : t166) & 255) == 2) { break L163; }
+            break L160;
            }
-           if (l8 + Long.MIN_VALUE > -9223372036854775804L) { break L157; }
-           if (l12 == l16) { break L160; }
+           if (l8 + Long.MIN_VALUE > -9223372036854775804L) { break L159; }
+           if (l12 == l16) { break L162; }
            l24 = b[((int) l2) - 60720] & 0xff;
           }
-          if (((int) (byte) l24) > -1) { break L157; }
+          if (((int) (byte) l24) > -1) { break L159; }
          }
          f97(m, l9 + 16L, l2, l8);
-         if ((b[((int) l9) - 60704] & 0xff) != 1) { break L157; }
+         if ((b[((int) l9) - 60704] & 0xff) != 1) { break L159; }
          l21 = b[((int) l9) - 60701] & 0xff;
          l22 = b[((int) l9) - 60703] & 0xff;
-         break L158;
+         break L160;
         }
         l22 = ((l21 = ((((b[((int) l2) - 60720] & 0xff) + -58) & 255) + Integer.MIN_VALUE < -2147483402) ? 1 : 0) != 0) ? 2 : 0;
        }
        l22 = (l19 != 0 ? 0 : 2) | (((l19 = l22 & 255) == 0) ? 1 : 0);
        l21 = ((l21 & 1) != 0) ? 8 : 0;
-       if ((l20 | (l23 & ((l19 == 1) ? 1 : 0))) != 0) { break L156; }
-       break L155;
+       if ((l20 | (l23 & ((l19 == 1) ? 1 : 0))) != 0) { break L158; }
+       break L157;
       }
       l22 = f98(m, l2, l8);
-      L166: {
-       L167: {
-        L168: {
-         if (l23 == 0) { break L168; }
-         if ((l20 | f99(m, l2, l8)) != 0) { break L167; }
-         break L166;
+      L168: {
+       L169: {
+        L170: {
+         if (l23 == 0) { break L170; }
+         if ((l20 | f99(m, l2, l8)) != 0) { break L169; }
+         break L168;
         }
-        if (l20 == 0) { break L166; }
+        if (l20 == 0) { break L168; }
        }
        l21 = 0;
        l22 = (l19 != 0 ? 0 : 2) | l22;
-       break L156;
+       break L158;
       }
       l21 = 0;
       l22 = (l19 != 0 ? 0 : 2) | l22;
-      if (f100(m, l2, l8) == 0) { break L155; }
+      if (f100(m, l2, l8) == 0) { break L157; }
      }
      l22 = l22 | 4;
     }
@@ -1072,8 +1072,8 @@ static int f91(State m, long l0, long l1, long l2, int l3, int l4, long l5, long
   }
   Words.put64(b, ((int) l7) - 60720, l10);
   m.g0 = l9 + 48L;
-  final int t169 = l19;
-  return t169;
+  final int t171 = l19;
+  return t171;
  }
  throw State.trap();
 }
@@ -2564,197 +2564,197 @@ static int f101(State m, long l0, long l1, long l2, int l3, int l4, long l5, lon
      l32 = (int) m.kept[5];
      l33 = (int) m.kept[6];
      l39 = (int) m.kept[7];
-     L68: {
-      L69: {
-       L70: {
-        L71: {
-         L72: {
-          L73: {
-           L74: {
-            L75: {
-             L76: {
-              L77: {
-               if (l11 + Long.MIN_VALUE < -9223372036854775805L) { break L77; }
-               if (((l29 = b[((int) l10) - 60720] & 0xff) & 240) != 224) { break L76; }
+     L69: {
+      L70: {
+       L71: {
+        L72: {
+         L73: {
+          L74: {
+           L75: {
+            L76: {
+             L77: {
+              L78: {
+               if (l11 + Long.MIN_VALUE < -9223372036854775805L) { break L78; }
+               if (((l29 = b[((int) l10) - 60720] & 0xff) & 240) != 224) { break L77; }
                l33 = (((l39 = b[((int) l10) - 60719] & 0xff) << 8) | ((l40 = b[((int) l10) - 60718] & 0xff) << 16)) | l29;
                l29 = (((l29 << 12) | l40) + (l39 << 6)) + -925824;
                l26 = l11 + -3L;
                l27 = l10 + 3L;
-               if (l33 != Words.get32(b, ((int) ((l25 = (((l33 & 0xffffffffL) * 953497L) >>> 22L) & 1016L) + 80936L)) - 60720)) { break L74; }
-               break L75;
+               if (l33 != Words.get32(b, ((int) ((l25 = (((l33 & 0xffffffffL) * 953497L) >>> 22L) & 1016L) + 80936L)) - 60720)) { break L75; }
+               break L76;
               }
-              if (l11 == 0L) { break L69; }
+              if (l11 == 0L) { break L70; }
               l29 = b[((int) l10) - 60720] & 0xff;
              }
              l27 = 1L;
-             L78: {
-              if (((int) (byte) l29) > -1) { break L78; }
+             L79: {
+              if (((int) (byte) l29) > -1) { break L79; }
               l33 = (b[((int) l10) - 60719] & 0xff) & 63;
-              L79: {
-               if (l29 + Integer.MIN_VALUE > -2147483425) { break L79; }
+              L80: {
+               if (l29 + Integer.MIN_VALUE > -2147483425) { break L80; }
                l29 = ((l29 << 6) & 1984) | l33;
                l27 = 2L;
-               break L78;
+               break L79;
               }
               l39 = (b[((int) l10) - 60718] & 0xff) & 63;
-              L80: {
-               if (l29 + Integer.MIN_VALUE > -2147483409) { break L80; }
+              L81: {
+               if (l29 + Integer.MIN_VALUE > -2147483409) { break L81; }
                l29 = ((l33 << 6) | ((l29 << 12) & 61440)) | l39;
                l27 = 3L;
-               break L78;
+               break L79;
               }
               l29 = ((l39 << 6) | ((l33 << 12) | ((l29 << 18) & 1835008))) | ((b[((int) l10) - 60717] & 0xff) & 63);
               l27 = 4L;
              }
              l26 = l11 - l27;
              l27 = l10 + l27;
-             L81: {
-              if ((l29 + -2048) + Integer.MIN_VALUE > -2147420161) { break L81; }
-              if (Words.get32(b, ((int) ((l25 = ((((l33 = (((l29 >>> 12) | ((l29 << 2) & 16128)) | ((l29 << 16) & 4128768)) | 8421600) & 0xffffffffL) * 953497L) >>> 22L) & 1016L) + 80936L)) - 60720) == l33) { break L75; }
-              break L73;
+             L82: {
+              if ((l29 + -2048) + Integer.MIN_VALUE > -2147420161) { break L82; }
+              if (Words.get32(b, ((int) ((l25 = ((((l33 = (((l29 >>> 12) | ((l29 << 2) & 16128)) | ((l29 << 16) & 4128768)) | 8421600) & 0xffffffffL) * 953497L) >>> 22L) & 1016L) + 80936L)) - 60720) == l33) { break L76; }
+              break L74;
              }
-             if ((l29 + -48) + Integer.MIN_VALUE >= -2147483638) { break L74; }
-             break L71;
+             if ((l29 + -48) + Integer.MIN_VALUE >= -2147483638) { break L75; }
+             break L72;
             }
-            if ((b[((int) (l25 + 80940L)) - 60720] & 0xff) == 0) { break L71; }
+            if ((b[((int) (l25 + 80940L)) - 60720] & 0xff) == 0) { break L72; }
            }
-           if (l29 + Integer.MIN_VALUE > -2147483521) { break L73; }
+           if (l29 + Integer.MIN_VALUE > -2147483521) { break L74; }
            l39 = 1;
            l33 = 0;
-           if (l29 == 95) { break L68; }
-           if ((l29 + -44) + Integer.MIN_VALUE < -2147483645) { break L72; }
-           if ((l29 + -48) + Integer.MIN_VALUE < -2147483638) { break L68; }
-           if (((l29 & 95) + -65) + Integer.MIN_VALUE >= -2147483622) { break L69; }
-           break L68;
+           if (l29 == 95) { break L69; }
+           if ((l29 + -44) + Integer.MIN_VALUE < -2147483645) { break L73; }
+           if ((l29 + -48) + Integer.MIN_VALUE < -2147483638) { break L69; }
+           if (((l29 & 95) + -65) + Integer.MIN_VALUE >= -2147483622) { break L70; }
+           break L69;
           }
           l39 = 0;
           l33 = 1;
-          L82: {
-           L83: {
-            if (l29 > 24185) { break L83; }
-            L84: {
-             L85: {
-              if (l29 > 21316) { break L85; }
-              L86: {
-               if (l29 > 20959) { break L86; }
-               if (l29 == 20313) { break L68; }
-               if (l29 != 20358) { break L82; }
-               break L68;
+          L83: {
+           L84: {
+            if (l29 > 24185) { break L84; }
+            L85: {
+             L86: {
+              if (l29 > 21316) { break L86; }
+              L87: {
+               if (l29 > 20959) { break L87; }
+               if (l29 == 20313) { break L69; }
+               if (l29 != 20358) { break L83; }
+               break L69;
               }
-              if (l29 == 20960) { break L68; }
-              if (l29 == 20986) { break L84; }
-              break L82;
+              if (l29 == 20960) { break L69; }
+              if (l29 == 20986) { break L85; }
+              break L83;
              }
-             L87: {
+             L88: {
               switch (l29 + -21317) {
-              case 0: case 7: break L71;
-              case 1: case 2: case 3: case 4: case 5: case 6: break L82;
-              default: break L87;
+              case 0: case 7: break L72;
+              case 1: case 2: case 3: case 4: case 5: case 6: break L83;
+              default: break L88;
               }
              }
-             if (l29 == 22810) { break L68; }
-             if (l29 != 22909) { break L82; }
+             if (l29 == 22810) { break L69; }
+             if (l29 != 22909) { break L83; }
             }
             l33 = f95(m, l29, l27, l26);
-            break L68;
+            break L69;
            }
-           L88: {
-            if (l29 > 26468) { break L88; }
-            L89: {
-             switch (l29 + -24186) {
-             case 0: break L71;
-             case 1: case 2: case 3: break L82;
-             case 4: break L68;
-             default: break L89;
-             }
-            }
+           L89: {
+            if (l29 > 26468) { break L89; }
             L90: {
-             switch (l29 + -25968) {
-             case 0: case 8: break L69;
-             case 1: case 2: case 3: case 4: case 5: case 6: case 7: break L82;
+             switch (l29 + -24186) {
+             case 0: break L72;
+             case 1: case 2: case 3: break L83;
+             case 4: break L69;
              default: break L90;
              }
             }
-            if (l29 == 24319) { break L71; }
-            break L82;
+            L91: {
+             switch (l29 + -25968) {
+             case 0: case 8: break L70;
+             case 1: case 2: case 3: case 4: case 5: case 6: case 7: break L83;
+             default: break L91;
+             }
+            }
+            if (l29 == 24319) { break L72; }
+            break L83;
            }
-           L91: {
-            if (l29 > 39191) { break L91; }
-            if (l29 == 26469) { break L68; }
-            if (l29 != 28857) { break L82; }
-            break L72;
+           L92: {
+            if (l29 > 39191) { break L92; }
+            if (l29 == 26469) { break L69; }
+            if (l29 != 28857) { break L83; }
+            break L73;
            }
-           if (l29 == 39192) { break L68; }
-           if (l29 == 40670) { break L72; }
+           if (l29 == 39192) { break L69; }
+           if (l29 == 40670) { break L73; }
           }
-          if ((l29 + -65296) + Integer.MIN_VALUE > -2147483639) { break L69; }
-          break L71;
+          if ((l29 + -65296) + Integer.MIN_VALUE > -2147483639) { break L70; }
+          break L72;
          }
          Words.put64(b, ((int) l8) - 60552, 0L);
          Words.put64(b, ((int) l8) - 60560, 0L);
          Words.put64(b, ((int) l8) - 60568, 0L);
          Words.put64(b, ((int) l8) - 60576, 0L);
-         L92: {
-          L93: {
-           L94: {
-            L95: {
-             if (l26 + Long.MIN_VALUE < -9223372036854775805L) { break L95; }
-             if (((l29 = b[((int) l27) - 60720] & 0xff) & 240) != 224) { break L94; }
+         L93: {
+          L94: {
+           L95: {
+            L96: {
+             if (l26 + Long.MIN_VALUE < -9223372036854775805L) { break L96; }
+             if (((l29 = b[((int) l27) - 60720] & 0xff) & 240) != 224) { break L95; }
              l33 = b[((int) l27) - 60718] & 0xff;
              l39 = b[((int) l27) - 60719] & 0xff;
              Words.put64(b, ((int) l8) - 60552, l26 + -3L);
              Words.put64(b, ((int) l8) - 60560, l27 + 3L);
              Words.put64(b, ((int) l8) - 60576, 1L);
              Words.put32(b, ((int) l8) - 60568, ((l33 | (l29 << 12)) + (l39 << 6)) + -925824);
-             final int t96 = (int) l8;
-             final int t97 = b[((int) ((l27 = ((((l29 = ((l39 << 8) | (l33 << 16)) | l29) & 0xffffffffL) * 953497L) >>> 22L) & 1016L) + 80941L)) - 60720] & 0xff;
-             final int t98 = l29 = (Words.get32(b, State.far((int) l27, 80936)) == l29) ? 1 : 0;
-             b[t96 - 60563] = (byte) (t98 != 0 ? t97 : 0);
-             final int t99 = (int) l8;
-             final int t100 = b[((int) (l27 + 80940L)) - 60720] & 0xff;
-             final int t101 = l29;
-             b[t99 - 60564] = (byte) (t101 != 0 ? t100 : 2);
-             break L92;
+             final int t97 = (int) l8;
+             final int t98 = b[((int) ((l27 = ((((l29 = ((l39 << 8) | (l33 << 16)) | l29) & 0xffffffffL) * 953497L) >>> 22L) & 1016L) + 80941L)) - 60720] & 0xff;
+             final int t99 = l29 = (Words.get32(b, State.far((int) l27, 80936)) == l29) ? 1 : 0;
+             b[t97 - 60563] = (byte) (t99 != 0 ? t98 : 0);
+             final int t100 = (int) l8;
+             final int t101 = b[((int) (l27 + 80940L)) - 60720] & 0xff;
+             final int t102 = l29;
+             b[t100 - 60564] = (byte) (t102 != 0 ? t101 : 2);
+             break L93;
             }
-            if (l26 == 0L) { break L93; }
+            if (l26 == 0L) { break L94; }
             l29 = b[((int) l27) - 60720] & 0xff;
            }
            l25 = 1L;
-           L102: {
-            if (((int) (byte) l29) > -1) { break L102; }
+           L103: {
+            if (((int) (byte) l29) > -1) { break L103; }
             l33 = (b[((int) l27) - 60719] & 0xff) & 63;
-            L103: {
-             if (l29 + Integer.MIN_VALUE > -2147483425) { break L103; }
+            L104: {
+             if (l29 + Integer.MIN_VALUE > -2147483425) { break L104; }
              l29 = ((l29 << 6) & 1984) | l33;
              l25 = 2L;
-             break L102;
+             break L103;
             }
             l39 = (b[((int) l27) - 60718] & 0xff) & 63;
-            L104: {
-             if (l29 + Integer.MIN_VALUE > -2147483409) { break L104; }
+            L105: {
+             if (l29 + Integer.MIN_VALUE > -2147483409) { break L105; }
              l29 = ((l33 << 6) | ((l29 << 12) & 61440)) | l39;
              l25 = 3L;
-             break L102;
+             break L103;
             }
             l29 = ((l39 << 6) | ((l33 << 12) | ((l29 << 18) & 1835008))) | ((b[((int) l27) - 60717] & 0xff) & 63);
             l25 = 4L;
            }
            l26 = l26 - l25;
            l27 = l27 + l25;
-           L105: {
-            L106: {
-             if ((l29 + -2048) + Integer.MIN_VALUE > -2147420161) { break L106; }
-             final int t107 = b[((int) ((l25 = ((((l33 = (((l29 >>> 12) | ((l29 << 2) & 16128)) | ((l29 << 16) & 4128768)) | 8421600) & 0xffffffffL) * 953497L) >>> 22L) & 1016L) + 80941L)) - 60720] & 0xff;
-             final int t108 = l39 = (Words.get32(b, State.far((int) l25, 80936)) == l33) ? 1 : 0;
-             l33 = t108 != 0 ? t107 : 0;
-             final int t109 = b[((int) (l25 + 80940L)) - 60720] & 0xff;
-             final int t110 = l39;
-             l39 = t110 != 0 ? t109 : 2;
-             break L105;
+           L106: {
+            L107: {
+             if ((l29 + -2048) + Integer.MIN_VALUE > -2147420161) { break L107; }
+             final int t108 = b[((int) ((l25 = ((((l33 = (((l29 >>> 12) | ((l29 << 2) & 16128)) | ((l29 << 16) & 4128768)) | 8421600) & 0xffffffffL) * 953497L) >>> 22L) & 1016L) + 80941L)) - 60720] & 0xff;
+             final int t109 = l39 = (Words.get32(b, State.far((int) l25, 80936)) == l33) ? 1 : 0;
+             l33 = t109 != 0 ? t108 : 0;
+             final int t110 = b[((int) (l25 + 80940L)) - 60720] & 0xff;
+             final int t111 = l39;
+             l39 = t111 != 0 ? t110 : 2;
+             break L106;
             }
-            final int t111 = l33 = l29 + -48;
-            final int t112 = l39 = (l33 + Integer.MIN_VALUE < -2147483638) ? 1 : 0;
-            l33 = t112 != 0 ? t111 : 0;
+            final int t112 = l33 = l29 + -48;
+            final int t113 = l39 = (l33 + Integer.MIN_VALUE < -2147483638) ? 1 : 0;
+            l33 = t113 != 0 ? t112 : 0;
             l39 = l39 != 0 ? 0 : 2;
            }
            Words.put64(b, ((int) l8) - 60552, l26);
@@ -2763,7 +2763,7 @@ static int f101(State m, long l0, long l1, long l2, int l3, int l4, long l5, lon
            b[((int) l8) - 60564] = (byte) l39;
            Words.put32(b, ((int) l8) - 60568, l29);
            Words.put64(b, ((int) l8) - 60576, 1L);
-           break L92;
+           break L93;
           }
           Words.put64(b, ((int) l12) - 60720, 0L);
           Words.put64(b, ((int) l12) - 60712, 0L);
@@ -2771,85 +2771,85 @@ static int f101(State m, long l0, long l1, long l2, int l3, int l4, long l5, lon
           Words.put64(b, ((int) l8) - 60576, 0L);
          }
          l39 = f96(m, l8 + 144L);
-         break L70;
+         break L71;
         }
         l39 = 1;
        }
        l33 = 0;
-       break L68;
+       break L69;
       }
       l33 = 0;
       l39 = 0;
      }
      Words.put32(b, ((int) l8) - 60576, 0);
-     L113: {
-      L114: {
-       L115: {
-        L116: {
-         L117: {
-          L118: {
-           L119: {
-            L120: {
-             if ((l27 = l20 + -1L) + Long.MIN_VALUE > -9223372036854775806L) { break L120; }
-             L121: {
+     L114: {
+      L115: {
+       L116: {
+        L117: {
+         L118: {
+          L119: {
+           L120: {
+            L121: {
+             if ((l27 = l20 + -1L) + Long.MIN_VALUE > -9223372036854775806L) { break L121; }
+             L122: {
               switch ((int) l27) {
-              case 1: break L120;
-              case 2: break L121;
-              default: break L117;
+              case 1: break L121;
+              case 2: break L122;
+              default: break L118;
               }
              }
-             if ((l29 = (Words.get32(b, State.far((int) (l27 = ((((l29 = (((b[((int) l21) - 60719] & 0xff) << 8) | (l41 = b[((int) l21) - 60720] & 0xff)) | ((b[((int) l21) - 60718] & 0xff) << 16)) & 0xffffffffL) * 953497L) >>> 22L) & 1016L), 80936)) != l29) ? 1 : 0) != 0) { break L119; }
+             if ((l29 = (Words.get32(b, State.far((int) (l27 = ((((l29 = (((b[((int) l21) - 60719] & 0xff) << 8) | (l41 = b[((int) l21) - 60720] & 0xff)) | ((b[((int) l21) - 60718] & 0xff) << 16)) & 0xffffffffL) * 953497L) >>> 22L) & 1016L), 80936)) != l29) ? 1 : 0) != 0) { break L120; }
              l40 = 1;
-             final int t122 = b[((int) (l27 + 80940L)) - 60720] & 0xff;
-             final int t123 = l29;
-             if (((l29 = t123 != 0 ? 0 : t122) & 255) == 2) { break L119; }
-             break L116;
+             final int t123 = b[((int) (l27 + 80940L)) - 60720] & 0xff;
+             final int t124 = l29;
+             if (((l29 = t124 != 0 ? 0 : t123) & 255) == 2) { break L120; }
+             break L117;
             }
-            if (l20 + Long.MIN_VALUE > -9223372036854775804L) { break L115; }
-            if (l20 == 0L) { break L118; }
+            if (l20 + Long.MIN_VALUE > -9223372036854775804L) { break L116; }
+            if (l20 == 0L) { break L119; }
             l41 = b[((int) l21) - 60720] & 0xff;
            }
-           if (((int) (byte) l41) > -1) { break L115; }
+           if (((int) (byte) l41) > -1) { break L116; }
           }
           f97(m, l8 + 144L, l21, l20);
-          if ((b[((int) l8) - 60576] & 0xff) != 1) { break L115; }
+          if ((b[((int) l8) - 60576] & 0xff) != 1) { break L116; }
           l40 = b[((int) l8) - 60573] & 0xff;
           l29 = b[((int) l8) - 60575] & 0xff;
-          break L116;
+          break L117;
          }
          l29 = ((l40 = ((((b[((int) l21) - 60720] & 0xff) + -58) & 255) + Integer.MIN_VALUE < -2147483402) ? 1 : 0) != 0) ? 2 : 0;
         }
-        final int t124 = l39 != 0 ? 0 : 2;
-        final int t125 = l31;
-        l29 = (t125 != 0 ? 0 : t124) | (((l31 = l29 & 255) == 0) ? 1 : 0);
+        final int t125 = l39 != 0 ? 0 : 2;
+        final int t126 = l31;
+        l29 = (t126 != 0 ? 0 : t125) | (((l31 = l29 & 255) == 0) ? 1 : 0);
         l40 = ((l40 & 1) != 0) ? 8 : 0;
         l27 = l20 + l2;
-        if ((l33 | (l32 & ((l31 == 1) ? 1 : 0))) != 0) { break L114; }
-        break L113;
-       }
-       l29 = f98(m, l21, l20);
-       L126: {
-        L127: {
-         L128: {
-          if (l32 == 0) { break L128; }
-          if ((l33 | f99(m, l21, l20)) != 0) { break L127; }
-          break L126;
-         }
-         if (l33 == 0) { break L126; }
-        }
-        l40 = 0;
-        final int t129 = l39 != 0 ? 0 : 2;
-        final int t130 = l31;
-        l29 = (t130 != 0 ? 0 : t129) | l29;
-        l27 = l20 + l2;
+        if ((l33 | (l32 & ((l31 == 1) ? 1 : 0))) != 0) { break L115; }
         break L114;
        }
+       l29 = f98(m, l21, l20);
+       L127: {
+        L128: {
+         L129: {
+          if (l32 == 0) { break L129; }
+          if ((l33 | f99(m, l21, l20)) != 0) { break L128; }
+          break L127;
+         }
+         if (l33 == 0) { break L127; }
+        }
+        l40 = 0;
+        final int t130 = l39 != 0 ? 0 : 2;
+        final int t131 = l31;
+        l29 = (t131 != 0 ? 0 : t130) | l29;
+        l27 = l20 + l2;
+        break L115;
+       }
        l40 = 0;
-       final int t131 = l39 != 0 ? 0 : 2;
-       final int t132 = l31;
-       l29 = (t132 != 0 ? 0 : t131) | l29;
+       final int t132 = l39 != 0 ? 0 : 2;
+       final int t133 = l31;
+       l29 = (t133 != 0 ? 0 : t132) | l29;
        l27 = l20 + l2;
-       if (f100(m, l21, l20) == 0) { break L113; }
+       if (f100(m, l21, l20) == 0) { break L114; }
       }
       l29 = l29 | 4;
      }
@@ -2872,11 +2872,11 @@ static int f101(State m, long l0, long l1, long l2, int l3, int l4, long l5, lon
      Words.put64(b, ((int) (l5 + 16L)) - 60720, l28);
      Words.put64(b, ((int) (l5 + 8L)) - 60720, l27);
      Words.put64(b, ((int) l5) - 60720, l2);
-     final int t133 = (int) (l5 + 32L);
-     final int t134 = l40 | l29;
-     final int t135 = ((l32 + 1) & 255) << 4;
-     final int t136 = l33 & 1;
-     Words.put32(b, t133 - 60720, t134 | (t136 != 0 ? t135 : 0));
+     final int t134 = (int) (l5 + 32L);
+     final int t135 = l40 | l29;
+     final int t136 = ((l32 + 1) & 255) << 4;
+     final int t137 = l33 & 1;
+     Words.put32(b, t134 - 60720, t135 | (t137 != 0 ? t136 : 0));
      l5 = l5 + 56L;
      if (l6 != (l9 = l9 + 1L)) { continue L5; }
      break L5;
@@ -2887,8 +2887,8 @@ static int f101(State m, long l0, long l1, long l2, int l3, int l4, long l5, lon
   }
   Words.put64(b, ((int) l7) - 60720, l9);
   m.g0 = l8 + 384L;
-  final int t137 = l29;
-  return t137;
+  final int t138 = l29;
+  return t138;
  }
  throw State.trap();
 }

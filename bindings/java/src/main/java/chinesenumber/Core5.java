@@ -2824,197 +2824,197 @@ static int f152(State m, long l0, long l1, long l2, int l3, int l4, long l5, lon
     l22 = (int) m.kept[6];
     l23 = (int) m.kept[7];
     l24 = (int) m.kept[8];
-    L51: {
-     L52: {
-      L53: {
-       L54: {
-        L55: {
-         L56: {
-          L57: {
-           L58: {
-            L59: {
-             L60: {
-              if (l2 + Long.MIN_VALUE < -9223372036854775805L) { break L60; }
-              if (((l23 = b[((int) l10) - 60720] & 0xff) & 240) != 224) { break L59; }
+    L52: {
+     L53: {
+      L54: {
+       L55: {
+        L56: {
+         L57: {
+          L58: {
+           L59: {
+            L60: {
+             L61: {
+              if (l2 + Long.MIN_VALUE < -9223372036854775805L) { break L61; }
+              if (((l23 = b[((int) l10) - 60720] & 0xff) & 240) != 224) { break L60; }
               l21 = (((l24 = b[((int) l10) - 60719] & 0xff) << 8) | ((l25 = b[((int) l10) - 60718] & 0xff) << 16)) | l23;
               l23 = (((l23 << 12) | l25) + (l24 << 6)) + -925824;
               l17 = l2 + -3L;
               l16 = l10 + 3L;
-              if (l21 != Words.get32(b, ((int) ((l18 = (((l21 & 0xffffffffL) * 953497L) >>> 22L) & 1016L) + 80936L)) - 60720)) { break L57; }
-              break L58;
+              if (l21 != Words.get32(b, ((int) ((l18 = (((l21 & 0xffffffffL) * 953497L) >>> 22L) & 1016L) + 80936L)) - 60720)) { break L58; }
+              break L59;
              }
-             if (l2 == 0L) { break L52; }
+             if (l2 == 0L) { break L53; }
              l23 = b[((int) l10) - 60720] & 0xff;
             }
             l16 = 1L;
-            L61: {
-             if (((int) (byte) l23) > -1) { break L61; }
+            L62: {
+             if (((int) (byte) l23) > -1) { break L62; }
              l21 = (b[((int) l10) - 60719] & 0xff) & 63;
-             L62: {
-              if (l23 + Integer.MIN_VALUE > -2147483425) { break L62; }
+             L63: {
+              if (l23 + Integer.MIN_VALUE > -2147483425) { break L63; }
               l23 = ((l23 << 6) & 1984) | l21;
               l16 = 2L;
-              break L61;
+              break L62;
              }
              l24 = (b[((int) l10) - 60718] & 0xff) & 63;
-             L63: {
-              if (l23 + Integer.MIN_VALUE > -2147483409) { break L63; }
+             L64: {
+              if (l23 + Integer.MIN_VALUE > -2147483409) { break L64; }
               l23 = ((l21 << 6) | ((l23 << 12) & 61440)) | l24;
               l16 = 3L;
-              break L61;
+              break L62;
              }
              l23 = ((l24 << 6) | ((l21 << 12) | ((l23 << 18) & 1835008))) | ((b[((int) l10) - 60717] & 0xff) & 63);
              l16 = 4L;
             }
             l17 = l2 - l16;
             l16 = l10 + l16;
-            L64: {
-             if ((l23 + -2048) + Integer.MIN_VALUE > -2147420161) { break L64; }
-             if (Words.get32(b, ((int) ((l18 = ((((l21 = (((l23 >>> 12) | ((l23 << 2) & 16128)) | ((l23 << 16) & 4128768)) | 8421600) & 0xffffffffL) * 953497L) >>> 22L) & 1016L) + 80936L)) - 60720) == l21) { break L58; }
-             break L56;
+            L65: {
+             if ((l23 + -2048) + Integer.MIN_VALUE > -2147420161) { break L65; }
+             if (Words.get32(b, ((int) ((l18 = ((((l21 = (((l23 >>> 12) | ((l23 << 2) & 16128)) | ((l23 << 16) & 4128768)) | 8421600) & 0xffffffffL) * 953497L) >>> 22L) & 1016L) + 80936L)) - 60720) == l21) { break L59; }
+             break L57;
             }
-            if ((l23 + -48) + Integer.MIN_VALUE >= -2147483638) { break L57; }
-            break L54;
+            if ((l23 + -48) + Integer.MIN_VALUE >= -2147483638) { break L58; }
+            break L55;
            }
-           if ((b[((int) (l18 + 80940L)) - 60720] & 0xff) == 0) { break L54; }
+           if ((b[((int) (l18 + 80940L)) - 60720] & 0xff) == 0) { break L55; }
           }
-          if (l23 + Integer.MIN_VALUE > -2147483521) { break L56; }
+          if (l23 + Integer.MIN_VALUE > -2147483521) { break L57; }
           l24 = 1;
           l21 = 0;
-          if (l23 == 95) { break L51; }
-          if ((l23 + -44) + Integer.MIN_VALUE < -2147483645) { break L55; }
-          if ((l23 + -48) + Integer.MIN_VALUE < -2147483638) { break L51; }
-          if (((l23 & 95) + -65) + Integer.MIN_VALUE >= -2147483622) { break L52; }
-          break L51;
+          if (l23 == 95) { break L52; }
+          if ((l23 + -44) + Integer.MIN_VALUE < -2147483645) { break L56; }
+          if ((l23 + -48) + Integer.MIN_VALUE < -2147483638) { break L52; }
+          if (((l23 & 95) + -65) + Integer.MIN_VALUE >= -2147483622) { break L53; }
+          break L52;
          }
          l24 = 0;
          l21 = 1;
-         L65: {
-          L66: {
-           if (l23 > 24185) { break L66; }
-           L67: {
-            L68: {
-             if (l23 > 21316) { break L68; }
-             L69: {
-              if (l23 > 20959) { break L69; }
-              if (l23 == 20313) { break L51; }
-              if (l23 != 20358) { break L65; }
-              break L51;
+         L66: {
+          L67: {
+           if (l23 > 24185) { break L67; }
+           L68: {
+            L69: {
+             if (l23 > 21316) { break L69; }
+             L70: {
+              if (l23 > 20959) { break L70; }
+              if (l23 == 20313) { break L52; }
+              if (l23 != 20358) { break L66; }
+              break L52;
              }
-             if (l23 == 20960) { break L51; }
-             if (l23 == 20986) { break L67; }
-             break L65;
+             if (l23 == 20960) { break L52; }
+             if (l23 == 20986) { break L68; }
+             break L66;
             }
-            L70: {
+            L71: {
              switch (l23 + -21317) {
-             case 0: case 7: break L54;
-             case 1: case 2: case 3: case 4: case 5: case 6: break L65;
-             default: break L70;
+             case 0: case 7: break L55;
+             case 1: case 2: case 3: case 4: case 5: case 6: break L66;
+             default: break L71;
              }
             }
-            if (l23 == 22810) { break L51; }
-            if (l23 != 22909) { break L65; }
+            if (l23 == 22810) { break L52; }
+            if (l23 != 22909) { break L66; }
            }
            l21 = Core3.f95(m, l23, l16, l17);
-           break L51;
+           break L52;
           }
-          L71: {
-           if (l23 > 26468) { break L71; }
-           L72: {
-            switch (l23 + -24186) {
-            case 0: break L54;
-            case 1: case 2: case 3: break L65;
-            case 4: break L51;
-            default: break L72;
-            }
-           }
+          L72: {
+           if (l23 > 26468) { break L72; }
            L73: {
-            switch (l23 + -25968) {
-            case 0: case 8: break L52;
-            case 1: case 2: case 3: case 4: case 5: case 6: case 7: break L65;
+            switch (l23 + -24186) {
+            case 0: break L55;
+            case 1: case 2: case 3: break L66;
+            case 4: break L52;
             default: break L73;
             }
            }
-           if (l23 == 24319) { break L54; }
-           break L65;
+           L74: {
+            switch (l23 + -25968) {
+            case 0: case 8: break L53;
+            case 1: case 2: case 3: case 4: case 5: case 6: case 7: break L66;
+            default: break L74;
+            }
+           }
+           if (l23 == 24319) { break L55; }
+           break L66;
           }
-          L74: {
-           if (l23 > 39191) { break L74; }
-           if (l23 == 26469) { break L51; }
-           if (l23 != 28857) { break L65; }
-           break L55;
+          L75: {
+           if (l23 > 39191) { break L75; }
+           if (l23 == 26469) { break L52; }
+           if (l23 != 28857) { break L66; }
+           break L56;
           }
-          if (l23 == 39192) { break L51; }
-          if (l23 == 40670) { break L55; }
+          if (l23 == 39192) { break L52; }
+          if (l23 == 40670) { break L56; }
          }
-         if ((l23 + -65296) + Integer.MIN_VALUE > -2147483639) { break L52; }
-         break L54;
+         if ((l23 + -65296) + Integer.MIN_VALUE > -2147483639) { break L53; }
+         break L55;
         }
         Words.put64(b, ((int) l8) - 60688, 0L);
         Words.put64(b, ((int) l8) - 60696, 0L);
         Words.put64(b, ((int) l8) - 60704, 0L);
         Words.put64(b, ((int) l8) - 60712, 0L);
-        L75: {
-         L76: {
-          L77: {
-           L78: {
-            if (l17 + Long.MIN_VALUE < -9223372036854775805L) { break L78; }
-            if (((l23 = b[((int) l16) - 60720] & 0xff) & 240) != 224) { break L77; }
+        L76: {
+         L77: {
+          L78: {
+           L79: {
+            if (l17 + Long.MIN_VALUE < -9223372036854775805L) { break L79; }
+            if (((l23 = b[((int) l16) - 60720] & 0xff) & 240) != 224) { break L78; }
             l21 = b[((int) l16) - 60718] & 0xff;
             l24 = b[((int) l16) - 60719] & 0xff;
             Words.put64(b, ((int) l8) - 60688, l17 + -3L);
             Words.put64(b, ((int) l8) - 60696, l16 + 3L);
             Words.put64(b, ((int) l8) - 60712, 1L);
             Words.put32(b, ((int) l8) - 60704, ((l21 | (l23 << 12)) + (l24 << 6)) + -925824);
-            final int t79 = (int) l8;
-            final int t80 = b[((int) ((l16 = ((((l23 = ((l24 << 8) | (l21 << 16)) | l23) & 0xffffffffL) * 953497L) >>> 22L) & 1016L) + 80941L)) - 60720] & 0xff;
-            final int t81 = l23 = (Words.get32(b, State.far((int) l16, 80936)) == l23) ? 1 : 0;
-            b[t79 - 60699] = (byte) (t81 != 0 ? t80 : 0);
-            final int t82 = (int) l8;
-            final int t83 = b[((int) (l16 + 80940L)) - 60720] & 0xff;
-            final int t84 = l23;
-            b[t82 - 60700] = (byte) (t84 != 0 ? t83 : 2);
-            break L75;
+            final int t80 = (int) l8;
+            final int t81 = b[((int) ((l16 = ((((l23 = ((l24 << 8) | (l21 << 16)) | l23) & 0xffffffffL) * 953497L) >>> 22L) & 1016L) + 80941L)) - 60720] & 0xff;
+            final int t82 = l23 = (Words.get32(b, State.far((int) l16, 80936)) == l23) ? 1 : 0;
+            b[t80 - 60699] = (byte) (t82 != 0 ? t81 : 0);
+            final int t83 = (int) l8;
+            final int t84 = b[((int) (l16 + 80940L)) - 60720] & 0xff;
+            final int t85 = l23;
+            b[t83 - 60700] = (byte) (t85 != 0 ? t84 : 2);
+            break L76;
            }
-           if (l17 == 0L) { break L76; }
+           if (l17 == 0L) { break L77; }
            l23 = b[((int) l16) - 60720] & 0xff;
           }
           l18 = 1L;
-          L85: {
-           if (((int) (byte) l23) > -1) { break L85; }
+          L86: {
+           if (((int) (byte) l23) > -1) { break L86; }
            l21 = (b[((int) l16) - 60719] & 0xff) & 63;
-           L86: {
-            if (l23 + Integer.MIN_VALUE > -2147483425) { break L86; }
+           L87: {
+            if (l23 + Integer.MIN_VALUE > -2147483425) { break L87; }
             l23 = ((l23 << 6) & 1984) | l21;
             l18 = 2L;
-            break L85;
+            break L86;
            }
            l24 = (b[((int) l16) - 60718] & 0xff) & 63;
-           L87: {
-            if (l23 + Integer.MIN_VALUE > -2147483409) { break L87; }
+           L88: {
+            if (l23 + Integer.MIN_VALUE > -2147483409) { break L88; }
             l23 = ((l21 << 6) | ((l23 << 12) & 61440)) | l24;
             l18 = 3L;
-            break L85;
+            break L86;
            }
            l23 = ((l24 << 6) | ((l21 << 12) | ((l23 << 18) & 1835008))) | ((b[((int) l16) - 60717] & 0xff) & 63);
            l18 = 4L;
           }
           l17 = l17 - l18;
           l16 = l16 + l18;
-          L88: {
-           L89: {
-            if ((l23 + -2048) + Integer.MIN_VALUE > -2147420161) { break L89; }
-            final int t90 = b[((int) ((l18 = ((((l21 = (((l23 >>> 12) | ((l23 << 2) & 16128)) | ((l23 << 16) & 4128768)) | 8421600) & 0xffffffffL) * 953497L) >>> 22L) & 1016L) + 80941L)) - 60720] & 0xff;
-            final int t91 = l24 = (Words.get32(b, State.far((int) l18, 80936)) == l21) ? 1 : 0;
-            l21 = t91 != 0 ? t90 : 0;
-            final int t92 = b[((int) (l18 + 80940L)) - 60720] & 0xff;
-            final int t93 = l24;
-            l24 = t93 != 0 ? t92 : 2;
-            break L88;
+          L89: {
+           L90: {
+            if ((l23 + -2048) + Integer.MIN_VALUE > -2147420161) { break L90; }
+            final int t91 = b[((int) ((l18 = ((((l21 = (((l23 >>> 12) | ((l23 << 2) & 16128)) | ((l23 << 16) & 4128768)) | 8421600) & 0xffffffffL) * 953497L) >>> 22L) & 1016L) + 80941L)) - 60720] & 0xff;
+            final int t92 = l24 = (Words.get32(b, State.far((int) l18, 80936)) == l21) ? 1 : 0;
+            l21 = t92 != 0 ? t91 : 0;
+            final int t93 = b[((int) (l18 + 80940L)) - 60720] & 0xff;
+            final int t94 = l24;
+            l24 = t94 != 0 ? t93 : 2;
+            break L89;
            }
-           final int t94 = l21 = l23 + -48;
-           final int t95 = l24 = (l21 + Integer.MIN_VALUE < -2147483638) ? 1 : 0;
-           l21 = t95 != 0 ? t94 : 0;
+           final int t95 = l21 = l23 + -48;
+           final int t96 = l24 = (l21 + Integer.MIN_VALUE < -2147483638) ? 1 : 0;
+           l21 = t96 != 0 ? t95 : 0;
            l24 = l24 != 0 ? 0 : 2;
           }
           Words.put64(b, ((int) l8) - 60688, l17);
@@ -3023,7 +3023,7 @@ static int f152(State m, long l0, long l1, long l2, int l3, int l4, long l5, lon
           b[((int) l8) - 60700] = (byte) l24;
           Words.put32(b, ((int) l8) - 60704, l23);
           Words.put64(b, ((int) l8) - 60712, 1L);
-          break L75;
+          break L76;
          }
          Words.put64(b, ((int) l11) - 60720, 0L);
          Words.put64(b, ((int) l11) - 60712, 0L);
@@ -3031,12 +3031,12 @@ static int f152(State m, long l0, long l1, long l2, int l3, int l4, long l5, lon
          Words.put64(b, ((int) l8) - 60712, 0L);
         }
         l24 = Core3.f96(m, l8 + 8L);
-        break L53;
+        break L54;
        }
        l24 = 1;
       }
       l21 = 0;
-      break L51;
+      break L52;
      }
      l21 = 0;
      l24 = 0;
@@ -3044,65 +3044,65 @@ static int f152(State m, long l0, long l1, long l2, int l3, int l4, long l5, lon
     l16 = l12 + l15;
     Words.put32(b, ((int) l8) - 60712, 0);
     l23 = l22 | l24;
-    L96: {
-     L97: {
-      L98: {
-       L99: {
-        L100: {
-         L101: {
-          L102: {
-           L103: {
-            if ((l17 = l12 + -1L) + Long.MIN_VALUE > -9223372036854775806L) { break L103; }
-            L104: {
+    L97: {
+     L98: {
+      L99: {
+       L100: {
+        L101: {
+         L102: {
+          L103: {
+           L104: {
+            if ((l17 = l12 + -1L) + Long.MIN_VALUE > -9223372036854775806L) { break L104; }
+            L105: {
              switch ((int) l17) {
-             case 1: break L103;
-             case 2: break L104;
-             default: break L100;
+             case 1: break L104;
+             case 2: break L105;
+             default: break L101;
              }
             }
-            if ((l24 = (Words.get32(b, State.far((int) (l17 = ((((l22 = (((b[((int) l13) - 60719] & 0xff) << 8) | (l25 = b[((int) l13) - 60720] & 0xff)) | ((b[((int) l13) - 60718] & 0xff) << 16)) & 0xffffffffL) * 953497L) >>> 22L) & 1016L), 80936)) != l22) ? 1 : 0) != 0) { break L102; }
+            if ((l24 = (Words.get32(b, State.far((int) (l17 = ((((l22 = (((b[((int) l13) - 60719] & 0xff) << 8) | (l25 = b[((int) l13) - 60720] & 0xff)) | ((b[((int) l13) - 60718] & 0xff) << 16)) & 0xffffffffL) * 953497L) >>> 22L) & 1016L), 80936)) != l22) ? 1 : 0) != 0) { break L103; }
             l22 = 1;
-            final int t105 = b[((int) (l17 + 80940L)) - 60720] & 0xff;
-            final int t106 = l24;
-            if (((l24 = t106 != 0 ? 0 : t105) & 255) == 2) { break L102; }
-            break L99;
+            final int t106 = b[((int) (l17 + 80940L)) - 60720] & 0xff;
+            final int t107 = l24;
+            if (((l24 = t107 != 0 ? 0 : t106) & 255) == 2) { break L103; }
+            break L100;
            }
-           if (l12 + Long.MIN_VALUE > -9223372036854775804L) { break L98; }
-           if (l12 == 0L) { break L101; }
+           if (l12 + Long.MIN_VALUE > -9223372036854775804L) { break L99; }
+           if (l12 == 0L) { break L102; }
            l25 = b[((int) l13) - 60720] & 0xff;
           }
-          if (((int) (byte) l25) > -1) { break L98; }
+          if (((int) (byte) l25) > -1) { break L99; }
          }
          Core3.f97(m, l8 + 8L, l13, l12);
-         if ((b[((int) l8) - 60712] & 0xff) != 1) { break L98; }
+         if ((b[((int) l8) - 60712] & 0xff) != 1) { break L99; }
          l22 = b[((int) l8) - 60709] & 0xff;
          l24 = b[((int) l8) - 60711] & 0xff;
-         break L99;
+         break L100;
         }
         l24 = ((l22 = ((((b[((int) l13) - 60720] & 0xff) + -58) & 255) + Integer.MIN_VALUE < -2147483402) ? 1 : 0) != 0) ? 2 : 0;
        }
        l23 = (l23 != 0 ? 0 : 2) | (((l24 = l24 & 255) == 0) ? 1 : 0);
        l22 = ((l22 & 1) != 0) ? 8 : 0;
-       if ((l21 | (l20 & ((l24 == 1) ? 1 : 0))) != 0) { break L97; }
-       break L96;
+       if ((l21 | (l20 & ((l24 == 1) ? 1 : 0))) != 0) { break L98; }
+       break L97;
       }
       l24 = Core3.f98(m, l13, l12);
-      L107: {
-       L108: {
-        L109: {
-         if (l20 == 0) { break L109; }
-         if ((l21 | Core3.f99(m, l13, l12)) != 0) { break L108; }
-         break L107;
+      L108: {
+       L109: {
+        L110: {
+         if (l20 == 0) { break L110; }
+         if ((l21 | Core3.f99(m, l13, l12)) != 0) { break L109; }
+         break L108;
         }
-        if (l21 == 0) { break L107; }
+        if (l21 == 0) { break L108; }
        }
        l22 = 0;
        l23 = (l23 != 0 ? 0 : 2) | l24;
-       break L97;
+       break L98;
       }
       l22 = 0;
       l23 = (l23 != 0 ? 0 : 2) | l24;
-      if (Core3.f100(m, l13, l12) == 0) { break L96; }
+      if (Core3.f100(m, l13, l12) == 0) { break L97; }
      }
      l23 = l23 | 4;
     }
@@ -3118,11 +3118,11 @@ static int f152(State m, long l0, long l1, long l2, int l3, int l4, long l5, lon
     Words.put32(b, ((int) (l5 + 20L)) - 60720, 0);
     Words.put64(b, ((int) (l5 + 8L)) - 60720, l16);
     Words.put64(b, ((int) l5) - 60720, l15);
-    final int t110 = (int) (l5 + 16L);
-    final int t111 = l22 | l23;
-    final int t112 = ((l20 + 1) & 255) << 4;
-    final int t113 = l21 & 1;
-    Words.put32(b, t110 - 60720, t111 | (t113 != 0 ? t112 : 0));
+    final int t111 = (int) (l5 + 16L);
+    final int t112 = l22 | l23;
+    final int t113 = ((l20 + 1) & 255) << 4;
+    final int t114 = l21 & 1;
+    Words.put32(b, t111 - 60720, t112 | (t114 != 0 ? t113 : 0));
     l5 = l5 + 24L;
     if (l6 != (l9 = l9 + 1L)) { continue L4; }
     break L4;
@@ -3132,8 +3132,8 @@ static int f152(State m, long l0, long l1, long l2, int l3, int l4, long l5, lon
   }
   Words.put64(b, ((int) l7) - 60720, l9);
   m.g0 = l8 + 64L;
-  final int t114 = l19;
-  return t114;
+  final int t115 = l19;
+  return t115;
  }
  throw State.trap();
 }

@@ -4134,31 +4134,31 @@ static long f206(State m, long l0, long l1, int l2, int l3, long l4, long l5) {
            l16 = (int) m.kept[12];
            l17 = (int) m.kept[13];
            l18 = (int) m.kept[14];
-           L140: {
-            L141: {
-             if (l4 + Long.MIN_VALUE < -9223372036854775798L) { break L141; }
+           L141: {
+            L142: {
+             if (l4 + Long.MIN_VALUE < -9223372036854775798L) { break L142; }
              l7 = l1 + 40L;
              l2 = 0;
              l8 = 0L;
-             L142: while (true) {
+             L143: while (true) {
               Words.put32(b, ((int) ((l0 + l5) + -4L)) - 60720, Words.get32(b, ((int) (l7 + ((b[((int) (l8 + 85470L)) - 60720] & 0xffL) << 2L))) - 60720));
-              final long t143 = l0;
-              final long t144 = ((l14 = ((l10 = (l9 = l4) - ((l4 = Long.divideUnsigned(l9, 10L)) * 10L)) != 0L) ? 1 : 0) != 0) ? -3L : 0L;
-              final int t145 = (l8 != 0L) ? 1 : 0;
-              Words.put32(b, ((int) ((t143 + (l5 = (t145 != 0 ? t144 : 0L) + l5)) + -4L)) - 60720, Words.get32(b, ((int) (l1 + (l10 << 2L))) - 60720));
-              final long t146 = l5;
-              final long t147 = ((l2 & 255) != 0) ? -3L : 0L;
-              final int t148 = l14;
-              l5 = t146 + (t148 != 0 ? -3L : t147);
+              final long t144 = l0;
+              final long t145 = ((l14 = ((l10 = (l9 = l4) - ((l4 = Long.divideUnsigned(l9, 10L)) * 10L)) != 0L) ? 1 : 0) != 0) ? -3L : 0L;
+              final int t146 = (l8 != 0L) ? 1 : 0;
+              Words.put32(b, ((int) ((t144 + (l5 = (t146 != 0 ? t145 : 0L) + l5)) + -4L)) - 60720, Words.get32(b, ((int) (l1 + (l10 << 2L))) - 60720));
+              final long t147 = l5;
+              final long t148 = ((l2 & 255) != 0) ? -3L : 0L;
+              final int t149 = l14;
+              l5 = t147 + (t149 != 0 ? -3L : t148);
               l8 = l8 + 1L;
               l2 = (int) l10;
-              if (l9 + Long.MIN_VALUE > -9223372036854775709L) { continue L142; }
-              break L142;
+              if (l9 + Long.MIN_VALUE > -9223372036854775709L) { continue L143; }
+              break L143;
              }
-             if (l8 == 0L) { break L141; }
+             if (l8 == 0L) { break L142; }
              Words.put32(b, ((int) ((l0 + l5) + -4L)) - 60720, Words.get32(b, ((int) (l7 + ((b[((int) (l8 + 85470L)) - 60720] & 0xffL) << 2L))) - 60720));
              l5 = l5 + -3L;
-             if ((l9 + -10L) + Long.MIN_VALUE >= -9223372036854775798L) { break L140; }
+             if ((l9 + -10L) + Long.MIN_VALUE >= -9223372036854775798L) { break L141; }
              if (l8 == 1L) { break L8; }
              break L9;
             }
@@ -4183,24 +4183,24 @@ static long f206(State m, long l0, long l1, int l2, int l3, long l4, long l5) {
       }
       if (l3 == 0) { break L1; }
       Words.put32(b, ((int) ((l0 + l5) + -4L)) - 60720, Words.get32(b, ((int) (l1 + 104L)) - 60720));
-      final long t149 = l5 + -3L;
-      return t149;
+      final long t150 = l5 + -3L;
+      return t150;
      }
      Words.put32(b, ((int) ((l0 + l5) + -4L)) - 60720, Words.get32(b, ((int) (l1 + 4L)) - 60720));
      l5 = l5 + -3L;
     }
     if (l3 == 0) { break L1; }
     Words.put32(b, ((int) ((l0 + l5) + -4L)) - 60720, Words.get32(b, ((int) (l1 + 104L)) - 60720));
-    final long t150 = l5 + -3L;
-    return t150;
+    final long t151 = l5 + -3L;
+    return t151;
    }
    Words.put32(b, ((int) ((l0 + l5) + -4L)) - 60720, Words.get32(b, ((int) (l1 + 4L)) - 60720));
    l5 = l5 + -3L;
   }
   if (l3 == 0) { break L1; }
   Words.put32(b, ((int) ((l0 + l5) + -4L)) - 60720, Words.get32(b, ((int) (l1 + 104L)) - 60720));
-  final long t151 = l5 + -3L;
-  return t151;
+  final long t152 = l5 + -3L;
+  return t152;
  }
  return l5;
 }

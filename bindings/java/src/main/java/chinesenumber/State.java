@@ -15,7 +15,7 @@ abstract class State {
     static final int HEAP = 88608;
 
     byte[] bytes;
-    long g0 = 65536;
+    long g0 = 65536L;
     int g1 = 0;
     /** What parts of functions hand back: a result, and the variables that they write. */
     int intResult;
