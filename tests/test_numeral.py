@@ -71,7 +71,11 @@ def test_memory_of_many_lines(program):
 
 
 def random_line(draw):
+    """Words that a line can have, in any order, or a number, after the start of a line; some with a
+    wrong byte."""
     words = [draw.choice(WORDS) for _ in range(draw.randrange(6))]
+    if draw.random() < 0.5:
+        words = [draw.choice(["", "-"]) + str(draw.getrandbits(draw.randrange(1, 70)))]
     line = draw.choice(STARTS) + draw.choice(["", " "]).join(words)
     data = bytearray(line.encode())
     if data and draw.random() < 0.2:

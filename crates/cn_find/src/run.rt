@@ -54,7 +54,7 @@ fn look_at_mark<'a, R: SearchRule>(
 
 // Characters of three bytes have a path of their own, so that a search for numbers quickly passes
 // those that do not belong.
-// Same answer (if let Some((first, mark, tail)) = split_fi.. → nothing): the character is decoded
+// Same answer (if let Some((first, mark, tail)) = split_firs.. → nothing): the character is decoded
 // and its mark looked up, more slowly.
 #[inline(always)]
 fn look_at<'a, R: SearchRule>(rule: R, whole: &'a str, ahead: &'a str) -> Option<Look<'a>>
