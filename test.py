@@ -126,10 +126,14 @@ def compiler(variable, *names):
     raise LeftOut(f"there is no {named[0] if named else ' and no '.join(names)}")
 
 
-def needs(tool, *least):
-    """Skips a language whose tool is missing or too old."""
+def needs_tool(tool):
     if not shutil.which(tool):
         raise LeftOut(f"there is no {tool}")
+
+
+def needs(tool, *least):
+    """Skips a language whose tool is missing or too old."""
+    needs_tool(tool)
     word = "version" if tool == "go" else "--version"
     version = re.search(r"\d+(\.\d+)+", run(tool, word))[0]
     if tuple(map(int, version.split("."))) < least:
@@ -191,6 +195,21 @@ class Clone:
             "go", "run", "./answers", text=asked, cwd=BINDINGS / "go", env={**os.environ, **own}
         )
 
+    def java(self, asked):
+        for tool in ("javac", "java"):
+            needs_tool(tool)
+        try:
+            run("javac", "-version")  # that of macOS is there without a JDK, and fails
+        except Failed:
+            raise LeftOut("javac has no JDK")
+        classes, own = self.scratch / "java", BINDINGS / "java"
+        sources = sorted(own.glob("src/main/java/chinesenumber/*.java"))
+        # They run for a few seconds, in which compiling well does not pay off.
+        brief = ("-XX:TieredStopAtLevel=1", "-XX:+UseSerialGC")
+        words = ("javac", *(f"-J{it}" for it in brief), "-encoding", "UTF-8", "-d", classes)
+        run(*words, *sources, own / "answers/Answers.java")
+        return run("java", *brief, "-cp", classes, "Answers", text=asked)
+
     def javascript(self, asked):
         needs("node", 20)
         return run("node", BINDINGS / "web/answers.mjs", text=asked)
@@ -206,6 +225,7 @@ LANGUAGES = {
     "Python": Clone.python,
     "Rust": Clone.rust,
     "Go": Clone.go,
+    "Java": Clone.java,
     "JavaScript": Clone.javascript,
 }
 

@@ -39,6 +39,7 @@ NO_REFUSAL = "out of memory"
 LISTED = "docs/RULES.md", "crates/numeral/src/main.rt"  # the files that list those of numbers
 # What people write in several places: how it is found, and in which files. Once the project has an
 # address, it goes into package.json, Cargo.toml and METADATA of bindings/python/build_wheel.py.
+OF_JAVA = "bindings/java/src/main/java/chinesenumber/ChineseNumbers.java"
 AUTHORS = "authors", r"^Copyright \(c\) \d+ (.*)"
 PARTS = r"^#define CN_VERSION_MAJOR (\d+)\n#define \w+MINOR (\d+)\n#define \w+PATCH (\d+)"
 REPEATED = {
@@ -52,8 +53,11 @@ REPEATED = {
     ("version", r'^version = "(.*)"'): "bindings/rust/Cargo.toml",
     ("version", r"^export const VERSION = '(.*)'"): "bindings/web/chinese-number.mjs",
     ("version", r'^  "version": "(.*)"'): "bindings/web/package.json",
+    ("version", r"^  <version>(.*)</version>"): "bindings/java/pom.xml",
+    ("version", r' VERSION = "(.*)"'): OF_JAVA,
     ("version", r"chinese.number[a-z-_]*-(\d[\d.]*\d)\b"): (
-        "bindings/README.md bindings/web/README.md bindings/web/README.zh.md"
+        "bindings/README.md bindings/web/README.md bindings/web/README.zh.md "
+        "bindings/java/README.md bindings/java/README.zh.md"
     ),
     ("longest text", r"\b(4,\d{3},\d{3},\d{3})\b"): (
         "docs/DIFFERENCES.md bindings/codes.txt bindings/source/README.md bindings/go/README.md "
@@ -107,6 +111,9 @@ LANGUAGES = {
         names={"not_utf8": "not_UTF8"},
         types={"kind": "kind", "quantity_form": "Form"},
         prefixed=("input", "doubt", "fault", "phrase_kind", "phrase_state"),
+    ),
+    "java": Language(
+        *("/** ", " * ", " */", "{@link {Type}#{NAME}}", "{@link ChineseNumbers#{camel}}")
     ),
     "python": Language('"""', "", '"""', "{NAME}", "{name}", "{NAME}: {text}."),
     "js": JAVASCRIPT,
@@ -312,16 +319,30 @@ def together(template, each):
 def files(groups):
     """The path of each file, what it has now, and what it must have."""
     for names, part in parts_of(read(TOP / "bindings/codes.in"), "=== ")[1]:
-        name, path = names.split()
-        head, blocks = parts_of(part, "--- ")
-        made = "\n".join(Writer(name, groups).blocks(blocks))
-        found = read(TOP / path) if (TOP / path).is_file() else ""
-        if head.strip():
-            yield path, found, f"{head}\n{made}"
-        elif around := PART.fullmatch(found):
-            yield path, found, f"{around[1]}\n{made}\n{around[2]}"
-        else:
-            sys.exit(f"codes: {path} has no two comments around what is made")
+        name, pattern = names.split()
+        head, all_blocks = parts_of(part, "--- ")
+        for path, blocks in places(pattern, all_blocks):
+            made = "\n".join(Writer(name, groups).blocks(blocks))
+            yield file_of(path, head, made)
+
+
+def places(path, blocks):
+    """The files of a path, each with its blocks: with {Type} in the path, a file for each group."""
+    if "{Type}" not in path:
+        return [(path, blocks)]
+    groups = [(it, template) for names, template in blocks for it in names.split()]
+    return [(fill(path, {"Type": pascal(it)}), [(it, template)]) for it, template in groups]
+
+
+def file_of(path, head, made):
+    """The path of a file, what it has now, and what it must have."""
+    found = read(TOP / path) if (TOP / path).is_file() else ""
+    if head.strip():
+        return path, found, f"{head}\n{made}"
+    around = PART.fullmatch(found)
+    if not around:
+        sys.exit(f"codes: {path} has no two comments around what is made")
+    return path, found, f"{around[1]}\n{made}\n{around[2]}"
 
 
 def repeated():

@@ -2,11 +2,14 @@
 """Makes `dist/`, from which the library is installed without its toolchain, and compares it with its
 sources.
 
-Usage: dist.py make | check | again ARCHIVE
+Usage: dist.py make | copies | check | again ARCHIVE
 
 make builds cn_c for WebAssembly, and C source from that, and writes `dist/` and the copies of its
 files where the tools of other languages look. It needs the toolchain, a C compiler, wasm-opt of
 binaryen, and wasm2c of wabt 1.0.32.
+
+copies makes again what is made of the files in `dist/`: the copies, JavaScript and Java. It needs
+only Python.
 
 check verifies that `dist/` was made from the sources that are here, that its files have the checksums
 in its PROVENANCE.json, and that each copy equals its original. It needs only Python 3.8 or later.
@@ -25,6 +28,8 @@ import sys
 import tempfile
 from pathlib import Path
 
+sys.path.append(str(Path(__file__).resolve().parent / "java"))
+import core
 from provenance import first_line, logic_of, sum_of, verdict
 from sources import TOP, read, sum_of_sources
 
@@ -48,7 +53,7 @@ COPIES = {
     "dist/chinese_number.h": "bindings/c/chinese_number.h",
     "dist/chinese_number.hpp": "bindings/c/chinese_number.hpp",
     "dist/numeral.c": "bindings/source/numeral.c",
-    **{f"bindings/{it}/LICENSE": "LICENSE" for it in ("go", "python", "rust", "web")},
+    **{f"bindings/{it}/LICENSE": "LICENSE" for it in ("go", "java", "python", "rust", "web")},
     **{f"bindings/go/{name}": original for name, original in C_SOURCE.items()},
     **{f"bindings/python/source/{name}": original for name, original in C_SOURCE.items()},
     **{f"bindings/rust/source/{name}": original for name, original in C_SOURCE.items()},
@@ -64,13 +69,17 @@ const bytes = Uint8Array.from(atob(base64), (it) => it.charCodeAt(0));
 export const compiled = new WebAssembly.Module(bytes);
 """
 IMPORT = "import { compiled } from './compiled.mjs';\n"
+# The classes of Java that contain the module are made of it by the translator.
+JAVA, MODULE = "bindings/java/src/main/java/chinesenumber", "dist/chinese-number.32.wasm"
+TRANSLATOR = [f"bindings/java/{it}" for it in ("core.py", "wasm.py", "State.java.in")]
 COUNT = "1000"
 WHAT = (
     "The library cn_c as modules for WebAssembly and as C source. `verdict` is the toolchain's own "
     "line over the module with a 64-bit memory, built of proved code: of the sources whose sum "
     "bindings/sources.py prints. The other files are made of that module. `answers` is what "
     f"`same {COUNT}` of bindings/source/same.c shows over the C source, and over an archive of the "
-    "same sources. bindings/dist.py makes and compares all this. This file is not signed."
+    "same sources. `java` is one checksum of the classes of Java with the module, and of what makes "
+    "them. bindings/dist.py makes and compares all this. This file is not signed."
 )
 
 
@@ -123,12 +132,31 @@ def of_javascript(module):
     }
 
 
+def of_java(module):
+    """The classes that contain the module, by path."""
+    return {f"{JAVA}/{name}.java": it.encode() for name, it in core.classes(module).items()}
+
+
 def files_of(made):
-    """All files except PROVENANCE.json, by path, made from the files that are built, by name."""
+    """The files except PROVENANCE.json and those of Java, by path, made from the files that are built,
+    by name."""
     files = {f"dist/{name}": made[name] for name in MADE}
     for path, original in COPIES.items():
         files[path] = files[original] if original in files else read(TOP / original)
     return {**files, **of_javascript(made["chinese-number.32.wasm"])}
+
+
+def all_files_of(made):
+    return {**files_of(made), **of_java(made["chinese-number.32.wasm"])}
+
+
+def sum_of_java(files):
+    """One checksum of the classes among the files, and of what makes them."""
+    made = {path: data for path, data in files.items() if path.startswith(JAVA)}
+    of = {path: read(TOP / path) for path in TRANSLATOR}
+    of[MODULE] = files.get(MODULE) or found(MODULE)
+    lines = [f"{sum_of(data)}  {path}" for path, data in sorted({**of, **made}.items())]
+    return sum_of("\n".join(lines).encode())
 
 
 def sums_of(files):
@@ -144,7 +172,7 @@ def built(archive, by):
         folder = Path(scratch)
         log = said("bash", HERE / "web/build.sh", folder)
         said(sys.executable, HERE / "source/source.py", folder / "chinese-number.32.wasm", folder)
-        files = files_of({name: (folder / name).read_bytes() for name in MADE})
+        files = all_files_of({name: (folder / name).read_bytes() for name in MADE})
         shown, of_archive = answers(folder / "chinese_number.c"), answers(archive)
     if shown != of_archive:
         stop(f"the C source shows {shown}, and the archive {of_archive}")
@@ -156,8 +184,13 @@ def built(archive, by):
         "answers": shown,
         "sha256": sums_of(files),
     }
-    text = json.dumps(told, ensure_ascii=False, indent=2)
-    return {**files, PROVENANCE: f"{text}\n".encode()}
+    return {**files, PROVENANCE: provenance_of(told, files)}
+
+
+def provenance_of(told, files):
+    """The bytes of PROVENANCE.json."""
+    told = {**told, "what": WHAT, "java": sum_of_java(files)}
+    return f"{json.dumps(told, ensure_ascii=False, indent=2)}\n".encode()
 
 
 def make():
@@ -168,6 +201,10 @@ def make():
     with tempfile.TemporaryDirectory() as scratch:
         said("bash", HERE / "archive.sh", scratch)
         files = built(Path(scratch) / ARCHIVE, by)
+    write(files)
+
+
+def write(files):
     for path, data in files.items():
         (TOP / path).parent.mkdir(parents=True, exist_ok=True)
         (TOP / path).write_bytes(data)
@@ -179,10 +216,36 @@ def found(path):
     return (TOP / path).read_bytes() if (TOP / path).is_file() else b""
 
 
+def made_here():
+    """The files of dist/ that are built, by name."""
+    return {name: found(f"dist/{name}") for name in MADE}
+
+
+def classes_here():
+    """The classes of Java that contain the module, by path."""
+    paths = [*sorted((TOP / JAVA).glob("Core*.java")), TOP / JAVA / "State.java"]
+    return {path.relative_to(TOP).as_posix(): found(path) for path in paths}
+
+
+def provenance():
+    """The contents of PROVENANCE.json. Stops if there are none."""
+    try:
+        return json.loads(found(PROVENANCE))
+    except ValueError:
+        return stop(f"{PROVENANCE} is missing, or no JSON: {REMEDY}")
+
+
+def copies():
+    files = all_files_of(made_here())
+    for path in classes_here().keys() - files:
+        (TOP / path).unlink()
+    write({**files, PROVENANCE: provenance_of(provenance(), files)})
+
+
 def faults(told):
     if told.get("sources") != sum_of_sources():
         yield "the sources are not those that dist/ was made of"
-    files = files_of({name: found(f"dist/{name}") for name in MADE})
+    files = files_of(made_here())
     named = told.get("sha256", {})
     for name, it in sums_of({path: found(path) for path in files}).items():
         if it != named.get(name):
@@ -190,14 +253,13 @@ def faults(told):
     for path, data in files.items():
         if found(path) != data:
             yield f"{path} is not as made of {COPIES.get(path, 'its originals')}"
+    if told.get("java") != sum_of_java(classes_here()):
+        yield f"{JAVA} has other classes than dist.py made by core.py: run `dist.py copies`"
 
 
 def check():
     """The contents of PROVENANCE.json. Stops if a check fails."""
-    try:
-        told = json.loads(found(PROVENANCE))
-    except ValueError:
-        stop(f"{PROVENANCE} is missing, or no JSON: {REMEDY}")
+    told = provenance()
     wrong = list(faults(told))
     if wrong:
         stop("\ndist: ".join([*wrong, REMEDY]))
@@ -240,6 +302,8 @@ def main():
     words = sys.argv[1:]
     if words == ["make"]:
         make()
+    elif words == ["copies"]:
+        copies()
     elif words == ["check"]:
         check()
     elif len(words) == 2 and words[0] == "again":

@@ -23,6 +23,7 @@ FILES = {
     "rust": "rust/src/lib.rs",
     "go": "go/example_test.go",
     "python": "python/chinese_number/__init__.py",
+    "java": "java/Example.java",
     "js": "web/README.md",
 }
 # The languages of the examples on each page. Any other page of `bindings/` has none.
@@ -30,6 +31,8 @@ PAGES = {
     "c/README.md": ["c", "cpp"],
     "rust/README.md": ["rust"],
     "go/README.md": ["go"],
+    "java/README.md": ["java"],
+    "java/README.zh.md": ["java"],
     "python/README.md": ["python"],
     "python/README.zh.md": ["python"],
     "web/README.md": ["js"],
@@ -37,6 +40,7 @@ PAGES = {
 }
 # The files whose names a page in Chinese may use.
 IN_CHINESE = {
+    "java/README.zh.md": ["java/README.md"],
     "python/README.zh.md": [FILES["python"], "python/chinese_number/_codes.py"],
     "web/README.zh.md": ["web/chinese-number.d.mts"],
 }

@@ -34,7 +34,7 @@ def user(name):
 
 def listed(path):
     """The files of a package: each name with its bytes."""
-    if path.suffix == ".whl":
+    if path.suffix in (".whl", ".jar"):
         with zipfile.ZipFile(path) as packed:
             return {name: packed.read(name) for name in packed.namelist()}
     with tarfile.open(path) as packed:
@@ -77,7 +77,7 @@ class Readme(Page):
 
 
 def packages_in(folder):
-    kinds = (".whl", ".gz", ".tgz", ".crate")
+    kinds = (".whl", ".gz", ".tgz", ".crate", ".jar")
     return sorted(path for path in folder.iterdir() if path.suffix in kinds)
 
 

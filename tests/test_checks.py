@@ -127,6 +127,7 @@ WRONG_LAWS = [
     (OF_C, "pub fn printed_dates_read_back()", "pub fn dates_read_back()", "filled otherwise"),
 ]
 C_SOURCE, PROVENANCE = "dist/chinese_number.c", "dist/PROVENANCE.json"
+JAVA, OTHER_CLASSES = "bindings/java/src/main/java/chinesenumber", "has other classes than dist.py"
 OTHER_SOURCES = "the sources are not those that dist/ was made of"
 # What is wrong: the file, its change, and what is reported.
 WRONG_DIST = {
@@ -145,6 +146,9 @@ WRONG_DIST = {
     "a proof": ("crates/cn_c/proofs/ReadBack.antt", longer, OTHER_SOURCES),
     "a library": ("crates.txt", replaced("cn_calls: ", "cn_calls: cn_quantity "), OTHER_SOURCES),
     "a script": ("bindings/source/chinese_number.c.in", longer, OTHER_SOURCES),
+    "a class of Java": (f"{JAVA}/Core1.java", longer, OTHER_CLASSES),
+    "no class of Java": (f"{JAVA}/State.java", None, OTHER_CLASSES),
+    "the translator to Java": ("bindings/java/core.py", longer, OTHER_CLASSES),
 }
 # What is right: the check, and a change.
 RIGHT = {
@@ -192,6 +196,14 @@ def test_new_law(copy, plant):
 def test_wrong_dist(copy, plant, file, change, wanted):
     plant(file, change)
     assert wanted in report(copy, DIST)
+
+
+def test_copies(copy, plant):
+    """What is made of dist/ is made again without the toolchain."""
+    plant(f"{JAVA}/Core1.java", longer)
+    plant("bindings/web/compiled.mjs", longer)
+    run(sys.executable, "bindings/dist.py", "copies", cwd=copy)
+    run(sys.executable, *DIST, cwd=copy)
 
 
 @pytest.mark.parametrize("check, file, change", RIGHT.values(), ids=RIGHT)

@@ -14,7 +14,7 @@ from pathlib import Path
 import pytest
 
 from installing import CPYTHONS, OF_GO, Page, of_rust, user, virtual_environment
-from running import ENVIRONMENT, HEADER, TOP, fail, needs, run, write
+from running import ENVIRONMENT, HEADER, TOP, fail, leave_out, needs, run, write
 from test_c import EXAMPLES
 
 sys.path.insert(0, str(TOP / "bindings"))
@@ -81,7 +81,7 @@ def test_there_is_no_network(begin):
 
 def test_attributes(first):
     """git keeps the bytes of each file that dist.py makes, and marks it as generated."""
-    paths = [*dist.files_of(dict.fromkeys(dist.MADE, b"")), dist.PROVENANCE]
+    paths = [*dist.files_of(dist.made_here()), *dist.classes_here(), dist.PROVENANCE]
     said = run("git", "check-attr", "text", "linguist-generated", "--", *paths, cwd=first)
     others = [
         it for it in said.splitlines() if not it.endswith((": text: unset", "-generated: set"))
@@ -166,6 +166,33 @@ def test_go(follow, way):
     needs("cc", "go 1.19")
     write(follow.folder / "main.go", user("main.go"))
     follow(f"go mod init user\n{OF_MODULES[way]}go run .\n", NUMBER, **OF_GO)
+
+
+def test_java(follow):
+    needs("javac 11", "java")
+    page = page_of("java")
+    write(follow.folder / "Example.java", page.example)
+    follow(by_page(page) + by_page(page, 1), page.answer)
+
+
+# Maven with Debian's plugins. The repository is a folder of links, since Maven writes there too.
+PLUGINS = Path("/usr/share/maven-repo")
+BY_MAVEN = """\
+cp -r "$CLONE/bindings/java" own
+cp -rs "$PLUGINS" repository
+mvn -o -q -B -Dmaven.repo.local="$PWD/repository" -f own/pom.xml package > log
+java -Dfile.encoding=UTF-8 -cp own/target/chinese-number-proved-*.jar Example.java
+"""
+
+
+def test_maven(follow):
+    needs("javac 11", "java", "mvn")
+    if not (PLUGINS / "org/apache/maven/plugins/maven-jar-plugin").is_dir():
+        leave_out("there are no plugins of Maven")
+    page = page_of("java")
+    write(follow.folder / "Example.java", page.example)
+    own = {"MAVEN_OPTS": "-XX:TieredStopAtLevel=1", "PLUGINS": str(PLUGINS)}
+    follow(BY_MAVEN, page.answer, **own)
 
 
 # As a subproject it builds as the user's project does, and installs nothing itself.

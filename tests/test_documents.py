@@ -18,7 +18,12 @@ import questions
 from running import TOP, needs_rt
 
 # The pages with a Chinese page, README.zh.md, in the same folder.
-IN_CHINESE_TOO = ("README.md", "bindings/python/README.md", "bindings/web/README.md")
+IN_CHINESE_TOO = (
+    "README.md",
+    "bindings/java/README.md",
+    "bindings/python/README.md",
+    "bindings/web/README.md",
+)
 CODE = re.compile(r"^```\w*\n(.*?)^```$|^((?:    [^\n]*\n)+)", re.MULTILINE | re.DOTALL)
 # The definitions whose lists of characters are in RULES, each as one word.
 LISTED = (

@@ -281,6 +281,43 @@ def test_bundle(readme_of_npm, project, tmp_path, target, form):
     run("node", bundle, cwd=tmp_path, wanted=readme_of_npm.answer)
 
 
+@pytest.fixture
+def jar(packages):
+    needs("javac 11", "java")
+    return package(packages, "*-proved-*[0-9].jar", "Java")
+
+
+def test_jar(packages, jar, tmp_path):
+    """The example of the page, and the answers with the classes for Java from 9 on."""
+    readme = Readme(jar, "META-INF/README.md", "java")
+    write(tmp_path / "user/Example.java", readme.example)
+    readme.follow(packages, tmp_path / "user")
+    own = ("java", "-Dfile.encoding=UTF-8", "-cp", jar, "Example.java")
+    run(*own, cwd=tmp_path / "user", wanted=readme.answer)
+    answers = TOP / "bindings/java/answers/Answers.java"
+    run("javac", "-encoding", "UTF-8", "-cp", jar, "-d", tmp_path, answers, cwd=tmp_path)
+    words = ("java", "-cp", f"{jar}:{tmp_path}", "Answers")
+    assert wrong_answers(lambda asked: run(*words, cwd=tmp_path, stdin=asked)) == []
+
+
+def test_module_of_jar(jar, tmp_path):
+    said = run("java", "-p", jar, "--describe-module", "chinesenumber", cwd=tmp_path)
+    assert "exports chinesenumber" in said and "requires java.base mandated" in said, said
+
+
+def test_other_jars(packages, jar):
+    """The sources are those of the clone; the documentation has no class that is not public."""
+    own = TOP / "bindings/java/src/main/java"
+    sources = listed(packages / f"{jar.stem}-sources.jar")
+    for path in own.rglob("*.java"):
+        assert sources[path.relative_to(own).as_posix()] == path.read_bytes()
+    pages = listed(packages / f"{jar.stem}-javadoc.jar")
+    assert "chinesenumber/ChineseNumbers.html" in pages and "chinesenumber/Core.html" not in pages
+    assert f"<version>{jar.stem.split('-')[-1]}</version>" in (
+        packages / f"{jar.stem}.pom"
+    ).read_text(encoding="utf-8")
+
+
 STRICT = (
     "-Wall -Wextra -Werror -pedantic -Wconversion -Wsign-conversion -Wshadow -Wundef -Wcast-qual"
 )

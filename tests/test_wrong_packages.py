@@ -41,6 +41,7 @@ TYPE = b"export function toNumber(string: string, options?: ReadOptions): %b;"
 OTHER_TYPE = replaced(TYPE % b"number", TYPE % b"bigint")
 NO_MODULE = replaced(b"./chinese-number.node.mjs", b"./chinese.mjs")
 OTHER_PREFIX = replaced(b"${pcfiledir}/../..", b"/usr/local")
+JAR, OTHER_DATE = "*-proved-*[0-9].jar", replaced(b"// 1409.50\n", b"// 1409.05\n")
 OTHER_ANSWER = replaced(b"\n140950\n", b"\n140951\n")
 OTHER_MODULE, OTHER_BYTE = module_inside(lambda _: b"\0asm\1\0\0\0"), module_inside(a_byte)
 
@@ -69,6 +70,10 @@ WRONG = {
     "other C source in the crate": ("*.crate", "/chinese_number.c", a_byte, "sums", NO_FILE),
     "no licence of wabt": (SDIST, "LICENSE-wabt", None, "sums", "has no LICENSE-wabt"),
     "another answer": (SDIST, "PKG-INFO", OTHER_ANSWER, "python_source", "doctest"),
+    "another answer of Java": (JAR, "README.md", OTHER_DATE, "test_jar", "Example.java"),
+    "a jar without its licence": (JAR, "LICENSE", None, "sums", "has no PROVENANCE.json or no L"),
+    "a class less": (JAR, "r/Core3.class", None, "test_jar", "Example.java"),
+    "a class for Java 9 less": (JAR, "module-info.class", None, "module_of_jar", "java"),
 }
 
 
@@ -76,6 +81,8 @@ def unpacked(path):
     """The files of a package in order, without the RECORD of a wheel; a link is a str."""
     if path.suffix == ".whl":
         return {it: data for it, data in listed(path).items() if not it.endswith("RECORD")}
+    if path.suffix == ".jar":
+        return listed(path)
     with tarfile.open(path) as packed:
         return {
             it.name: it.linkname if it.issym() else packed.extractfile(it).read() for it in packed
@@ -86,6 +93,9 @@ def pack(packing, path, files):
     if path.suffix == ".whl":
         info = next(name for name in files if name.endswith("METADATA")).partition("/")[0]
         packing.build_wheel.write_wheel(path, info, files)
+        return
+    if path.suffix == ".jar":
+        packing.build_jar.pack(path, files)
         return
     top = next(iter(files)).partition("/")[0]
     packing.write_tar(path, top, {name[len(top) + 1 :]: data for name, data in files.items()})

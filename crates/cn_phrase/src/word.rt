@@ -70,7 +70,8 @@ fn after_one<'a>(these: &[char], text: &'a str) -> Option<&'a str>
     }
 }
 
-// The text after its first two characters, if they are one of the first and one of the second.
+/// The text after its first two characters, if they are one of the first and one of the second:
+/// after 分, 秒 and 钟 it is the rest of 分钟后. `None` if they are not.
 pub fn after_two<'a>(first: &[char], second: &[char], text: &'a str) -> Option<&'a str>
     ensures { option_map (λ rest. chars rest.now) result
         ≡ after_two first.now second.now (chars text.now) }
@@ -97,7 +98,8 @@ fn after_hour_word(text: &str) -> Option<&str>
     }
 }
 
-// The text after a word that 半 can be before, such as 小时 in 一个半小时.
+/// The text after a word that 半 can be before, such as 小时 in 一个半小时. `None` if the text does not
+/// begin with such a word.
 pub fn after_halved(text: &str) -> Option<&str>
     ensures { option_map (λ rest. chars rest.now) result ≡ after_halved (chars text.now) }
 {

@@ -1,0 +1,55 @@
+package chinesenumber;
+
+import java.util.OptionalInt;
+
+/** A time of day whose half of the day is not known, such as 三点半, or 24:00. */
+public final class ClockTime {
+    private final int hour;
+    private final int minute;
+    private final int second;
+    private final OptionalInt hourOfDay;
+
+    ClockTime(int hour, int minute, int second, OptionalInt hourOfDay) {
+        this.hour = hour;
+        this.minute = minute;
+        this.second = second;
+        this.hourOfDay = hourOfDay;
+    }
+
+    /** The hour as it is written. */
+    public int hour() {
+        return hour;
+    }
+
+    /** The minute. */
+    public int minute() {
+        return minute;
+    }
+
+    /** The second. */
+    public int second() {
+        return second;
+    }
+
+    /** The hour of 24, which is 24 at the end of a day; nothing if it is not known. */
+    public OptionalInt hourOfDay() {
+        return hourOfDay;
+    }
+
+    @Override
+    public boolean equals(Object other) {
+        return other instanceof ClockTime && hourOfDay.equals(((ClockTime) other).hourOfDay)
+            && toString().equals(other.toString());
+    }
+
+    @Override
+    public int hashCode() {
+        return toString().hashCode();
+    }
+
+    /** The time in a form such as 3:30:00. */
+    @Override
+    public String toString() {
+        return String.format("%d:%02d:%02d", hour, minute, second);
+    }
+}

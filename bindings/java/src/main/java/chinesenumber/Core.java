@@ -1,0 +1,387 @@
+// The proved module for WebAssembly as Java; made by bindings/java/core.py.
+package chinesenumber;
+
+final class Core {
+static int chinese_number_version(State m) {
+ L1: {
+  if (Core1.f0(m) == 0) { break L1; }
+  Core1.f2(m);
+  throw State.trap();
+ }
+ Core6.f217(m);
+ Core1.f1(m);
+ return 1000;
+}
+
+static int chinese_input_expected(State m, long l0, long l1, int l2, long l3) {
+ L1: {
+  if (Core1.f0(m) == 0) { break L1; }
+  Core1.f2(m);
+  throw State.trap();
+ }
+ l2 = Core6.f219(m, l0, l1, l2, l3);
+ Core1.f1(m);
+ return l2;
+}
+
+static int chinese_input_repair(State m, long l0, long l1, int l2, long l3) {
+ L1: {
+  if (Core1.f0(m) == 0) { break L1; }
+  Core1.f2(m);
+  throw State.trap();
+ }
+ l2 = Core6.f221(m, l0, l1, l2, l3);
+ Core1.f1(m);
+ return l2;
+}
+
+static int chinese_number_answer_line(State m, long l0, long l1, long l2, long l3, long l4) {
+ int l5 = 0;
+ L1: {
+  if (Core1.f0(m) == 0) { break L1; }
+  Core1.f2(m);
+  throw State.trap();
+ }
+ l5 = Core6.f223(m, l0, l1, l2, l3, l4);
+ Core1.f1(m);
+ return l5;
+}
+
+static int chinese_input_message(State m, long l0, long l1, int l2, int l3, long l4, long l5, long l6) {
+ L1: {
+  if (Core1.f0(m) == 0) { break L1; }
+  Core1.f2(m);
+  throw State.trap();
+ }
+ l3 = Core6.f225(m, l0, l1, l2, l3, l4, l5, l6);
+ Core1.f1(m);
+ return l3;
+}
+
+static int chinese_date_print(State m, int l0, int l1, int l2, int l3, long l4, long l5, long l6) {
+ L1: {
+  if (Core1.f0(m) == 0) { break L1; }
+  Core1.f2(m);
+  throw State.trap();
+ }
+ l3 = Core6.f227(m, l0, l1, l2, l3, l4, l5, l6);
+ Core1.f1(m);
+ return l3;
+}
+
+static int chinese_signed_amount_print(State m, long l0, int l1, int l2, long l3, long l4, long l5) {
+ L1: {
+  if (Core1.f0(m) == 0) { break L1; }
+  Core1.f2(m);
+  throw State.trap();
+ }
+ l2 = Core6.f229(m, l0, l1, l2, l3, l4, l5);
+ Core1.f1(m);
+ return l2;
+}
+
+static int chinese_status_message(State m, int l0, int l1, long l2, long l3, long l4) {
+ L1: {
+  if (Core1.f0(m) == 0) { break L1; }
+  Core1.f2(m);
+  throw State.trap();
+ }
+ l1 = Core6.f231(m, l0, l1, l2, l3, l4);
+ Core1.f1(m);
+ return l1;
+}
+
+static int chinese_quantity_figures(State m, long l0, long l1, long l2, long l3) {
+ int l4 = 0;
+ L1: {
+  if (Core1.f0(m) == 0) { break L1; }
+  Core1.f2(m);
+  throw State.trap();
+ }
+ l4 = Core6.f233(m, l0, l1, l2, l3);
+ Core1.f1(m);
+ return l4;
+}
+
+static int chinese_amount_read(State m, long l0, long l1, long l2) {
+ int l3 = 0;
+ L1: {
+  if (Core1.f0(m) == 0) { break L1; }
+  Core1.f2(m);
+  throw State.trap();
+ }
+ l3 = Core7.f235(m, l0, l1, l2);
+ Core1.f1(m);
+ return l3;
+}
+
+static int chinese_typed_amount_read(State m, long l0, long l1, long l2) {
+ int l3 = 0;
+ L1: {
+  if (Core1.f0(m) == 0) { break L1; }
+  Core1.f2(m);
+  throw State.trap();
+ }
+ l3 = Core7.f237(m, l0, l1, l2);
+ Core1.f1(m);
+ return l3;
+}
+
+static int chinese_date_read(State m, long l0, long l1, long l2) {
+ int l3 = 0;
+ L1: {
+  if (Core1.f0(m) == 0) { break L1; }
+  Core1.f2(m);
+  throw State.trap();
+ }
+ l3 = Core7.f239(m, l0, l1, l2);
+ Core1.f1(m);
+ return l3;
+}
+
+static int chinese_amount_print(State m, long l0, int l1, int l2, long l3, long l4, long l5) {
+ L1: {
+  if (Core1.f0(m) == 0) { break L1; }
+  Core1.f2(m);
+  throw State.trap();
+ }
+ l2 = Core7.f241(m, l0, l1, l2, l3, l4, l5);
+ Core1.f1(m);
+ return l2;
+}
+
+static int chinese_figures_read(State m, long l0, long l1, long l2) {
+ int l3 = 0;
+ L1: {
+  if (Core1.f0(m) == 0) { break L1; }
+  Core1.f2(m);
+  throw State.trap();
+ }
+ l3 = Core7.f243(m, l0, l1, l2);
+ Core1.f1(m);
+ return l3;
+}
+
+static int chinese_signed_amount_read(State m, long l0, long l1, long l2) {
+ int l3 = 0;
+ L1: {
+  if (Core1.f0(m) == 0) { break L1; }
+  Core1.f2(m);
+  throw State.trap();
+ }
+ l3 = Core7.f245(m, l0, l1, l2);
+ Core1.f1(m);
+ return l3;
+}
+
+static int chinese_typed_signed_amount_read(State m, long l0, long l1, long l2) {
+ int l3 = 0;
+ L1: {
+  if (Core1.f0(m) == 0) { break L1; }
+  Core1.f2(m);
+  throw State.trap();
+ }
+ l3 = Core7.f247(m, l0, l1, l2);
+ Core1.f1(m);
+ return l3;
+}
+
+static int chinese_range_read(State m, long l0, long l1, long l2, long l3, long l4, long l5) {
+ int l6 = 0;
+ L1: {
+  if (Core1.f0(m) == 0) { break L1; }
+  Core1.f2(m);
+  throw State.trap();
+ }
+ l6 = Core7.f249(m, l0, l1, l2, l3, l4, l5);
+ Core1.f1(m);
+ return l6;
+}
+
+static int chinese_number_find(State m, long l0, long l1, long l2, int l3, int l4, long l5, long l6, long l7) {
+ L1: {
+  if (Core1.f0(m) == 0) { break L1; }
+  Core1.f2(m);
+  throw State.trap();
+ }
+ l4 = Core7.f251(m, l0, l1, l2, l3, l4, l5, l6, l7);
+ Core1.f1(m);
+ return l4;
+}
+
+static int chinese_number_find_utf8(State m, long l0, long l1, long l2, int l3, int l4, long l5, long l6, long l7) {
+ L1: {
+  if (Core1.f0(m) == 0) { break L1; }
+  Core1.f2(m);
+  throw State.trap();
+ }
+ l4 = Core7.f253(m, l0, l1, l2, l3, l4, l5, l6, l7);
+ Core1.f1(m);
+ return l4;
+}
+
+static int chinese_phrase_find(State m, long l0, long l1, long l2, int l3, int l4, long l5, long l6, long l7) {
+ L1: {
+  if (Core1.f0(m) == 0) { break L1; }
+  Core1.f2(m);
+  throw State.trap();
+ }
+ l4 = Core7.f255(m, l0, l1, l2, l3, l4, l5, l6, l7);
+ Core1.f1(m);
+ return l4;
+}
+
+static int chinese_phrase_find_utf8(State m, long l0, long l1, long l2, int l3, int l4, long l5, long l6, long l7) {
+ L1: {
+  if (Core1.f0(m) == 0) { break L1; }
+  Core1.f2(m);
+  throw State.trap();
+ }
+ l4 = Core7.f257(m, l0, l1, l2, l3, l4, l5, l6, l7);
+ Core1.f1(m);
+ return l4;
+}
+
+static int chinese_quantity_find_utf8(State m, long l0, long l1, long l2, int l3, int l4, long l5, long l6, long l7) {
+ L1: {
+  if (Core1.f0(m) == 0) { break L1; }
+  Core1.f2(m);
+  throw State.trap();
+ }
+ l4 = Core7.f259(m, l0, l1, l2, l3, l4, l5, l6, l7);
+ Core1.f1(m);
+ return l4;
+}
+
+static int chinese_quantity_find(State m, long l0, long l1, long l2, int l3, int l4, long l5, long l6, long l7) {
+ L1: {
+  if (Core1.f0(m) == 0) { break L1; }
+  Core1.f2(m);
+  throw State.trap();
+ }
+ l4 = Core7.f261(m, l0, l1, l2, l3, l4, l5, l6, l7);
+ Core1.f1(m);
+ return l4;
+}
+
+static int chinese_number_explain(State m, long l0, long l1, int l2, int l3, long l4) {
+ L1: {
+  if (Core1.f0(m) == 0) { break L1; }
+  Core1.f2(m);
+  throw State.trap();
+ }
+ l3 = Core7.f263(m, l0, l1, l2, l3, l4);
+ Core1.f1(m);
+ return l3;
+}
+
+static int chinese_number_message(State m, long l0, long l1, int l2, int l3, int l4, long l5, long l6, long l7) {
+ L1: {
+  if (Core1.f0(m) == 0) { break L1; }
+  Core1.f2(m);
+  throw State.trap();
+ }
+ l4 = Core7.f265(m, l0, l1, l2, l3, l4, l5, l6, l7);
+ Core1.f1(m);
+ return l4;
+}
+
+static int chinese_number_read_utf8(State m, long l0, long l1, int l2, int l3, long l4) {
+ L1: {
+  if (Core1.f0(m) == 0) { break L1; }
+  Core1.f2(m);
+  throw State.trap();
+ }
+ l3 = Core7.f267(m, l0, l1, l2, l3, l4);
+ Core1.f1(m);
+ return l3;
+}
+
+static int chinese_quantities_to_figures(State m, long l0, long l1, int l2, int l3, int l4, int l5, long l6, long l7, long l8) {
+ L1: {
+  if (Core1.f0(m) == 0) { break L1; }
+  Core1.f2(m);
+  throw State.trap();
+ }
+ l5 = Core7.f269(m, l0, l1, l2, l3, l4, l5, l6, l7, l8);
+ Core1.f1(m);
+ return l5;
+}
+
+static int chinese_quantity_explain(State m, long l0, long l1, int l2, long l3) {
+ L1: {
+  if (Core1.f0(m) == 0) { break L1; }
+  Core1.f2(m);
+  throw State.trap();
+ }
+ l2 = Core7.f271(m, l0, l1, l2, l3);
+ Core1.f1(m);
+ return l2;
+}
+
+static int chinese_quantity_message(State m, long l0, long l1, int l2, int l3, long l4, long l5, long l6) {
+ L1: {
+  if (Core1.f0(m) == 0) { break L1; }
+  Core1.f2(m);
+  throw State.trap();
+ }
+ l3 = Core7.f273(m, l0, l1, l2, l3, l4, l5, l6);
+ Core1.f1(m);
+ return l3;
+}
+
+static int chinese_quantity_read(State m, long l0, long l1, int l2, long l3) {
+ L1: {
+  if (Core1.f0(m) == 0) { break L1; }
+  Core1.f2(m);
+  throw State.trap();
+ }
+ l2 = Core7.f275(m, l0, l1, l2, l3);
+ Core1.f1(m);
+ return l2;
+}
+
+static int chinese_text_to_figures(State m, long l0, long l1, int l2, int l3, int l4, int l5, long l6, long l7, long l8) {
+ L1: {
+  if (Core1.f0(m) == 0) { break L1; }
+  Core1.f2(m);
+  throw State.trap();
+ }
+ l5 = Core7.f277(m, l0, l1, l2, l3, l4, l5, l6, l7, l8);
+ Core1.f1(m);
+ return l5;
+}
+
+static int chinese_quantity_print(State m, long l0, int l1, int l2, int l3, long l4, long l5, long l6) {
+ L1: {
+  if (Core1.f0(m) == 0) { break L1; }
+  Core1.f2(m);
+  throw State.trap();
+ }
+ l3 = Core7.f279(m, l0, l1, l2, l3, l4, l5, l6);
+ Core1.f1(m);
+ return l3;
+}
+
+static int chinese_number_read(State m, long l0, long l1, int l2, int l3, long l4) {
+ L1: {
+  if (Core1.f0(m) == 0) { break L1; }
+  Core1.f2(m);
+  throw State.trap();
+ }
+ l3 = Core7.f281(m, l0, l1, l2, l3, l4);
+ Core1.f1(m);
+ return l3;
+}
+
+static int chinese_number_print(State m, long l0, long l1, int l2, int l3, int l4, int l5, long l6, long l7, long l8) {
+ L1: {
+  if (Core1.f0(m) == 0) { break L1; }
+  Core1.f2(m);
+  throw State.trap();
+ }
+ l5 = Core7.f283(m, l0, l1, l2, l3, l4, l5, l6, l7, l8);
+ Core1.f1(m);
+ return l5;
+}
+}

@@ -1,0 +1,30 @@
+// Made by bindings/codes.py.
+package chinesenumber;
+
+/** What an item of a text is: an expression that is in no phrase, or a phrase of a kind. The
+ * numbers of a phrase that follow here are called first, second, third and fourth where a
+ * language has no type of its own for them. */
+public enum PhraseKind {
+    /** An expression in no phrase. */
+    EXPRESSION,
+    /** A date or a part of one: the year, the month, the day. */
+    DATE,
+    /** From a year to another one. */
+    YEARS,
+    /** From a month to another one of the same year. */
+    MONTHS,
+    /** From a day to another one of the same month. */
+    DAYS,
+    /** A time of day: the hour as it is written, the minute, the second, the hour of 24. */
+    TIME,
+    /** Hours, minutes and seconds. */
+    DURATION,
+    /** A number and a half: the number without the half. */
+    HALF,
+    /** A number with decimals, as 一米七五: the number, the decimals, how many decimals there are. */
+    LENGTH,
+    /** Two numbers that are compared. */
+    SCORE,
+    /** From a quantity to another one. */
+    RANGE,
+}

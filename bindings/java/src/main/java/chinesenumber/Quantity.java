@@ -1,0 +1,177 @@
+package chinesenumber;
+
+import static java.util.Objects.requireNonNull;
+
+import java.math.BigDecimal;
+import java.math.BigInteger;
+import java.util.Optional;
+
+/**
+ * An exact quantity, as it is written and not reduced: 12.5% is 125/1000 of {@link
+ * QuantityForm#PERCENT}. It is immutable.
+ */
+public final class Quantity {
+    static final QuantityForm[] FORMS = QuantityForm.values();
+    private static final int MOST_DIGITS = 39;
+    private static final BigInteger HUNDRED = BigInteger.valueOf(100);
+
+    private final BigInteger numerator;
+    private final BigInteger denominator;
+    private final QuantityForm form;
+
+    /**
+     * A quantity of its numbers: {@code new Quantity(BigInteger.ONE, BigInteger.valueOf(3),
+     * QuantityForm.FRACTION)} is 三分之一.
+     *
+     * @throws ChineseNumberException if the denominator is 0, or a number has more than 128 bits
+     */
+    public Quantity(BigInteger numerator, BigInteger denominator, QuantityForm form) {
+        this.numerator = ChineseNumbers.held(requireNonNull(numerator, "numerator"), Kind.I128);
+        this.denominator = ChineseNumbers.held(requireNonNull(denominator, "denominator"), Kind.U128);
+        this.form = requireNonNull(form, "form");
+        if (denominator.signum() == 0) {
+            throw new ChineseNumberException(Status.NOT_A_QUANTITY, Codes.NOT_A_QUANTITY_TEXT);
+        }
+    }
+
+    /**
+     * A whole number or a decimal, with the decimals that it has: {@code Quantity.of(new
+     * BigDecimal("3.10"))} is 三点一零.
+     */
+    public static Quantity of(BigDecimal number) {
+        return of(requireNonNull(number, "number"), 0, QuantityForm.DECIMAL);
+    }
+
+    /** A whole number: {@code Quantity.of(35)} is 三十五. */
+    public static Quantity of(long number) {
+        return of(BigDecimal.valueOf(number));
+    }
+
+    /** A percentage: {@code Quantity.ofPercent(new BigDecimal("12.5"))} is 百分之十二点五. */
+    public static Quantity ofPercent(BigDecimal number) {
+        return of(requireNonNull(number, "number"), 2, QuantityForm.PERCENT);
+    }
+
+    /** A fraction: {@code Quantity.ofFraction(1, 3)} is 三分之一. */
+    public static Quantity ofFraction(long numerator, long denominator) {
+        BigInteger below = BigInteger.valueOf(denominator);
+        return new Quantity(BigInteger.valueOf(numerator), below, QuantityForm.FRACTION);
+    }
+
+    private static Quantity of(BigDecimal number, int places, QuantityForm form) {
+        long digits = Math.max((long) number.precision() - Math.min(number.scale(), 0), number.scale());
+        if (digits > MOST_DIGITS) {
+            throw ChineseNumbers.notHeld(Kind.I128);
+        }
+        BigDecimal exact = number.scale() < 0 ? number.setScale(0) : number;
+        boolean isWhole = form == QuantityForm.DECIMAL && exact.scale() == 0;
+        BigInteger denominator = BigInteger.TEN.pow(exact.scale() + places);
+        return new Quantity(exact.unscaledValue(), denominator, isWhole ? QuantityForm.WHOLE : form);
+    }
+
+    /** The number above the line. */
+    public BigInteger numerator() {
+        return numerator;
+    }
+
+    /** The number below the line, above 0. */
+    public BigInteger denominator() {
+        return denominator;
+    }
+
+    /** How it is written. */
+    public QuantityForm form() {
+        return form;
+    }
+
+    /**
+     * The value: 35000 for 3.5万, 0.125 for 12.5%.
+     *
+     * @throws ArithmeticException if it has no end, as 1/3
+     */
+    public BigDecimal toBigDecimal() {
+        return new BigDecimal(numerator).divide(new BigDecimal(denominator));
+    }
+
+    /** The value if it is a whole number: 35000 for 3.5万, nothing for 3.5. */
+    public Optional<BigInteger> toWhole() {
+        BigInteger[] both = numerator.divideAndRemainder(denominator);
+        return both[1].signum() == 0 ? Optional.of(both[0]) : Optional.empty();
+    }
+
+    /**
+     * The same without the zeros at the end of its decimals: 3.10 becomes 3.1, and 3.5万 becomes
+     * 35000 of {@link QuantityForm#WHOLE}. A fraction stays, and so does a quantity whose
+     * denominator does not match its form.
+     */
+    public Quantity trimmed() {
+        BigInteger least = form == QuantityForm.PERCENT ? HUNDRED : BigInteger.ONE;
+        BigInteger first = form == QuantityForm.PERCENT ? HUNDRED : BigInteger.TEN;
+        boolean hasDecimals = form == QuantityForm.DECIMAL || form == QuantityForm.PERCENT;
+        if (!hasDecimals || !isPowerOfTen(denominator) || denominator.compareTo(first) < 0) {
+            return this;
+        }
+        BigInteger above = numerator;
+        BigInteger below = denominator;
+        while (below.compareTo(least) > 0 && above.mod(BigInteger.TEN).signum() == 0) {
+            above = above.divide(BigInteger.TEN);
+            below = below.divide(BigInteger.TEN);
+        }
+        return new Quantity(above, below, below.equals(BigInteger.ONE) ? QuantityForm.WHOLE : form);
+    }
+
+    private static boolean isPowerOfTen(BigInteger number) {
+        return BigInteger.TEN.pow(number.toString().length() - 1).equals(number);
+    }
+
+    /** Writes the quantity by {@link Style#DEFAULT}: 3.14 as 三点一四, 12.5% as 百分之十二点五. */
+    public String toChinese() {
+        return toChinese(Style.DEFAULT);
+    }
+
+    /**
+     * Writes the quantity; {@link ChineseNumbers#toQuantity} reads the text by the same method as
+     * the same numbers. What has a denominator that does not match its form is written as a
+     * fraction.
+     *
+     * @throws ChineseNumberException if {@link Way#LOW} cannot write one of its numbers
+     */
+    public String toChinese(Style style) {
+        int method = ChineseNumbers.method(requireNonNull(style, "style").way).ordinal();
+        Machine it = Machine.take();
+        it.put(Machine.TOLD, this);
+        int status = Core.chinese_quantity_print(it, Machine.TOLD, method, style.script.ordinal(),
+            style.letterCase.ordinal(), Machine.TEXT, Codes.MOST_QUANTITY_BYTES, Machine.LENGTH);
+        return ChineseNumbers.printed(it, status);
+    }
+
+    /**
+     * Writes the quantity in figures, without zeros at the end of its decimals: 35000 for 3.5万,
+     * 12.5%, 1/3.
+     */
+    public String toFigures() {
+        Machine it = Machine.take();
+        it.put(Machine.TOLD, this);
+        int status = Core.chinese_quantity_figures(it, Machine.TOLD, Machine.TEXT,
+            Codes.MOST_FIGURES_BYTES, Machine.LENGTH);
+        return ChineseNumbers.printed(it, status);
+    }
+
+    /** Whether another one has the same numerator, denominator and form. */
+    @Override
+    public boolean equals(Object other) {
+        return other instanceof Quantity && numerator.equals(((Quantity) other).numerator)
+            && denominator.equals(((Quantity) other).denominator) && form == ((Quantity) other).form;
+    }
+
+    @Override
+    public int hashCode() {
+        return 31 * (31 * numerator.hashCode() + denominator.hashCode()) + form.hashCode();
+    }
+
+    /** The quantity in figures. */
+    @Override
+    public String toString() {
+        return toFigures();
+    }
+}

@@ -1,0 +1,313 @@
+import static chinesenumber.ChineseNumbers.*;
+
+import chinesenumber.*;
+import java.io.ByteArrayInputStream;
+import java.io.ByteArrayOutputStream;
+import java.io.File;
+import java.io.ObjectInputStream;
+import java.io.ObjectOutputStream;
+import java.lang.ref.WeakReference;
+import java.lang.reflect.InvocationTargetException;
+import java.lang.reflect.Method;
+import java.lang.reflect.Modifier;
+import java.math.BigDecimal;
+import java.math.BigInteger;
+import java.net.URL;
+import java.net.URLClassLoader;
+import java.time.LocalDate;
+import java.time.LocalTime;
+import java.util.Arrays;
+import java.util.List;
+import java.util.Locale;
+import java.util.Random;
+import java.util.concurrent.ExecutorService;
+import java.util.concurrent.Executors;
+import java.util.concurrent.atomic.AtomicReference;
+import java.util.function.Function;
+import java.util.stream.Collectors;
+
+/**
+ * Tests of the Java binding beside its answers. The argument is how many rounds of threads there
+ * are.
+ */
+public final class Limits {
+    private static final List<String> PARAMETERS = Arrays.asList("text", "way", "kind", "number",
+        "style", "yuan", "form", "date", "script", "method", "wanted", "options", "replacement",
+        "input", "locale", "status");
+
+    private static void same(Object found, Object wanted) {
+        if (!found.equals(wanted)) {
+            throw new AssertionError("found " + found + ", wanted " + wanted);
+        }
+    }
+
+    private static ChineseNumberException refusal(Runnable call) {
+        try {
+            call.run();
+        } catch (ChineseNumberException refusal) {
+            return refusal;
+        }
+        throw new AssertionError("a call has not been refused");
+    }
+
+    private static void refused(Runnable call, Status status) {
+        same(refusal(call).status(), status);
+    }
+
+    private static void yuan() {
+        same(yuanToChinese(new BigDecimal("1409.50")), "壹仟肆佰零玖元伍角整");
+        same(yuanToChinese(new BigDecimal("1.5E+3"), AmountForm.DEFAULT.withCurrency()), "人民币壹仟伍佰元整");
+        same(signedYuanToChinese(new BigDecimal("-15.000")), "负壹拾伍元整");
+        AmountForm bracketed = AmountForm.DEFAULT.withBracketedSign();
+        same(signedYuanToChinese(new BigDecimal("-15"), bracketed), "（负数）壹拾伍元整");
+        same(yuanToFen(new BigDecimal("9999999999999999.99")), 999_999_999_999_999_999L);
+        same(yuanToFen(BigDecimal.ZERO.setScale(1000)), 0L);
+        same(fenToYuan(140950), new BigDecimal("1409.50"));
+        same(fenToYuan(chineseToAmount("壹拾伍元整")), new BigDecimal("15.00"));
+        refused(() -> yuanToChinese(new BigDecimal("-15")), Status.TOO_SMALL);
+        refused(() -> yuanToFen(new BigDecimal("1E+16")), Status.TOO_LARGE);
+        refused(() -> yuanToFen(new BigDecimal("1E+1000000000")), Status.TOO_LARGE);
+        refused(() -> yuanToFen(new BigDecimal("1E-1000000000")), Status.INCORRECT);
+        refused(() -> yuanToFen(new BigDecimal(0.1)), Status.INCORRECT);
+        same(refusal(() -> yuanToFen(new BigDecimal("15.005"))).charIndex(), 5);
+    }
+
+    private static void numbers() {
+        same(toNumber(toChinese(Long.MIN_VALUE)), Long.MIN_VALUE);
+        BigInteger below = BigInteger.valueOf(Long.MIN_VALUE).subtract(BigInteger.ONE);
+        refused(() -> toNumber(toChinese(below)), Status.TOO_SMALL);
+        BigInteger most = BigInteger.ONE.shiftLeft(127);
+        same(toBigInteger(toChinese(most.negate())), most.negate());
+        same(toBigInteger(toChinese(most.subtract(BigInteger.ONE))), most.subtract(BigInteger.ONE));
+        BigInteger unsigned = most.shiftLeft(1).subtract(BigInteger.ONE);
+        same(toBigInteger(toChinese(unsigned, Style.DEFAULT, Kind.U128), Way.ANY, Kind.U128), unsigned);
+        refused(() -> toChinese(unsigned), Status.NOT_HELD);
+        refused(() -> toChinese(BigInteger.valueOf(256), Style.DEFAULT, Kind.U8), Status.NOT_HELD);
+        same(refusal(() -> toChinese(BigInteger.valueOf(256), Style.DEFAULT, Kind.U8)).getMessage(),
+            "u8 does not hold the number");
+        same(toChinese(1_000_000_000_000L), "一万亿");
+        same(toNumber(new StringBuilder("一百二")), 120L);
+    }
+
+    private static void dates() {
+        same(chineseToDate(dateToChinese(LocalDate.of(9999, 12, 31))), LocalDate.of(9999, 12, 31));
+        for (int year : new int[] {10000, 0, -1, 999_999_999, -999_999_999}) {
+            refused(() -> dateToChinese(LocalDate.of(year, 1, 1)), Status.NOT_A_DATE);
+        }
+        same(refusal(() -> chineseToDate("贰零贰伍年零贰月贰拾玖日")).charIndex(), 10);
+    }
+
+    private static void quantities() {
+        same(Quantity.of(new BigDecimal("3.10")).toChinese(), "三点一零");
+        same(Quantity.of(new BigDecimal("3.10")).trimmed(), Quantity.of(new BigDecimal("3.1")));
+        same(Quantity.of(35).form(), QuantityForm.WHOLE);
+        same(Quantity.of(new BigDecimal("35E+2")).toFigures(), "3500");
+        same(Quantity.ofPercent(new BigDecimal("12.5")).toChinese(), "百分之十二点五");
+        same(Quantity.ofFraction(1, 3).toChinese(Style.DEFAULT.withCase(Case.UPPER)), "叁分之壹");
+        same(toQuantity("3.5万").toWhole().get(), BigInteger.valueOf(35000));
+        same(toQuantity("3.5").toWhole().isPresent(), false);
+        same(toQuantity("12.5%").toBigDecimal(), new BigDecimal("0.125"));
+        refused(() -> Quantity.ofFraction(1, 0), Status.NOT_A_QUANTITY);
+        refused(() -> Quantity.of(new BigDecimal("1E-1000000000")), Status.NOT_HELD);
+        refused(() -> Quantity.of(new BigDecimal("1E+1000000000")), Status.NOT_HELD);
+    }
+
+    private static void places() {
+        String text = "😀第二十三回，😀占12.5%";
+        List<FoundQuantity> all = findQuantities(text).collect(Collectors.toList());
+        FoundQuantity last = all.get(1);
+        FoundQuantity first = all.get(0);
+        same(first + " " + first.start() + " " + first.end() + " " + first.charStart(), "二十三 3 6 2");
+        same(text.substring(last.start(), last.end()), "12.5%");
+        same(last.charStart() + " " + last.charEnd(), "9 14");
+        ChineseNumberException refusal = refusal(() -> toNumber("一𠀀百x"));
+        same(refusal.charIndex() + " " + refusal.index(), "1 1");
+        same(refusal(() -> toNumber("𠀀")).index(), 0);
+        same(refusal(() -> chineseToAmount("壹佰元")).index(), -1);
+        List<Found> phrases = findPhrases("二零二六年一月五日下午三点半，二十人").collect(Collectors.toList());
+        same(phrases.get(0).value(LocalDate.class).get(), LocalDate.of(2026, 1, 5));
+        same(phrases.get(1).value(LocalTime.class).get(), LocalTime.of(15, 30));
+        same(phrases.get(2).value().get(), toQuantity("20"));
+        same(((FoundQuantity) findPhrases("五一假期").findFirst().get()).doubt().get(), Doubt.DIGITS);
+        same(findNumbers("百分之五十的人").filter(it -> it.value().isPresent()).count(), 1L);
+    }
+
+    private static void texts() {
+        same(textToFigures("\ud800三点五万\udc00，\ufffd三成\ud800"), "\ud8003.5万\udc00，\ufffd三成\ud800");
+        same(replaceQuantities("占12.5%\ud800", found -> found.quantity().toChinese()), "占百分之十二点五\ud800");
+        StringBuilder many = new StringBuilder();
+        for (int at = 0; at < 70; at++) {
+            many.append("二十三，");
+        }
+        same(findNumbers(many).count(), 70L);
+        TextOptions compact = TextOptions.DEFAULT.withCompact();
+        same(textToFigures("二零二六年一月五日下午三点半", compact), "2026-01-05 15:30");
+        illegal(() -> quantitiesToFigures("一", compact), "quantitiesToFigures has no option compact");
+        illegal(() -> replaceQuantities("一", it -> "", compact), "replaceQuantities has no option compact");
+        illegal(() -> TextOptions.DEFAULT.withMethod(Way.DIGITS), "DIGITS is no method of quantities");
+    }
+
+    private static void illegal(Runnable call, String wanted) {
+        try {
+            call.run();
+        } catch (IllegalArgumentException error) {
+            same(error.getMessage(), wanted);
+            return;
+        }
+        throw new AssertionError("not refused: " + wanted);
+    }
+
+    private static void messages() throws Exception {
+        ChineseNumberException refusal = refusal(() -> chineseToAmount("壹佰贰元整"));
+        ByteArrayOutputStream bytes = new ByteArrayOutputStream();
+        new ObjectOutputStream(bytes).writeObject(refusal);
+        Object read = new ObjectInputStream(new ByteArrayInputStream(bytes.toByteArray())).readObject();
+        ChineseNumberException again = (ChineseNumberException) read;
+        same(again.messageIn(Locale.CHINA), "第3个字“贰”前缺“零”。");
+        same(again.messageIn(Locale.TAIWAN), again.messageIn(Locale.forLanguageTag("zh-Hant-CN")));
+        same(again.messageIn(Locale.CHINESE), again.messageIn(Locale.forLanguageTag("zh-Hans-HK")));
+        same(again.messageIn(Locale.FRENCH), again.messageIn(Locale.ENGLISH));
+        same(again.repair().get().toString(), "INSERT 2 零");
+        same(again.expected().get().charIndex(), 3);
+        same(again.fault().isPresent(), false);
+        same(refusal(() -> toNumber("一百十")).fault().get(), Fault.UNITS);
+        same(refusal(() -> toQuantity("零分之一")).fault().get(), Fault.DENOMINATOR);
+        same(refusal(() -> toChinese(BigInteger.ONE.shiftLeft(200))).messageIn(Locale.ENGLISH),
+            statusMessage(Status.NOT_HELD, Locale.US));
+    }
+
+    /** Each argument of each call is refused by its name if it is null. */
+    private static void nulls() throws ReflectiveOperationException {
+        for (Method call : ChineseNumbers.class.getMethods()) {
+            Class<?>[] types = call.getParameterTypes();
+            for (int at = 0; Modifier.isStatic(call.getModifiers()) && at < types.length; at++) {
+                Object[] given = new Object[types.length];
+                for (int other = 0; other < types.length; other++) {
+                    given[other] = other == at ? null : some(types[other]);
+                }
+                if (types[at].isPrimitive()) {
+                    continue;
+                }
+                try {
+                    call.invoke(null, given);
+                    throw new AssertionError(call + " accepts null");
+                } catch (InvocationTargetException error) {
+                    same(error.getCause().getClass(), NullPointerException.class);
+                    same(PARAMETERS.contains(error.getCause().getMessage()), true);
+                }
+            }
+        }
+    }
+
+    private static Object some(Class<?> type) {
+        Function<FoundQuantity, String> function = Found::text;
+        Object[] all = {"", 1L, BigInteger.ONE, BigDecimal.ONE, Style.DEFAULT, AmountForm.DEFAULT,
+            Wanted.DEFAULT, TextOptions.DEFAULT, LocalDate.of(2026, 1, 5), Way.ANY, Kind.I128,
+            Script.SIMPLIFIED, Input.AMOUNT, Locale.ENGLISH, Status.EMPTY, function};
+        for (Object it : all) {
+            if (type.isInstance(it) || type == long.class && it instanceof Long) {
+                return it;
+            }
+        }
+        throw new AssertionError("no argument of " + type);
+    }
+
+    private static void random(long seed, int count) {
+        Random random = new Random(seed);
+        for (int at = 0; at < count; at++) {
+            long number = random.nextLong() >> random.nextInt(64);
+            same(toNumber(toChinese(number)), number);
+            long fen = (number >>> 1) % 1_000_000_000_000_000_000L;
+            same(chineseToAmount(amountToChinese(fen)), fen);
+            same(yuanToFen(fenToYuan(fen)), fen);
+            LocalDate date = LocalDate.of(1 + random.nextInt(9998), 1, 1).plusDays(random.nextInt(365));
+            same(chineseToDate(dateToChinese(date)), date);
+            same(refusal(() -> toNumber("一𠀀百x")).index(), 1);
+            same(textToFigures("共三点五亿元\ud800，三到五万元"), "共3.5亿元\ud800，3万到5万元");
+        }
+    }
+
+    private static void threads(int rounds) throws InterruptedException {
+        AtomicReference<Throwable> failed = new AtomicReference<>();
+        for (int round = 0; round < rounds; round++) {
+            Thread[] threads = new Thread[20];
+            for (int at = 0; at < threads.length; at++) {
+                long seed = 100 * round + at;
+                threads[at] = new Thread(() -> {
+                    try {
+                        random(seed, 20);
+                    } catch (Throwable error) {
+                        failed.set(error);
+                    }
+                });
+                threads[at].start();
+            }
+            for (Thread it : threads) {
+                it.join();
+            }
+        }
+        if (failed.get() != null) {
+            throw new AssertionError(failed.get());
+        }
+    }
+
+    /** Threads that go on keep no class of the library, so its class loader can be collected. */
+    private static void unloaded() throws Exception {
+        ExecutorService pool = Executors.newFixedThreadPool(4);
+        WeakReference<ClassLoader> loader = new WeakReference<>(loaderOfCalls(pool));
+        for (int at = 0; loader.get() != null && at < 100; at++) {
+            System.gc();
+            Thread.sleep(20);
+        }
+        same(loader.get() == null, true);
+        pool.shutdown();
+    }
+
+    private static ClassLoader loaderOfCalls(ExecutorService pool) throws Exception {
+        String path = System.getProperty("java.class.path").split(File.pathSeparator)[0];
+        URL[] places = {new File(path).toURI().toURL()};
+        ClassLoader loader = new URLClassLoader(places, null);
+        Class<?> library = loader.loadClass("chinesenumber.ChineseNumbers");
+        Method call = library.getMethod("toChinese", long.class);
+        for (int at = 0; at < 20; at++) {
+            same(pool.submit(() -> call.invoke(null, 120L)).get(), "一百二十");
+        }
+        return loader;
+    }
+
+    /**
+     * Four million characters are searched, some of them rewritten; then no room for them is kept.
+     */
+    private static void longText() {
+        String part = "市值三点五亿元，占12.5%。";
+        StringBuilder text = new StringBuilder();
+        while (text.length() < 4_000_000) {
+            text.append(part);
+        }
+        long count = text.length() / part.length();
+        same(findQuantities(text).count(), 2 * count);
+        int some = 5000 * part.length();
+        same(textToFigures(text.substring(0, some)).length(), 5000 * "市值3.5亿元，占12.5%。".length());
+        text = null;
+        System.gc();
+        Runtime runtime = Runtime.getRuntime();
+        same(runtime.totalMemory() - runtime.freeMemory() < 8 << 20, true);
+    }
+
+    public static void main(String[] words) throws Exception {
+        int rounds = Integer.parseInt(words[0]);
+        yuan();
+        numbers();
+        dates();
+        quantities();
+        places();
+        texts();
+        messages();
+        nulls();
+        threads(rounds);
+        unloaded();
+        if (rounds > 1) {
+            longText();
+        }
+    }
+}
