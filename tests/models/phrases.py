@@ -839,16 +839,16 @@ def after_yuan(text: Text, e: Found, start: int) -> Optional[Sum]:
     return found and (found.end(), "qian", 0, 0)
 
 
-def after_jiao(text: Text, e: Found) -> Optional[Sum]:
+def after_jiao(text: Text, e: Found, start: int) -> Optional[Sum]:
     """What is after a digit of jiao or fen."""
     if len(e.text) != 1 or not (is_figure(e.text) or e.text in DIGITS_OF_MONEY):
         return None
     value = digit_value(e.text)
     for pattern, fen, unit in AFTER_JIAO:
-        found = pattern.match(text.line.text, e.end)
+        found = pattern.match(text.line.text, start)
         if found and ends_sum(text, found.end(), "分" if unit else ""):
             return found.end(), "small", value, digit_value(found[fen])
-    found = SMALL.match(text.line.text, e.end)
+    found = SMALL.match(text.line.text, start)
     if found is None:
         return None
     is_fen = found[0][0] == "分"
@@ -877,7 +877,7 @@ def alone(text: Text, e: Found, start: int) -> Optional[Sum]:
 def money_after(text: Text, e: Found) -> Optional[Sum]:
     has_blank = has_figure(e.text) and text.at(e.end) == " "
     start = e.end + (1 if has_blank else 0)
-    return after_yuan(text, e, start) or after_jiao(text, e) or alone(text, e, start)
+    return after_yuan(text, e, start) or after_jiao(text, e, start) or alone(text, e, start)
 
 
 def is_money_doubtful(text: Text, phrase: Phrase, e: Found) -> bool:
@@ -886,7 +886,7 @@ def is_money_doubtful(text: Text, phrase: Phrase, e: Found) -> bool:
         return True
     if phrase.words == "kuai" or text.at(phrase.start - 1) in "$＄€£":
         return True
-    if phrase.words == "yuan" and len(e.text) == 1 and is_chinese_digit(e.text):
+    if phrase.words == "yuan" and e.text in DIGITS_OF_MONEY:
         return True
     if text.at(phrase.start - 1) in "币幣" and head[-3:-1] != "人民":
         return True
@@ -904,7 +904,7 @@ def money_at(text: Text, start: int) -> Optional[Phrase]:
     e = text.by_start.get(place)
     if e is None or (form == "sign" and not is_figure(e.text[0])) or not is_amount(text, e):
         return None
-    found = (e.end, "sign", 0, 0) if form == "sign" else money_after(text, e)
+    found: Optional[Sum] = (e.end, "sign", 0, 0) if form == "sign" else money_after(text, e)
     if found is None:
         return None
     end, form, jiao, fen = found
@@ -926,9 +926,9 @@ def new_money(text: Text, phrase: Phrase, options: Options) -> Optional[str]:
         return None if new is None else head + new + tail
     if phrase.is_doubtful and not options.doubtful:
         return None
-    has_parts = phrase.words == "small" or re.search("[角毛分]|[块塊]" + DIGIT, tail) is not None
-    if options.compact and has_parts:
-        assert isinstance(phrase.value, Fraction)
+    assert isinstance(phrase.value, Fraction)
+    yuan = 0 if phrase.words == "small" else ratio_of(quantity_of(e))
+    if options.compact and phrase.value > yuan:
         fen = phrase.value * 100
         decimals = f"{fen.numerator // 100}.{fen.numerator % 100:02}".rstrip("0").rstrip(".")
         return decimals + "元"
