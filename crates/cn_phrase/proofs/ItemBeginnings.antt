@@ -10,6 +10,7 @@ use Rattle.cn_find.proofs.Extra.{neither, unmarked-belongs, usual_belongs}
 use Rattle.cn_find.proofs.Unwanted.{outside}
 use Rattle.cn_replace.specs.Pieces.{begins}
 use Rattle.cn_phrase.specs.Items.{item_rest}
+use Rattle.cn_phrase.specs.Money.{is_sign, money_at}
 use Rattle.cn_phrase.specs.Phrases.{phrase_at}
 use Rattle.cn_phrase.specs.Pieces.{is_numeral}
 use Rattle.cn_phrase.specs.Private.{is_marked, may_be_first, may_lead}
@@ -53,6 +54,14 @@ no-phrase front c ahead passed = rw (
   nothing_by_word front (c ∷ ahead) passed.no_lead,
 ) refl
 
+no-sum : (wanted : Wanted) (front : List ℕ) (c : ℕ) (ahead : List ℕ) → IsPassed c
+    → money_at wanted front (c ∷ ahead) ≡ None
+unfolding is_sign
+no-sum wanted front c ahead passed = rw (
+  outside is_extra (codes "￥¥") c refl passed.no_extra,
+  no-expression wanted front c ahead passed,
+) refl
+
 pub no_item_begins : (wanted : Wanted) (front text : List ℕ) → begins may_be_first text ≡ false
     → item_rest wanted front text ≡ None
 no_item_begins wanted front [] e = rw (
@@ -61,4 +70,8 @@ no_item_begins wanted front [] e = rw (
 ) refl
 no_item_begins wanted front (c ∷ ahead) e =
     let passed = IsPassed-of c e in
-    rw (no-phrase front c ahead passed, no-expression wanted front c ahead passed) refl
+    rw (
+      no-phrase front c ahead passed,
+      no-sum wanted front c ahead passed,
+      no-expression wanted front c ahead passed,
+    ) refl

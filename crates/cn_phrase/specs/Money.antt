@@ -199,10 +199,16 @@ abbrev pub is_whole_form : QuantityForm → Bool
 is_whole_form Whole = true
 is_whole_form form = false
 
+abbrev pub below_most : ℕ → Option ℕ
+below_most n = if nat_lt n (10 ^ 16) then Some n else None
+
+abbrev pub whole_of : Quantity → Option ℕ
+whole_of q =
+    if is_whole_form q.form && not (int_lt q.numerator (pos 0)) then below_most (nat_abs q.numerator)
+    else None
+
 abbrev pub whole_yuan_of : Result Quantity Refusal → Option ℕ
-whole_yuan_of (Ok q) =
-    if is_whole_form q.form && (not (int_lt q.numerator (pos 0)) && nat_lt (nat_abs q.numerator) (10 ^ 16))
-    then Some (nat_abs q.numerator) else None
+whole_yuan_of (Ok q) = whole_of q
 whole_yuan_of (Err refusal) = None
 
 abbrev pub whole_yuan : List ℕ → Option ℕ

@@ -1,4 +1,4 @@
-//! Finds phrases in a text: dates, times of day, durations, ranges, scores and lengths.
+//! Finds phrases in a text: dates, times of day, durations, ranges, scores, lengths and sums of money.
 #![tactic(auto)]
 
 mod compact;

@@ -6,7 +6,7 @@ ghost use Rattle.cn_find.specs.Expressions.{is_han};
 ghost use Rattle.cn_find.specs.Spans.{in_front, span_of};
 ghost use Rattle.cn_quantity.specs.Reading.{quantity_answer};
 ghost use Rattle.cn_replace.specs.Pieces.{begins};
-ghost use Rattle.cn_phrase.specs.Money.{after_digit, after_fen, after_jiao, after_kuai, after_last, after_last_jiao, after_small_jiao, after_yuan, alone, begins_count, begins_first_month, begins_next_word, begins_one, counted, digit_at, digit_of, fen_after, fen_at, fen_digit, goes_on, is_amount, is_next_word, is_no_yuan, is_one, is_particle, is_point, is_priced, is_share, is_sign, jiao_at, may_be_alone, may_end, money_of, open_digit, parts_at, signed, single_digit, tail_alone, tail_at, tail_by, tail_of, tail_of_digit, tail_of_yuan, whole_yuan};
+ghost use Rattle.cn_phrase.specs.Money.{after_digit, after_fen, after_jiao, after_kuai, after_last, after_last_jiao, after_small_jiao, after_yuan, alone, begins_count, begins_first_month, begins_next_word, begins_one, below_most, counted, digit_at, digit_of, fen_after, fen_at, fen_digit, goes_on, is_amount, is_next_word, is_no_yuan, is_one, is_particle, is_point, is_priced, is_share, is_sign, jiao_at, may_be_alone, may_end, money_of, open_digit, parts_at, signed, single_digit, tail_alone, tail_at, tail_by, tail_of, tail_of_digit, tail_of_yuan, whole_of, whole_yuan};
 ghost use Rattle.cn_phrase.specs.Suffix.{EndsWith};
 ghost use Rattle.cn_phrase.specs.Written.{passed_text};
 
@@ -17,7 +17,7 @@ use crate::shape::{counting_digit, part_digit};
 use crate::word::{after_any, after_one, after_two};
 use cn_core::{ChineseCountMethod, split_first_char};
 use cn_find::{Found, begins_with_two, is_one_character, is_one_of};
-use cn_quantity::{QuantityForm, chinese_to_quantity};
+use cn_quantity::{Quantity, QuantityForm, chinese_to_quantity};
 use cn_replace::clings::clings;
 use cn_replace::pieces::{CharTest, Figure, any, before_rest, begins};
 
@@ -170,7 +170,7 @@ fn is_point(c: char) -> bool
     is_one_of(&['.', '．', ',', '，'], c)
 }
 
-#[tactic(auto, unfolding(crate::specs::Expressions::is_han))]
+#[tactic(auto, unfolding(cn_find::specs::Expressions::is_han))]
 fn is_han(c: char) -> bool
     ensures { result ≡ is_han c }
 {
@@ -368,19 +368,38 @@ fn parts_at(text: &str) -> Option<Tail<'_>>
     after_kuai(after_one(&['块', '塊'], text)?)
 }
 
+// A number below 10^16.
+fn below_most(n: u128) -> Option<u64>
+    ensures value { result ≡ below_most n }
+    ensures bound { IfSome result (λ yuan. yuan < 10 ^ 16) }
+{
+    if n < 10_000_000_000_000_000 {
+        Some(n as u64)
+    } else {
+        None
+    }
+}
+
+// The whole number that a quantity is, below 10^16.
+fn whole_of(quantity: Quantity) -> Option<u64>
+    ensures value { result ≡ whole_of quantity }
+    ensures bound { IfSome result (λ yuan. yuan < 10 ^ 16) }
+{
+    if matches!(quantity.form, QuantityForm::Whole) && !(quantity.numerator < 0) {
+        below_most(quantity.numerator.unsigned_abs())
+    } else {
+        None
+    }
+}
+
 /// The number of yuan that a text is, if it can have jiao and fen: a whole number below 10^16.
 pub fn whole_yuan(number: &str) -> Option<u64>
     ensures value { result ≡ whole_yuan number.now }
-    ensures bound { IfSome result (λ n. n < 10 ^ 16) }
+    ensures bound { IfSome result (λ yuan. yuan < 10 ^ 16) }
 {
-    let quantity = chinese_to_quantity(number, ChineseCountMethod::TenThousand).ok()?;
-    if matches!(quantity.form, QuantityForm::Whole)
-        && quantity.numerator >= 0
-        && quantity.numerator < 10_000_000_000_000_000
-    {
-        Some(quantity.numerator as u64)
-    } else {
-        None
+    match chinese_to_quantity(number, ChineseCountMethod::TenThousand) {
+        Ok(quantity) => whole_of(quantity),
+        Err(_) => None,
     }
 }
 
