@@ -1,10 +1,10 @@
 -- No item begins with a character that fails the quick test.
 use Rattle.std.proofs.Common.{◌≡◌, ℕ, false, List, [], ◌∷◌, codes, None, refl, ◌∙◌}
 use Rattle.cn_core.specs.Characters.{digit_of, rank_of}
-use Rattle.cn_core.specs.FigureCharacters.{is_figure}
+use Rattle.cn_core.specs.FigureCharacters.{is_figure, tens_of}
 use Rattle.cn_core.specs.Mark.{Mark, digit, unit, mark_of, other}
 use Rattle.cn_find.specs.declared.wanted.Wanted.{Wanted}
-use Rattle.cn_find.specs.Expressions.{expression_rule, is_extra}
+use Rattle.cn_find.specs.Expressions.{expression_rule, is_extra, is_tens}
 use Rattle.cn_find.specs.Spans.{run_after}
 use Rattle.cn_find.proofs.Extra.{neither, unmarked-belongs, usual_belongs}
 use Rattle.cn_find.proofs.Unwanted.{outside}
@@ -54,11 +54,14 @@ no-phrase front c ahead passed = rw (
   nothing_by_word front (c ∷ ahead) passed.no_lead,
 ) refl
 
+no-sign : (c : ℕ) → is_extra c ≡ false → is_sign c ≡ false
+unfolding is_sign is_extra is_tens tens_of
+no-sign c e = outside is_extra (codes "￥¥") c refl e
+
 no-sum : (wanted : Wanted) (front : List ℕ) (c : ℕ) (ahead : List ℕ) → IsPassed c
     → money_at wanted front (c ∷ ahead) ≡ None
-unfolding is_sign
 no-sum wanted front c ahead passed = rw (
-  outside is_extra (codes "￥¥") c refl passed.no_extra,
+  no-sign c passed.no_extra,
   no-expression wanted front c ahead passed,
 ) refl
 

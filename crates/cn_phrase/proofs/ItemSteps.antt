@@ -1,6 +1,6 @@
 -- Steps over the characters of a text and over its items.
 use Rattle.std.proofs.Common.{reverse, ◌≡◌, ℕ, ◌-◌, ◌<◌, Bool, true, false, List, [], ◌∷◌, ◌++◌, length, Option, Some, None, IfSome, option_map, refl, ap, arith, length-append, if◌then◌else◌}
-use Rattle.std.specs.Option.{option_and_then, option_or}
+use Rattle.std.specs.Option.{option_and_then}
 use mathlib.Core.List.{reverse_aux}
 use Rattle.cn_find.specs.declared.wanted.Wanted.{Wanted}
 use Rattle.cn_find.specs.Expressions.{expression_rule}
@@ -9,7 +9,7 @@ use Rattle.cn_find.specs.Spans.{Span, after_run, in_front, run_after}
 use Rattle.cn_phrase.specs.Between.{characters_before, part_between}
 use Rattle.cn_phrase.specs.declared.money.MoneyForm.TheVariants.{Signed}
 use Rattle.cn_phrase.specs.Items.{first_of, item_rest, items_after, rest_of, ends_whole, whole_phrase}
-use Rattle.cn_phrase.specs.Money.{Money, Tail, counted, counted_at, is_amount, is_sign, money_at, signed, signed_at, signed_from, tail_at}
+use Rattle.cn_phrase.specs.Money.{Money, Tail, counted, counted_at, is_amount, money_at, signed, signed_at, signed_from, tail_at}
 use Rattle.cn_phrase.specs.Pieces.{without_blank}
 use Rattle.cn_phrase.specs.Written.{passed_text}
 use Rattle.cn_phrase.specs.Phrases.{Found, phrase_at}

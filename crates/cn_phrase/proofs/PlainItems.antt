@@ -86,7 +86,10 @@ module _ (wanted : Wanted) where
   plain-next : (front : List ℕ) (c : ℕ) (ahead : List ℕ)
       → begins_no_phrase wanted front (c ∷ ahead) ≡ true
       → begins_no_phrase wanted (c ∷ front) ahead ≡ true
-  plain-next front c ahead plain = and-right _ _ (and-right _ _ (and-right _ _ plain))
+  plain-next front c ahead plain =
+      and-right (not (is_some (range_at wanted front (c ∷ ahead)))) _
+      (and-right (not (is_some (money_at wanted front (c ∷ ahead)))) _
+      (and-right (not (is_some (whole_phrase wanted front (c ∷ ahead)))) _ plain))
 
   plain-after : (passed front rest : List ℕ) → begins_no_phrase wanted front (passed ++ rest) ≡ true
       → begins_no_phrase wanted (reverse_aux passed front) rest ≡ true

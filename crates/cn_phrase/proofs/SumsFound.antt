@@ -1,5 +1,5 @@
 -- A sum of money after a sign is found.
-use Rattle.std.proofs.Common.{◌≡◌, ℕ, ◌<◌, false, List, [], ◌∷◌, ◌++◌, length, reverse, chars, encode_utf8_all, IsUtf8, Option, Some, None, refl, sym, ap, subst, ◌∙◌, arith, length-append}
+use Rattle.std.proofs.Common.{◌≡◌, ℕ, false, List, [], ◌∷◌, ◌++◌, length, reverse, chars, encode_utf8_all, IsUtf8, Option, Some, None, sym, ap, subst, ◌∙◌, arith, length-append}
 use Rattle.std.proofs.lemmas.Str.{encodes-chars}
 use Rattle.std.specs.Option.{option_and_then, option_map}
 use Rattle.cn_find.specs.declared.wanted.Wanted.{Wanted}

@@ -98,7 +98,7 @@ fen_after-in form jiao text =
 jiao-in : (jiao : ℕ) (text : List ℕ) → TailIn text (after_jiao jiao text)
 jiao-in jiao text =
     tail-or text (fen_after Parts jiao text) _ (fen_after-in Parts jiao text)
-    (tail-map text (after_last_jiao text) Parts jiao 0 (last-in _ text))
+    (tail-map text (after_last_jiao text) Parts jiao 0 (last-in (codes "形星板铁鐵架尺旗洲债債恋戀区區巾毯豆线線衣地裤褲钉釘函茴楼樓亭帽梅枫楓鼎落度戏戲色球钢鋼龙龍鲨鯊羊") text))
 
 jiao_at-in : (text : List ℕ) → TailIn text (jiao_at text)
 jiao_at-in text = by (digit_at text) (digit-in text) where

@@ -24,7 +24,6 @@ use Rattle.cn_phrase.specs.Forms.{pieces_of}
 use Rattle.cn_phrase.specs.Items.{Item, phrase, money, range, expression, item_at, items}
 use Rattle.cn_phrase.specs.Phrases.{Found, after_lead}
 use Rattle.cn_phrase.specs.Pieces.{is_numeral, reading_at}
-use Rattle.cn_phrase.specs.Money.{Money}
 use Rattle.cn_phrase.specs.MoneyText.{money_new}
 use Rattle.cn_phrase.specs.Ranges.{Ends, is_doubtful_end, range_of, range_text}
 use Rattle.cn_phrase.specs.Values.{value_by}

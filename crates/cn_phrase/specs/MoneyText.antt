@@ -19,7 +19,7 @@ use Rattle.cn_replace.specs.InFigures.{figures_for}
 use Rattle.cn_replace.specs.KeptNumbers.{and_text}
 use Rattle.cn_replace.specs.Pieces.{is_unit_from}
 use Rattle.cn_phrase.specs.declared.money.MoneyForm.{MoneyForm}
-use Rattle.cn_phrase.specs.declared.money.MoneyForm.TheVariants.{Signed, Yuan, Kuai, Parts, Small}
+use Rattle.cn_phrase.specs.declared.money.MoneyForm.TheVariants.{Signed, Yuan, Kuai, Small}
 use Rattle.cn_phrase.specs.Money.{Money, whole_yuan}
 use Rattle.cn_phrase.specs.Ranges.{is_doubtful_end, product, text_in_style}
 use Rattle.cn_phrase.specs.Shapes.{counting_digit}
@@ -138,7 +138,7 @@ parts_text style m =
 
 -- the yuan in figures, and 元
 abbrev pub compact_text : Money → Option (List ℕ)
-compact_text m = option_map (λ q. figures_text q ++ codes "元") (yuan_of m)
+compact_text m = option_map (λ q. figures_text q ++ encode_utf8_all (codes "元")) (yuan_of m)
 
 abbrev pub written_text : Figures → Money → Option (List ℕ)
 written_text options m =

@@ -5,6 +5,7 @@ ghost use Rattle.cn_core.specs.declared.method.ChineseCountMethod.TheVariants.{T
 ghost use Rattle.cn_find.specs.Expressions.{is_han};
 ghost use Rattle.cn_find.specs.Spans.{in_front, span_of};
 ghost use Rattle.cn_quantity.specs.Reading.{quantity_answer};
+ghost use Rattle.cn_replace.specs.Clings.{clings};
 ghost use Rattle.cn_replace.specs.Pieces.{begins};
 ghost use Rattle.cn_phrase.specs.Money.{after_digit, after_fen, after_jiao, after_kuai, after_last, after_last_jiao, after_small_jiao, after_yuan, alone, begins_count, begins_first_month, begins_next_word, begins_one, below_most, counted, digit_at, digit_of, fen_after, fen_at, fen_digit, goes_on, is_amount, is_next_word, is_no_yuan, is_one, is_particle, is_point, is_priced, is_share, is_sign, jiao_at, may_be_alone, may_end, money_of, open_digit, parts_at, signed, single_digit, tail_alone, tail_at, tail_by, tail_of, tail_of_digit, tail_of_yuan, whole_of, whole_yuan};
 ghost use Rattle.cn_phrase.specs.Suffix.{EndsWith};
@@ -560,11 +561,18 @@ fn tail_at<'a>(number: &str, text: &'a str) -> Option<Tail<'a>>
     tail_by(number, without_blank(any(Figure, number), text))
 }
 
+// Whether a number after this text would be a part of what is before it.
+fn clings_before(before: &str) -> bool
+    ensures { result ≡ clings (chars before.now) [] }
+{
+    clings(before, "")
+}
+
 // Whether an expression can be the number of a sum.
 fn is_amount(number: Found<'_>) -> bool
     ensures { result ≡ is_amount (span_of number.entry) }
 {
-    is_end(number) && !is_percent(number.text) && !clings(number.before, "")
+    is_end(number) && !is_percent(number.text) && !clings_before(number.before)
 }
 
 // The characters of a text before one of its suffixes.

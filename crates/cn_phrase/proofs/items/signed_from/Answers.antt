@@ -1,4 +1,4 @@
-use Rattle.std.proofs.Common.{rules, ap, sym, ◌∙◌}
+use Rattle.std.proofs.Common.{◌∙◌}
 use Rattle.cn_phrase.proofs.SumsFound.{passed-is, signed-none, signed-some}
 use Rattle.cn_phrase.proofs.WholePhrases.{ends-again, fronts-are}
 use Rattle.cn_phrase.proofs.items.signed_from.Goals as goal
