@@ -74,6 +74,7 @@ enum class PhraseKind : std::uint32_t {
     years = CN_PHRASE_KIND_YEARS, months = CN_PHRASE_KIND_MONTHS, days = CN_PHRASE_KIND_DAYS,
     time = CN_PHRASE_KIND_TIME, duration = CN_PHRASE_KIND_DURATION, half = CN_PHRASE_KIND_HALF,
     length = CN_PHRASE_KIND_LENGTH, score = CN_PHRASE_KIND_SCORE, range = CN_PHRASE_KIND_RANGE,
+    money = CN_PHRASE_KIND_MONEY,
 };
 
 /* What is known of a phrase. */

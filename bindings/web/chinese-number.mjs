@@ -156,10 +156,12 @@ export const DOUBTS = Object.freeze(/** @type {const} */ ([
  * are.
  * - 'score': two numbers that are compared.
  * - 'range': from a quantity to another one.
+ * - 'money': a sum of money, as 三块五: the fen by their lower and their upper 32 bits, and 1; all
+ * 0 if they are no whole number below 10^18.
  */
 export const PHRASE_KINDS = Object.freeze(/** @type {const} */ ([
   'expression', 'date', 'years', 'months', 'days', 'time', 'duration', 'half', 'length', 'score',
-  'range',
+  'range', 'money',
 ]));
 
 /**
