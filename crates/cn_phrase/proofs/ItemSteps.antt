@@ -116,21 +116,9 @@ again text rest end h ends = (
 
 counted-leaves : (text : List ℕ) (number : Span) (rest : List ℕ) → Leaves text rest
     → MoneyLeaves text (counted number rest)
-counted-leaves text number rest h = by (is_amount number) where
-  tails : (o : Option Tail) → IfSome o (λ t. EndsWith rest t.rest)
-      → MoneyLeaves text (option_map (λ t. record {
-        form = t.form;
-        sign = [];
-        number = number;
-        tail = passed_text rest t.rest;
-        jiao = t.jiao;
-        fen = t.fen;
-        rest = t.rest;
-      }) o)
-  tails None k = tt
-  tails (Some t) k = again text rest t.rest h k
-
-  by : (b : Bool) → MoneyLeaves text (if b then option_map (λ t. record {
+counted-leaves text number rest h = by (tail_at number.text rest) (tail-in number.text rest) where
+  sum : Tail → Money
+  sum t = record {
     form = t.form;
     sign = [];
     number = number;
@@ -138,9 +126,17 @@ counted-leaves text number rest h = by (is_amount number) where
     jiao = t.jiao;
     fen = t.fen;
     rest = t.rest;
-  }) (tail_at number.text rest) else None)
-  by true = tails (tail_at number.text rest) (tail-in number.text rest)
-  by false = tt
+  }
+
+  chosen : (b : Bool) (t : Tail) → EndsWith rest t.rest
+      → MoneyLeaves text (if b then Some (sum t) else None)
+  chosen true t k = again text rest t.rest h k
+  chosen false t k = tt
+
+  by : (o : Option Tail) → IfSome o (λ t. EndsWith rest t.rest)
+      → MoneyLeaves text (option_and_then (λ t. if is_amount number then Some (sum t) else None) o)
+  by None k = tt
+  by (Some t) k = chosen (is_amount number) t k
 
 counted_at-leaves : (wanted : Wanted) (front text : List ℕ)
     → MoneyLeaves text (counted_at wanted front text)

@@ -139,13 +139,18 @@ parts-in text =
 
 of_yuan-in : (number text : List ℕ) → TailIn text (tail_of_yuan number text)
 of_yuan-in number text =
-    tail-or text (if is_some (whole_yuan number) then parts_at text else None) _
-    (by (is_some (whole_yuan number)))
+    tail-or text (option_and_then (λ t. if is_some (whole_yuan number) then Some t else None) (parts_at text))
+    _ (by (parts_at text) (parts-in text))
     (tail-map text (after_two (codes "元圆圓块塊") (codes "钱錢") text) Parts 0 0
     (leaves-two (codes "元圆圓块塊") (codes "钱錢") text)) where
-      by : (b : Bool) → TailIn text (if b then parts_at text else None)
-      by true = parts-in text
-      by false = tt
+      chosen : (b : Bool) (t : Tail) → EndsWith text t.rest → TailIn text (if b then Some t else None)
+      chosen true t h = h
+      chosen false t h = tt
+
+      by : (o : Option Tail) → TailIn text o
+          → TailIn text (option_and_then (λ t. if is_some (whole_yuan number) then Some t else None) o)
+      by None h = tt
+      by (Some t) h = chosen (is_some (whole_yuan number)) t h
 
 small-in : (jiao : ℕ) (text : List ℕ) → TailIn text (after_small_jiao jiao text)
 small-in jiao text =

@@ -2,6 +2,7 @@
 use Rattle.std.specs.Prelude.{ℕ, ◌+◌, ◌/◌, ◌%◌, ◌^◌, Bool, List, ◌++◌, length, chars, Option, Some, None, is_some, unwrap_or, if◌then◌else◌}
 use Rattle.cn_find.specs.declared.wanted.Wanted.{Wanted}
 use Rattle.cn_find.specs.Spans.{Span, in_front}
+use Rattle.cn_quantity.specs.declared.quantity.Quantity.{Quantity}
 use Rattle.cn_phrase.specs.declared.described.Described.{Described}
 use Rattle.cn_phrase.specs.declared.described.PhraseKind.{PhraseKind}
 use Rattle.cn_phrase.specs.declared.described.PhraseKind.TheVariants as kind
@@ -20,7 +21,7 @@ use Rattle.cn_phrase.specs.Hours.{hour_of_day}
 use Rattle.cn_phrase.specs.InText.{is_doubtful, is_range_doubtful}
 use Rattle.cn_phrase.specs.Items.{Item, phrase, money, range, item_at}
 use Rattle.cn_phrase.specs.Money.{Money}
-use Rattle.cn_phrase.specs.MoneyText.{fen_of, is_money_doubtful}
+use Rattle.cn_phrase.specs.MoneyText.{fen_of, is_money_doubtful, yuan_of}
 use Rattle.cn_phrase.specs.Phrases.{Found}
 use Rattle.cn_phrase.specs.Ranges.{Ends, range_of}
 use Rattle.cn_phrase.specs.Values.{value_by}
@@ -142,6 +143,15 @@ described_item front text (Some (money m)) = described_money front m
 described_item front text (Some (range ends)) = described_range ends
 described_item front text other =
     record { kind = kind.Expression; state = Certain; numbers = numbers 0 0 0 0; split = 0 }
+
+-- the value in yuan of an item that is a sum of money
+abbrev pub yuan_of_item : Option Item → Option Quantity
+yuan_of_item (Some (money m)) = yuan_of m
+yuan_of_item other = None
+
+unfoldable pub yuan_of_phrase : Wanted → Span → Option Quantity
+yuan_of_phrase wanted span =
+    yuan_of_item (item_at wanted (in_front span.before) (chars (span.text ++ span.after)))
 
 -- an item of a text
 unfoldable pub described : Wanted → Span → Described

@@ -217,7 +217,7 @@ whole_yuan number = whole_yuan_of (quantity_answer TenThousand number)
 -- after a number of yuan: jiao and fen, or 元钱
 abbrev pub tail_of_yuan : List ℕ → List ℕ → Option Tail
 tail_of_yuan number text =
-    option_or (if is_some (whole_yuan number) then parts_at text else None)
+    option_or (option_and_then (λ t. if is_some (whole_yuan number) then Some t else None) (parts_at text))
     (option_map (λ rest. parts Parts 0 0 rest) (after_two (codes "元圆圓块塊") (codes "钱錢") text))
 
 -- the value of a number that is one digit of jiao or fen
@@ -284,7 +284,7 @@ is_amount number =
 
 -- a sum whose number is this, without a sign before it; the characters after the number are `text`
 abbrev pub counted : Span → List ℕ → Option Money
-counted number text = if is_amount number then option_map (λ t. record {
+counted number text = option_and_then (λ t. if is_amount number then Some (record {
   form = t.form;
   sign = [];
   number = number;
@@ -292,7 +292,7 @@ counted number text = if is_amount number then option_map (λ t. record {
   jiao = t.jiao;
   fen = t.fen;
   rest = t.rest;
-}) (tail_at number.text text) else None
+}) else None) (tail_at number.text text)
 
 -- a sum of money that begins with an expression
 abbrev pub counted_at : Wanted → List ℕ → List ℕ → Option Money

@@ -3,7 +3,7 @@ ghost use Rattle.std.specs.Prelude.{◌≡◌, ◌+◌, ◌<◌, ◌≤◌, ◌^
 ghost use Rattle.std.specs.Option.{option_map};
 ghost use Rattle.cn_find.specs.Spans.{in_front, span_of};
 ghost use Rattle.cn_replace.specs.Chains.{IsPart};
-ghost use Rattle.cn_phrase.specs.Described.{described, described_item, described_money, described_phrase, described_range, flag, given_parts, kind_of, number_or, numbers, of_date, of_fen, of_time, of_value, state_of};
+ghost use Rattle.cn_phrase.specs.Described.{described, described_item, described_money, described_phrase, described_range, flag, given_parts, kind_of, number_or, numbers, of_date, of_fen, of_time, of_value, state_of, yuan_of_item, yuan_of_phrase};
 ghost use Rattle.cn_phrase.specs.Items.{item_of};
 ghost use Rattle.cn_phrase.specs.Money.{money_of};
 ghost use Rattle.cn_phrase.specs.Phrases.{found_of};
@@ -14,11 +14,12 @@ use crate::hour::hour_of_day;
 use crate::in_text::{is_doubtful, is_range_doubtful, item_for, text_from};
 use crate::items::Item;
 use crate::money::Money;
-use crate::money_text::{fen_of, is_money_doubtful};
+use crate::money_text::{fen_of, is_money_doubtful, yuan_of};
 use crate::phrase::{Lead, Match};
 use crate::range::{Ends, range_of};
 use crate::value::{Date, Time, Value};
 use cn_find::{Found, Wanted};
+use cn_quantity::Quantity;
 
 /// What an item of a text is.
 #[derive(Debug, Copy, Clone, PartialEq, Eq)]
@@ -302,4 +303,24 @@ pub fn describe_phrase(whole: &str, part: Found<'_>, wanted: Wanted) -> Describe
         item_for(whole, part, wanted),
         text_from(whole, part),
     )
+}
+
+// The value in yuan of an item that is a sum of money.
+fn yuan_of_item(item: Option<Item<'_>>) -> Option<Quantity>
+    ensures { result ≡ yuan_of_item (option_map item_of item.entry) }
+{
+    match item {
+        Some(Item::Money(money)) => yuan_of(money),
+        _ => None,
+    }
+}
+
+/// The exact value in yuan of an item of a text that is a sum of money: 352/100 for 三块五毛二. `None` for any
+/// other item.
+#[tactic(auto, unfolding(crate::specs::Described::yuan_of_phrase))]
+pub fn yuan_of_phrase(whole: &str, part: Found<'_>, wanted: Wanted) -> Option<Quantity>
+    requires { IsPart whole.now (span_of part) }
+    ensures { result ≡ yuan_of_phrase wanted (span_of part.entry) }
+{
+    yuan_of_item(item_for(whole, part, wanted))
 }

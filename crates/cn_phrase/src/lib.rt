@@ -18,7 +18,9 @@ pub mod value;
 mod word;
 mod written;
 
-pub use described::{Described, PhraseKind, PhraseNumbers, PhraseState, describe_phrase};
+pub use described::{
+    Described, PhraseKind, PhraseNumbers, PhraseState, describe_phrase, yuan_of_phrase,
+};
 pub use hour::{PartOfDay, hour_of_day};
 pub use in_text::{InText, is_doubtful, is_range_doubtful, put_text_in_figures, text_to_figures};
 pub use money_text::{fen_of, is_money_doubtful, yuan_of};

@@ -408,8 +408,8 @@ pub fn whole_yuan(number: &str) -> Option<u64>
 fn tail_of_yuan<'a>(number: &str, text: &'a str) -> Option<Tail<'a>>
     ensures { option_map tail_of result ≡ tail_of_yuan number.now (chars text.now) }
 {
-    if whole_yuan(number).is_some() {
-        if let Some(tail) = parts_at(text) {
+    if let Some(tail) = parts_at(text) {
+        if whole_yuan(number).is_some() {
             return Some(tail);
         }
     }
@@ -589,10 +589,10 @@ pub fn counted(number: Found<'_>) -> Option<Money<'_>>
     ensures { option_map money_of result
         ≡ counted (span_of number.entry) (chars number.entry.after.now) }
 {
+    let tail = tail_at(number.text, number.after)?;
     if !is_amount(number) {
         return None;
     }
-    let tail = tail_at(number.text, number.after)?;
     Some(Money {
         form: tail.form,
         sign: "",
