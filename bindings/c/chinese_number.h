@@ -604,7 +604,9 @@ uint32_t chinese_quantities_to_figures(const uint8_t *text, size_t text_length, 
  * - a duration: the hours, the minutes, the seconds;
  * - a half: the number without the half;
  * - a length: the number before its decimals, the decimals, and how many decimals there are;
- * - a score: the two numbers. */
+ * - a score: the two numbers;
+ * - a sum of money: the fen by their lower and their upper 32 bits, and 1; all 0 if they are no whole
+ *   number below 10^18. */
 typedef struct cn_phrase {
     size_t start;
     size_t end;

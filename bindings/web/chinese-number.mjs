@@ -370,7 +370,7 @@ const HAS = {
  * @typedef {{
  *   date: PartialDate, years: FirstAndLast, months: FirstAndLast, days: FirstAndLast,
  *   time: ClockTime, duration: Duration, half: Quantity, length: Quantity,
- *   score: [one: number, other: number], range: [low: Quantity, high: Quantity],
+ *   score: [one: number, other: number], range: [low: Quantity, high: Quantity], money: Quantity,
  * }} PhraseValues
  * @typedef {{ [Name in PhraseKind]: Phrase<Name> }[PhraseKind]} AnyPhrase
  * @typedef {{ charIndex: number, start: number, end: number }} Place
@@ -1503,7 +1503,8 @@ export class FoundQuantity extends Span {
  * - 'duration': { hours, minutes, seconds };
  * - 'half', 'length': a Quantity, 1.5 for 一个半小时 and 1.75 for 一米七五;
  * - 'score': the two numbers;
- * - 'range': the two Quantities, 30000 and 50000 for 三到五万.
+ * - 'range': the two Quantities, 30000 and 50000 for 三到五万;
+ * - 'money': a Quantity of yuan, 3.50 for 三块五; null if it is no whole number of fen below 10^18.
  *
  * @template {PhraseKind} Name
  */
@@ -1687,6 +1688,8 @@ const VALUES = {
   length: ([number, decimals, count]) => Quantity.decimal(number * 10 ** count + decimals, count),
   score: firstTwo,
   range: (_, half) => rangeAt(half),
+  money: ([low, high, isKnown]) =>
+    isKnown ? Quantity.decimal((BigInt(high >>> 0) << 32n) + BigInt(low >>> 0), 2) : null,
 };
 
 /** @param {number[]} numbers */

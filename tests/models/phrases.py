@@ -745,9 +745,7 @@ def range_at(text: Text, start: int) -> Optional[Phrase]:
 # ---- Sums of money ---------------------------------------------------------------------------
 
 DIGITS_OF_MONEY = frozenset("一二两兩三四五六七八九")
-PRICED = frozenset(
-    "斤个個公两兩克份张張条條件只隻瓶包箱盒本套台杯碗串双雙把枚颗顆粒根支袋片位人次天晚月年平方米尺度吨噸升桶筒盘盤捆束朵辆輛间間桌副对對罐小"
-)
+PRICED = frozenset("斤个個公两兩克份张張条條件只隻瓶包箱盒本套台杯碗串双雙把枚颗顆粒根支袋片位人次天晚月年平方米尺度吨噸升桶筒盘盤捆束朵辆輛间間桌副对對罐小")
 AFTER_OPEN = frozenset("的了吧啊呢吗嗎嘛呀哦啦哈咯")
 AFTER_OPEN_NOT_ONE = frozenset("就也都还還才每左以不够夠涨漲降到至和或与與及跟卖賣买買给給收找退付便太贵貴好行可拿起没沒是那这這很真算要然")
 NO_JIAO = frozenset("形星板铁鐵架尺旗洲债債恋戀区區巾毯豆线線衣地裤褲钉釘函茴楼樓亭帽梅枫楓鼎落度戏戲色球钢鋼龙龍鲨鯊羊")
@@ -802,7 +800,13 @@ def digit_value(c: str) -> int:
 
 
 # The forms after an E, the longest first: the groups of J and F, and the unit at the end, if any.
-AFTER_YUAN = ((PARTS, 1, 2, 3), (PARTS_OPEN, 1, 2, 0), (JIAO, 1, 0, 2), (FEN, 0, 1, 2), (KUAI_OPEN, 1, 0, 0))
+AFTER_YUAN = (
+    (PARTS, 1, 2, 3),
+    (PARTS_OPEN, 1, 2, 0),
+    (JIAO, 1, 0, 2),
+    (FEN, 0, 1, 2),
+    (KUAI_OPEN, 1, 0, 0),
+)
 AFTER_JIAO = ((JIAO_FEN, 1, 2), (JIAO_OPEN, 1, 0))
 
 
@@ -882,7 +886,12 @@ def money_after(text: Text, e: Found) -> Optional[Sum]:
 
 def is_money_doubtful(text: Text, phrase: Phrase, e: Found) -> bool:
     head = text.line.text[: phrase.start]
-    if numbers.is_in_title(text.line, phrase.start) or e.doubt in ("word", "digits", "term", "time"):
+    if numbers.is_in_title(text.line, phrase.start) or e.doubt in (
+        "word",
+        "digits",
+        "term",
+        "time",
+    ):
         return True
     if phrase.words == "kuai" or text.at(phrase.start - 1) in "$＄€£":
         return True
