@@ -783,7 +783,7 @@ def is_open(text: Text, end: int) -> bool:
         return is_free and text.at(end - 1) != "一"
     if is_figure(c) or is_chinese_digit(c) or is_letter(c) or c in "_%％‰":
         return False
-    return not (c in ".．,，" and is_figure(text.at(end + 1)))
+    return not (c in ".．," and is_figure(text.at(end - 1)) and is_figure(text.at(end + 1)))
 
 
 def ends_sum(text: Text, end: int, ends_with: str) -> bool:

@@ -6,7 +6,7 @@ use Rattle.cn_core.specs.FigureCharacters.{is_figure}
 use Rattle.cn_find.specs.Flags.{is_one_character}
 use Rattle.cn_phrase.specs.declared.money.MoneyForm.{MoneyForm}
 use Rattle.cn_phrase.specs.declared.money.MoneyForm.TheVariants.{Parts, Small, Yuan, Kuai}
-use Rattle.cn_phrase.specs.Money.{Digit, Tail, after_digit, after_fen, after_jiao, after_kuai, after_last, after_last_jiao, after_small_jiao, after_yuan, alone, digit_at, fen_after, fen_at, fen_digit, is_one, jiao_at, may_be_alone, may_end, open_digit, part_digit, parts, parts_at, single_digit, tail_alone, tail_at, tail_by, tail_of_digit, tail_of_yuan, whole_yuan}
+use Rattle.cn_phrase.specs.Money.{Digit, Tail, after_digit, after_fen, after_jiao, after_kuai, after_last, after_last_jiao, after_small_jiao, after_yuan, alone, digit_at, fen_after, fen_at, fen_digit, jiao_at, may_be_alone, may_end, open_digit, part_digit, parts, parts_at, single_digit, tail_alone, tail_at, tail_by, tail_of_digit, tail_of_yuan, whole_yuan}
 use Rattle.cn_phrase.specs.Pieces.{without_blank}
 use Rattle.cn_phrase.specs.Suffix.{EndsWith}
 use Rattle.cn_phrase.specs.Words.{after_any, after_one, after_two}
@@ -55,7 +55,7 @@ digit-in (c ∷ rest) = by (part_digit c) where
 
 open-in : (text : List ℕ) → DigitIn text (open_digit text)
 open-in [] = tt
-open-in (c ∷ rest) = by (may_end (is_one c) rest) where
+open-in (c ∷ rest) = by (may_end c rest) where
   by : (b : Bool) → DigitIn (c ∷ rest) (if b then digit_at (c ∷ rest) else None)
   by true = digit-in (c ∷ rest)
   by false = tt

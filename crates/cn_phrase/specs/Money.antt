@@ -105,24 +105,26 @@ unfoldable pub is_share : ℕ → Bool
 is_share c = char_set_contains (codes "%％‰") c
 
 unfoldable pub is_point : ℕ → Bool
-is_point c = char_set_contains (codes ".．,，") c
+is_point c = char_set_contains (codes ".．,") c
 
--- the character after a digit goes on with it: a numeral character, a percent sign, a letter or `_`, or
--- a point or a comma with a figure after it
-abbrev pub goes_on : ℕ → List ℕ → Bool
-goes_on c rest =
-    is_numeral c || (is_share c || (is_name c || (is_point c && begins is_figure rest)))
-
--- a sum may end with a digit before this text, which is 一 or not
-abbrev pub may_end : Bool → List ℕ → Bool
-may_end is_one [] = true
-may_end is_one (c ∷ rest) =
-    begins_one (c ∷ rest)
-    || (is_particle c
-    || (if is_han c then not is_one && begins_next_word (c ∷ rest) else not (goes_on c rest)))
+-- the character after a digit goes on with it: a numeral character, a percent sign, a letter or `_`, or,
+-- after a figure, a point or a comma with a figure after it
+abbrev pub goes_on : ℕ → ℕ → List ℕ → Bool
+goes_on digit c rest =
+    is_numeral c
+    || (is_share c || (is_name c || (is_point c && (is_figure digit && begins is_figure rest))))
 
 unfoldable pub is_one : ℕ → Bool
 is_one c = char_set_contains (codes "一") c
+
+-- a sum may end with a digit before this text
+abbrev pub may_end : ℕ → List ℕ → Bool
+may_end digit [] = true
+may_end digit (c ∷ rest) =
+    begins_one (c ∷ rest)
+    || (is_particle c
+    || (if is_han c then not (is_one digit) && begins_next_word (c ∷ rest)
+    else not (goes_on digit c rest)))
 
 -- a digit with which a text begins
 abbrev pub digit_at : List ℕ → Option Digit
@@ -132,7 +134,7 @@ digit_at (c ∷ rest) = option_map (λ n. record { value = n; rest = rest }) (pa
 -- a digit with which a sum may end
 abbrev pub open_digit : List ℕ → Option Digit
 open_digit [] = None
-open_digit (c ∷ rest) = if may_end (is_one c) rest then digit_at (c ∷ rest) else None
+open_digit (c ∷ rest) = if may_end c rest then digit_at (c ∷ rest) else None
 
 -- the text after the last unit of a sum, and after 钱 if that is next; none if one of these characters
 -- is next, which makes a word with the unit

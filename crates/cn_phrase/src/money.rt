@@ -16,7 +16,7 @@ use crate::piece::{Numeral, without_blank};
 use crate::range::{is_end, is_percent};
 use crate::shape::{counting_digit, part_digit};
 use crate::word::{after_any, after_one, after_two};
-use cn_core::{ChineseCountMethod, split_first_char};
+use cn_core::{ChineseCountMethod, is_figure, split_first_char};
 use cn_find::{Found, begins_with_two, is_one_character, is_one_of};
 use cn_quantity::{Quantity, QuantityForm, chinese_to_quantity};
 use cn_replace::clings::clings;
@@ -168,7 +168,7 @@ fn is_share(c: char) -> bool
 fn is_point(c: char) -> bool
     ensures { result ≡ is_point c }
 {
-    is_one_of(&['.', '．', ',', '，'], c)
+    is_one_of(&['.', '．', ','], c)
 }
 
 #[tactic(auto, unfolding(cn_find::specs::Expressions::is_han))]
@@ -179,15 +179,25 @@ fn is_han(c: char) -> bool
 }
 
 // Whether a character after a digit goes on with it.
-fn goes_on(c: char, rest: &str) -> bool
-    ensures { result ≡ goes_on c (chars rest.now) }
+fn goes_on(digit: char, c: char, rest: &str) -> bool
+    ensures { result ≡ goes_on digit c (chars rest.now) }
 {
-    Numeral.passes(c) || is_share(c) || is_name(c) || (is_point(c) && begins(Figure, rest))
+    Numeral.passes(c)
+        || is_share(c)
+        || is_name(c)
+        || (is_point(c) && is_figure(digit) && begins(Figure, rest))
+}
+
+#[tactic(auto, unfolding(crate::specs::Money::is_one))]
+fn is_one(c: char) -> bool
+    ensures { result ≡ is_one c }
+{
+    is_one_of(&['一'], c)
 }
 
 // Whether a sum may end with a digit before this text.
-fn may_end(is_one: bool, text: &str) -> bool
-    ensures { result ≡ may_end is_one (chars text.now) }
+fn may_end(digit: char, text: &str) -> bool
+    ensures { result ≡ may_end digit (chars text.now) }
 {
     let Some((c, rest)) = split_first_char(text) else {
         return true;
@@ -196,17 +206,10 @@ fn may_end(is_one: bool, text: &str) -> bool
         return true;
     }
     if is_han(c) {
-        !is_one && begins_next_word(text)
+        !is_one(digit) && begins_next_word(text)
     } else {
-        !goes_on(c, rest)
+        !goes_on(digit, c, rest)
     }
-}
-
-#[tactic(auto, unfolding(crate::specs::Money::is_one))]
-fn is_one(c: char) -> bool
-    ensures { result ≡ is_one c }
-{
-    is_one_of(&['一'], c)
 }
 
 // A digit with which a text begins.
@@ -225,7 +228,7 @@ fn open_digit(text: &str) -> Option<Digit<'_>>
     ensures { option_map digit_of result ≡ open_digit (chars text.now) }
 {
     let (c, rest) = split_first_char(text)?;
-    if may_end(is_one(c), rest) {
+    if may_end(c, rest) {
         digit_at(text)
     } else {
         None
