@@ -205,8 +205,8 @@ public final class Answers {
             long seconds = ((Duration) value).getSeconds();
             return seconds / 3600 + ":" + seconds / 60 % 60 + ":" + seconds % 60;
         }
-        if (value instanceof Pair) {
-            Pair<?> both = (Pair<?>) value;
+        if (value instanceof ValuePair) {
+            ValuePair<?> both = (ValuePair<?>) value;
             String between = it.kind() == PhraseKind.SCORE ? ":" : "..";
             return exactOf(both.first()) + between + exactOf(both.second());
         }

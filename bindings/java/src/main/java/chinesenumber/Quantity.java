@@ -1,5 +1,8 @@
 package chinesenumber;
 
+import static chinesenumber.Instance.LENGTH;
+import static chinesenumber.Instance.RESULT;
+import static chinesenumber.Instance.TEXT;
 import static java.util.Objects.requireNonNull;
 
 import java.math.BigDecimal;
@@ -26,8 +29,10 @@ public final class Quantity {
      * @throws ChineseNumberException if the denominator is 0, or a number has more than 128 bits
      */
     public Quantity(BigInteger numerator, BigInteger denominator, QuantityForm form) {
-        this.numerator = ChineseNumbers.held(requireNonNull(numerator, "numerator"), Kind.I128);
-        this.denominator = ChineseNumbers.held(requireNonNull(denominator, "denominator"), Kind.U128);
+        requireNonNull(numerator, "numerator");
+        requireNonNull(denominator, "denominator");
+        this.numerator = ChineseNumbers.requireFits(numerator, Kind.I128);
+        this.denominator = ChineseNumbers.requireFits(denominator, Kind.U128);
         this.form = requireNonNull(form, "form");
         if (denominator.signum() == 0) {
             throw new ChineseNumberException(Status.NOT_A_QUANTITY, Codes.NOT_A_QUANTITY_TEXT);
@@ -37,6 +42,8 @@ public final class Quantity {
     /**
      * A whole number or a decimal, with the decimals that it has: {@code Quantity.of(new
      * BigDecimal("3.10"))} is 三点一零.
+     *
+     * @throws ChineseNumberException if the number or its decimals have more than 128 bits
      */
     public static Quantity of(BigDecimal number) {
         return of(requireNonNull(number, "number"), 0, QuantityForm.DECIMAL);
@@ -47,39 +54,49 @@ public final class Quantity {
         return of(BigDecimal.valueOf(number));
     }
 
-    /** A percentage: {@code Quantity.ofPercent(new BigDecimal("12.5"))} is 百分之十二点五. */
+    /**
+     * A percentage: {@code Quantity.ofPercent(new BigDecimal("12.5"))} is 百分之十二点五.
+     *
+     * @throws ChineseNumberException if the number or its decimals have more than 128 bits
+     */
     public static Quantity ofPercent(BigDecimal number) {
         return of(requireNonNull(number, "number"), 2, QuantityForm.PERCENT);
     }
 
-    /** A fraction: {@code Quantity.ofFraction(1, 3)} is 三分之一. */
+    /**
+     * A fraction: {@code Quantity.ofFraction(1, 3)} is 三分之一.
+     *
+     * @throws ChineseNumberException if the denominator is not above 0
+     */
     public static Quantity ofFraction(long numerator, long denominator) {
         BigInteger below = BigInteger.valueOf(denominator);
         return new Quantity(BigInteger.valueOf(numerator), below, QuantityForm.FRACTION);
     }
 
     private static Quantity of(BigDecimal number, int places, QuantityForm form) {
-        long digits = Math.max((long) number.precision() - Math.min(number.scale(), 0), number.scale());
+        int scale = number.scale();
+        long digits = Math.max((long) number.precision() - Math.min(scale, 0), scale);
         if (digits > MOST_DIGITS) {
-            throw ChineseNumbers.notHeld(Kind.I128);
+            throw ChineseNumbers.doesNotFit(Kind.I128);
         }
-        BigDecimal exact = number.scale() < 0 ? number.setScale(0) : number;
+        BigDecimal exact = scale < 0 ? number.setScale(0) : number;
         boolean isWhole = form == QuantityForm.DECIMAL && exact.scale() == 0;
         BigInteger denominator = BigInteger.TEN.pow(exact.scale() + places);
-        return new Quantity(exact.unscaledValue(), denominator, isWhole ? QuantityForm.WHOLE : form);
+        QuantityForm ownForm = isWhole ? QuantityForm.WHOLE : form;
+        return new Quantity(exact.unscaledValue(), denominator, ownForm);
     }
 
-    /** The number above the line. */
+    /** The number above the line: 125 of 12.5%. */
     public BigInteger numerator() {
         return numerator;
     }
 
-    /** The number below the line, above 0. */
+    /** The number below the line, above 0: 1000 of 12.5%. */
     public BigInteger denominator() {
         return denominator;
     }
 
-    /** How it is written. */
+    /** How it is written: {@link QuantityForm#PERCENT} for 12.5%. */
     public QuantityForm form() {
         return form;
     }
@@ -135,14 +152,15 @@ public final class Quantity {
      * fraction.
      *
      * @throws ChineseNumberException if {@link Way#LOW} cannot write one of its numbers
+     * @throws IllegalArgumentException for {@link Way#DIGITS}
      */
     public String toChinese(Style style) {
         int method = ChineseNumbers.method(requireNonNull(style, "style").way).ordinal();
-        Machine it = Machine.take();
-        it.put(Machine.TOLD, this);
-        int status = Core.chinese_quantity_print(it, Machine.TOLD, method, style.script.ordinal(),
-            style.letterCase.ordinal(), Machine.TEXT, Codes.MOST_QUANTITY_BYTES, Machine.LENGTH);
-        return ChineseNumbers.printed(it, status);
+        Instance instance = Instance.acquire();
+        instance.put(RESULT, this);
+        int status = Core.chinese_quantity_print(instance, RESULT, method, style.script.ordinal(),
+            style.letterCase.ordinal(), TEXT, Codes.MOST_QUANTITY_BYTES, LENGTH);
+        return ChineseNumbers.printed(instance, status);
     }
 
     /**
@@ -150,18 +168,22 @@ public final class Quantity {
      * 12.5%, 1/3.
      */
     public String toFigures() {
-        Machine it = Machine.take();
-        it.put(Machine.TOLD, this);
-        int status = Core.chinese_quantity_figures(it, Machine.TOLD, Machine.TEXT,
-            Codes.MOST_FIGURES_BYTES, Machine.LENGTH);
-        return ChineseNumbers.printed(it, status);
+        Instance instance = Instance.acquire();
+        instance.put(RESULT, this);
+        int status = Core.chinese_quantity_figures(instance, RESULT, TEXT, Codes.MOST_FIGURES_BYTES,
+            LENGTH);
+        return ChineseNumbers.printed(instance, status);
     }
 
     /** Whether another one has the same numerator, denominator and form. */
     @Override
     public boolean equals(Object other) {
-        return other instanceof Quantity && numerator.equals(((Quantity) other).numerator)
-            && denominator.equals(((Quantity) other).denominator) && form == ((Quantity) other).form;
+        if (!(other instanceof Quantity)) {
+            return false;
+        }
+        Quantity it = (Quantity) other;
+        return numerator.equals(it.numerator) && denominator.equals(it.denominator)
+            && form == it.form;
     }
 
     @Override

@@ -1,6 +1,9 @@
 package chinesenumber;
 
-/** One change of a text after which it goes on past its wrong character. */
+/**
+ * One change of a text that makes its wrong character right, as {@link ChineseNumbers#inputRepair}
+ * finds it: for 壹佰贰元整 it is {@link Change#INSERT}, 2 and 零.
+ */
 public final class Repair {
     private static final Change[] CHANGES = Change.values();
 
@@ -9,12 +12,12 @@ public final class Repair {
     private final int index;
     private final String character;
 
-    /** The repair that is written at an address, where the code of a change is not 0. */
-    Repair(Machine it, int address) {
-        charIndex = it.word(address);
-        index = it.units(0, it.word(address + 8));
-        change = CHANGES[it.word(address + 16) - 1];
-        int point = it.word(address + 20);
+    /** The repair at an address, where the code of the change is not 0. */
+    Repair(Instance instance, int address) {
+        charIndex = instance.getInt(address);
+        index = instance.indexOf(instance.getInt(address + 8));
+        change = CHANGES[instance.getInt(address + 16) - 1];
+        int point = instance.getInt(address + 20);
         character = point == 0 ? "" : new String(Character.toChars(point));
     }
 

@@ -81,13 +81,13 @@ public final class TextOptions {
     }
 
     /** Whether an expression is among those that are replaced. */
-    boolean has(FoundQuantity found) {
+    boolean include(FoundQuantity found) {
         int missing = found.flags & (Codes.ABOUT | Codes.ONE_CHARACTER) & ~flags;
-        boolean isDoubtKnown = found.doubt().map(this::has).orElse(true);
-        return missing == 0 && isDoubtKnown;
+        boolean isDoubtIncluded = found.doubt().map(this::include).orElse(true);
+        return missing == 0 && isDoubtIncluded;
     }
 
-    private boolean has(Doubt doubt) {
+    private boolean include(Doubt doubt) {
         return doubt != Doubt.PART && (flags & Codes.DOUBTFUL) != 0;
     }
 }

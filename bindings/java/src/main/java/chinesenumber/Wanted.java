@@ -4,13 +4,13 @@ import static java.util.Objects.requireNonNull;
 
 /** Which characters a search looks for: the digits, and the units up to the greatest one. */
 public final class Wanted {
-    /** The lower case, and units up to {@link Unit#ZHAO}, as in everyday sentences. */
-    public static final Wanted DEFAULT = new Wanted(0, Unit.ZHAO);
+    /** The lower case, and units up to {@link NumeralUnit#ZHAO}, as in everyday sentences. */
+    public static final Wanted DEFAULT = new Wanted(0, NumeralUnit.ZHAO);
 
     final int upper;
-    final Unit greatest;
+    final NumeralUnit greatest;
 
-    private Wanted(int upper, Unit greatest) {
+    private Wanted(int upper, NumeralUnit greatest) {
         this.upper = upper;
         this.greatest = requireNonNull(greatest, "greatest");
     }
@@ -21,7 +21,7 @@ public final class Wanted {
     }
 
     /** The same with units up to another one. */
-    public Wanted withGreatest(Unit greatest) {
+    public Wanted withGreatest(NumeralUnit greatest) {
         return new Wanted(upper, greatest);
     }
 }

@@ -5,11 +5,11 @@ package chinesenumber;
  *
  * @param <T> an {@code Integer}, or a {@link Quantity} for a range
  */
-public final class Pair<T> {
+public final class ValuePair<T> {
     private final T first;
     private final T second;
 
-    Pair(T first, T second) {
+    ValuePair(T first, T second) {
         this.first = first;
         this.second = second;
     }
@@ -26,8 +26,8 @@ public final class Pair<T> {
 
     @Override
     public boolean equals(Object other) {
-        return other instanceof Pair && first.equals(((Pair<?>) other).first)
-            && second.equals(((Pair<?>) other).second);
+        return other instanceof ValuePair && first.equals(((ValuePair<?>) other).first)
+            && second.equals(((ValuePair<?>) other).second);
     }
 
     @Override
