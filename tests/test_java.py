@@ -8,7 +8,7 @@ from pathlib import Path
 
 import pytest
 
-from questions import wrong_answers
+from questions import lines, wrong_answers
 from running import ENVIRONMENT, TOP, fail, needs, once, run, write
 
 JAVA, OWN = TOP / "bindings/java", TOP / "tests/java"
@@ -21,8 +21,13 @@ import wasm
 
 HEADER = (TOP / "bindings/c/chinese_number.h").read_text(encoding="utf-8")
 MODULE = (TOP / "dist/chinese-number.32.wasm").read_bytes()
-# How the virtual machine runs the code: with both compilers, with the first one, and with none.
-MODES = {"as usual": (), "C1": ("-XX:TieredStopAtLevel=1",), "no compiler": ("-Xint",)}
+# How the virtual machine runs the code: with both compilers, with the first one, and with none; and
+# how many rounds of threads there are.
+MODES = {
+    "as usual": ("8",),
+    "C1": ("2", "-XX:TieredStopAtLevel=1"),
+    "no compiler": ("1", "-Xint"),
+}
 BRIEF = ("-XX:TieredStopAtLevel=1", "-XX:+UseSerialGC", "-Dfile.encoding=UTF-8")
 
 
@@ -48,14 +53,20 @@ def test_answers(classes):
     assert wrong_answers(lambda asked: java(classes, "Answers", stdin=asked)) == []
 
 
+def test_lines(classes):
+    rows = list(lines())
+    asked = "".join(f"{line}\n" for _, line, _ in rows)
+    assert java(classes, "Limits", "lines", stdin=asked).splitlines() == [it[2] for it in rows]
+
+
 @pytest.mark.parametrize("mode", MODES)
 def test_limits(classes, mode):
-    rounds = "1" if mode == "no compiler" else "20"
-    java(classes, "Limits", rounds, mode=("-Xmx300m", *MODES[mode]), wanted="")
+    rounds, *words = MODES[mode]
+    java(classes, "Limits", rounds, mode=("-Xmx300m", *words), wanted="")
 
 
 # An example in a comment, and its value.
-EXAMPLE = re.compile(r"\{@code ([^}]*)\} is ([^\s,;]+?)[.,]?(?: |$)", re.M)
+EXAMPLE = re.compile(r"\{@code ([^}]*)\} is (?:\{@code ([^}]*)\}|([^\s,;]+?)[.,]?(?: |$))", re.M)
 EXAMPLES = """\
 import static chinesenumber.ChineseNumbers.*;
 import chinesenumber.*;
@@ -80,7 +91,9 @@ def test_examples(classes, tmp_path):
     write(tmp_path / "Examples.java", EXAMPLES.format(calls))
     words = ("javac", *build_jar.BRIEF, "-encoding", "UTF-8", "-cp", classes, "-d", tmp_path)
     run(*words, "Examples.java", cwd=tmp_path)
-    assert java(f"{classes}:{tmp_path}", "Examples") == "".join(f"{it[2]}\n" for it in found)
+    assert java(f"{classes}:{tmp_path}", "Examples") == "".join(
+        f"{it[2] or it[3]}\n" for it in found
+    )
 
 
 # The parameters of the calls, and how many of what a pointer leads to there are.

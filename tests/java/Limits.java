@@ -28,12 +28,12 @@ import java.util.stream.Collectors;
 
 /**
  * Tests of the Java binding beside its answers. The argument is how many rounds of threads there
- * are.
+ * are, or {@code lines} for the answer to each line of the input.
  */
 public final class Limits {
     private static final List<String> PARAMETERS = Arrays.asList("text", "way", "kind", "number",
         "style", "yuan", "form", "date", "script", "method", "wanted", "options", "replacement",
-        "input", "locale", "status");
+        "input", "locale", "status", "line");
 
     private static void same(Object found, Object wanted) {
         if (!found.equals(wanted)) {
@@ -145,6 +145,23 @@ public final class Limits {
         illegal(() -> quantitiesToFigures("一", compact), "quantitiesToFigures has no option compact");
         illegal(() -> replaceQuantities("一", it -> "", compact), "replaceQuantities has no option compact");
         illegal(() -> TextOptions.DEFAULT.withMethod(Way.DIGITS), "DIGITS is no method of quantities");
+    }
+
+    private static void lines() {
+        same(answerLine("print u128 naive traditional lower 123"), "ok 一二三");
+        same(answerLine(new StringBuilder("read u8 any")), "bad line");
+        same(answerLine("read u64 naive \ud800"), "err the chinese number is incorrect (position: 0)");
+        char[] zeros = new char[200_000];
+        Arrays.fill(zeros, '零');
+        same(answerLine("read u128 naive " + new String(zeros) + "五"), "ok 5");
+    }
+
+    private static void answerLines() throws Exception {
+        StringBuilder answers = new StringBuilder();
+        for (String line : new String(System.in.readAllBytes(), "UTF-8").split("\n")) {
+            answers.append(answerLine(line)).append('\n');
+        }
+        System.out.write(answers.toString().getBytes("UTF-8"));
     }
 
     private static void illegal(Runnable call, String wanted) {
@@ -276,7 +293,7 @@ public final class Limits {
     }
 
     /**
-     * Four million characters are searched, some of them rewritten; then no room for them is kept.
+     * Four million characters are searched, some of them rewritten; then their memory is free again.
      */
     private static void longText() {
         String part = "市值三点五亿元，占12.5%。";
@@ -295,6 +312,10 @@ public final class Limits {
     }
 
     public static void main(String[] words) throws Exception {
+        if (words[0].equals("lines")) {
+            answerLines();
+            return;
+        }
         int rounds = Integer.parseInt(words[0]);
         yuan();
         numbers();
@@ -302,6 +323,7 @@ public final class Limits {
         quantities();
         places();
         texts();
+        lines();
         messages();
         nulls();
         threads(rounds);

@@ -777,8 +777,8 @@ public final class ChineseNumbers {
 
     /**
      * Answers a line as the program {@code numeral} does: {@code answerLine("print u8 naive simple
-     * lower 12")} is ok 一二, and what is no question has the answer {@code bad line}. The page
-     * docs/RULES.md of the repository defines the questions.
+     * lower 12")} is {@code ok 一二}. What is no question has the answer {@code bad line}. The page
+     * docs/RULES.md of the repository defines questions and answers.
      */
     public static String answerLine(CharSequence line) {
         Instance instance = Instance.with(requireNonNull(line, "line"), Codes.MOST_ANSWER_BYTES);
