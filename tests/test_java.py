@@ -189,6 +189,20 @@ def test_refused(tmp_path, text):
         core.classes(module_of(tmp_path, AROUND.format(text)))
 
 
+def test_unknown_refused():
+    """Each instruction and each section that is not known is refused; each that is known is written."""
+    for code in {*range(256), *range(0xFC00, 0xFC20)} - {0xFC, *wasm.NAMES}:
+        data = bytes([code] if code < 256 else [0xFC, code & 0xFF])
+        with pytest.raises(SystemExit, match=f"the instruction {code:#x} is not known"):
+            wasm.nodes_of(wasm.Bytes(data + b"\x0b"))
+    for kind in {*range(256)} - {*wasm.Module.SECTIONS}:
+        with pytest.raises(SystemExit, match=f"a section of the kind {kind} is not known"):
+            wasm.Module(MODULE[:8] + bytes([kind, 0]))
+    writers, families = core.Method.WRITERS, core.Method.FAMILIES
+    for name in {*wasm.NAMES.values()} - {"end", *writers}:
+        assert core.FAMILY.match(name)[1] in families
+
+
 def test_large_method_refused(tmp_path):
     needs("javac 9")
     steps = "".join(f"n += n * {number};" for number in range(1200))

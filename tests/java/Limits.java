@@ -293,7 +293,7 @@ public final class Limits {
     }
 
     /**
-     * Four million characters are searched, some of them rewritten; then their memory is free again.
+     * Four million characters are searched, some of them rewritten; then their memory is free.
      */
     private static void longText() {
         String part = "市值三点五亿元，占12.5%。";

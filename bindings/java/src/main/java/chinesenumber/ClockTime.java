@@ -31,7 +31,7 @@ public final class ClockTime {
         return second;
     }
 
-    /** The hour of 24, which is 24 at the end of a day; nothing if it is not known. */
+    /** The hour of the day, which is 24 at its end; empty if it is not known, as for 三点半. */
     public OptionalInt hourOfDay() {
         return hourOfDay;
     }

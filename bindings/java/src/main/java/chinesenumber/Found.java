@@ -12,17 +12,17 @@ public abstract class Found {
         this.flags = flags;
     }
 
-    /** Its own text. */
+    /** The part of the text that was found. */
     public final String text() {
         return place.text;
     }
 
-    /** Where it starts in the {@code CharSequence}, as {@code subSequence} takes it. */
+    /** The index of its start in the {@code CharSequence}, as {@code subSequence} takes it. */
     public final int start() {
         return place.start;
     }
 
-    /** Where it ends, likewise. */
+    /** The index after its end, likewise. */
     public final int end() {
         return place.start + place.text.length();
     }
@@ -37,7 +37,7 @@ public abstract class Found {
         return place.charStart + place.text.codePointCount(0, place.text.length());
     }
 
-    /** Whether it continues on neither side: 二十三 of 第二十三回 stands alone, 4 of A4 does not. */
+    /** Whether it stands alone, as 二十三 of 第二十三回 does and 4 of A4 does not. */
     public final boolean standsAlone() {
         return has(Codes.STANDS_ALONE);
     }
@@ -73,7 +73,7 @@ public abstract class Found {
         return text();
     }
 
-    /** Where something is in a text. */
+    /** A place in a text: its own text, and where this starts in UTF-16 and in characters. */
     static final class Place {
         final String text;
         final int start;

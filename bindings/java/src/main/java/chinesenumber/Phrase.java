@@ -15,8 +15,8 @@ import java.util.Optional;
  * the day is not known, as for 三点半;
  * <li>of a duration: a {@link java.time.Duration};
  * <li>of a half or a length: a {@link Quantity}, 1.5 for 一个半小时 and 1.75 for 一米七五;
- * <li>of years, months or days: a {@link ValuePair} of the first and the last as {@code Integer}s, of a
- * score of the two numbers;
+ * <li>of years, months or days: a {@link ValuePair} of the first and the last as {@code Integer}s,
+ * of a score of the two numbers;
  * <li>of a range: a {@link ValuePair} of quantities, 30000 and 50000 for 三到五万.
  * </ul>
  */
@@ -43,7 +43,7 @@ public final class Phrase extends Found {
         return state;
     }
 
-    /** What it means, or nothing if it is {@link PhraseState#REFUSED}, as 二月三十日 is. */
+    /** What it means; empty if it is {@link PhraseState#REFUSED}, as 二月三十日 is. */
     @Override
     public Optional<?> value() {
         return Optional.ofNullable(value);

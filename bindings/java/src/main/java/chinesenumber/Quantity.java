@@ -110,7 +110,7 @@ public final class Quantity {
         return new BigDecimal(numerator).divide(new BigDecimal(denominator));
     }
 
-    /** The value if it is a whole number: 35000 for 3.5万, nothing for 3.5. */
+    /** The value if it is a whole number: 35000 for 3.5万, empty for 3.5. */
     public Optional<BigInteger> toWhole() {
         BigInteger[] both = numerator.divideAndRemainder(denominator);
         return both[1].signum() == 0 ? Optional.of(both[0]) : Optional.empty();
