@@ -96,6 +96,25 @@ def test_examples(classes, tmp_path):
     )
 
 
+FROM_KOTLIN = """\
+(120, 十万五千)
+壹佰貳拾
+壹仟肆佰零玖元伍角整
+15:30
+占百分之十二点五
+INCORRECT 3 第3个字“贰”前缺“零”。
+text
+"""
+
+
+@pytest.mark.by_hand
+def test_kotlin(classes, tmp_path):
+    needs("kotlinc")
+    words = ("-cp", classes, OWN / "Use.kt", "-include-runtime", "-d", "use.jar")
+    run("kotlinc", *words, cwd=tmp_path)
+    assert java(f"{classes}:{tmp_path}/use.jar", "UseKt") == FROM_KOTLIN
+
+
 # The parameters of the calls, and how many of what a pointer leads to there are.
 CALL = re.compile(r"^uint32_t (chinese_\w+)\(([^)]*)\);", re.M)
 COUNT = re.compile(r"size_t (\w*length|most)$")
