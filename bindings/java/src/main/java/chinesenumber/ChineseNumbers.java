@@ -773,6 +773,19 @@ public final class ChineseNumbers {
         return instance.printed(TEXT);
     }
 
+    /** The code of the language for a locale. */
+    private static int language(Locale locale) {
+        if (!requireNonNull(locale, "locale").getLanguage().equals("zh")) {
+            return Language.ENGLISH.ordinal();
+        }
+        String script = locale.getScript();
+        boolean isTraditional =
+            script.isEmpty() ? TRADITIONAL.contains(locale.getCountry()) : script.equals("Hant");
+        Language chinese =
+            isTraditional ? Language.TRADITIONAL_CHINESE : Language.SIMPLIFIED_CHINESE;
+        return chinese.ordinal();
+    }
+
     // Lines.
 
     /**
@@ -785,18 +798,5 @@ public final class ChineseNumbers {
         Core.chinese_number_answer_line(instance, TEXT, instance.textBytes, instance.buffer(),
             Codes.MOST_ANSWER_BYTES, LENGTH);
         return instance.printed(instance.buffer());
-    }
-
-    /** The code of the language for a locale. */
-    private static int language(Locale locale) {
-        if (!requireNonNull(locale, "locale").getLanguage().equals("zh")) {
-            return Language.ENGLISH.ordinal();
-        }
-        String script = locale.getScript();
-        boolean isTraditional =
-            script.isEmpty() ? TRADITIONAL.contains(locale.getCountry()) : script.equals("Hant");
-        Language chinese =
-            isTraditional ? Language.TRADITIONAL_CHINESE : Language.SIMPLIFIED_CHINESE;
-        return chinese.ordinal();
     }
 }

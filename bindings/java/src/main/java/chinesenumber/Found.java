@@ -1,5 +1,7 @@
 package chinesenumber;
 
+import static java.util.Objects.requireNonNull;
+
 import java.util.Optional;
 
 /** What is found in a text: a {@link FoundNumber}, a {@link FoundQuantity} or a {@link Phrase}. */
@@ -64,7 +66,7 @@ public abstract class Found {
      * with its year.
      */
     public final <T> Optional<T> value(Class<T> type) {
-        java.util.Objects.requireNonNull(type, "type");
+        requireNonNull(type, "type");
         return value().filter(type::isInstance).map(type::cast);
     }
 

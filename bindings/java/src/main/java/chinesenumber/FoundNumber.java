@@ -1,5 +1,7 @@
 package chinesenumber;
 
+import static java.util.Objects.requireNonNull;
+
 import java.math.BigInteger;
 import java.util.Optional;
 
@@ -40,7 +42,7 @@ public final class FoundNumber extends Found {
      * @throws ChineseNumberException if its text is refused
      */
     public BigInteger bigInteger(Way way) {
-        java.util.Objects.requireNonNull(way, "way");
+        requireNonNull(way, "way");
         return ChineseNumbers.toBigInteger(text(), way(way));
     }
 
