@@ -65,7 +65,8 @@ def test_limits(classes, mode):
     java(classes, "Limits", rounds, mode=("-Xmx300m", *words), wanted="")
 
 
-# An example in a comment, and its value.
+# An example in a comment, and its value; and one in the comment of the class, in a line.
+IN_LINE = re.compile(r"^ \* ([a-z]\w*\(.*\)) {2,}()(\S+)$", re.M)
 EXAMPLE = re.compile(r"\{@code ([^}]*)\} is (?:\{@code ([^}]*)\}|([^\s,;]+?)[.,]?(?: |$))", re.M)
 EXAMPLES = """\
 import static chinesenumber.ChineseNumbers.*;
@@ -82,11 +83,18 @@ class Examples {{
 
 
 def test_examples(classes, tmp_path):
-    """Each call has an example in its comment, with its value."""
-    text = (JAVA / "src/main/java/chinesenumber/ChineseNumbers.java").read_text(encoding="utf-8")
+    """Each call has an example in its comment, with its value; the classes have more."""
+    folder = JAVA / "src/main/java/chinesenumber"
+    text, *others = [
+        (folder / f"{it}.java").read_text("utf-8")
+        for it in ("ChineseNumbers", "Quantity", "Repair")
+    ]
     comments = re.findall(r"/\*\*((?:(?!\*/).)*)\*/\s+public static (?!final)", text, re.S)
     found = [EXAMPLE.search(re.sub(r"\s+\*? *", " ", it)) for it in comments]
     assert None not in found and len(found) > 50
+    more = EXAMPLE.finditer(re.sub(r"\s+\*? *", " ", "".join(others)))
+    found += [*IN_LINE.finditer(text), *more]
+    assert len(found) == len(comments) + 7 + 6
     calls = "".join(f"        System.out.println({it[1]});\n" for it in found)
     write(tmp_path / "Examples.java", EXAMPLES.format(calls))
     words = ("javac", *build_jar.BRIEF, "-encoding", "UTF-8", "-cp", classes, "-d", tmp_path)

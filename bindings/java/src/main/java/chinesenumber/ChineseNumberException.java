@@ -16,6 +16,9 @@ import java.util.Optional;
  *     refusal.messageIn(Locale.SIMPLIFIED_CHINESE);      // 第3个字“贰”前缺“零”。
  * }
  * }</pre>
+ *
+ * <p>It keeps the refused text, also when it is serialized, so that messages and repairs can be
+ * composed later.
  */
 public final class ChineseNumberException extends IllegalArgumentException {
     private static final long serialVersionUID = 1;
@@ -98,10 +101,11 @@ public final class ChineseNumberException extends IllegalArgumentException {
 
     /**
      * The message for the person who typed the text: why it is refused, and how it can be repaired
-     * if a change of one character does that. If no text was read, it says what the status means.
+     * if a change of one character does that. If no text was read, as by {@code yuanToChinese(new
+     * BigDecimal("-15"))}, it says what the status means, without a place.
      *
-     * <p>Chinese locales have messages in simplified or traditional characters, all others in
-     * English. The message is composed by each call.
+     * <p>The language is that of {@link ChineseNumbers#inputMessage}. The message is composed by
+     * each call.
      */
     public String messageIn(Locale locale) {
         Objects.requireNonNull(locale, "locale");

@@ -8,6 +8,7 @@ import static java.util.Objects.requireNonNull;
 
 import java.math.BigDecimal;
 import java.math.BigInteger;
+import java.math.RoundingMode;
 import java.time.LocalDate;
 import java.util.Arrays;
 import java.util.HashSet;
@@ -35,12 +36,15 @@ import java.util.stream.Stream;
  * <p>Any number of threads may call at once. No argument and no result is null; a null argument is
  * refused by a {@link NullPointerException} that names it. What cannot be read or written is
  * refused by a {@link ChineseNumberException}. An unpaired surrogate is a character that is in no
- * numeral.
+ * numeral. A text of more than about 700 million {@code char}s is refused by an {@link
+ * IllegalArgumentException}.
  */
 public final class ChineseNumbers {
     private static final String VERSION = "0.1.0";
     private static final int MOST_PLACES = 17;
     private static final int MOST_SCALE = 100;
+    /** Chinese, and Mandarin and Cantonese by their own codes. */
+    private static final Set<String> CHINESE = new HashSet<>(Arrays.asList("zh", "cmn", "yue"));
     /** Where Chinese is written in traditional characters. */
     private static final Set<String> TRADITIONAL = new HashSet<>(Arrays.asList("TW", "HK", "MO"));
 
@@ -202,12 +206,17 @@ public final class ChineseNumbers {
 
     /** The text that was printed at {@code TEXT}. Throws if the status is a refusal. */
     static String printed(Instance instance, int code) {
+        requireDone(instance, code);
+        return instance.printed(TEXT);
+    }
+
+    /** Releases the instance and throws if the status of what was written is a refusal. */
+    static void requireDone(Instance instance, int code) {
         if (code != 0) {
             instance.release();
             Status status = Status.values()[code];
             throw new ChineseNumberException(status, ChineseNumberException.textOf(status));
         }
-        return instance.printed(TEXT);
     }
 
     // Amounts of money.
@@ -305,7 +314,7 @@ public final class ChineseNumbers {
 
     /**
      * Reads an amount of money in capitals, in fen: {@code chineseToAmount("壹拾伍元整")} is 1500.
-     * {@link #fenToYuan} converts them to yuan.
+     * {@link #chineseToYuan} reads it in yuan.
      *
      * @throws ChineseNumberException if the text is no amount; white space is refused like any
      *     other character
@@ -344,6 +353,45 @@ public final class ChineseNumbers {
     }
 
     /**
+     * Reads an amount of money in capitals, in yuan: {@code chineseToYuan("壹拾伍元伍角")} is 15.50.
+     *
+     * @throws ChineseNumberException as {@link #chineseToAmount} does
+     */
+    public static BigDecimal chineseToYuan(CharSequence text) {
+        return fenToYuan(chineseToAmount(text));
+    }
+
+    /**
+     * Reads an amount that may be negative, in yuan: {@code chineseToSignedYuan("负壹拾伍元整")} is
+     * -15.00.
+     *
+     * @throws ChineseNumberException as {@link #chineseToSignedAmount} does
+     */
+    public static BigDecimal chineseToSignedYuan(CharSequence text) {
+        return fenToYuan(chineseToSignedAmount(text));
+    }
+
+    /**
+     * Reads an amount as people type it, in yuan: {@code chineseToYuanAsTyped("⊗ 人民币：壹拾 伍元整")} is
+     * 15.00.
+     *
+     * @throws ChineseNumberException as {@link #chineseToAmountAsTyped} does
+     */
+    public static BigDecimal chineseToYuanAsTyped(CharSequence text) {
+        return fenToYuan(chineseToAmountAsTyped(text));
+    }
+
+    /**
+     * Reads an amount that may be negative, as people type it or copy it from an invoice, in yuan:
+     * {@code chineseToSignedYuanAsTyped("⊗（负数）壹拾伍元整")} is -15.00.
+     *
+     * @throws ChineseNumberException as {@link #chineseToSignedAmountAsTyped} does
+     */
+    public static BigDecimal chineseToSignedYuanAsTyped(CharSequence text) {
+        return fenToYuan(chineseToSignedAmountAsTyped(text));
+    }
+
+    /**
      * The fen of figures in yuan, exactly: {@code yuanToFen("¥1,409.50")} is 140950.
      *
      * @throws ChineseNumberException for any other text, such as 1.005, and for 10^16 yuan or more
@@ -357,15 +405,31 @@ public final class ChineseNumbers {
      * The fen of an amount in yuan, exactly: {@code yuanToFen(new BigDecimal("15.5"))} is 1550.
      *
      * @throws ChineseNumberException as for the same figures in a text: if the amount has parts of
-     *     a fen, or is too large
+     *     a fen, or is too large. The place of a refusal counts in {@code
+     *     yuan.stripTrailingZeros().toPlainString()}, of which up to 100 decimals are looked at.
      */
     public static long yuanToFen(BigDecimal yuan) {
-        BigDecimal exact = requireNonNull(yuan, "yuan").stripTrailingZeros();
-        if ((long) exact.precision() - exact.scale() > MOST_PLACES) {
-            throw new ChineseNumberException(Status.TOO_LARGE, Codes.TOO_LARGE_TEXT);
+        return yuanToFen(plain(requireNonNull(yuan, "yuan")));
+    }
+
+    /**
+     * The amount in plain figures. Where these could take all memory, as for 1E+1000000000 and
+     * 1E-1000000000, they are those of another amount, which is refused for the same reason: one
+     * that is too large, or the first decimals and a 1 after them.
+     */
+    private static String plain(BigDecimal yuan) {
+        BigDecimal sign = BigDecimal.valueOf(yuan.signum());
+        if (yuan.scale() < -MOST_SCALE) {
+            return sign.scaleByPowerOfTen(MOST_PLACES).toPlainString();
         }
-        // In plain figures 1E-1000000000 would take all memory.
-        return yuanToFen(exact.scale() > MOST_SCALE ? exact.toString() : exact.toPlainString());
+        BigDecimal exact = yuan.stripTrailingZeros();
+        if (exact.scale() <= MOST_SCALE) {
+            return exact.toPlainString();
+        }
+        boolean isTiny = exact.precision() < exact.scale() - MOST_SCALE;
+        BigDecimal first =
+            isTiny ? BigDecimal.ZERO : exact.setScale(MOST_SCALE, RoundingMode.DOWN);
+        return first.add(sign.scaleByPowerOfTen(-MOST_SCALE - 1)).toPlainString();
     }
 
     /** The yuan of an amount in fen: {@code fenToYuan(140950)} is 1409.50. */
@@ -697,8 +761,12 @@ public final class ChineseNumbers {
     /**
      * The message for the person who typed a text, for example an amount: why it is refused, with a
      * repair if one is found. {@code inputMessage("壹佰贰元整", Input.AMOUNT, Locale.CHINA)} is
-     * 第3个字“贰”前缺“零”。 It is empty if the text is right. A Chinese locale has messages in
-     * simplified or traditional characters, any other in English.
+     * 第3个字“贰”前缺“零”。 It is empty if the text is right.
+     *
+     * <p>The languages {@code zh}, {@code cmn} and {@code yue} have messages in Chinese, any other
+     * in English. Traditional characters are those of the script {@code Hant} and, where the locale
+     * names neither {@code Hant} nor {@code Hans}, of the countries TW, HK and MO, and of {@code
+     * yue} except in CN.
      */
     public static String inputMessage(CharSequence text, Input input, Locale locale) {
         int inputCode = requireNonNull(input, "input").ordinal();
@@ -775,12 +843,15 @@ public final class ChineseNumbers {
 
     /** The code of the language for a locale. */
     private static int language(Locale locale) {
-        if (!requireNonNull(locale, "locale").getLanguage().equals("zh")) {
+        String name = requireNonNull(locale, "locale").getLanguage();
+        if (!CHINESE.contains(name)) {
             return Language.ENGLISH.ordinal();
         }
         String script = locale.getScript();
-        boolean isTraditional =
-            script.isEmpty() ? TRADITIONAL.contains(locale.getCountry()) : script.equals("Hant");
+        String country = locale.getCountry();
+        boolean isUsual =
+            name.equals("yue") ? !country.equals("CN") : TRADITIONAL.contains(country);
+        boolean isTraditional = script.equals("Hant") || isUsual && !script.equals("Hans");
         Language chinese =
             isTraditional ? Language.TRADITIONAL_CHINESE : Language.SIMPLIFIED_CHINESE;
         return chinese.ordinal();

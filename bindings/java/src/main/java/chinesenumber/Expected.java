@@ -1,7 +1,10 @@
 package chinesenumber;
 
+import java.util.Arrays;
+import java.util.List;
+
 /** What may come next in a text after its longest part, from the start, that begins an input. */
-public final class Expected {
+public final class Expected extends Value {
     private final int charIndex;
     private final int index;
     private final boolean mayEnd;
@@ -30,7 +33,10 @@ public final class Expected {
         return index;
     }
 
-    /** Whether that part is complete, so that the text may end there: 壹佰元整 is, 壹佰元 is not. */
+    /**
+     * Whether that part is complete, so that the text may end there: 壹佰元整 is, 壹佰元 is not. A number
+     * that may end can still be too large, as 10000000000000000 yuan in figures are.
+     */
     public boolean mayEnd() {
         return mayEnd;
     }
@@ -43,6 +49,11 @@ public final class Expected {
     /** The characters that may come next, each once: 壹贰叁 and so on for an empty amount. */
     public String characters() {
         return characters;
+    }
+
+    @Override
+    List<?> parts() {
+        return Arrays.asList(charIndex, index, mayEnd, whiteSpace, characters);
     }
 
     @Override

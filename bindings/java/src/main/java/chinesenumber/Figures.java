@@ -21,10 +21,11 @@ final class Figures {
         long bufferBytes = 3L * requireNonNull(text, "text").length() + Codes.MOST_FIGURES_BYTES;
         while (true) {
             Instance instance = Instance.with(text, bufferBytes);
-            int status = call.write(instance, TEXT, instance.textBytes, options.wanted.upper,
+            int status = call.write(instance, TEXT, instance.textBytes, options.wanted.upper(),
                 options.wanted.greatest.ordinal(), options.method.ordinal(), options.flags,
                 instance.buffer(), bufferBytes, LENGTH);
-            if (status == 0) {
+            if (status != Status.NO_ROOM.ordinal()) {
+                ChineseNumbers.requireDone(instance, status);
                 return withSurrogates(instance.printed(instance.buffer()), text);
             }
             bufferBytes = instance.getLong(LENGTH);

@@ -2,10 +2,16 @@ package chinesenumber;
 
 import static java.util.Objects.requireNonNull;
 
+import java.util.Arrays;
+import java.util.List;
 import java.util.Optional;
 
-/** What is found in a text: a {@link FoundNumber}, a {@link FoundQuantity} or a {@link Phrase}. */
-public abstract class Found {
+/**
+ * What is found in a text: a {@link FoundNumber}, a {@link FoundQuantity} or a {@link Phrase}. Two
+ * are equal if they are of one class, at the same place, and have the same text and all that is
+ * known of it.
+ */
+public abstract class Found extends Value {
     private final Place place;
     final int flags;
 
@@ -70,6 +76,12 @@ public abstract class Found {
         return value().filter(type::isInstance).map(type::cast);
     }
 
+    @Override
+    List<?> parts() {
+        return Arrays.asList(place.text, place.start, place.charStart, flags);
+    }
+
+    /** Its text. */
     @Override
     public String toString() {
         return text();

@@ -1,5 +1,7 @@
 package chinesenumber;
 
+import java.util.Arrays;
+import java.util.List;
 import java.util.Optional;
 
 /**
@@ -47,5 +49,10 @@ public final class Phrase extends Found {
     @Override
     public Optional<?> value() {
         return Optional.ofNullable(value);
+    }
+
+    @Override
+    List<?> parts() {
+        return Arrays.asList(super.parts(), kind, state, value);
     }
 }

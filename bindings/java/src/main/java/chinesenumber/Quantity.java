@@ -5,15 +5,23 @@ import static chinesenumber.Instance.RESULT;
 import static chinesenumber.Instance.TEXT;
 import static java.util.Objects.requireNonNull;
 
+import java.io.Serializable;
 import java.math.BigDecimal;
 import java.math.BigInteger;
+import java.util.Arrays;
+import java.util.List;
 import java.util.Optional;
 
 /**
  * An exact quantity, as it is written and not reduced: 12.5% is 125/1000 of {@link
  * QuantityForm#PERCENT}. It is immutable.
+ *
+ * <p>Two are equal if they have the same numerator, denominator and form: 50% does not equal 0.5.
+ * To compare values use {@link #toBigDecimal} or, for fractions such as 1/3 too, each numerator
+ * times the denominator of the other one.
  */
-public final class Quantity {
+public final class Quantity extends Value implements Serializable {
+    private static final long serialVersionUID = 1;
     static final QuantityForm[] FORMS = QuantityForm.values();
     private static final int MOST_DIGITS = 39;
     private static final BigInteger HUNDRED = BigInteger.valueOf(100);
@@ -24,24 +32,25 @@ public final class Quantity {
 
     /**
      * A quantity of its numbers: {@code new Quantity(BigInteger.ONE, BigInteger.valueOf(3),
-     * QuantityForm.FRACTION)} is 三分之一.
+     * QuantityForm.FRACTION)} is 1/3.
      *
-     * @throws ChineseNumberException if the denominator is 0, or a number has more than 128 bits
+     * @throws ChineseNumberException {@link Status#NOT_A_QUANTITY} if the denominator is 0 or
+     *     below, {@link Status#NOT_HELD} if a number has more than 128 bits
      */
     public Quantity(BigInteger numerator, BigInteger denominator, QuantityForm form) {
         requireNonNull(numerator, "numerator");
-        requireNonNull(denominator, "denominator");
+        if (requireNonNull(denominator, "denominator").signum() <= 0) {
+            throw new ChineseNumberException(Status.NOT_A_QUANTITY, denominator.signum() == 0
+                ? Codes.NOT_A_QUANTITY_TEXT : "the denominator is below 0");
+        }
         this.numerator = ChineseNumbers.requireFits(numerator, Kind.I128);
         this.denominator = ChineseNumbers.requireFits(denominator, Kind.U128);
         this.form = requireNonNull(form, "form");
-        if (denominator.signum() == 0) {
-            throw new ChineseNumberException(Status.NOT_A_QUANTITY, Codes.NOT_A_QUANTITY_TEXT);
-        }
     }
 
     /**
      * A whole number or a decimal, with the decimals that it has: {@code Quantity.of(new
-     * BigDecimal("3.10"))} is 三点一零.
+     * BigDecimal("3.10")).toChinese()} is 三点一零.
      *
      * @throws ChineseNumberException if the number or its decimals have more than 128 bits
      */
@@ -49,13 +58,13 @@ public final class Quantity {
         return of(requireNonNull(number, "number"), 0, QuantityForm.DECIMAL);
     }
 
-    /** A whole number: {@code Quantity.of(35)} is 三十五. */
+    /** A whole number: {@code Quantity.of(35).toChinese()} is 三十五. */
     public static Quantity of(long number) {
         return of(BigDecimal.valueOf(number));
     }
 
     /**
-     * A percentage: {@code Quantity.ofPercent(new BigDecimal("12.5"))} is 百分之十二点五.
+     * A percentage: {@code Quantity.ofPercent(new BigDecimal("12.5"))} is 12.5%.
      *
      * @throws ChineseNumberException if the number or its decimals have more than 128 bits
      */
@@ -64,9 +73,9 @@ public final class Quantity {
     }
 
     /**
-     * A fraction: {@code Quantity.ofFraction(1, 3)} is 三分之一.
+     * A fraction: {@code Quantity.ofFraction(1, 3).toChinese()} is 三分之一.
      *
-     * @throws ChineseNumberException if the denominator is not above 0
+     * @throws ChineseNumberException {@link Status#NOT_A_QUANTITY} if the denominator is 0 or below
      */
     public static Quantity ofFraction(long numerator, long denominator) {
         BigInteger below = BigInteger.valueOf(denominator);
@@ -102,7 +111,7 @@ public final class Quantity {
     }
 
     /**
-     * The value: 35000 for 3.5万, 0.125 for 12.5%.
+     * The value: 35000 for 3.5万, 0.125 for 12.5%. Zeros at the end are not kept: 3.1 for 3.10.
      *
      * @throws ArithmeticException if it has no end, as 1/3
      */
@@ -165,7 +174,7 @@ public final class Quantity {
 
     /**
      * Writes the quantity in figures, without zeros at the end of its decimals: 35000 for 3.5万,
-     * 12.5%, 1/3.
+     * 12.5%, 1/3. {@link ChineseNumbers#toQuantity} does not read a fraction in such figures.
      */
     public String toFigures() {
         Instance instance = Instance.acquire();
@@ -175,20 +184,14 @@ public final class Quantity {
         return ChineseNumbers.printed(instance, status);
     }
 
-    /** Whether another one has the same numerator, denominator and form. */
     @Override
-    public boolean equals(Object other) {
-        if (!(other instanceof Quantity)) {
-            return false;
-        }
-        Quantity it = (Quantity) other;
-        return numerator.equals(it.numerator) && denominator.equals(it.denominator)
-            && form == it.form;
+    List<?> parts() {
+        return Arrays.asList(numerator, denominator, form);
     }
 
-    @Override
-    public int hashCode() {
-        return 31 * (31 * numerator.hashCode() + denominator.hashCode()) + form.hashCode();
+    /** What is read back goes through the constructor, which refuses what is no quantity. */
+    private Object readResolve() {
+        return new Quantity(numerator, denominator, form);
     }
 
     /** The quantity in figures. */

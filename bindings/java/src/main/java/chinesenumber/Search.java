@@ -16,7 +16,6 @@ import java.time.LocalDate;
 import java.time.LocalTime;
 import java.util.ArrayList;
 import java.util.List;
-import java.util.OptionalInt;
 
 /**
  * A search of a text, which is searched to its end at once, since an instance serves one call.
@@ -24,7 +23,6 @@ import java.util.OptionalInt;
 final class Search<T extends Found> {
     private static final PhraseKind[] KINDS = PhraseKind.values();
     private static final PhraseState[] STATES = PhraseState.values();
-    private static final int NO_HOUR = 255;
     private static final int LEAST_YEAR = 1000;
 
     /** A call of the module that writes up to {@code most} spans or phrases, and their count. */
@@ -58,7 +56,7 @@ final class Search<T extends Found> {
     }
 
     List<T> findAll(CharSequence text, Wanted wanted) {
-        int upper = requireNonNull(wanted, "wanted").upper;
+        int upper = requireNonNull(wanted, "wanted").upper();
         int greatest = wanted.greatest.ordinal();
         Instance instance = Instance.with(text);
         List<T> all = new ArrayList<>();
@@ -154,8 +152,7 @@ final class Search<T extends Found> {
         if (hourOfDay < 24) {
             return LocalTime.of(hourOfDay, minute, second);
         }
-        OptionalInt known = hourOfDay == NO_HOUR ? OptionalInt.empty() : OptionalInt.of(hourOfDay);
-        return new ClockTime(hour, minute, second, known);
+        return new ClockTime(hour, minute, second, hourOfDay);
     }
 
     private static Quantity length(int number, int decimals, int count) {

@@ -1,11 +1,17 @@
 package chinesenumber;
 
+import java.io.Serializable;
+import java.util.Arrays;
+import java.util.List;
+
 /**
  * Two values of a phrase, such as the first and the last year of 2020至2025年.
  *
  * @param <T> an {@code Integer}, or a {@link Quantity} for a range
  */
-public final class ValuePair<T> {
+public final class ValuePair<T extends Serializable> extends Value implements Serializable {
+    private static final long serialVersionUID = 1;
+
     private final T first;
     private final T second;
 
@@ -25,14 +31,8 @@ public final class ValuePair<T> {
     }
 
     @Override
-    public boolean equals(Object other) {
-        return other instanceof ValuePair && first.equals(((ValuePair<?>) other).first)
-            && second.equals(((ValuePair<?>) other).second);
-    }
-
-    @Override
-    public int hashCode() {
-        return 31 * first.hashCode() + second.hashCode();
+    List<?> parts() {
+        return Arrays.asList(first, second);
     }
 
     @Override
