@@ -733,6 +733,12 @@ static void expect_range(const cn_phrase *it) {
            "a link in the range");
 }
 
+static void expect_money(const cn_phrase *it) {
+    uint64_t fen = ((uint64_t)it->second << 32) + it->first;
+    expect(it->third <= 1 && it->fourth == 0, "a sum with fen, or without");
+    expect(it->third == 1 ? fen < 1000000000000000000 : fen == 0, "fen below 10^18, or no fen");
+}
+
 static void expect_numbers(const cn_phrase *it) {
     int has_numbers = (it->first | it->second | it->third | it->fourth) != 0;
     int is_date = it->kind == CN_PHRASE_KIND_DATE, has_month = (it->fourth & 2) != 0;
@@ -754,6 +760,8 @@ static void expect_numbers(const cn_phrase *it) {
     if (it->kind == CN_PHRASE_KIND_YEARS || it->kind == CN_PHRASE_KIND_MONTHS
         || it->kind == CN_PHRASE_KIND_DAYS)
         expect(it->first < it->second, "the second is greater");
+    if (it->kind == CN_PHRASE_KIND_MONEY)
+        expect_money(it);
 }
 
 /* Each expression is a phrase's or an item itself; phrases are searched in parts too. */
@@ -766,7 +774,7 @@ static void try_phrases(const search *expressions, search *items) {
            == CN_DONE) {
         expect(items->count < MOST_OF_DRAFT, "no more phrases than bytes");
         items->spans[items->count++] = cn_span_of(&next);
-        expect(next.kind <= CN_PHRASE_KIND_RANGE && next.state <= CN_PHRASE_STATE_REFUSED, "a kind and a state");
+        expect(next.kind <= CN_PHRASE_KIND_MONEY && next.state <= CN_PHRASE_STATE_REFUSED, "a kind and a state");
         expect_numbers(&next);
         expect(next.kind == CN_PHRASE_KIND_RANGE || next.split == 0, "no link in other phrases");
         if (next.kind == CN_PHRASE_KIND_RANGE)
