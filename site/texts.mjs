@@ -161,6 +161,7 @@ export const TEXTS = {
   phrase_length: ['度量', '度量', 'measure'],
   phrase_score: ['比分', '比分', 'score'],
   phrase_range: ['范围', '範圍', 'range'],
+  phrase_money: ['金额', '金額', 'money'],
   year: ['{value}年', '{value}年', 'year {value}'],
   month: ['{value}月', '{value}月', 'month {value}'],
   day: ['{value}日', '{value}日', 'day {value}'],

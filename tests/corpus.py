@@ -6,9 +6,9 @@ money, which may stay unchanged; the sentence; what an editor makes of it (alter
 `|`, where `=` is the unchanged sentence); and the values that a reader understands
 (`EXPRESSION=VALUE`, where `?` means no value).
 
-`phrases.tsv` has sentences with dates, times, durations, ranges and scores, in the same columns but
-without `D`. A value has its unit; a date is 2026-01-05 or ????-01-05, and a time 15:30, or ?3:30 if it
-is not known in which half of the day it is.
+`phrases.tsv` has sentences with dates, times, durations, ranges and scores, and `money.tsv` sentences
+with sums of money, in the same columns but without `D`. A value has its unit; a date is 2026-01-05 or
+????-01-05, and a time 15:30, or ?3:30 if it is not known in which half of the day it is.
 """
 import re
 from collections import Counter
@@ -24,6 +24,7 @@ BARS = {
     "text_to_figures": {"all": (94, 3), "other": (91, 5)},
 }
 COUNT_OF_BARS = sum(map(len, BARS.values()))
+WITH_PHRASES = ("phrases", "money")
 FORMS = {"percent": "%", "fraction": "/"}
 # A phrase in an answer: its kind, its state, its text and its value.
 PHRASE = re.compile(r"(\w+) (\w+) (.+?) (\S+(?: =\S+)?)")
@@ -38,14 +39,14 @@ def sentences(name="corpus"):
 
 def questions():
     """The questions for each sentence: the text in figures, without phrases and with them, its
-    quantities and their doubts; for a sentence of phrases.tsv the text in figures and its phrases.
+    quantities and their doubts; for a sentence with phrases the text in figures and its phrases.
     """
     for _, _, _, sentence, _, _ in sentences():
         yield ["quantities_to_figures", "none", sentence]
         yield ["text_to_figures", "none", sentence]
         yield ["find_quantities", sentence]
         yield ["doubts", sentence]
-    for _, _, sentence, _, _ in sentences("phrases"):
+    for _, _, sentence, _, _ in chain.from_iterable(map(sentences, WITH_PHRASES)):
         yield ["text_to_figures", "none", sentence]
         yield ["phrases", sentence]
 
@@ -87,7 +88,7 @@ def judged_values(sentence, values, quantities, doubts):
 
 
 def in_words(kind, value):
-    """The value of a phrase that is no decimal and no range, as phrases.tsv has it."""
+    """The value of a phrase that is no decimal and no range, as the sentences have it."""
     parts = value.split("-" if kind == "date" else ":")
     if kind == "date":
         widths = zip(parts, (4, 2, 2))
@@ -156,16 +157,17 @@ def report(said):
     """The lines of the report, by genre and in total, and the bars that are missed. `said` has an
     answer for each question."""
     answers = chain((line[3:] if line.startswith("ok ") else "" for line in said), repeat(""))
-    rows, values = {name: [] for name in BARS}, {"corpus.tsv": Counter(), "phrases.tsv": Counter()}
+    rows, values = {name: [] for name in BARS}, {it: Counter() for it in ("corpus", *WITH_PHRASES)}
     without, with_phrases = rows.values()
     for *row, meant in sentences():
         without.append((*row, next(answers)))
         with_phrases.append((*row[:2], "-", *row[3:], next(answers)))
-        values["corpus.tsv"].update(judged_values(row[3], meant, next(answers), next(answers)))
-    for hand, genre, *row, meant in sentences("phrases"):
-        with_phrases.append((hand, genre, "-", *row, next(answers)))
-        values["phrases.tsv"].update(judged_phrases(meant, next(answers)))
+        values["corpus"].update(judged_values(row[3], meant, next(answers), next(answers)))
+    for name in WITH_PHRASES:
+        for hand, genre, *row, meant in sentences(name):
+            with_phrases.append((hand, genre, "-", *row, next(answers)))
+            values[name].update(judged_phrases(meant, next(answers)))
     texts = {name: count_texts(its) for name, its in rows.items()}
     lines = [f"    {name}, {it}: {rate(texts[name][it])}" for name in texts for it in texts[name]]
-    lines += [f"    {name}, values: {rate(its)}" for name, its in values.items()]
+    lines += [f"    {name}.tsv, values: {rate(its)}" for name, its in values.items()]
     return lines, [it for name in texts for it in missed(name, texts[name])]

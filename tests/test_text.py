@@ -12,7 +12,7 @@ from itertools import product
 
 import pytest
 
-from corpus import sentences
+from corpus import WITH_PHRASES, sentences
 from running import TOP
 from test_python import module_over
 
@@ -43,7 +43,8 @@ def test_model(library, models):
 @pytest.mark.parametrize("options", [{}, {"compact": True}])
 def test_lines(library, options):
     """Each line of a text is rewritten by itself, and stays when it is rewritten again."""
-    lines = [it[3] for it in sentences()] + [it[2] for it in sentences("phrases")]
+    lines = [it[3] for it in sentences()]
+    lines += [it[2] for name in WITH_PHRASES for it in sentences(name)]
     written = [library.text_to_figures(it, **options) for it in lines]
     assert library.text_to_figures("\n".join(lines), **options) == "\n".join(written)
     assert library.text_to_figures("\n".join(written), **options) == "\n".join(written)

@@ -162,8 +162,8 @@ struct Included {
 
 /* How text_to_figures and quantities_to_figures write. With `expanded` 三千五百亿 becomes 350000000000,
  * otherwise 3500亿. With `canonical` what is only figures is rewritten in ASCII, without commas and
- * leading zeros. With `compact` text_to_figures writes dates, times and halves as short as possible:
- * 2026-01-05, 15:30, 1.5小时. */
+ * leading zeros. With `compact` text_to_figures writes dates, times, halves and sums of money as short as
+ * possible: 2026-01-05, 15:30, 1.5小时, 3.5元. */
 struct Figures {
     bool expanded = false;
     bool canonical = false;
@@ -926,7 +926,8 @@ inline Numbers find_quantities(std::string_view text, Wanted wanted = {}) {
 }
 
 /* Finds the phrases of a text, and its expressions that are in no phrase: dates, times of day,
- * durations, ranges, scores, halves and lengths. There are none if the bytes are not UTF-8.
+ * durations, ranges, scores, halves, lengths and sums of money. There are none if the bytes are not
+ * UTF-8.
  *
  *     for (const Item item : find_phrases(text))
  *         if (const auto *phrase = std::get_if<Phrase>(&item); phrase && phrase->value)
@@ -1000,7 +1001,7 @@ Result<std::string> in_figures(Call call, std::string_view text, Wanted wanted, 
 } // namespace detail
 
 /* Rewrites a text in figures, as an editor does, with its dates, times, durations, ranges, scores,
- * lengths and quantities: 二零二六年一月五日下午三点半，三到五万元 becomes 2026年1月5日下午3点半，3万到5万元.
+ * lengths, sums of money and quantities: 二零二六年一月五日下午三点半，三到五万元 becomes 2026年1月5日下午3点半，3万到5万元.
  * chinese_text_to_figures documents what stays as it is. The error is Status::not_utf8 if the bytes
  * are not UTF-8, and Status::unknown for Way::digits. */
 inline Result<std::string> text_to_figures(std::string_view text, Wanted wanted = {}, Way method = Way::any,

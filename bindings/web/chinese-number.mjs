@@ -1603,8 +1603,8 @@ function* foundIn(string, spans, Item) {
  * Finds the phrases of a text, and its expressions that are in none: in '一月五日下午三点半，二十人' the
  * date 一月五日, the time 下午三点半 and the expression 二十.
  *
- * Phrases are dates, times of day, durations, ranges, scores, halves and lengths. Yields a `Phrase`
- * for each of them, with its `kind` and `value`, and for each of these expressions the same as
+ * Phrases are dates, times of day, durations, ranges, scores, halves, lengths and sums of money.
+ * Yields a `Phrase` for each of them, with its `kind` and `value`, and for each of these expressions the same as
  * `findQuantities`. Throws a TypeError as that does.
  *
  * @param {string} string
@@ -1806,9 +1806,9 @@ export function quantitiesToFigures(string, options = NO_OPTIONS) {
  * It rewrites the phrases that `findPhrases` finds, whose words stay, and the other expressions as
  * `quantitiesToFigures` does. These stay too: phrases without a value, as 二月三十日; doubtful phrases,
  * unless `doubtful` is true; and halves after one Chinese character, as 一个半小时, unless
- * `oneCharacter` is true. `compact` writes whole dates, times whose hour of 24 is known, and all
- * halves as short as possible: '2026-01-05 15:30', '1.5小时'. Throws a TypeError as `findQuantities`
- * does.
+ * `oneCharacter` is true. `compact` writes whole dates, times whose hour of 24 is known, halves, and
+ * sums of money with 角 or 分 as short as possible: '2026-01-05 15:30', '1.5小时', '3.5元'. Throws a
+ * TypeError as `findQuantities` does.
  *
  * @param {string} string
  * @param {TextOptions} options

@@ -79,8 +79,8 @@ find     writes LINE:CHARACTER TEXT NUMBER for each quantity in standard input, 
    --numbers        finds whole numbers instead: 3 and 5万 in 3.5万
 replace  writes the arguments, or standard input, with their numerals in figures, 市值三点五亿元 as
          市值3.5亿元
-   --phrases        includes dates, times, durations, ranges, scores and lengths: 一月五日下午三点半
-                    becomes 1月5日下午3点半
+   --phrases        includes dates, times, durations, ranges, scores, lengths and sums of money:
+                    一月五日下午三点半，三块五 becomes 1月5日下午3点半，3块5
    --about          includes approximate numbers, as in 三百多
    --one-character  includes numbers of one Chinese character, as in 一般
    --doubtful       includes numbers that may mean something else, as 五一

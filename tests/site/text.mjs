@@ -41,7 +41,7 @@ async function findsQuantities(page) {
 }
 
 // Phrases, each with its class, and what is said of it in each language.
-const MEETING = '二零二六年一月五日下午三点半，三到五万元，一个半小时，二月三十日，五到八折，三比二，二十人';
+const MEETING = '二零二六年一月五日下午三点半，三到五万元，一个半小时，二月三十日，五到八折，三比二，三块五，二十人';
 const PHRASES = [
   ['二零二六年一月五日', '', '日期：2026年1月5日', '日期：2026年1月5日', 'date: year 2026 month 1 day 5'],
   ['下午三点半', '', '时刻：15:30:00', '時刻：15:30:00', 'time: 15:30:00'],
@@ -49,7 +49,8 @@ const PHRASES = [
   ['一个半小时', 'left', '带半的数：1.5', '帶半的數：1.5', 'half: 1.5'],
   ['二月三十日', 'fault', '没有这样的日期', '沒有這樣的日期', 'not a valid date'],
   ['五到八', 'left', '范围：5–8？', '範圍：5–8？', 'range: 5–8?'],
-  ['三比二', '', '比分：3:2', '比分：3:2', 'score: 3:2'], ['二十', '', '20', '20', '20'],
+  ['三比二', '', '比分：3:2', '比分：3:2', 'score: 3:2'],
+  ['三块五', '', '金额：3.50', '金額：3.50', 'money: 3.50'], ['二十', '', '20', '20', '20'],
 ];
 
 // They are listed with their kind and value, and the text has them in figures.
@@ -60,11 +61,11 @@ async function findsPhrases(page) {
     assert.deepEqual(await page.all('#found mark', '[it.textContent, it.className]'),
       PHRASES.map(([it, name, ...said]) => [`${it} ${said[at]}`, name]));
   }
-  const anew = '2026年1月5日下午3点半，3万到5万元，一个半小时，二月三十日，五到八折，3比2，20人';
-  assert.deepEqual(await told(page), ['Found: 8 · not replaced: 2 · refused: 1', anew]);
+  const anew = '2026年1月5日下午3点半，3万到5万元，一个半小时，二月三十日，五到八折，3比2，3块5，20人';
+  assert.deepEqual(await told(page), ['Found: 9 · not replaced: 2 · refused: 1', anew]);
   await page.check('doubtful', true);
   await page.check('oneCharacter', true);
-  assert.deepEqual(await told(page), ['Found: 8 · doubtful: 1 · refused: 1',
+  assert.deepEqual(await told(page), ['Found: 9 · doubtful: 1 · refused: 1',
     anew.replace('一个', '1个').replace('五到八', '5到8')]);
   await page.check('oneCharacter', false);
   await page.check('doubtful', false);

@@ -1198,8 +1198,8 @@ def find_quantities(
 def find_phrases(
     text: str, *, upper: bool = False, greatest: Union[Unit, _UnitWord] = Unit.ZHAO
 ) -> Iterator[Union[Phrase, FoundQuantity]]:
-    """Finds the phrases of a text, in order: dates, times of day, durations, halves, lengths, scores
-    and ranges. Between them are the expressions that are in no phrase, as find_quantities finds
+    """Finds the phrases of a text, in order: dates, times of day, durations, halves, lengths, scores,
+    ranges and sums of money. Between them are the expressions that are in no phrase, as find_quantities finds
     them. upper and greatest are as in find_numbers.
 
     >>> [(found.start, found.text) for found in find_phrases('一月五日下午三点半，三到五万元，二十人')]
@@ -1327,8 +1327,8 @@ def text_to_figures(
     canonical: bool = False,
     compact: bool = False,
 ) -> str:
-    """Rewrites the dates, times, durations, ranges, scores, lengths and numerals of a text in figures.
-    The words of a phrase stay.
+    """Rewrites the dates, times, durations, ranges, scores, lengths, sums of money and numerals of a
+    text in figures. The words of a phrase stay.
 
     >>> text_to_figures('二零二六年一月五日下午三点半，三到五万元，占百分之十二点五')
     '2026年1月5日下午3点半，3万到5万元，占12.5%'
@@ -1342,10 +1342,11 @@ def text_to_figures(
     >>> text_to_figures('五到八折，一个半小时', doubtful=True, one_character=True)
     '5到8折，1个半小时'
 
-    compact writes whole dates, times whose hour of 24 is known, and halves as short as possible.
+    compact writes whole dates, times whose hour of 24 is known, halves, and sums of money with 角 or 分
+    as short as possible.
 
-    >>> text_to_figures('二零二六年一月五日下午三点半，一个半小时', compact=True)
-    '2026-01-05 15:30，1.5小时'
+    >>> text_to_figures('二零二六年一月五日下午三点半，一个半小时，三块五', compact=True)
+    '2026-01-05 15:30，1.5小时，3.5元'
     """
     options = about, one_character, doubtful, expanded, canonical, compact
     return _in_figures(_library.text_to_figures, text, upper, greatest, method, *options)

@@ -214,7 +214,7 @@ pub struct Phrases<'a> {
 }
 
 /// Finds the phrases of a text, in order, and the expressions that are in no phrase: dates, times of
-/// day, durations, ranges, scores, halves and lengths.
+/// day, durations, ranges, scores, halves, lengths and sums of money.
 ///
 /// ```rust
 /// use chinese_number::{find_phrases, PhraseKind, PhraseValue, Quantity, Wanted};

@@ -60,8 +60,8 @@ pub struct Figures {
     pub style: Style,
     /// Whether what is only figures is rewritten in ASCII, without commas and leading zeros.
     pub canonical: bool,
-    /// Whether [`text_to_figures`] writes dates, times and halves as short as possible: 2026-01-05,
-    /// 15:30, 1.5小时.
+    /// Whether [`text_to_figures`] writes dates, times, halves and sums of money as short as possible:
+    /// 2026-01-05, 15:30, 1.5小时, 3.5元.
     pub compact: bool,
 }
 
@@ -143,7 +143,7 @@ pub fn quantities_to_figures(
 }
 
 /// Rewrites a text in figures, as an editor does, with its dates, times, durations, ranges, scores,
-/// lengths and quantities. The words of a phrase stay.
+/// lengths, sums of money and quantities. The words of a phrase stay.
 ///
 /// These stay too: what [`quantities_to_figures`] does not rewrite; phrases that are refused, such as
 /// 二月三十日; and doubtful phrases, and halves after one character, such as 一个半小时, unless they are

@@ -74,8 +74,8 @@ public final class TextOptions extends Value implements Serializable {
     }
 
     /**
-     * Writes dates, times and halves as short as possible: 2026-01-05 15:30, 1.5小时. Only {@link
-     * ChineseNumbers#textToFigures} has this option.
+     * Writes dates, times, halves and sums of money as short as possible: 2026-01-05 15:30, 1.5小时,
+     * 3.5元. Only {@link ChineseNumbers#textToFigures} has this option.
      */
     public TextOptions withCompact() {
         return with(Codes.COMPACT);
