@@ -1199,8 +1199,8 @@ def find_phrases(
     text: str, *, upper: bool = False, greatest: Union[Unit, _UnitWord] = Unit.ZHAO
 ) -> Iterator[Union[Phrase, FoundQuantity]]:
     """Finds the phrases of a text, in order: dates, times of day, durations, halves, lengths, scores,
-    ranges and sums of money. Between them are the expressions that are in no phrase, as find_quantities finds
-    them. upper and greatest are as in find_numbers.
+    ranges and sums of money. Between them are the expressions that are in no phrase, as
+    find_quantities finds them. upper and greatest are as in find_numbers.
 
     >>> [(found.start, found.text) for found in find_phrases('一月五日下午三点半，三到五万元，二十人')]
     [(0, '一月五日'), (4, '下午三点半'), (10, '三到五万'), (16, '二十')]
