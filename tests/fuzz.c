@@ -764,7 +764,8 @@ static void expect_numbers(const cn_phrase *it) {
         expect_money(it);
 }
 
-/* Each expression is a phrase's or an item itself; phrases are searched in parts too. */
+/* Each expression is a phrase's or an item itself, but a sum ends in one in 三块八一斤; phrases are searched
+ * in parts too. */
 static void try_phrases(const search *expressions, search *items) {
     cn_phrase next = {0, 0, 0, 0, 0, 0, 0, 0, 0, 0};
     const char *text = (const char *)now.text;
@@ -781,8 +782,8 @@ static void try_phrases(const search *expressions, search *items) {
             expect_range(&next);
         if (next.kind == CN_PHRASE_KIND_EXPRESSION)
             expect(expression < end && is_same_span(*expression, cn_span_of(&next)), "the next expression");
-        while (expression < end && expression->start < next.end)
-            expect(expression++->end <= next.end, "an expression in the phrase");
+        for (; expression < end && expression->start < next.end; expression++)
+            expect(expression->end <= next.end || next.kind == CN_PHRASE_KIND_MONEY, "an expression in the phrase");
     }
     expect(expression == end, "all expressions");
 }

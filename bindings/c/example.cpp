@@ -215,6 +215,8 @@ void values_of_phrases() {
     const Quantity half = {cn_unsigned(15), cn_unsigned(10), QuantityForm::decimal};
     const Quantity length = {cn_unsigned(175), cn_unsigned(100), QuantityForm::decimal};
     expect("a half", value_of<Quantity>("一个半小时") == half && value_of<Quantity>("一米七五") == length);
+    const Quantity sum = {cn_unsigned(500000000000), cn_unsigned(100), QuantityForm::decimal};
+    expect("a sum of money", value_of<Quantity>("五十亿元") == sum && !value_of<Quantity>("3.555元"));
     const auto range = value_of<std::pair<Quantity, Quantity>>("三到五万元");
     expect("a range", range && range->first.to_whole<int>() == 30000 && range->second.to_whole<int>() == 50000);
 }

@@ -1029,15 +1029,15 @@ function refuseNoReplacements() {
   }), failure);
 }
 
-const RUNNING_PHRASES = Array.from('一二三十百万零半两年月日号点分秒时刻周上下午个小米到至比 2635:-%，。多\n😀\ufffd\ud800');
-const FORMS = ['二零二六年', '一月', '五日', '下午', '三点', '小时', '到五万', '百分之三', '3:2', '2026-01-15'];
+const RUNNING_PHRASES = Array.from('一二三十百万零半两年月日号点分秒时刻周上下午个小米到至比元块毛角钱斤 2635:-%，。多\n😀\ufffd\ud800');
+const FORMS = ['二零二六年', '一月', '五日', '下午', '三点', '小时', '到五万', '百分之三', '3:2', '2026-01-15', '三块五'];
 
 // Whether the parts of a text, in order, are apart.
 const areApart = (items) => items.every((it, at) => at === 0 || items[at - 1].end <= it.start);
 const touches = ({ start, end }) => (it) => start < it.end && it.start < end;
 
 // The expressions in no phrase are those of findQuantities of which no phrase has a part; each
-// phrase has a value unless it is refused.
+// phrase has a value unless it is refused, or is a sum that is no whole number of fen.
 function comparePhrasesOf(text) {
   const wanted = { upper: below(2) === 1, greatest: one(UNITS) };
   const items = Array.from(findPhrases(text, wanted));
@@ -1049,7 +1049,8 @@ function comparePhrasesOf(text) {
   assert.deepEqual(items.filter((it) => it instanceof FoundQuantity), others, text);
   for (const { kind, state, value } of phrases) {
     assert(PHRASE_KINDS.includes(kind) && PHRASE_STATES.includes(state));
-    assert.equal(value === null, state === 'refused', text);
+    if (kind === 'money') assert(value === null || value.denominator === 100n, text);
+    else assert.equal(value === null, state === 'refused', text);
     if (kind === 'range' && value) assert(value.every((it) => it instanceof Quantity), text);
   }
   keepsAllElse(text, textToFigures(text, { ...wanted, ...styleOfSome() }));
@@ -1073,7 +1074,9 @@ const PHRASES = [
   ['一个半小时', 'half certain "1.5"'], ['一米七五', 'length certain "1.75"'],
   ['三比二', 'score certain [3,2]'], ['三到五万', 'range certain ["30000","50000"]'],
   ['3-5%', 'range certain ["3%","5%"]'], ['五到三', 'range refused null'],
-  ['五到三万', 'range certain ["5","30000"]'],
+  ['五到三万', 'range certain ["5","30000"]'], ['三块五毛二', 'money certain "3.52"'],
+  ['五元', 'money doubtful "5.00"'], ['3.555元', 'money certain null'],
+  ['九十九万亿元', 'money certain "99000000000000.00"'],
 ];
 
 function tryPhrases() {

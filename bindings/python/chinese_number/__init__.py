@@ -1078,7 +1078,7 @@ class Phrase:
     HALF, LENGTH: a Decimal, such as 1.5 for 一个半小时 and 1.75 for 一米七五.
     SCORE: the two numbers.
     RANGE: the two quantities.
-    MONEY: a Decimal of yuan, such as 3.5 for 三块五; None if that is no whole number of fen below 10^18.
+    MONEY: a Decimal of yuan, such as 3.50 for 三块五; None if that is no whole number of fen below 10^18.
 
     state is DOUBTFUL if the phrase may mean something else. If it is REFUSED, the value is None.
 
@@ -1124,7 +1124,7 @@ def _length_of(whole: int, decimals: int, places: int, _: int) -> Decimal:
 
 
 def _money_of(low: int, high: int, is_known: int, _: int) -> Optional[Decimal]:
-    return Decimal((high << 32) + low) / 100 if is_known else None
+    return Decimal(f"{(high << 32) + low}E-2") if is_known else None
 
 
 def _pair_of(first: int, last: int, *_: int) -> Tuple[int, int]:

@@ -55,6 +55,9 @@ fn values_of_numbers() {
     assert_eq!(value("一个半小时"), Some(PhraseValue::Half(decimal(15, 1))));
     assert_eq!(value("一米七五"), Some(PhraseValue::Length(decimal(175, 2))));
     assert_eq!(value("一米七"), Some(PhraseValue::Length(decimal(17, 1))));
+    assert_eq!(value("三块五毛二"), Some(PhraseValue::Money(decimal(352, 2))));
+    assert_eq!(value("五十亿元"), Some(PhraseValue::Money(decimal(500_000_000_000, 2))));
+    assert_eq!(value("3.555元"), None);
     for text in ["三到五万元", "3~5万元"] {
         let range = PhraseValue::Range(decimal(30_000, 0), decimal(50_000, 0));
         assert_eq!(value(text), Some(range), "{text}");
