@@ -74,6 +74,7 @@ enum class PhraseKind : std::uint32_t {
     years = CN_PHRASE_KIND_YEARS, months = CN_PHRASE_KIND_MONTHS, days = CN_PHRASE_KIND_DAYS,
     time = CN_PHRASE_KIND_TIME, duration = CN_PHRASE_KIND_DURATION, half = CN_PHRASE_KIND_HALF,
     length = CN_PHRASE_KIND_LENGTH, score = CN_PHRASE_KIND_SCORE, range = CN_PHRASE_KIND_RANGE,
+    money = CN_PHRASE_KIND_MONEY,
 };
 
 /* What is known of a phrase. */
@@ -161,8 +162,8 @@ struct Included {
 
 /* How text_to_figures and quantities_to_figures write. With `expanded` 三千五百亿 becomes 350000000000,
  * otherwise 3500亿. With `canonical` what is only figures is rewritten in ASCII, without commas and
- * leading zeros. With `compact` text_to_figures writes dates, times and halves as short as possible:
- * 2026-01-05, 15:30, 1.5小时. */
+ * leading zeros. With `compact` text_to_figures writes dates, times, halves and sums of money as short as
+ * possible: 2026-01-05, 15:30, 1.5小时, 3.5元. */
 struct Figures {
     bool expanded = false;
     bool canonical = false;
@@ -749,7 +750,8 @@ struct ClockTime {
  * - time: a ClockTime;
  * - duration: seconds;
  * - half and length: a Quantity, 15/10 for 一个半小时, and 175/100 for 一米七五;
- * - range: a pair of quantities. */
+ * - range: a pair of quantities;
+ * - money: a Quantity of yuan, 350/100 for 三块五; none if it is no whole number of fen below 10^18. */
 using PhraseValue = std::variant<Date, PartialDate, std::pair<std::uint32_t, std::uint32_t>, ClockTime,
                                  std::chrono::seconds, Quantity, std::pair<Quantity, Quantity>>;
 
@@ -800,6 +802,14 @@ inline Quantity decimal_of(std::uint32_t whole, std::uint32_t decimals, std::uin
     return {cn_unsigned(whole * power + decimals), cn_unsigned(power), QuantityForm::decimal};
 }
 
+/* A sum of money in yuan, if its fen are known. */
+inline std::optional<PhraseValue> money_of(const cn_phrase &read) {
+    const std::uint64_t fen = (std::uint64_t(read.second) << 32) + read.first;
+    if (read.third == 0)
+        return std::nullopt;
+    return Quantity{cn_unsigned(fen), cn_unsigned(100), QuantityForm::decimal};
+}
+
 inline std::optional<PhraseValue> range_of(std::string_view text, const cn_phrase &read) {
     cn_quantity low, high;
     if (cn_read_range(text.data(), &read, &low, &high) != CN_DONE)
@@ -823,6 +833,8 @@ inline std::optional<PhraseValue> value_of(std::string_view text, const cn_phras
         return decimal_of(read.first, read.second, read.third);
     if (kind == PhraseKind::range)
         return range_of(text, read);
+    if (kind == PhraseKind::money)
+        return money_of(read);
     return std::pair(read.first, read.second);
 }
 
@@ -914,7 +926,8 @@ inline Numbers find_quantities(std::string_view text, Wanted wanted = {}) {
 }
 
 /* Finds the phrases of a text, and its expressions that are in no phrase: dates, times of day,
- * durations, ranges, scores, halves and lengths. There are none if the bytes are not UTF-8.
+ * durations, ranges, scores, halves, lengths and sums of money. There are none if the bytes are not
+ * UTF-8.
  *
  *     for (const Item item : find_phrases(text))
  *         if (const auto *phrase = std::get_if<Phrase>(&item); phrase && phrase->value)
@@ -988,7 +1001,7 @@ Result<std::string> in_figures(Call call, std::string_view text, Wanted wanted, 
 } // namespace detail
 
 /* Rewrites a text in figures, as an editor does, with its dates, times, durations, ranges, scores,
- * lengths and quantities: 二零二六年一月五日下午三点半，三到五万元 becomes 2026年1月5日下午3点半，3万到5万元.
+ * lengths, sums of money and quantities: 二零二六年一月五日下午三点半，三到五万元 becomes 2026年1月5日下午3点半，3万到5万元.
  * chinese_text_to_figures documents what stays as it is. The error is Status::not_utf8 if the bytes
  * are not UTF-8, and Status::unknown for Way::digits. */
 inline Result<std::string> text_to_figures(std::string_view text, Wanted wanted = {}, Way method = Way::any,

@@ -238,6 +238,9 @@ typedef enum cn_phrase_kind CN_OF_CODE {
     CN_PHRASE_KIND_SCORE = 9,
     /* From a quantity to another one. */
     CN_PHRASE_KIND_RANGE = 10,
+    /* A sum of money, as 三块五: the fen by their lower and their upper 32 bits, and 1; all 0 if
+     * they are no whole number below 10^18. */
+    CN_PHRASE_KIND_MONEY = 11,
 } cn_phrase_kind;
 
 /* What is known of a phrase. */
@@ -400,8 +403,8 @@ typedef enum cn_flag CN_OF_CODE {
 #define CN_EXPANDED 32u
 /* What is only figures becomes ASCII without commas and leading zeros: １,２８０ becomes 1280. */
 #define CN_CANONICAL 64u
-/* Dates, times and halves become as short as possible: 2026-01-05, 15:30, 1.5小时; only for
- * chinese_text_to_figures. */
+/* Dates, times, halves and sums of money become as short as possible: 2026-01-05, 15:30, 1.5小时,
+ * 3.5元; only for chinese_text_to_figures. */
 #define CN_COMPACT 128u
 
 /* How long the texts are that are written. These do not count the zero byte that cn_print,
@@ -602,7 +605,9 @@ uint32_t chinese_quantities_to_figures(const uint8_t *text, size_t text_length, 
  * - a duration: the hours, the minutes, the seconds;
  * - a half: the number without the half;
  * - a length: the number before its decimals, the decimals, and how many decimals there are;
- * - a score: the two numbers. */
+ * - a score: the two numbers;
+ * - a sum of money: the fen by their lower and their upper 32 bits, and 1; all 0 if they are no whole
+ *   number below 10^18. */
 typedef struct cn_phrase {
     size_t start;
     size_t end;
@@ -635,13 +640,13 @@ uint32_t chinese_phrase_find_utf8(const uint8_t *text, size_t text_length, size_
 uint32_t chinese_range_read(const uint8_t *first, size_t first_length, const uint8_t *second, size_t second_length,
                             cn_quantity *low, cn_quantity *high);
 
-/* Rewrites a text in UTF-8, with its dates, times, durations, ranges, scores, lengths and quantities in
- * figures: 二零二六年一月五日下午三点半，三到五万元 becomes 2026年1月5日下午3点半，3万到5万元. The words of a phrase stay.
- * `options` is as for chinese_quantities_to_figures; doubtful phrases, and halves after one Chinese
- * character, as in 一个半小时, stay unless it has CN_DOUBTFUL or CN_ONE_CHARACTER. A phrase without value
- * stays. With CN_COMPACT whole dates, times whose hour of 24 is known, and all halves are as short as
- * possible: 2026-01-05 15:30, 1.5小时. The length, the buffer and the statuses are those of
- * chinese_quantities_to_figures, on which CN_COMPACT has no effect. */
+/* Rewrites a text in UTF-8, with its dates, times, durations, ranges, scores, lengths, sums of money
+ * and quantities in figures: 二零二六年一月五日下午三点半，三到五万元 becomes 2026年1月5日下午3点半，3万到5万元. The words of a
+ * phrase stay. `options` is as for chinese_quantities_to_figures; doubtful phrases, and halves after one
+ * Chinese character, as in 一个半小时, stay unless it has CN_DOUBTFUL or CN_ONE_CHARACTER. A phrase that is
+ * refused stays. With CN_COMPACT whole dates, times whose hour of 24 is known, all halves, and sums of
+ * money with 角 or 分 are as short as possible: 2026-01-05 15:30, 1.5小时, 3.5元. The length, the buffer and
+ * the statuses are those of chinese_quantities_to_figures, on which CN_COMPACT has no effect. */
 uint32_t chinese_text_to_figures(const uint8_t *text, size_t text_length, uint32_t upper, uint32_t greatest,
                                  uint32_t method, uint32_t options, uint8_t *room, size_t room_length, size_t *length);
 

@@ -135,10 +135,12 @@ export const DOUBTS: readonly [
  * are).
  * - 'score': two numbers that are compared.
  * - 'range': from a quantity to another one.
+ * - 'money': a sum of money, as 三块五: the fen by their lower and their upper 32 bits, and 1; all
+ * 0 if they are no whole number below 10^18.
  */
 export const PHRASE_KINDS: readonly [
   'expression', 'date', 'years', 'months', 'days', 'time', 'duration', 'half', 'length', 'score',
-  'range',
+  'range', 'money',
 ];
 
 /**
@@ -261,6 +263,7 @@ export type PhraseValues = {
   length: Quantity;
   score: [one: number, other: number];
   range: [low: Quantity, high: Quantity];
+  money: Quantity;
 };
 export type AnyPhrase = { [Name in PhraseKind]: Phrase<Name> }[PhraseKind];
 export type Place = { charIndex: number; start: number; end: number };
@@ -1001,7 +1004,8 @@ export class FoundQuantity extends Span {
  * - 'duration': { hours, minutes, seconds };
  * - 'half', 'length': a Quantity, 1.5 for 一个半小时 and 1.75 for 一米七五;
  * - 'score': the two numbers;
- * - 'range': the two Quantities, 30000 and 50000 for 三到五万.
+ * - 'range': the two Quantities, 30000 and 50000 for 三到五万;
+ * - 'money': a Quantity of yuan, 3.50 for 三块五; null if it is no whole number of fen below 10^18.
  *
  * @template {PhraseKind} Name
  */

@@ -157,10 +157,12 @@ export const DOUBTS = Object.freeze(/** @type {const} */ ([
  * are).
  * - 'score': two numbers that are compared.
  * - 'range': from a quantity to another one.
+ * - 'money': a sum of money, as 三块五: the fen by their lower and their upper 32 bits, and 1; all
+ * 0 if they are no whole number below 10^18.
  */
 export const PHRASE_KINDS = Object.freeze(/** @type {const} */ ([
   'expression', 'date', 'years', 'months', 'days', 'time', 'duration', 'half', 'length', 'score',
-  'range',
+  'range', 'money',
 ]));
 
 /**
@@ -369,7 +371,7 @@ const HAS = {
  * @typedef {{
  *   date: PartialDate, years: FirstAndLast, months: FirstAndLast, days: FirstAndLast,
  *   time: ClockTime, duration: Duration, half: Quantity, length: Quantity,
- *   score: [one: number, other: number], range: [low: Quantity, high: Quantity],
+ *   score: [one: number, other: number], range: [low: Quantity, high: Quantity], money: Quantity,
  * }} PhraseValues
  * @typedef {{ [Name in PhraseKind]: Phrase<Name> }[PhraseKind]} AnyPhrase
  * @typedef {{ charIndex: number, start: number, end: number }} Place
@@ -1502,7 +1504,8 @@ export class FoundQuantity extends Span {
  * - 'duration': { hours, minutes, seconds };
  * - 'half', 'length': a Quantity, 1.5 for 一个半小时 and 1.75 for 一米七五;
  * - 'score': the two numbers;
- * - 'range': the two Quantities, 30000 and 50000 for 三到五万.
+ * - 'range': the two Quantities, 30000 and 50000 for 三到五万;
+ * - 'money': a Quantity of yuan, 3.50 for 三块五; null if it is no whole number of fen below 10^18.
  *
  * @template {PhraseKind} Name
  */
@@ -1600,8 +1603,8 @@ function* foundIn(string, spans, Item) {
  * Finds the phrases of a text, and its expressions that are in none: in '一月五日下午三点半，二十人' the
  * date 一月五日, the time 下午三点半 and the expression 二十.
  *
- * Phrases are dates, times of day, durations, ranges, scores, halves and lengths. Yields a `Phrase`
- * for each of them, with its `kind` and `value`, and for each of these expressions the same as
+ * Phrases are dates, times of day, durations, ranges, scores, halves, lengths and sums of money.
+ * Yields a `Phrase` for each of them, with its `kind` and `value`, and for each of these expressions the same as
  * `findQuantities`. Throws a TypeError as that does.
  *
  * @param {string} string
@@ -1686,6 +1689,8 @@ const VALUES = {
   length: ([number, decimals, count]) => Quantity.decimal(number * 10 ** count + decimals, count),
   score: firstTwo,
   range: (_, half) => rangeAt(half),
+  money: ([low, high, isKnown]) =>
+    isKnown ? Quantity.decimal((BigInt(high >>> 0) << 32n) + BigInt(low >>> 0), 2) : null,
 };
 
 /** @param {number[]} numbers */
@@ -1801,9 +1806,9 @@ export function quantitiesToFigures(string, options = NO_OPTIONS) {
  * It rewrites the phrases that `findPhrases` finds, whose words stay, and the other expressions as
  * `quantitiesToFigures` does. These stay too: phrases without a value, as 二月三十日; doubtful phrases,
  * unless `doubtful` is true; and halves after one Chinese character, as 一个半小时, unless
- * `oneCharacter` is true. `compact` writes whole dates, times whose hour of 24 is known, and all
- * halves as short as possible: '2026-01-05 15:30', '1.5小时'. Throws a TypeError as `findQuantities`
- * does.
+ * `oneCharacter` is true. `compact` writes whole dates, times whose hour of 24 is known, halves, and
+ * sums of money with 角 or 分 as short as possible: '2026-01-05 15:30', '1.5小时', '3.5元'. Throws a
+ * TypeError as `findQuantities` does.
  *
  * @param {string} string
  * @param {TextOptions} options

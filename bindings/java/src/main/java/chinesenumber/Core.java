@@ -8,7 +8,7 @@ static int chinese_number_version(State m) {
   Core1.f2(m);
   throw State.trap();
  }
- Core6.f217(m);
+ Core6.f228(m);
  Core1.f1(m);
  return 1000;
 }
@@ -19,7 +19,7 @@ static int chinese_input_expected(State m, long l0, long l1, int l2, long l3) {
   Core1.f2(m);
   throw State.trap();
  }
- l2 = Core6.f219(m, l0, l1, l2, l3);
+ l2 = Core6.f230(m, l0, l1, l2, l3);
  Core1.f1(m);
  return l2;
 }
@@ -30,7 +30,7 @@ static int chinese_input_repair(State m, long l0, long l1, int l2, long l3) {
   Core1.f2(m);
   throw State.trap();
  }
- l2 = Core6.f221(m, l0, l1, l2, l3);
+ l2 = Core6.f232(m, l0, l1, l2, l3);
  Core1.f1(m);
  return l2;
 }
@@ -42,7 +42,7 @@ static int chinese_number_answer_line(State m, long l0, long l1, long l2, long l
   Core1.f2(m);
   throw State.trap();
  }
- l5 = Core6.f223(m, l0, l1, l2, l3, l4);
+ l5 = Core6.f234(m, l0, l1, l2, l3, l4);
  Core1.f1(m);
  return l5;
 }
@@ -53,7 +53,7 @@ static int chinese_input_message(State m, long l0, long l1, int l2, int l3, long
   Core1.f2(m);
   throw State.trap();
  }
- l3 = Core6.f225(m, l0, l1, l2, l3, l4, l5, l6);
+ l3 = Core7.f236(m, l0, l1, l2, l3, l4, l5, l6);
  Core1.f1(m);
  return l3;
 }
@@ -64,7 +64,7 @@ static int chinese_date_print(State m, int l0, int l1, int l2, int l3, long l4, 
   Core1.f2(m);
   throw State.trap();
  }
- l3 = Core6.f227(m, l0, l1, l2, l3, l4, l5, l6);
+ l3 = Core7.f238(m, l0, l1, l2, l3, l4, l5, l6);
  Core1.f1(m);
  return l3;
 }
@@ -75,7 +75,7 @@ static int chinese_signed_amount_print(State m, long l0, int l1, int l2, long l3
   Core1.f2(m);
   throw State.trap();
  }
- l2 = Core6.f229(m, l0, l1, l2, l3, l4, l5);
+ l2 = Core7.f240(m, l0, l1, l2, l3, l4, l5);
  Core1.f1(m);
  return l2;
 }
@@ -86,7 +86,7 @@ static int chinese_status_message(State m, int l0, int l1, long l2, long l3, lon
   Core1.f2(m);
   throw State.trap();
  }
- l1 = Core6.f231(m, l0, l1, l2, l3, l4);
+ l1 = Core7.f242(m, l0, l1, l2, l3, l4);
  Core1.f1(m);
  return l1;
 }
@@ -98,7 +98,7 @@ static int chinese_quantity_figures(State m, long l0, long l1, long l2, long l3)
   Core1.f2(m);
   throw State.trap();
  }
- l4 = Core6.f233(m, l0, l1, l2, l3);
+ l4 = Core7.f244(m, l0, l1, l2, l3);
  Core1.f1(m);
  return l4;
 }
@@ -110,7 +110,7 @@ static int chinese_amount_read(State m, long l0, long l1, long l2) {
   Core1.f2(m);
   throw State.trap();
  }
- l3 = Core7.f235(m, l0, l1, l2);
+ l3 = Core7.f246(m, l0, l1, l2);
  Core1.f1(m);
  return l3;
 }
@@ -122,7 +122,7 @@ static int chinese_typed_amount_read(State m, long l0, long l1, long l2) {
   Core1.f2(m);
   throw State.trap();
  }
- l3 = Core7.f237(m, l0, l1, l2);
+ l3 = Core7.f248(m, l0, l1, l2);
  Core1.f1(m);
  return l3;
 }
@@ -134,7 +134,7 @@ static int chinese_date_read(State m, long l0, long l1, long l2) {
   Core1.f2(m);
   throw State.trap();
  }
- l3 = Core7.f239(m, l0, l1, l2);
+ l3 = Core7.f250(m, l0, l1, l2);
  Core1.f1(m);
  return l3;
 }
@@ -145,7 +145,7 @@ static int chinese_amount_print(State m, long l0, int l1, int l2, long l3, long 
   Core1.f2(m);
   throw State.trap();
  }
- l2 = Core7.f241(m, l0, l1, l2, l3, l4, l5);
+ l2 = Core7.f252(m, l0, l1, l2, l3, l4, l5);
  Core1.f1(m);
  return l2;
 }
@@ -157,7 +157,7 @@ static int chinese_figures_read(State m, long l0, long l1, long l2) {
   Core1.f2(m);
   throw State.trap();
  }
- l3 = Core7.f243(m, l0, l1, l2);
+ l3 = Core7.f254(m, l0, l1, l2);
  Core1.f1(m);
  return l3;
 }
@@ -169,7 +169,7 @@ static int chinese_signed_amount_read(State m, long l0, long l1, long l2) {
   Core1.f2(m);
   throw State.trap();
  }
- l3 = Core7.f245(m, l0, l1, l2);
+ l3 = Core7.f256(m, l0, l1, l2);
  Core1.f1(m);
  return l3;
 }
@@ -181,7 +181,7 @@ static int chinese_typed_signed_amount_read(State m, long l0, long l1, long l2) 
   Core1.f2(m);
   throw State.trap();
  }
- l3 = Core7.f247(m, l0, l1, l2);
+ l3 = Core7.f258(m, l0, l1, l2);
  Core1.f1(m);
  return l3;
 }
@@ -193,7 +193,7 @@ static int chinese_range_read(State m, long l0, long l1, long l2, long l3, long 
   Core1.f2(m);
   throw State.trap();
  }
- l6 = Core7.f249(m, l0, l1, l2, l3, l4, l5);
+ l6 = Core7.f260(m, l0, l1, l2, l3, l4, l5);
  Core1.f1(m);
  return l6;
 }
@@ -204,7 +204,7 @@ static int chinese_number_find(State m, long l0, long l1, long l2, int l3, int l
   Core1.f2(m);
   throw State.trap();
  }
- l4 = Core7.f251(m, l0, l1, l2, l3, l4, l5, l6, l7);
+ l4 = Core7.f262(m, l0, l1, l2, l3, l4, l5, l6, l7);
  Core1.f1(m);
  return l4;
 }
@@ -215,7 +215,7 @@ static int chinese_number_find_utf8(State m, long l0, long l1, long l2, int l3, 
   Core1.f2(m);
   throw State.trap();
  }
- l4 = Core7.f253(m, l0, l1, l2, l3, l4, l5, l6, l7);
+ l4 = Core7.f264(m, l0, l1, l2, l3, l4, l5, l6, l7);
  Core1.f1(m);
  return l4;
 }
@@ -226,7 +226,7 @@ static int chinese_phrase_find(State m, long l0, long l1, long l2, int l3, int l
   Core1.f2(m);
   throw State.trap();
  }
- l4 = Core7.f255(m, l0, l1, l2, l3, l4, l5, l6, l7);
+ l4 = Core7.f266(m, l0, l1, l2, l3, l4, l5, l6, l7);
  Core1.f1(m);
  return l4;
 }
@@ -237,7 +237,7 @@ static int chinese_phrase_find_utf8(State m, long l0, long l1, long l2, int l3, 
   Core1.f2(m);
   throw State.trap();
  }
- l4 = Core7.f257(m, l0, l1, l2, l3, l4, l5, l6, l7);
+ l4 = Core7.f268(m, l0, l1, l2, l3, l4, l5, l6, l7);
  Core1.f1(m);
  return l4;
 }
@@ -248,7 +248,7 @@ static int chinese_quantity_find_utf8(State m, long l0, long l1, long l2, int l3
   Core1.f2(m);
   throw State.trap();
  }
- l4 = Core7.f259(m, l0, l1, l2, l3, l4, l5, l6, l7);
+ l4 = Core7.f270(m, l0, l1, l2, l3, l4, l5, l6, l7);
  Core1.f1(m);
  return l4;
 }
@@ -259,7 +259,7 @@ static int chinese_quantity_find(State m, long l0, long l1, long l2, int l3, int
   Core1.f2(m);
   throw State.trap();
  }
- l4 = Core7.f261(m, l0, l1, l2, l3, l4, l5, l6, l7);
+ l4 = Core7.f272(m, l0, l1, l2, l3, l4, l5, l6, l7);
  Core1.f1(m);
  return l4;
 }
@@ -270,7 +270,7 @@ static int chinese_number_explain(State m, long l0, long l1, int l2, int l3, lon
   Core1.f2(m);
   throw State.trap();
  }
- l3 = Core7.f263(m, l0, l1, l2, l3, l4);
+ l3 = Core7.f274(m, l0, l1, l2, l3, l4);
  Core1.f1(m);
  return l3;
 }
@@ -281,7 +281,7 @@ static int chinese_number_message(State m, long l0, long l1, int l2, int l3, int
   Core1.f2(m);
   throw State.trap();
  }
- l4 = Core7.f265(m, l0, l1, l2, l3, l4, l5, l6, l7);
+ l4 = Core7.f276(m, l0, l1, l2, l3, l4, l5, l6, l7);
  Core1.f1(m);
  return l4;
 }
@@ -292,7 +292,7 @@ static int chinese_number_read_utf8(State m, long l0, long l1, int l2, int l3, l
   Core1.f2(m);
   throw State.trap();
  }
- l3 = Core7.f267(m, l0, l1, l2, l3, l4);
+ l3 = Core7.f278(m, l0, l1, l2, l3, l4);
  Core1.f1(m);
  return l3;
 }
@@ -303,7 +303,7 @@ static int chinese_quantities_to_figures(State m, long l0, long l1, int l2, int 
   Core1.f2(m);
   throw State.trap();
  }
- l5 = Core7.f269(m, l0, l1, l2, l3, l4, l5, l6, l7, l8);
+ l5 = Core7.f280(m, l0, l1, l2, l3, l4, l5, l6, l7, l8);
  Core1.f1(m);
  return l5;
 }
@@ -314,7 +314,7 @@ static int chinese_quantity_explain(State m, long l0, long l1, int l2, long l3) 
   Core1.f2(m);
   throw State.trap();
  }
- l2 = Core7.f271(m, l0, l1, l2, l3);
+ l2 = Core7.f282(m, l0, l1, l2, l3);
  Core1.f1(m);
  return l2;
 }
@@ -325,7 +325,7 @@ static int chinese_quantity_message(State m, long l0, long l1, int l2, int l3, l
   Core1.f2(m);
   throw State.trap();
  }
- l3 = Core7.f273(m, l0, l1, l2, l3, l4, l5, l6);
+ l3 = Core7.f284(m, l0, l1, l2, l3, l4, l5, l6);
  Core1.f1(m);
  return l3;
 }
@@ -336,7 +336,7 @@ static int chinese_quantity_read(State m, long l0, long l1, int l2, long l3) {
   Core1.f2(m);
   throw State.trap();
  }
- l2 = Core7.f275(m, l0, l1, l2, l3);
+ l2 = Core7.f286(m, l0, l1, l2, l3);
  Core1.f1(m);
  return l2;
 }
@@ -347,7 +347,7 @@ static int chinese_text_to_figures(State m, long l0, long l1, int l2, int l3, in
   Core1.f2(m);
   throw State.trap();
  }
- l5 = Core7.f277(m, l0, l1, l2, l3, l4, l5, l6, l7, l8);
+ l5 = Core7.f288(m, l0, l1, l2, l3, l4, l5, l6, l7, l8);
  Core1.f1(m);
  return l5;
 }
@@ -358,7 +358,7 @@ static int chinese_quantity_print(State m, long l0, int l1, int l2, int l3, long
   Core1.f2(m);
   throw State.trap();
  }
- l3 = Core7.f279(m, l0, l1, l2, l3, l4, l5, l6);
+ l3 = Core7.f290(m, l0, l1, l2, l3, l4, l5, l6);
  Core1.f1(m);
  return l3;
 }
@@ -369,7 +369,7 @@ static int chinese_number_read(State m, long l0, long l1, int l2, int l3, long l
   Core1.f2(m);
   throw State.trap();
  }
- l3 = Core7.f281(m, l0, l1, l2, l3, l4);
+ l3 = Core7.f292(m, l0, l1, l2, l3, l4);
  Core1.f1(m);
  return l3;
 }
@@ -380,7 +380,7 @@ static int chinese_number_print(State m, long l0, long l1, int l2, int l3, int l
   Core1.f2(m);
   throw State.trap();
  }
- l5 = Core7.f283(m, l0, l1, l2, l3, l4, l5, l6, l7, l8);
+ l5 = Core7.f294(m, l0, l1, l2, l3, l4, l5, l6, l7, l8);
  Core1.f1(m);
  return l5;
 }

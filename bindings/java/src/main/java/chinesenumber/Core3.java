@@ -14,39 +14,39 @@ static void f82(State m, long l0, int l1, long l2, long l3, long l4) {
  m.g0 = l5 = m.g0 - 304L;
  L1: {
   if ((l5 = l5) < 16L) { break L1; }
-  Words.put64(b, ((int) l5) - 60584, 0L);
-  Words.put64(b, ((int) l5) - 60592, 0L);
-  Words.put64(b, ((int) l5) - 60600, 0L);
-  Words.put64(b, ((int) l5) - 60608, 0L);
-  Words.put64(b, ((int) l5) - 60616, 0L);
-  Words.put64(b, ((int) l5) - 60624, 0L);
-  Words.put64(b, ((int) l5) - 60656, 0L);
-  Words.put64(b, ((int) l5) - 60648, 0L);
-  Words.put64(b, ((int) l5) - 60640, 0L);
-  Words.put64(b, ((int) l5) - 60632, 0L);
+  Words.put64(b, ((int) l5) - 60312, 0L);
+  Words.put64(b, ((int) l5) - 60320, 0L);
+  Words.put64(b, ((int) l5) - 60328, 0L);
+  Words.put64(b, ((int) l5) - 60336, 0L);
+  Words.put64(b, ((int) l5) - 60344, 0L);
+  Words.put64(b, ((int) l5) - 60352, 0L);
+  Words.put64(b, ((int) l5) - 60384, 0L);
+  Words.put64(b, ((int) l5) - 60376, 0L);
+  Words.put64(b, ((int) l5) - 60368, 0L);
+  Words.put64(b, ((int) l5) - 60360, 0L);
   f93(m, l5 + 96L, l3, l4);
   L2: {
    L3: {
-    if ((b[((int) l5) - 60624] & 0xff) != 0) { break L3; }
+    if ((b[((int) l5) - 60352] & 0xff) != 0) { break L3; }
     f94(m, l5 + 64L, l1, l2, l3, l4);
-    l1 = b[((int) l5) - 60648] & 0xff;
-    l10 = b[((int) l5) - 60656] & 0xff;
+    l1 = b[((int) l5) - 60376] & 0xff;
+    l10 = b[((int) l5) - 60384] & 0xff;
     break L2;
    }
-   l10 = b[((int) l5) - 60583] & 0xff;
-   l6 = Words.get64(b, ((int) l5) - 60592);
-   l7 = Words.get64(b, ((int) l5) - 60600);
-   l11 = b[((int) l5) - 60584] & 0xff;
-   Words.put64(b, ((int) l5) - 60544, 0L);
-   Words.put64(b, ((int) l5) - 60536, 0L);
-   Words.put64(b, ((int) l5) - 60528, 0L);
-   Words.put64(b, ((int) l5) - 60520, 0L);
-   Words.put64(b, ((int) l5) - 60512, 0L);
-   Words.put64(b, ((int) l5) - 60504, 0L);
-   Words.put64(b, ((int) l5) - 60576, 0L);
-   Words.put64(b, ((int) l5) - 60568, 0L);
-   Words.put64(b, ((int) l5) - 60560, 0L);
-   Words.put64(b, ((int) l5) - 60552, 0L);
+   l10 = b[((int) l5) - 60311] & 0xff;
+   l6 = Words.get64(b, ((int) l5) - 60320);
+   l7 = Words.get64(b, ((int) l5) - 60328);
+   l11 = b[((int) l5) - 60312] & 0xff;
+   Words.put64(b, ((int) l5) - 60272, 0L);
+   Words.put64(b, ((int) l5) - 60264, 0L);
+   Words.put64(b, ((int) l5) - 60256, 0L);
+   Words.put64(b, ((int) l5) - 60248, 0L);
+   Words.put64(b, ((int) l5) - 60240, 0L);
+   Words.put64(b, ((int) l5) - 60232, 0L);
+   Words.put64(b, ((int) l5) - 60304, 0L);
+   Words.put64(b, ((int) l5) - 60296, 0L);
+   Words.put64(b, ((int) l5) - 60288, 0L);
+   Words.put64(b, ((int) l5) - 60280, 0L);
    l8 = l5 + 138L;
    l9 = l5 + 104L;
    L4: {
@@ -54,97 +54,97 @@ static void f82(State m, long l0, int l1, long l2, long l3, long l4) {
      L6: {
       if (l11 != 1) { break L6; }
       f93(m, l5 + 176L, l7, l6);
-      if ((b[((int) l5) - 60544] & 0xff) != 0) { break L5; }
-      b[((int) l5) - 60423] = (byte) l10;
-      b[((int) l5) - 60424] = (byte) 1;
-      Words.put64(b, ((int) l5) - 60432, l6);
-      Words.put64(b, ((int) l5) - 60440, l7);
-      Words.put64(b, ((int) l5) - 60448, Words.get64(b, ((int) l9) - 60712));
-      Words.put64(b, ((int) l5) - 60456, Words.get64(b, ((int) l9) - 60720));
-      Words.put32(b, ((int) l5) - 60422, Words.get32(b, ((int) l8) - 60720));
-      Words.put16(b, ((int) l5) - 60418, (short) (Words.get16(b, ((int) l8) - 60716) & 0xffff));
+      if ((b[((int) l5) - 60272] & 0xff) != 0) { break L5; }
+      b[((int) l5) - 60151] = (byte) l10;
+      b[((int) l5) - 60152] = (byte) 1;
+      Words.put64(b, ((int) l5) - 60160, l6);
+      Words.put64(b, ((int) l5) - 60168, l7);
+      Words.put64(b, ((int) l5) - 60176, Words.get64(b, ((int) l9) - 60440));
+      Words.put64(b, ((int) l5) - 60184, Words.get64(b, ((int) l9) - 60448));
+      Words.put32(b, ((int) l5) - 60150, Words.get32(b, ((int) l8) - 60448));
+      Words.put16(b, ((int) l5) - 60146, (short) (Words.get16(b, ((int) l8) - 60444) & 0xffff));
       f95(m, l5 + 144L, l1, l2, l10, l5 + 264L);
-      l4 = Words.get64(b, ((int) l5) - 60552);
-      l3 = Words.get64(b, ((int) l5) - 60560);
-      l1 = b[((int) l5) - 60568] & 0xff;
-      l10 = b[((int) l5) - 60576] & 0xff;
+      l4 = Words.get64(b, ((int) l5) - 60280);
+      l3 = Words.get64(b, ((int) l5) - 60288);
+      l1 = b[((int) l5) - 60296] & 0xff;
+      l10 = b[((int) l5) - 60304] & 0xff;
       break L4;
      }
-     b[((int) l5) - 60423] = (byte) l10;
-     b[((int) l5) - 60424] = (byte) 0;
-     Words.put64(b, ((int) l5) - 60432, l6);
-     Words.put64(b, ((int) l5) - 60440, l7);
-     Words.put64(b, ((int) l5) - 60496, 0L);
-     Words.put64(b, ((int) l5) - 60488, 0L);
-     Words.put64(b, ((int) l5) - 60480, 0L);
-     Words.put64(b, ((int) l5) - 60472, 0L);
-     Words.put64(b, ((int) l5) - 60456, Words.get64(b, ((int) l9) - 60720));
-     Words.put64(b, ((int) l5) - 60448, Words.get64(b, ((int) l9) - 60712));
-     Words.put32(b, ((int) l5) - 60422, Words.get32(b, ((int) l8) - 60720));
-     Words.put16(b, ((int) l5) - 60418, (short) (Words.get16(b, ((int) l8) - 60716) & 0xffff));
+     b[((int) l5) - 60151] = (byte) l10;
+     b[((int) l5) - 60152] = (byte) 0;
+     Words.put64(b, ((int) l5) - 60160, l6);
+     Words.put64(b, ((int) l5) - 60168, l7);
+     Words.put64(b, ((int) l5) - 60224, 0L);
+     Words.put64(b, ((int) l5) - 60216, 0L);
+     Words.put64(b, ((int) l5) - 60208, 0L);
+     Words.put64(b, ((int) l5) - 60200, 0L);
+     Words.put64(b, ((int) l5) - 60184, Words.get64(b, ((int) l9) - 60448));
+     Words.put64(b, ((int) l5) - 60176, Words.get64(b, ((int) l9) - 60440));
+     Words.put32(b, ((int) l5) - 60150, Words.get32(b, ((int) l8) - 60448));
+     Words.put16(b, ((int) l5) - 60146, (short) (Words.get16(b, ((int) l8) - 60444) & 0xffff));
      f94(m, l5 + 224L, l1, l2, l3, l4);
      L7: {
       L8: {
-       if ((b[((int) l5) - 60496] & 0xff) != 0) { break L8; }
+       if ((b[((int) l5) - 60224] & 0xff) != 0) { break L8; }
        f96(m, l5 + 32L, l2, l5 + 264L);
-       l4 = Words.get64(b, ((int) l5) - 60680);
-       l1 = b[((int) l5) - 60688] & 0xff;
+       l4 = Words.get64(b, ((int) l5) - 60408);
+       l1 = b[((int) l5) - 60416] & 0xff;
        break L7;
       }
-      l1 = b[((int) l5) - 60488] & 0xff;
-      l4 = Words.get64(b, ((int) l5) - 60480);
+      l1 = b[((int) l5) - 60216] & 0xff;
+      l4 = Words.get64(b, ((int) l5) - 60208);
       f96(m, l5 + 48L, l2, l5 + 264L);
       final long t9 = l4;
-      final long t10 = l3 = Words.get64(b, ((int) l5) - 60664);
-      final int t11 = l10 = (((l1 != 1) | ((b[((int) l5) - 60672] & 0xff) == 0)) | (l4 + Long.MIN_VALUE > l3 + Long.MIN_VALUE)) ? 1 : 0;
+      final long t10 = l3 = Words.get64(b, ((int) l5) - 60392);
+      final int t11 = l10 = (((l1 != 1) | ((b[((int) l5) - 60400] & 0xff) == 0)) | (l4 + Long.MIN_VALUE > l3 + Long.MIN_VALUE)) ? 1 : 0;
       l4 = t11 != 0 ? t9 : t10;
       l1 = l10 != 0 ? l1 : 1;
      }
-     Words.put64(b, ((int) l5) - 60632, 0L);
-     Words.put64(b, ((int) l5) - 60640, l4);
+     Words.put64(b, ((int) l5) - 60360, 0L);
+     Words.put64(b, ((int) l5) - 60368, l4);
      l10 = 1;
      break L2;
     }
-    b[((int) l5) - 60423] = (byte) l10;
-    b[((int) l5) - 60424] = (byte) 1;
-    Words.put64(b, ((int) l5) - 60432, l6);
-    Words.put64(b, ((int) l5) - 60440, l7);
-    Words.put64(b, ((int) l5) - 60496, 0L);
-    Words.put64(b, ((int) l5) - 60488, 0L);
-    Words.put64(b, ((int) l5) - 60480, 0L);
-    Words.put64(b, ((int) l5) - 60472, 0L);
-    Words.put64(b, ((int) l5) - 60456, Words.get64(b, ((int) l9) - 60720));
-    Words.put64(b, ((int) l5) - 60448, Words.get64(b, ((int) l9) - 60712));
-    Words.put32(b, ((int) l5) - 60422, Words.get32(b, ((int) l8) - 60720));
-    Words.put16(b, ((int) l5) - 60418, (short) (Words.get16(b, ((int) l8) - 60716) & 0xffff));
+    b[((int) l5) - 60151] = (byte) l10;
+    b[((int) l5) - 60152] = (byte) 1;
+    Words.put64(b, ((int) l5) - 60160, l6);
+    Words.put64(b, ((int) l5) - 60168, l7);
+    Words.put64(b, ((int) l5) - 60224, 0L);
+    Words.put64(b, ((int) l5) - 60216, 0L);
+    Words.put64(b, ((int) l5) - 60208, 0L);
+    Words.put64(b, ((int) l5) - 60200, 0L);
+    Words.put64(b, ((int) l5) - 60184, Words.get64(b, ((int) l9) - 60448));
+    Words.put64(b, ((int) l5) - 60176, Words.get64(b, ((int) l9) - 60440));
+    Words.put32(b, ((int) l5) - 60150, Words.get32(b, ((int) l8) - 60448));
+    Words.put16(b, ((int) l5) - 60146, (short) (Words.get16(b, ((int) l8) - 60444) & 0xffff));
     f94(m, l5 + 224L, l1, l2, l3, l4);
     L12: {
      L13: {
-      if ((b[((int) l5) - 60496] & 0xff) != 0) { break L13; }
+      if ((b[((int) l5) - 60224] & 0xff) != 0) { break L13; }
       f96(m, l5, l2, l5 + 264L);
-      l3 = Words.get64(b, ((int) l5) - 60712);
-      l1 = b[((int) l5) - 60720] & 0xff;
+      l3 = Words.get64(b, ((int) l5) - 60440);
+      l1 = b[((int) l5) - 60448] & 0xff;
       break L12;
      }
-     l1 = b[((int) l5) - 60488] & 0xff;
-     l4 = Words.get64(b, ((int) l5) - 60480);
+     l1 = b[((int) l5) - 60216] & 0xff;
+     l4 = Words.get64(b, ((int) l5) - 60208);
      f96(m, l5 + 16L, l2, l5 + 264L);
      final long t14 = l4;
-     final long t15 = l3 = Words.get64(b, ((int) l5) - 60696);
-     final int t16 = l10 = (((l1 != 1) | ((b[((int) l5) - 60704] & 0xff) == 0)) | (l4 + Long.MIN_VALUE > l3 + Long.MIN_VALUE)) ? 1 : 0;
+     final long t15 = l3 = Words.get64(b, ((int) l5) - 60424);
+     final int t16 = l10 = (((l1 != 1) | ((b[((int) l5) - 60432] & 0xff) == 0)) | (l4 + Long.MIN_VALUE > l3 + Long.MIN_VALUE)) ? 1 : 0;
      l3 = t16 != 0 ? t14 : t15;
      l1 = l10 != 0 ? l1 : 1;
     }
     l10 = 1;
     l4 = 0L;
    }
-   Words.put64(b, ((int) l5) - 60632, l4);
-   Words.put64(b, ((int) l5) - 60640, l3);
+   Words.put64(b, ((int) l5) - 60360, l4);
+   Words.put64(b, ((int) l5) - 60368, l3);
   }
-  Words.put64(b, ((int) (l0 + 16L)) - 60720, Words.get64(b, ((int) l5) - 60640));
-  Words.put64(b, ((int) (l0 + 24L)) - 60720, Words.get64(b, ((int) l5) - 60632));
-  Words.put64(b, ((int) (l0 + 8L)) - 60720, (l1 & 0xffffffffL) & 255L);
-  Words.put64(b, ((int) l0) - 60720, (l10 & 0xffffffffL) & 255L);
+  Words.put64(b, ((int) (l0 + 16L)) - 60448, Words.get64(b, ((int) l5) - 60368));
+  Words.put64(b, ((int) (l0 + 24L)) - 60448, Words.get64(b, ((int) l5) - 60360));
+  Words.put64(b, ((int) (l0 + 8L)) - 60448, (l1 & 0xffffffffL) & 255L);
+  Words.put64(b, ((int) l0) - 60448, (l10 & 0xffffffffL) & 255L);
   m.g0 = l5 + 304L;
   return;
  }
@@ -167,12 +167,12 @@ static void f83(State m, long l0, int l1, long l2, long l3, long l4) {
   L2: {
    L3: {
     if ((l6 = l5) < 16L) { break L3; }
-    Words.put64(b, ((int) l6) - 60680, 0L);
-    Words.put64(b, ((int) l6) - 60688, 0L);
-    Words.put64(b, ((int) l6) - 60696, 0L);
-    Words.put64(b, ((int) l6) - 60704, 0L);
-    Words.put64(b, ((int) l6) - 60712, 0L);
-    Words.put64(b, ((int) l6) - 60720, 0L);
+    Words.put64(b, ((int) l6) - 60408, 0L);
+    Words.put64(b, ((int) l6) - 60416, 0L);
+    Words.put64(b, ((int) l6) - 60424, 0L);
+    Words.put64(b, ((int) l6) - 60432, 0L);
+    Words.put64(b, ((int) l6) - 60440, 0L);
+    Words.put64(b, ((int) l6) - 60448, 0L);
     L4: {
      if (l4 == 0L) { break L4; }
      l7 = l2;
@@ -181,7 +181,7 @@ static void f83(State m, long l0, int l1, long l2, long l3, long l4) {
      L5: while (true) {
       L6: {
        L7: {
-        if ((l10 = b[((int) l5) - 60720] & 0xff) + Integer.MIN_VALUE > -2147483616) { break L7; }
+        if ((l10 = b[((int) l5) - 60448] & 0xff) + Integer.MIN_VALUE > -2147483616) { break L7; }
         if (((1L << (l10 & 0xffffffffL)) & 4294983168L) == 0L) { break L7; }
         l9 = 1L;
         break L6;
@@ -190,14 +190,14 @@ static void f83(State m, long l0, int l1, long l2, long l3, long l4) {
         if (l10 != 194) { break L8; }
         if (l8 == 1L) { break L2; }
         l9 = 2L;
-        if ((l10 = b[((int) l5) - 60719] & 0xff) == 133) { break L6; }
+        if ((l10 = b[((int) l5) - 60447] & 0xff) == 133) { break L6; }
         if (l10 == 160) { break L6; }
         break L2;
        }
        if (l8 + Long.MIN_VALUE < -9223372036854775805L) { break L2; }
        if (((l10 + 28) & 255) + Integer.MIN_VALUE < -2147483395) { break L2; }
-       l11 = b[((int) (l5 + 1L)) - 60720] & 0xff;
-       l13 = (int) (byte) (l12 = b[((int) (l5 + 2L)) - 60720] & 0xff);
+       l11 = b[((int) (l5 + 1L)) - 60448] & 0xff;
+       l13 = (int) (byte) (l12 = b[((int) (l5 + 2L)) - 60448] & 0xff);
        L9: {
         if (l10 != 226) { break L9; }
         if ((l11 & 255) != 128) { break L9; }
@@ -236,31 +236,31 @@ static void f83(State m, long l0, int l1, long l2, long l3, long l4) {
       break L5;
      }
     }
-    Words.put64(b, ((int) l0) - 60720, 1L);
-    Words.put64(b, ((int) (l0 + 8L)) - 60720, 0L);
-    Words.put64(b, ((int) (l0 + 16L)) - 60720, 0L);
-    Words.put64(b, ((int) (l0 + 24L)) - 60720, 0L);
+    Words.put64(b, ((int) l0) - 60448, 1L);
+    Words.put64(b, ((int) (l0 + 8L)) - 60448, 0L);
+    Words.put64(b, ((int) (l0 + 16L)) - 60448, 0L);
+    Words.put64(b, ((int) (l0 + 24L)) - 60448, 0L);
     break L1;
    }
    throw State.trap();
   }
   f84(m, l6, l1, l2, l3, l4);
-  l5 = Words.get64(b, ((int) l6) - 60704);
+  l5 = Words.get64(b, ((int) l6) - 60432);
   L14: {
-   if ((b[((int) l6) - 60720] & 0xff) != 0) { break L14; }
+   if ((b[((int) l6) - 60448] & 0xff) != 0) { break L14; }
    final int t15 = (int) (l0 + 24L);
-   final long t16 = l9 = Words.get64(b, ((int) l6) - 60696);
-   final int t17 = l10 = (((l5 | l9) == 0L) | (Words.get64(b, ((int) l6) - 60688) != 0L)) ? 1 : 0;
-   Words.put64(b, t15 - 60720, t17 != 0 ? 0L : t16);
-   Words.put64(b, ((int) (l0 + 16L)) - 60720, l10 != 0 ? l7 : l5);
-   Words.put64(b, ((int) (l0 + 8L)) - 60720, l5 = l10 & 0xffffffffL);
-   Words.put64(b, ((int) l0) - 60720, l5);
+   final long t16 = l9 = Words.get64(b, ((int) l6) - 60424);
+   final int t17 = l10 = (((l5 | l9) == 0L) | (Words.get64(b, ((int) l6) - 60416) != 0L)) ? 1 : 0;
+   Words.put64(b, t15 - 60448, t17 != 0 ? 0L : t16);
+   Words.put64(b, ((int) (l0 + 16L)) - 60448, l10 != 0 ? l7 : l5);
+   Words.put64(b, ((int) (l0 + 8L)) - 60448, l5 = l10 & 0xffffffffL);
+   Words.put64(b, ((int) l0) - 60448, l5);
    break L1;
   }
-  Words.put64(b, ((int) l0) - 60720, 1L);
-  Words.put64(b, ((int) (l0 + 24L)) - 60720, 0L);
-  Words.put64(b, ((int) (l0 + 16L)) - 60720, l5);
-  Words.put64(b, ((int) (l0 + 8L)) - 60720, b[((int) l6) - 60712] & 0xffL);
+  Words.put64(b, ((int) l0) - 60448, 1L);
+  Words.put64(b, ((int) (l0 + 24L)) - 60448, 0L);
+  Words.put64(b, ((int) (l0 + 16L)) - 60448, l5);
+  Words.put64(b, ((int) (l0 + 8L)) - 60448, b[((int) l6) - 60440] & 0xffL);
  }
  m.g0 = l6 + 48L;
 }
@@ -276,49 +276,49 @@ static void f84(State m, long l0, int l1, long l2, long l3, long l4) {
  m.g0 = l5 = m.g0 - 160L;
  L1: {
   if ((l5 = l5) < 16L) { break L1; }
-  Words.put64(b, ((int) l5) - 60600, 0L);
-  Words.put64(b, ((int) l5) - 60608, 0L);
-  Words.put64(b, ((int) l5) - 60616, 0L);
-  Words.put64(b, ((int) l5) - 60624, 0L);
-  Words.put64(b, ((int) l5) - 60632, 0L);
-  Words.put64(b, ((int) l5) - 60640, 0L);
-  Words.put64(b, ((int) l5) - 60672, 0L);
-  Words.put64(b, ((int) l5) - 60664, 0L);
-  Words.put64(b, ((int) l5) - 60656, 0L);
-  Words.put64(b, ((int) l5) - 60648, 0L);
-  Words.put64(b, ((int) l5) - 60704, 0L);
-  Words.put64(b, ((int) l5) - 60696, 0L);
-  Words.put64(b, ((int) l5) - 60688, 0L);
-  Words.put64(b, ((int) l5) - 60680, 0L);
+  Words.put64(b, ((int) l5) - 60328, 0L);
+  Words.put64(b, ((int) l5) - 60336, 0L);
+  Words.put64(b, ((int) l5) - 60344, 0L);
+  Words.put64(b, ((int) l5) - 60352, 0L);
+  Words.put64(b, ((int) l5) - 60360, 0L);
+  Words.put64(b, ((int) l5) - 60368, 0L);
+  Words.put64(b, ((int) l5) - 60400, 0L);
+  Words.put64(b, ((int) l5) - 60392, 0L);
+  Words.put64(b, ((int) l5) - 60384, 0L);
+  Words.put64(b, ((int) l5) - 60376, 0L);
+  Words.put64(b, ((int) l5) - 60432, 0L);
+  Words.put64(b, ((int) l5) - 60424, 0L);
+  Words.put64(b, ((int) l5) - 60416, 0L);
+  Words.put64(b, ((int) l5) - 60408, 0L);
   Core2.f80(m, l5 + 48L, l3, l4);
   l8 = 1;
   L2: {
    L3: {
     L4: {
-     if ((b[((int) l5) - 60672] & 0xff) != 1) { break L4; }
-     Words.put64(b, ((int) l5) - 60568, 0L);
-     Words.put64(b, ((int) l5) - 60576, 0L);
-     Words.put64(b, ((int) l5) - 60584, 0L);
-     Words.put64(b, ((int) l5) - 60592, 0L);
+     if ((b[((int) l5) - 60400] & 0xff) != 1) { break L4; }
+     Words.put64(b, ((int) l5) - 60296, 0L);
+     Words.put64(b, ((int) l5) - 60304, 0L);
+     Words.put64(b, ((int) l5) - 60312, 0L);
+     Words.put64(b, ((int) l5) - 60320, 0L);
      l6 = l3;
      l7 = l4;
      L5: while (true) {
       Core2.f80(m, l5 + 128L, l6, l7);
       l9 = 1;
-      if ((b[((int) l5) - 60592] & 0xff) != 1) { break L3; }
-      l7 = Words.get64(b, ((int) l5) - 60568);
-      l6 = Words.get64(b, ((int) l5) - 60576);
-      Core2.f61(m, l5 + 8L, Words.get32(b, ((int) l5) - 60584));
-      if ((b[((int) l5) - 60712] & 0xff) != 1) { break L4; }
+      if ((b[((int) l5) - 60320] & 0xff) != 1) { break L3; }
+      l7 = Words.get64(b, ((int) l5) - 60296);
+      l6 = Words.get64(b, ((int) l5) - 60304);
+      Core2.f61(m, l5 + 8L, Words.get32(b, ((int) l5) - 60312));
+      if ((b[((int) l5) - 60440] & 0xff) != 1) { break L4; }
       l9 = l8 & 255;
-      l8 = l10 = b[((int) l5) - 60711] & 0xff;
+      l8 = l10 = b[((int) l5) - 60439] & 0xff;
       if (l9 + Integer.MIN_VALUE < (l10 & 255) + Integer.MIN_VALUE) { continue L5; }
       break L5;
      }
     }
     f86(m, l5 + 80L, l1, l2, l3, l4);
-    l8 = b[((int) l5) - 60632] & 0xff;
-    l9 = b[((int) l5) - 60640] & 0xff;
+    l8 = b[((int) l5) - 60360] & 0xff;
+    l9 = b[((int) l5) - 60368] & 0xff;
     break L2;
    }
    f87(m, l5 + 16L, l1, 1L, 0L, l3, l4);
@@ -326,23 +326,23 @@ static void f84(State m, long l0, int l1, long l2, long l3, long l4) {
    l6 = 0L;
    l7 = 0L;
    L6: {
-    if ((b[((int) l5) - 60704] & 0xff) != 1) { break L6; }
+    if ((b[((int) l5) - 60432] & 0xff) != 1) { break L6; }
     l9 = 0;
-    l7 = Words.get64(b, ((int) l5) - 60680);
-    l6 = Words.get64(b, ((int) l5) - 60688);
+    l7 = Words.get64(b, ((int) l5) - 60408);
+    l6 = Words.get64(b, ((int) l5) - 60416);
     l8 = 0;
    }
-   Words.put64(b, ((int) l5) - 60616, l7);
-   Words.put64(b, ((int) l5) - 60624, l6);
-   Words.put64(b, ((int) l5) - 60608, 0L);
-   Words.put64(b, ((int) l5) - 60600, 0L);
+   Words.put64(b, ((int) l5) - 60344, l7);
+   Words.put64(b, ((int) l5) - 60352, l6);
+   Words.put64(b, ((int) l5) - 60336, 0L);
+   Words.put64(b, ((int) l5) - 60328, 0L);
   }
-  Words.put64(b, ((int) (l0 + 16L)) - 60720, Words.get64(b, ((int) l5) - 60624));
-  Words.put64(b, ((int) (l0 + 24L)) - 60720, Words.get64(b, ((int) l5) - 60616));
-  Words.put64(b, ((int) (l0 + 32L)) - 60720, Words.get64(b, ((int) l5) - 60608));
-  Words.put64(b, ((int) (l0 + 40L)) - 60720, Words.get64(b, ((int) l5) - 60600));
-  Words.put64(b, ((int) (l0 + 8L)) - 60720, (l8 & 0xffffffffL) & 255L);
-  Words.put64(b, ((int) l0) - 60720, (l9 & 0xffffffffL) & 255L);
+  Words.put64(b, ((int) (l0 + 16L)) - 60448, Words.get64(b, ((int) l5) - 60352));
+  Words.put64(b, ((int) (l0 + 24L)) - 60448, Words.get64(b, ((int) l5) - 60344));
+  Words.put64(b, ((int) (l0 + 32L)) - 60448, Words.get64(b, ((int) l5) - 60336));
+  Words.put64(b, ((int) (l0 + 40L)) - 60448, Words.get64(b, ((int) l5) - 60328));
+  Words.put64(b, ((int) (l0 + 8L)) - 60448, (l8 & 0xffffffffL) & 255L);
+  Words.put64(b, ((int) l0) - 60448, (l9 & 0xffffffffL) & 255L);
   m.g0 = l5 + 160L;
   return;
  }
@@ -366,7 +366,7 @@ static void f85(State m, long l0, long l1, long l2) {
      L5: while (true) {
       l3 = -1L;
       L6: {
-       if (((l5 = b[((int) ((l4 = l1 + l2) + -1L)) - 60720] & 0xff) + -9) + Integer.MIN_VALUE < -2147483643) { break L6; }
+       if (((l5 = b[((int) ((l4 = l1 + l2) + -1L)) - 60448] & 0xff) + -9) + Integer.MIN_VALUE < -2147483643) { break L6; }
        if (l5 == 32) { break L6; }
        l3 = 1L;
        if (l2 == 1L) { break L1; }
@@ -374,10 +374,10 @@ static void f85(State m, long l0, long l1, long l2) {
        L7: {
         if (l2 + Long.MIN_VALUE > -9223372036854775806L) { break L7; }
         L8: {
-         if ((l5 = b[((int) l1) - 60719] & 0xff) == 160) { break L8; }
+         if ((l5 = b[((int) l1) - 60447] & 0xff) == 160) { break L8; }
          if (l5 != 133) { break L1; }
         }
-        if ((b[((int) l1) - 60720] & 0xff) != 194) { break L1; }
+        if ((b[((int) l1) - 60448] & 0xff) != 194) { break L1; }
         l3 = -2L;
         break L6;
        }
@@ -388,13 +388,13 @@ static void f85(State m, long l0, long l1, long l2) {
           if (l5 != 133) { break L10; }
          }
          l3 = -2L;
-         if ((l6 = b[((int) (l4 + -2L)) - 60720] & 0xff) != 194) { break L9; }
+         if ((l6 = b[((int) (l4 + -2L)) - 60448] & 0xff) != 194) { break L9; }
          break L6;
         }
         if (((int) (byte) l5) > -1) { break L2; }
-        l6 = b[((int) (l4 + -2L)) - 60720] & 0xff;
+        l6 = b[((int) (l4 + -2L)) - 60448] & 0xff;
        }
-       l7 = b[((int) (l4 + -3L)) - 60720] & 0xff;
+       l7 = b[((int) (l4 + -3L)) - 60448] & 0xff;
        L12: {
         if ((l6 & 255) != 128) { break L12; }
         if (l7 != 226) { break L12; }
@@ -433,10 +433,10 @@ static void f85(State m, long l0, long l1, long l2) {
       break L5;
      }
     }
-    Words.put64(b, ((int) l0) - 60696, 0L);
-    Words.put64(b, ((int) l0) - 60704, 0L);
-    Words.put64(b, ((int) l0) - 60712, 0L);
-    Words.put64(b, ((int) l0) - 60720, 0L);
+    Words.put64(b, ((int) l0) - 60424, 0L);
+    Words.put64(b, ((int) l0) - 60432, 0L);
+    Words.put64(b, ((int) l0) - 60440, 0L);
+    Words.put64(b, ((int) l0) - 60448, 0L);
     return;
    }
    throw State.trap();
@@ -444,33 +444,33 @@ static void f85(State m, long l0, long l1, long l2) {
   l3 = l2;
  }
  L17: {
-  if ((l5 = (int) b[((int) (l1 + (l2 = l3 + -1L))) - 60720]) >= 0) { break L17; }
+  if ((l5 = (int) b[((int) (l1 + (l2 = l3 + -1L))) - 60448]) >= 0) { break L17; }
   l2 = -2L;
   L18: {
-   if ((b[((int) ((l4 = l1 + l3) + -2L)) - 60720] & 0xff) + Integer.MIN_VALUE > -2147483457) { break L18; }
-   l2 = ((b[((int) (l4 + -3L)) - 60720] & 0xff) + Integer.MIN_VALUE > -2147483457) ? -3L : -4L;
+   if ((b[((int) ((l4 = l1 + l3) + -2L)) - 60448] & 0xff) + Integer.MIN_VALUE > -2147483457) { break L18; }
+   l2 = ((b[((int) (l4 + -3L)) - 60448] & 0xff) + Integer.MIN_VALUE > -2147483457) ? -3L : -4L;
   }
-  l5 = (l6 = (int) b[((int) (l3 = l1 + (l2 = l2 + l3))) - 60720]) & 255;
+  l5 = (l6 = (int) b[((int) (l3 = l1 + (l2 = l2 + l3))) - 60448]) & 255;
   if (l6 > -1) { break L17; }
-  l7 = (b[((int) l3) - 60719] & 0xff) & 63;
+  l7 = (b[((int) l3) - 60447] & 0xff) & 63;
   L19: {
    if (l6 + Integer.MIN_VALUE > 2147483615) { break L19; }
    l5 = ((l5 << 6) & 1984) | l7;
    break L17;
   }
-  l8 = (b[((int) l3) - 60718] & 0xff) & 63;
+  l8 = (b[((int) l3) - 60446] & 0xff) & 63;
   L20: {
    if (l6 + Integer.MIN_VALUE > 2147483631) { break L20; }
    l5 = ((l7 << 6) | ((l5 << 12) & 61440)) | l8;
    break L17;
   }
-  l5 = ((l8 << 6) | ((l7 << 12) | ((l5 << 18) & 1835008))) | ((b[((int) l3) - 60717] & 0xff) & 63);
+  l5 = ((l8 << 6) | ((l7 << 12) | ((l5 << 18) & 1835008))) | ((b[((int) l3) - 60445] & 0xff) & 63);
  }
- Words.put64(b, ((int) l0) - 60720, 1L);
- Words.put64(b, ((int) (l0 + 24L)) - 60720, l2);
- Words.put64(b, ((int) (l0 + 16L)) - 60720, l1);
- Words.put32(b, ((int) (l0 + 12L)) - 60720, 0);
- Words.put32(b, ((int) (l0 + 8L)) - 60720, l5);
+ Words.put64(b, ((int) l0) - 60448, 1L);
+ Words.put64(b, ((int) (l0 + 24L)) - 60448, l2);
+ Words.put64(b, ((int) (l0 + 16L)) - 60448, l1);
+ Words.put32(b, ((int) (l0 + 12L)) - 60448, 0);
+ Words.put32(b, ((int) (l0 + 8L)) - 60448, l5);
 }
 
 static int f86_1(State m, int l1, long l5, long l6, long l7, long l8, long l9, long l10, long l11, long l12, long l13, long l14, long l15, long l16, long l17, long l18, long l19, long l20, long l21, long l22, long l23, int l24, int l25, int l26) {
@@ -478,102 +478,102 @@ static int f86_1(State m, int l1, long l5, long l6, long l7, long l8, long l9, l
  int exit = 0;
  PART: {
   L24: {
-   if ((b[((int) l5) - 60256] & 0xff) != 1) { break L24; }
-   if (Words.get64(b, ((int) l5) - 60240) == 0L) { break L24; }
-   if (((b[((int) l5) - 60208] & 0xff) & 1) != 0) { break L24; }
-   l6 = Words.get64(b, ((int) l5) - 60216);
-   l8 = Words.get64(b, ((int) l5) - 60224);
-   Core2.f80(m, l5 + 624L, l7 = Words.get64(b, ((int) l5) - 60200), l9 = Words.get64(b, ((int) l5) - 60192));
-   if ((b[((int) l5) - 60096] & 0xff) != 1) { break L24; }
+   if ((b[((int) l5) - 59984] & 0xff) != 1) { break L24; }
+   if (Words.get64(b, ((int) l5) - 59968) == 0L) { break L24; }
+   if (((b[((int) l5) - 59936] & 0xff) & 1) != 0) { break L24; }
+   l6 = Words.get64(b, ((int) l5) - 59944);
+   l8 = Words.get64(b, ((int) l5) - 59952);
+   Core2.f80(m, l5 + 624L, l7 = Words.get64(b, ((int) l5) - 59928), l9 = Words.get64(b, ((int) l5) - 59920));
+   if ((b[((int) l5) - 59824] & 0xff) != 1) { break L24; }
    f91(m, l5 + 560L, l1, 0L, 0L, l8, l6, l7, l9);
-   if ((b[((int) l5) - 60160] & 0xff) != 1) { break L24; }
-   l10 = Words.get64(b, ((int) l5) - 60120);
-   l12 = Words.get64(b, ((int) l5) - 60128);
-   l7 = Words.get64(b, ((int) l5) - 60136);
-   l8 = Words.get64(b, ((int) l5) - 60144);
-   l25 = b[((int) l5) - 60112] & 0xff;
-   Core2.f80(m, l5 + 400L, l6 = Words.get64(b, ((int) l5) - 60184), l9 = Words.get64(b, ((int) l5) - 60176));
+   if ((b[((int) l5) - 59888] & 0xff) != 1) { break L24; }
+   l10 = Words.get64(b, ((int) l5) - 59848);
+   l12 = Words.get64(b, ((int) l5) - 59856);
+   l7 = Words.get64(b, ((int) l5) - 59864);
+   l8 = Words.get64(b, ((int) l5) - 59872);
+   l25 = b[((int) l5) - 59840] & 0xff;
+   Core2.f80(m, l5 + 400L, l6 = Words.get64(b, ((int) l5) - 59912), l9 = Words.get64(b, ((int) l5) - 59904));
    L25: {
-    if ((b[((int) l5) - 60320] & 0xff) != 1) { break L25; }
+    if ((b[((int) l5) - 60048] & 0xff) != 1) { break L25; }
     L26: while (true) {
-     Words.put64(b, ((int) l5) - 60232, 0L);
-     Words.put64(b, ((int) l5) - 60240, 0L);
-     Words.put64(b, ((int) l5) - 60248, 0L);
-     Words.put64(b, ((int) l5) - 60256, 0L);
+     Words.put64(b, ((int) l5) - 59960, 0L);
+     Words.put64(b, ((int) l5) - 59968, 0L);
+     Words.put64(b, ((int) l5) - 59976, 0L);
+     Words.put64(b, ((int) l5) - 59984, 0L);
      Core2.f80(m, l5 + 464L, l6, l9);
      L27: {
       L28: {
-       if ((b[((int) l5) - 60256] & 0xff) == 1) { break L28; }
+       if ((b[((int) l5) - 59984] & 0xff) == 1) { break L28; }
        l24 = 0;
        break L27;
       }
       L29: {
-       if ((l26 = Words.get32(b, ((int) l5) - 60248)) == 38646) { break L29; }
+       if ((l26 = Words.get32(b, ((int) l5) - 59976)) == 38646) { break L29; }
        l24 = 0;
        if (l26 != 12295) { break L27; }
       }
       l24 = 1;
-      l6 = Words.get64(b, ((int) l5) - 60240);
-      l9 = Words.get64(b, ((int) l5) - 60232);
+      l6 = Words.get64(b, ((int) l5) - 59968);
+      l9 = Words.get64(b, ((int) l5) - 59960);
      }
      m.fill((int) (l5 + 464L), 0, (int) 96L);
-     Words.put64(b, ((int) l5) - 60264, 0L);
-     Words.put64(b, ((int) l5) - 60272, 0L);
-     Words.put64(b, ((int) l5) - 60280, 0L);
-     Words.put64(b, ((int) l5) - 60288, 0L);
+     Words.put64(b, ((int) l5) - 59992, 0L);
+     Words.put64(b, ((int) l5) - 60000, 0L);
+     Words.put64(b, ((int) l5) - 60008, 0L);
+     Words.put64(b, ((int) l5) - 60016, 0L);
      f90(m, l5 + 464L, l6, l9);
-     if ((b[((int) l5) - 60256] & 0xff) != 1) { break L24; }
-     if ((l13 = Words.get64(b, ((int) l5) - 60240)) == 0L) { break L24; }
-     l14 = Words.get64(b, ((int) l5) - 60216);
-     l11 = Words.get64(b, ((int) l5) - 60224);
-     l9 = Words.get64(b, ((int) l5) - 60176);
-     l6 = Words.get64(b, ((int) l5) - 60184);
-     l26 = b[((int) l5) - 60208] & 0xff;
-     Core2.f80(m, l5 + 432L, l15 = Words.get64(b, ((int) l5) - 60200), l16 = Words.get64(b, ((int) l5) - 60192));
+     if ((b[((int) l5) - 59984] & 0xff) != 1) { break L24; }
+     if ((l13 = Words.get64(b, ((int) l5) - 59968)) == 0L) { break L24; }
+     l14 = Words.get64(b, ((int) l5) - 59944);
+     l11 = Words.get64(b, ((int) l5) - 59952);
+     l9 = Words.get64(b, ((int) l5) - 59904);
+     l6 = Words.get64(b, ((int) l5) - 59912);
+     l26 = b[((int) l5) - 59936] & 0xff;
+     Core2.f80(m, l5 + 432L, l15 = Words.get64(b, ((int) l5) - 59928), l16 = Words.get64(b, ((int) l5) - 59920));
      L30: {
       L31: {
-       if ((b[((int) l5) - 60288] & 0xff) != 1) { break L31; }
+       if ((b[((int) l5) - 60016] & 0xff) != 1) { break L31; }
        L32: {
         final int t33 = l24;
         final int t34 = (l12 + Long.MIN_VALUE < -9223372036754775808L) ? 1 : 0;
         final int t35 = (l10 == 0L) ? 1 : 0;
         if ((t33 | (t35 != 0 ? t34 : 0)) != 0) { break L32; }
-        Words.put64(b, ((int) l5) - 60136, 0L);
-        Words.put64(b, ((int) l5) - 60144, 0L);
-        Words.put64(b, ((int) l5) - 60152, 0L);
-        Words.put64(b, ((int) l5) - 60160, 0L);
+        Words.put64(b, ((int) l5) - 59864, 0L);
+        Words.put64(b, ((int) l5) - 59872, 0L);
+        Words.put64(b, ((int) l5) - 59880, 0L);
+        Words.put64(b, ((int) l5) - 59888, 0L);
         f87(m, l5 + 560L, l1, 1L, 0L, l15, l16);
-        if ((b[((int) l5) - 60160] & 0xff) != 1) { break L32; }
-        final int t36 = (Words.get64(b, ((int) l5) - 60144) + Long.MIN_VALUE < -9223372036854765808L) ? 1 : 0;
-        final int t37 = (Words.get64(b, ((int) l5) - 60136) == 0L) ? 1 : 0;
+        if ((b[((int) l5) - 59888] & 0xff) != 1) { break L32; }
+        final int t36 = (Words.get64(b, ((int) l5) - 59872) + Long.MIN_VALUE < -9223372036854765808L) ? 1 : 0;
+        final int t37 = (Words.get64(b, ((int) l5) - 59864) == 0L) ? 1 : 0;
         if ((t37 != 0 ? t36 : 0) != 0) { break L24; }
        }
-       Words.put64(b, ((int) l5) - 60104, 0L);
-       Words.put64(b, ((int) l5) - 60112, 0L);
-       Words.put64(b, ((int) l5) - 60120, 0L);
-       Words.put64(b, ((int) l5) - 60128, 0L);
-       Words.put64(b, ((int) l5) - 60136, 0L);
-       Words.put64(b, ((int) l5) - 60144, 0L);
-       Words.put64(b, ((int) l5) - 60152, 0L);
-       Words.put64(b, ((int) l5) - 60160, 0L);
+       Words.put64(b, ((int) l5) - 59832, 0L);
+       Words.put64(b, ((int) l5) - 59840, 0L);
+       Words.put64(b, ((int) l5) - 59848, 0L);
+       Words.put64(b, ((int) l5) - 59856, 0L);
+       Words.put64(b, ((int) l5) - 59864, 0L);
+       Words.put64(b, ((int) l5) - 59872, 0L);
+       Words.put64(b, ((int) l5) - 59880, 0L);
+       Words.put64(b, ((int) l5) - 59888, 0L);
        if ((l26 & 1) != 0) { break L24; }
-       Words.put64(b, ((int) l5) - 60072, 0L);
-       Words.put64(b, ((int) l5) - 60080, 0L);
-       Words.put64(b, ((int) l5) - 60088, 0L);
-       Words.put64(b, ((int) l5) - 60096, 0L);
+       Words.put64(b, ((int) l5) - 59800, 0L);
+       Words.put64(b, ((int) l5) - 59808, 0L);
+       Words.put64(b, ((int) l5) - 59816, 0L);
+       Words.put64(b, ((int) l5) - 59824, 0L);
        f87(m, l5 + 624L, l1, l11, l14, l15, l16);
-       if ((b[((int) l5) - 60096] & 0xff) != 1) { break L24; }
-       final int t38 = (Words.get64(b, ((int) l5) - 60080) + Long.MIN_VALUE >= l12 + Long.MIN_VALUE) ? 1 : 0;
-       final int t39 = ((l12 = Words.get64(b, ((int) l5) - 60072)) + Long.MIN_VALUE >= l10 + Long.MIN_VALUE) ? 1 : 0;
+       if ((b[((int) l5) - 59824] & 0xff) != 1) { break L24; }
+       final int t38 = (Words.get64(b, ((int) l5) - 59808) + Long.MIN_VALUE >= l12 + Long.MIN_VALUE) ? 1 : 0;
+       final int t39 = ((l12 = Words.get64(b, ((int) l5) - 59800)) + Long.MIN_VALUE >= l10 + Long.MIN_VALUE) ? 1 : 0;
        final int t40 = (l12 == l10) ? 1 : 0;
        if ((t40 != 0 ? t38 : t39) != 0) { break L24; }
        f91(m, l5 + 560L, l1, l8, l7, l11, l14, l15, l16);
-       if ((b[((int) l5) - 60160] & 0xff) != 1) { break L24; }
-       l10 = Words.get64(b, ((int) l5) - 60120);
-       l12 = Words.get64(b, ((int) l5) - 60128);
-       l7 = Words.get64(b, ((int) l5) - 60136);
-       l8 = Words.get64(b, ((int) l5) - 60144);
-       l25 = b[((int) l5) - 60112] & 0xff;
+       if ((b[((int) l5) - 59888] & 0xff) != 1) { break L24; }
+       l10 = Words.get64(b, ((int) l5) - 59848);
+       l12 = Words.get64(b, ((int) l5) - 59856);
+       l7 = Words.get64(b, ((int) l5) - 59864);
+       l8 = Words.get64(b, ((int) l5) - 59872);
+       l25 = b[((int) l5) - 59840] & 0xff;
        break L30;
       }
       L41: {
@@ -593,7 +593,7 @@ static int f86_1(State m, int l1, long l5, long l6, long l7, long l8, long l9, l
        }
        if (l13 + Long.MIN_VALUE > -9223372036854775770L) { break L24; }
        L49: {
-        if (((l12 ^ Words.get64(b, ((int) ((l15 = l13 << 4L) + 68336L)) - 60720)) | (l10 ^ Words.get64(b, ((int) (l15 + 68344L)) - 60720))) != 0L) { break L49; }
+        if (((l12 ^ Words.get64(b, ((int) ((l15 = l13 << 4L) + 68336L)) - 60448)) | (l10 ^ Words.get64(b, ((int) (l15 + 68344L)) - 60448))) != 0L) { break L49; }
         final int t50 = (l8 + Long.MIN_VALUE > (l11 ^ -1L) + Long.MIN_VALUE) ? 1 : 0;
         final int t51 = (l7 + Long.MIN_VALUE > (l10 = l14 ^ -1L) + Long.MIN_VALUE) ? 1 : 0;
         final int t52 = (l7 == l10) ? 1 : 0;
@@ -617,16 +617,16 @@ static int f86_1(State m, int l1, long l5, long l6, long l7, long l8, long l9, l
         if (l24 != 0) { break L61; }
         if (((l17 ^ 127L) | l18) == 0L) { break L61; }
         Core1.f4(m, l5 + 96L, l12, l10, 127 - ((int) l17));
-        l13 = Words.get64(b, ((int) l5) - 60616);
-        l15 = Words.get64(b, ((int) l5) - 60624);
+        l13 = Words.get64(b, ((int) l5) - 60344);
+        l15 = Words.get64(b, ((int) l5) - 60352);
         L62: {
          L63: {
           if (((l16 = l17 + 1L) | (l17 = l18 + ((l16 == 0L) ? 1L : 0L))) == 0L) { break L63; }
           Core1.f5(m, l5 + 80L, l12, l10, (int) l16);
           l19 = 10L + -1L;
           l20 = 0L - ((10L == 0L) ? 1L : 0L);
-          l12 = Words.get64(b, ((int) l5) - 60632);
-          l10 = Words.get64(b, ((int) l5) - 60640);
+          l12 = Words.get64(b, ((int) l5) - 60360);
+          l10 = Words.get64(b, ((int) l5) - 60368);
           l18 = 0L;
           L64: while (true) {
            l21 = l18;
@@ -650,8 +650,8 @@ static int f86_1(State m, int l1, long l5, long l6, long l7, long l8, long l9, l
        Core1.f3(m, l5 + 64L, l11, 0L, l16, 0L);
        Core1.f3(m, l5 + 16L, l14, 0L, l15, 0L);
        Core1.f3(m, l5 + 48L, l14, 0L, l16, 0L);
-       if ((((Words.get64(b, ((int) l5) - 60696) + (((l11 = (l10 = (l14 = Words.get64(b, ((int) l5) - 60680)) + Words.get64(b, ((int) l5) - 60656)) + Words.get64(b, ((int) l5) - 60704)) + Long.MIN_VALUE < l10 + Long.MIN_VALUE) ? 1L : 0L)) | (l14 = (l10 = Words.get64(b, ((int) l5) - 60648) + ((l10 + Long.MIN_VALUE < l14 + Long.MIN_VALUE) ? 1L : 0L)) + Words.get64(b, ((int) l5) - 60672))) | (Words.get64(b, ((int) l5) - 60664) + ((l14 + Long.MIN_VALUE < l10 + Long.MIN_VALUE) ? 1L : 0L))) != 0L) { break L24; }
-       final int t65 = (l8 + Long.MIN_VALUE > ((l10 = Words.get64(b, ((int) l5) - 60688)) ^ -1L) + Long.MIN_VALUE) ? 1 : 0;
+       if ((((Words.get64(b, ((int) l5) - 60424) + (((l11 = (l10 = (l14 = Words.get64(b, ((int) l5) - 60408)) + Words.get64(b, ((int) l5) - 60384)) + Words.get64(b, ((int) l5) - 60432)) + Long.MIN_VALUE < l10 + Long.MIN_VALUE) ? 1L : 0L)) | (l14 = (l10 = Words.get64(b, ((int) l5) - 60376) + ((l10 + Long.MIN_VALUE < l14 + Long.MIN_VALUE) ? 1L : 0L)) + Words.get64(b, ((int) l5) - 60400))) | (Words.get64(b, ((int) l5) - 60392) + ((l14 + Long.MIN_VALUE < l10 + Long.MIN_VALUE) ? 1L : 0L))) != 0L) { break L24; }
+       final int t65 = (l8 + Long.MIN_VALUE > ((l10 = Words.get64(b, ((int) l5) - 60416)) ^ -1L) + Long.MIN_VALUE) ? 1 : 0;
        final int t66 = (l7 + Long.MIN_VALUE > (l14 = l11 ^ -1L) + Long.MIN_VALUE) ? 1 : 0;
        final int t67 = (l7 == l14) ? 1 : 0;
        if ((t67 != 0 ? t65 : t66) != 0) { break L24; }
@@ -662,7 +662,7 @@ static int f86_1(State m, int l1, long l5, long l6, long l7, long l8, long l9, l
       l10 = 0L;
      }
      Core2.f80(m, l5 + 400L, l6, l9);
-     if ((b[((int) l5) - 60320] & 0xff) == 1) { continue L26; }
+     if ((b[((int) l5) - 60048] & 0xff) == 1) { continue L26; }
      break L26;
     }
    }
@@ -728,66 +728,66 @@ static void f86(State m, long l0, int l1, long l2, long l3, long l4) {
       L6: {
        if ((l5 = l5) < 16L) { break L6; }
        l6 = 0L;
-       Words.put64(b, ((int) l5) - 60504, 0L);
-       Words.put64(b, ((int) l5) - 60512, 0L);
-       Words.put64(b, ((int) l5) - 60520, 0L);
-       Words.put64(b, ((int) l5) - 60528, 0L);
-       f82(m, l5 + 192L, l1, l2, l3, l4);
-       L7: {
-        if ((b[((int) l5) - 60528] & 0xff) != 0) { break L7; }
-        l7 = Words.get64(b, ((int) l5) - 60504);
-        l8 = Words.get64(b, ((int) l5) - 60512);
-        l9 = 0L;
-        l10 = 0L;
-        break L1;
-       }
-       Words.put64(b, ((int) l5) - 60352, 0L);
-       Words.put64(b, ((int) l5) - 60344, 0L);
-       Words.put64(b, ((int) l5) - 60336, 0L);
-       Words.put64(b, ((int) l5) - 60328, 0L);
-       Words.put64(b, ((int) l5) - 60400, 0L);
-       Words.put64(b, ((int) l5) - 60392, 0L);
-       Words.put64(b, ((int) l5) - 60384, 0L);
-       Words.put64(b, ((int) l5) - 60376, 0L);
-       Words.put64(b, ((int) l5) - 60368, 0L);
-       Words.put64(b, ((int) l5) - 60360, 0L);
-       Words.put64(b, ((int) l5) - 60432, 0L);
-       Words.put64(b, ((int) l5) - 60424, 0L);
-       Words.put64(b, ((int) l5) - 60416, 0L);
-       Words.put64(b, ((int) l5) - 60408, 0L);
-       Words.put64(b, ((int) l5) - 60464, 0L);
-       Words.put64(b, ((int) l5) - 60456, 0L);
-       Words.put64(b, ((int) l5) - 60448, 0L);
-       Words.put64(b, ((int) l5) - 60440, 0L);
-       Words.put64(b, ((int) l5) - 60472, 0L);
-       Words.put64(b, ((int) l5) - 60480, 0L);
-       Words.put64(b, ((int) l5) - 60488, 0L);
-       Words.put64(b, ((int) l5) - 60496, 0L);
-       Words.put64(b, ((int) l5) - 60136, 0L);
-       Words.put64(b, ((int) l5) - 60144, 0L);
-       Words.put64(b, ((int) l5) - 60152, 0L);
-       Words.put64(b, ((int) l5) - 60160, 0L);
        Words.put64(b, ((int) l5) - 60232, 0L);
        Words.put64(b, ((int) l5) - 60240, 0L);
        Words.put64(b, ((int) l5) - 60248, 0L);
        Words.put64(b, ((int) l5) - 60256, 0L);
+       f82(m, l5 + 192L, l1, l2, l3, l4);
+       L7: {
+        if ((b[((int) l5) - 60256] & 0xff) != 0) { break L7; }
+        l7 = Words.get64(b, ((int) l5) - 60232);
+        l8 = Words.get64(b, ((int) l5) - 60240);
+        l9 = 0L;
+        l10 = 0L;
+        break L1;
+       }
+       Words.put64(b, ((int) l5) - 60080, 0L);
+       Words.put64(b, ((int) l5) - 60072, 0L);
+       Words.put64(b, ((int) l5) - 60064, 0L);
+       Words.put64(b, ((int) l5) - 60056, 0L);
+       Words.put64(b, ((int) l5) - 60128, 0L);
+       Words.put64(b, ((int) l5) - 60120, 0L);
+       Words.put64(b, ((int) l5) - 60112, 0L);
+       Words.put64(b, ((int) l5) - 60104, 0L);
+       Words.put64(b, ((int) l5) - 60096, 0L);
+       Words.put64(b, ((int) l5) - 60088, 0L);
+       Words.put64(b, ((int) l5) - 60160, 0L);
+       Words.put64(b, ((int) l5) - 60152, 0L);
+       Words.put64(b, ((int) l5) - 60144, 0L);
+       Words.put64(b, ((int) l5) - 60136, 0L);
+       Words.put64(b, ((int) l5) - 60192, 0L);
+       Words.put64(b, ((int) l5) - 60184, 0L);
+       Words.put64(b, ((int) l5) - 60176, 0L);
+       Words.put64(b, ((int) l5) - 60168, 0L);
+       Words.put64(b, ((int) l5) - 60200, 0L);
+       Words.put64(b, ((int) l5) - 60208, 0L);
+       Words.put64(b, ((int) l5) - 60216, 0L);
+       Words.put64(b, ((int) l5) - 60224, 0L);
+       Words.put64(b, ((int) l5) - 59864, 0L);
+       Words.put64(b, ((int) l5) - 59872, 0L);
+       Words.put64(b, ((int) l5) - 59880, 0L);
+       Words.put64(b, ((int) l5) - 59888, 0L);
+       Words.put64(b, ((int) l5) - 59960, 0L);
+       Words.put64(b, ((int) l5) - 59968, 0L);
+       Words.put64(b, ((int) l5) - 59976, 0L);
+       Words.put64(b, ((int) l5) - 59984, 0L);
        Core2.f80(m, l5 + 464L, l3, l4);
-       if ((b[((int) l5) - 60256] & 0xff) != 1) { break L5; }
-       l6 = Words.get64(b, ((int) l5) - 60232);
-       l8 = Words.get64(b, ((int) l5) - 60240);
-       Core1.f24(m, l5 + 184L, Words.get32(b, ((int) l5) - 60248));
-       if ((b[((int) l5) - 60536] & 0xff) != 1) { break L5; }
+       if ((b[((int) l5) - 59984] & 0xff) != 1) { break L5; }
+       l6 = Words.get64(b, ((int) l5) - 59960);
+       l8 = Words.get64(b, ((int) l5) - 59968);
+       Core1.f24(m, l5 + 184L, Words.get32(b, ((int) l5) - 59976));
+       if ((b[((int) l5) - 60264] & 0xff) != 1) { break L5; }
        l11 = 1L;
        L8: {
         L9: while (true) {
          l10 = l11;
          Core2.f80(m, l5 + 464L, l7 = l8, l9 = l6);
-         if ((b[((int) l5) - 60256] & 0xff) != 1) { break L8; }
-         l6 = Words.get64(b, ((int) l5) - 60232);
-         l8 = Words.get64(b, ((int) l5) - 60240);
-         Core1.f24(m, l5 + 176L, Words.get32(b, ((int) l5) - 60248));
+         if ((b[((int) l5) - 59984] & 0xff) != 1) { break L8; }
+         l6 = Words.get64(b, ((int) l5) - 59960);
+         l8 = Words.get64(b, ((int) l5) - 59968);
+         Core1.f24(m, l5 + 176L, Words.get32(b, ((int) l5) - 59976));
          l11 = l10 + 1L;
-         if ((b[((int) l5) - 60544] & 0xff) == 1) { continue L9; }
+         if ((b[((int) l5) - 60272] & 0xff) == 1) { continue L9; }
          break L9;
         }
        }
@@ -796,65 +796,65 @@ static void f86(State m, long l0, int l1, long l2, long l3, long l4) {
         L11: {
          L12: {
           if (l10 + Long.MIN_VALUE >= -9223372036854775804L) { break L12; }
-          Words.put64(b, ((int) l5) - 60232, 0L);
-          Words.put64(b, ((int) l5) - 60240, 0L);
-          Words.put64(b, ((int) l5) - 60248, 0L);
-          Words.put64(b, ((int) l5) - 60256, 0L);
+          Words.put64(b, ((int) l5) - 59960, 0L);
+          Words.put64(b, ((int) l5) - 59968, 0L);
+          Words.put64(b, ((int) l5) - 59976, 0L);
+          Words.put64(b, ((int) l5) - 59984, 0L);
           Core2.f80(m, l5 + 464L, l3, l4);
-          if ((b[((int) l5) - 60256] & 0xff) != 1) { break L11; }
-          Core1.f24(m, l5 + 168L, Words.get32(b, ((int) l5) - 60248));
-          if (((((b[((int) l5) - 60552] & 0xff) != 1) | (((b[((int) l5) - 60551] & 0xff) & 255) != 0)) ? 1 : 0) == 1) { break L11; }
+          if ((b[((int) l5) - 59984] & 0xff) != 1) { break L11; }
+          Core1.f24(m, l5 + 168L, Words.get32(b, ((int) l5) - 59976));
+          if (((((b[((int) l5) - 60280] & 0xff) != 1) | (((b[((int) l5) - 60279] & 0xff) & 255) != 0)) ? 1 : 0) == 1) { break L11; }
          }
          Core2.f80(m, l5 + 560L, l7, l9);
-         if ((b[((int) l5) - 60160] & 0xff) != 1) { break L10; }
+         if ((b[((int) l5) - 59888] & 0xff) != 1) { break L10; }
          L13: {
-          if ((l24 = Words.get32(b, ((int) l5) - 60152)) == 65292) { break L13; }
+          if ((l24 = Words.get32(b, ((int) l5) - 59880)) == 65292) { break L13; }
           if (l24 != 44) { break L10; }
          }
-         l6 = Words.get64(b, ((int) l5) - 60144);
-         l8 = Words.get64(b, ((int) l5) - 60136);
-         Words.put64(b, ((int) l5) - 60232, 0L);
-         Words.put64(b, ((int) l5) - 60240, 0L);
-         Words.put64(b, ((int) l5) - 60248, 0L);
-         Words.put64(b, ((int) l5) - 60256, 0L);
+         l6 = Words.get64(b, ((int) l5) - 59872);
+         l8 = Words.get64(b, ((int) l5) - 59864);
+         Words.put64(b, ((int) l5) - 59960, 0L);
+         Words.put64(b, ((int) l5) - 59968, 0L);
+         Words.put64(b, ((int) l5) - 59976, 0L);
+         Words.put64(b, ((int) l5) - 59984, 0L);
          Core2.f80(m, l5 + 464L, l6, l8);
-         if ((b[((int) l5) - 60256] & 0xff) != 1) { break L5; }
-         Core1.f24(m, l5 + 160L, Words.get32(b, ((int) l5) - 60248));
-         if ((b[((int) l5) - 60560] & 0xff) != 1) { break L5; }
+         if ((b[((int) l5) - 59984] & 0xff) != 1) { break L5; }
+         Core1.f24(m, l5 + 160L, Words.get32(b, ((int) l5) - 59976));
+         if ((b[((int) l5) - 60288] & 0xff) != 1) { break L5; }
          L14: while (true) {
-          Core2.f80(m, l5 + 464L, Words.get64(b, ((int) l5) - 60240), Words.get64(b, ((int) l5) - 60232));
-          if ((b[((int) l5) - 60256] & 0xff) != 1) { break L5; }
-          Core1.f24(m, l5 + 152L, Words.get32(b, ((int) l5) - 60248));
-          if ((b[((int) l5) - 60568] & 0xff) == 1) { continue L14; }
+          Core2.f80(m, l5 + 464L, Words.get64(b, ((int) l5) - 59968), Words.get64(b, ((int) l5) - 59960));
+          if ((b[((int) l5) - 59984] & 0xff) != 1) { break L5; }
+          Core1.f24(m, l5 + 152L, Words.get32(b, ((int) l5) - 59976));
+          if ((b[((int) l5) - 60296] & 0xff) == 1) { continue L14; }
           break L5;
          }
         }
         L15: while (true) {
          Core2.f80(m, l5 + 560L, l7, l9);
-         if ((b[((int) l5) - 60160] & 0xff) != 1) { break L10; }
+         if ((b[((int) l5) - 59888] & 0xff) != 1) { break L10; }
          L16: {
-          if ((l24 = Words.get32(b, ((int) l5) - 60152)) == 65292) { break L16; }
+          if ((l24 = Words.get32(b, ((int) l5) - 59880)) == 65292) { break L16; }
           if (l24 != 44) { break L10; }
          }
-         l6 = Words.get64(b, ((int) l5) - 60144);
-         l8 = Words.get64(b, ((int) l5) - 60136);
-         Words.put64(b, ((int) l5) - 60232, 0L);
-         Words.put64(b, ((int) l5) - 60240, 0L);
-         Words.put64(b, ((int) l5) - 60248, 0L);
-         Words.put64(b, ((int) l5) - 60256, 0L);
+         l6 = Words.get64(b, ((int) l5) - 59872);
+         l8 = Words.get64(b, ((int) l5) - 59864);
+         Words.put64(b, ((int) l5) - 59960, 0L);
+         Words.put64(b, ((int) l5) - 59968, 0L);
+         Words.put64(b, ((int) l5) - 59976, 0L);
+         Words.put64(b, ((int) l5) - 59984, 0L);
          Core2.f80(m, l5 + 464L, l6, l8);
-         if ((b[((int) l5) - 60256] & 0xff) != 1) { break L5; }
-         Core1.f24(m, l5 + 144L, Words.get32(b, ((int) l5) - 60248));
-         if ((b[((int) l5) - 60576] & 0xff) != 1) { break L5; }
+         if ((b[((int) l5) - 59984] & 0xff) != 1) { break L5; }
+         Core1.f24(m, l5 + 144L, Words.get32(b, ((int) l5) - 59976));
+         if ((b[((int) l5) - 60304] & 0xff) != 1) { break L5; }
          l6 = 2L;
          L17: {
           L18: while (true) {
            l8 = l6;
-           Core2.f80(m, l5 + 464L, l7 = Words.get64(b, ((int) l5) - 60240), l9 = Words.get64(b, ((int) l5) - 60232));
-           if ((b[((int) l5) - 60256] & 0xff) != 1) { break L17; }
-           Core1.f24(m, l5 + 136L, Words.get32(b, ((int) l5) - 60248));
+           Core2.f80(m, l5 + 464L, l7 = Words.get64(b, ((int) l5) - 59968), l9 = Words.get64(b, ((int) l5) - 59960));
+           if ((b[((int) l5) - 59984] & 0xff) != 1) { break L17; }
+           Core1.f24(m, l5 + 136L, Words.get32(b, ((int) l5) - 59976));
            l6 = l8 + -1L;
-           if ((b[((int) l5) - 60584] & 0xff) == 1) { continue L18; }
+           if ((b[((int) l5) - 60312] & 0xff) == 1) { continue L18; }
            break L18;
           }
          }
@@ -863,41 +863,41 @@ static void f86(State m, long l0, int l1, long l2, long l3, long l4) {
         }
        }
        l10 = 0L;
-       Words.put64(b, ((int) l5) - 60136, 0L);
-       Words.put64(b, ((int) l5) - 60144, 0L);
-       Words.put64(b, ((int) l5) - 60152, 0L);
-       Words.put64(b, ((int) l5) - 60160, 0L);
+       Words.put64(b, ((int) l5) - 59864, 0L);
+       Words.put64(b, ((int) l5) - 59872, 0L);
+       Words.put64(b, ((int) l5) - 59880, 0L);
+       Words.put64(b, ((int) l5) - 59888, 0L);
        Core2.f80(m, l5 + 560L, l7, l9);
        L19: {
-        if ((b[((int) l5) - 60160] & 0xff) != 1) { break L19; }
+        if ((b[((int) l5) - 59888] & 0xff) != 1) { break L19; }
         L20: {
          L21: {
-          if ((l24 = Words.get32(b, ((int) l5) - 60152)) == 65294) { break L21; }
+          if ((l24 = Words.get32(b, ((int) l5) - 59880)) == 65294) { break L21; }
           if (l24 != 46) { break L20; }
          }
-         l6 = Words.get64(b, ((int) l5) - 60144);
-         l8 = Words.get64(b, ((int) l5) - 60136);
-         Words.put64(b, ((int) l5) - 60232, 0L);
-         Words.put64(b, ((int) l5) - 60240, 0L);
-         Words.put64(b, ((int) l5) - 60248, 0L);
-         Words.put64(b, ((int) l5) - 60256, 0L);
+         l6 = Words.get64(b, ((int) l5) - 59872);
+         l8 = Words.get64(b, ((int) l5) - 59864);
+         Words.put64(b, ((int) l5) - 59960, 0L);
+         Words.put64(b, ((int) l5) - 59968, 0L);
+         Words.put64(b, ((int) l5) - 59976, 0L);
+         Words.put64(b, ((int) l5) - 59984, 0L);
          Core2.f80(m, l5 + 464L, l6, l8);
-         if ((b[((int) l5) - 60256] & 0xff) != 1) { break L5; }
-         l6 = Words.get64(b, ((int) l5) - 60232);
-         l8 = Words.get64(b, ((int) l5) - 60240);
-         Core1.f24(m, l5 + 128L, Words.get32(b, ((int) l5) - 60248));
-         if ((b[((int) l5) - 60592] & 0xff) != 1) { break L5; }
+         if ((b[((int) l5) - 59984] & 0xff) != 1) { break L5; }
+         l6 = Words.get64(b, ((int) l5) - 59960);
+         l8 = Words.get64(b, ((int) l5) - 59968);
+         Core1.f24(m, l5 + 128L, Words.get32(b, ((int) l5) - 59976));
+         if ((b[((int) l5) - 60320] & 0xff) != 1) { break L5; }
          l7 = 1L;
          L22: {
           L23: while (true) {
            l10 = l7;
            Core2.f80(m, l5 + 464L, l11 = l8, l9 = l6);
-           if ((b[((int) l5) - 60256] & 0xff) != 1) { break L22; }
-           l6 = Words.get64(b, ((int) l5) - 60232);
-           l8 = Words.get64(b, ((int) l5) - 60240);
-           Core1.f24(m, l5 + 120L, Words.get32(b, ((int) l5) - 60248));
+           if ((b[((int) l5) - 59984] & 0xff) != 1) { break L22; }
+           l6 = Words.get64(b, ((int) l5) - 59960);
+           l8 = Words.get64(b, ((int) l5) - 59968);
+           Core1.f24(m, l5 + 120L, Words.get32(b, ((int) l5) - 59976));
            l7 = l10 + 1L;
-           if ((b[((int) l5) - 60600] & 0xff) == 1) { continue L23; }
+           if ((b[((int) l5) - 60328] & 0xff) == 1) { continue L23; }
            break L23;
           }
          }
@@ -911,31 +911,31 @@ static void f86(State m, long l0, int l1, long l2, long l3, long l4) {
        l8 = 0L;
        l24 = 0;
        f89(m, l5 + 368L, l1, 0, 0L, 0L, l3, l4);
-       if ((b[((int) l5) - 60352] & 0xff) != 1) { break L4; }
+       if ((b[((int) l5) - 60080] & 0xff) != 1) { break L4; }
        l6 = 0L;
-       l7 = Words.get64(b, ((int) l5) - 60328);
-       l8 = Words.get64(b, ((int) l5) - 60336);
+       l7 = Words.get64(b, ((int) l5) - 60056);
+       l8 = Words.get64(b, ((int) l5) - 60064);
        break L2;
       }
       throw State.trap();
      }
-     Words.put64(b, ((int) l5) - 60296, 0L);
-     Words.put64(b, ((int) l5) - 60304, 0L);
-     Words.put64(b, ((int) l5) - 60312, 0L);
-     Words.put64(b, ((int) l5) - 60320, 0L);
+     Words.put64(b, ((int) l5) - 60024, 0L);
+     Words.put64(b, ((int) l5) - 60032, 0L);
+     Words.put64(b, ((int) l5) - 60040, 0L);
+     Words.put64(b, ((int) l5) - 60048, 0L);
      m.fill((int) (l5 + 464L), 0, (int) 96L);
-     Words.put64(b, ((int) l5) - 60072, 0L);
-     Words.put64(b, ((int) l5) - 60080, 0L);
-     Words.put64(b, ((int) l5) - 60088, 0L);
-     Words.put64(b, ((int) l5) - 60096, 0L);
-     Words.put64(b, ((int) l5) - 60160, 0L);
-     Words.put64(b, ((int) l5) - 60152, 0L);
-     Words.put64(b, ((int) l5) - 60144, 0L);
-     Words.put64(b, ((int) l5) - 60136, 0L);
-     Words.put64(b, ((int) l5) - 60128, 0L);
-     Words.put64(b, ((int) l5) - 60120, 0L);
-     Words.put64(b, ((int) l5) - 60112, 0L);
-     Words.put64(b, ((int) l5) - 60104, 0L);
+     Words.put64(b, ((int) l5) - 59800, 0L);
+     Words.put64(b, ((int) l5) - 59808, 0L);
+     Words.put64(b, ((int) l5) - 59816, 0L);
+     Words.put64(b, ((int) l5) - 59824, 0L);
+     Words.put64(b, ((int) l5) - 59888, 0L);
+     Words.put64(b, ((int) l5) - 59880, 0L);
+     Words.put64(b, ((int) l5) - 59872, 0L);
+     Words.put64(b, ((int) l5) - 59864, 0L);
+     Words.put64(b, ((int) l5) - 59856, 0L);
+     Words.put64(b, ((int) l5) - 59848, 0L);
+     Words.put64(b, ((int) l5) - 59840, 0L);
+     Words.put64(b, ((int) l5) - 59832, 0L);
      f90(m, l5 + 464L, l3, l4);
      final int x68 = f86_1(m, l1, l5, l6, l7, l8, l9, l10, l11, l12, l13, l14, l15, l16, l17, l18, l19, l20, l21, l22, l23, l24, l25, l26);
      l6 = m.kept[0];
@@ -964,48 +964,48 @@ static void f86(State m, long l0, int l1, long l2, long l3, long l4) {
      }
      f92(m, l5 + 320L, l3, l4);
      L69: {
-      if ((b[((int) l5) - 60400] & 0xff) != 1) { break L69; }
-      l10 = Words.get64(b, ((int) l5) - 60360);
-      l6 = Words.get64(b, ((int) l5) - 60368);
-      l7 = Words.get64(b, ((int) l5) - 60376);
-      f82(m, l5 + 288L, l1, l2, Words.get64(b, ((int) l5) - 60392), Words.get64(b, ((int) l5) - 60384));
-      l8 = Words.get64(b, ((int) l5) - 60416);
+      if ((b[((int) l5) - 60128] & 0xff) != 1) { break L69; }
+      l10 = Words.get64(b, ((int) l5) - 60088);
+      l6 = Words.get64(b, ((int) l5) - 60096);
+      l7 = Words.get64(b, ((int) l5) - 60104);
+      f82(m, l5 + 288L, l1, l2, Words.get64(b, ((int) l5) - 60120), Words.get64(b, ((int) l5) - 60112));
+      l8 = Words.get64(b, ((int) l5) - 60144);
       L70: {
-       if ((b[((int) l5) - 60432] & 0xff) != 0) { break L70; }
-       f89(m, l5 + 256L, l1, 1, l8, Words.get64(b, ((int) l5) - 60408), l7, l6);
+       if ((b[((int) l5) - 60160] & 0xff) != 0) { break L70; }
+       f89(m, l5 + 256L, l1, 1, l8, Words.get64(b, ((int) l5) - 60136), l7, l6);
        L71: {
-        if ((b[((int) l5) - 60464] & 0xff) == 1) { break L71; }
+        if ((b[((int) l5) - 60192] & 0xff) == 1) { break L71; }
         l8 = 0L;
         break L4;
        }
        l24 = 0;
        l6 = 0L;
-       l7 = Words.get64(b, ((int) l5) - 60440);
-       l8 = Words.get64(b, ((int) l5) - 60448);
+       l7 = Words.get64(b, ((int) l5) - 60168);
+       l8 = Words.get64(b, ((int) l5) - 60176);
        break L2;
       }
       l7 = 0L;
       l6 = 1L;
-      l24 = b[((int) l5) - 60424] & 0xff;
+      l24 = b[((int) l5) - 60152] & 0xff;
       break L3;
      }
      l6 = 0L;
-     Words.put64(b, ((int) l5) - 60256, 0L);
-     Words.put64(b, ((int) l5) - 60248, 0L);
-     Words.put64(b, ((int) l5) - 60240, 0L);
-     Words.put64(b, ((int) l5) - 60232, 0L);
-     Words.put64(b, ((int) l5) - 60160, 0L);
-     Words.put64(b, ((int) l5) - 60152, 0L);
-     Words.put64(b, ((int) l5) - 60144, 0L);
-     Words.put64(b, ((int) l5) - 60136, 0L);
+     Words.put64(b, ((int) l5) - 59984, 0L);
+     Words.put64(b, ((int) l5) - 59976, 0L);
+     Words.put64(b, ((int) l5) - 59968, 0L);
+     Words.put64(b, ((int) l5) - 59960, 0L);
+     Words.put64(b, ((int) l5) - 59888, 0L);
+     Words.put64(b, ((int) l5) - 59880, 0L);
+     Words.put64(b, ((int) l5) - 59872, 0L);
+     Words.put64(b, ((int) l5) - 59864, 0L);
      Core2.f80(m, l5 + 464L, l3, l4);
      L72: {
-      if ((b[((int) l5) - 60256] & 0xff) != 1) { break L72; }
-      l7 = Words.get64(b, ((int) l5) - 60232);
-      l9 = Words.get64(b, ((int) l5) - 60240);
+      if ((b[((int) l5) - 59984] & 0xff) != 1) { break L72; }
+      l7 = Words.get64(b, ((int) l5) - 59960);
+      l9 = Words.get64(b, ((int) l5) - 59968);
       L73: {
        L74: {
-        if ((l24 = Words.get32(b, ((int) l5) - 60248)) != 24319) { break L74; }
+        if ((l24 = Words.get32(b, ((int) l5) - 59976)) != 24319) { break L74; }
         l8 = 20L;
         break L73;
        }
@@ -1014,14 +1014,14 @@ static void f86(State m, long l0, int l1, long l2, long l3, long l4) {
       }
       Core2.f80(m, l5 + 560L, l9, l7);
       L75: {
-       if ((b[((int) l5) - 60160] & 0xff) != 1) { break L75; }
-       l24 = Words.get32(b, ((int) l5) - 60152);
-       Core2.f80(m, l5 + 464L, Words.get64(b, ((int) l5) - 60144), Words.get64(b, ((int) l5) - 60136));
+       if ((b[((int) l5) - 59888] & 0xff) != 1) { break L75; }
+       l24 = Words.get32(b, ((int) l5) - 59880);
+       Core2.f80(m, l5 + 464L, Words.get64(b, ((int) l5) - 59872), Words.get64(b, ((int) l5) - 59864));
        if ((l24 + -48) + Integer.MIN_VALUE < -2147483638) { break L72; }
-       if (((b[((int) l5) - 60256] & 0xff) & 255) == 1) { break L72; }
+       if (((b[((int) l5) - 59984] & 0xff) & 255) == 1) { break L72; }
        Core2.f63(m, l5 + 8L, l24);
-       if (((b[((int) l5) - 60712] & 0xff) & 1) == 0) { break L72; }
-       l8 = l8 + (((b[((int) l5) - 60711] & 0xff) & 0xffffffffL) & 255L);
+       if (((b[((int) l5) - 60440] & 0xff) & 1) == 0) { break L72; }
+       l8 = l8 + (((b[((int) l5) - 60439] & 0xff) & 0xffffffffL) & 255L);
       }
       l6 = 0L;
       l24 = 0;
@@ -1029,16 +1029,16 @@ static void f86(State m, long l0, int l1, long l2, long l3, long l4) {
       break L3;
      }
      f82(m, l5 + 224L, l1, l2, l3, l4);
-     l8 = Words.get64(b, ((int) l5) - 60480);
+     l8 = Words.get64(b, ((int) l5) - 60208);
      L76: {
-      if ((b[((int) l5) - 60496] & 0xff) != 0) { break L76; }
+      if ((b[((int) l5) - 60224] & 0xff) != 0) { break L76; }
       l24 = 0;
-      l7 = Words.get64(b, ((int) l5) - 60472);
+      l7 = Words.get64(b, ((int) l5) - 60200);
       break L3;
      }
      l7 = 0L;
      l6 = 1L;
-     l24 = b[((int) l5) - 60488] & 0xff;
+     l24 = b[((int) l5) - 60216] & 0xff;
      break L3;
     }
     l24 = 2;
@@ -1049,12 +1049,12 @@ static void f86(State m, long l0, int l1, long l2, long l3, long l4) {
   }
   l9 = (l24 & 0xffffffffL) & 255L;
  }
- Words.put64(b, ((int) l0) - 60720, l6);
- Words.put64(b, ((int) (l0 + 24L)) - 60720, l7);
- Words.put64(b, ((int) (l0 + 16L)) - 60720, l8);
- Words.put64(b, ((int) (l0 + 40L)) - 60720, 0L);
- Words.put64(b, ((int) (l0 + 32L)) - 60720, l10);
- Words.put64(b, ((int) (l0 + 8L)) - 60720, l9);
+ Words.put64(b, ((int) l0) - 60448, l6);
+ Words.put64(b, ((int) (l0 + 24L)) - 60448, l7);
+ Words.put64(b, ((int) (l0 + 16L)) - 60448, l8);
+ Words.put64(b, ((int) (l0 + 40L)) - 60448, 0L);
+ Words.put64(b, ((int) (l0 + 32L)) - 60448, l10);
+ Words.put64(b, ((int) (l0 + 8L)) - 60448, l9);
  m.g0 = l5 + 656L;
 }
 
@@ -1067,45 +1067,45 @@ static void f87(State m, long l0, int l1, long l2, long l3, long l4, long l5) {
  m.g0 = l6 = m.g0 - 112L;
  L1: {
   if ((l6 = l6) < 16L) { break L1; }
-  Words.put64(b, ((int) l6) - 60616, 0L);
-  Words.put64(b, ((int) l6) - 60624, 0L);
-  Words.put64(b, ((int) l6) - 60632, 0L);
-  Words.put64(b, ((int) l6) - 60640, 0L);
+  Words.put64(b, ((int) l6) - 60344, 0L);
+  Words.put64(b, ((int) l6) - 60352, 0L);
+  Words.put64(b, ((int) l6) - 60360, 0L);
+  Words.put64(b, ((int) l6) - 60368, 0L);
   Core2.f80(m, l6 + 80L, l4, l5);
   L2: {
    L3: {
     L4: {
-     if ((b[((int) l6) - 60640] & 0xff) != 1) { break L4; }
+     if ((b[((int) l6) - 60368] & 0xff) != 1) { break L4; }
      l7 = (((l1 & 0xffffffffL) & 255L) << 5L) + 68960L;
      L5: while (true) {
-      l5 = Words.get64(b, ((int) l6) - 60616);
-      l4 = Words.get64(b, ((int) l6) - 60624);
-      Core2.f61(m, l6 + 72L, Words.get32(b, ((int) l6) - 60632));
+      l5 = Words.get64(b, ((int) l6) - 60344);
+      l4 = Words.get64(b, ((int) l6) - 60352);
+      Core2.f61(m, l6 + 72L, Words.get32(b, ((int) l6) - 60360));
       L6: {
-       if ((b[((int) l6) - 60648] & 0xff) != 1) { break L6; }
-       if ((l8 = Words.get16(b, ((int) (l7 + ((((b[((int) l6) - 60647] & 0xff) << 1) & 0xffffffffL) & 254L))) - 60720) & 0xffffL) + Long.MIN_VALUE > -9223372036854775770L) { break L3; }
-       Core1.f3(m, l6 + 16L, l9 = Words.get64(b, ((int) ((l8 = l8 << 4L) + 68336L)) - 60720), 0L, l2, 0L);
-       Core1.f3(m, l6, l8 = Words.get64(b, ((int) (l8 + 68344L)) - 60720), 0L, l2, 0L);
+       if ((b[((int) l6) - 60376] & 0xff) != 1) { break L6; }
+       if ((l8 = Words.get16(b, ((int) (l7 + ((((b[((int) l6) - 60375] & 0xff) << 1) & 0xffffffffL) & 254L))) - 60448) & 0xffffL) + Long.MIN_VALUE > -9223372036854775770L) { break L3; }
+       Core1.f3(m, l6 + 16L, l9 = Words.get64(b, ((int) ((l8 = l8 << 4L) + 68336L)) - 60448), 0L, l2, 0L);
+       Core1.f3(m, l6, l8 = Words.get64(b, ((int) (l8 + 68344L)) - 60448), 0L, l2, 0L);
        Core1.f3(m, l6 + 48L, l9, 0L, l3, 0L);
        Core1.f3(m, l6 + 32L, l8, 0L, l3, 0L);
-       if (!((((Words.get64(b, ((int) l6) - 60664) + (((l3 = (l2 = (l8 = Words.get64(b, ((int) l6) - 60696)) + Words.get64(b, ((int) l6) - 60720)) + Words.get64(b, ((int) l6) - 60672)) + Long.MIN_VALUE < l2 + Long.MIN_VALUE) ? 1L : 0L)) | (l8 = (l2 = Words.get64(b, ((int) l6) - 60712) + ((l2 + Long.MIN_VALUE < l8 + Long.MIN_VALUE) ? 1L : 0L)) + Words.get64(b, ((int) l6) - 60688))) | (Words.get64(b, ((int) l6) - 60680) + ((l8 + Long.MIN_VALUE < l2 + Long.MIN_VALUE) ? 1L : 0L))) == 0L)) { break L3; }
-       l2 = Words.get64(b, ((int) l6) - 60704);
+       if (!((((Words.get64(b, ((int) l6) - 60392) + (((l3 = (l2 = (l8 = Words.get64(b, ((int) l6) - 60424)) + Words.get64(b, ((int) l6) - 60448)) + Words.get64(b, ((int) l6) - 60400)) + Long.MIN_VALUE < l2 + Long.MIN_VALUE) ? 1L : 0L)) | (l8 = (l2 = Words.get64(b, ((int) l6) - 60440) + ((l2 + Long.MIN_VALUE < l8 + Long.MIN_VALUE) ? 1L : 0L)) + Words.get64(b, ((int) l6) - 60416))) | (Words.get64(b, ((int) l6) - 60408) + ((l8 + Long.MIN_VALUE < l2 + Long.MIN_VALUE) ? 1L : 0L))) == 0L)) { break L3; }
+       l2 = Words.get64(b, ((int) l6) - 60432);
       }
       Core2.f80(m, l6 + 80L, l4, l5);
-      if ((b[((int) l6) - 60640] & 0xff) == 1) { continue L5; }
+      if ((b[((int) l6) - 60368] & 0xff) == 1) { continue L5; }
       break L5;
      }
     }
-    Words.put64(b, ((int) l0) - 60712, 0L);
-    Words.put64(b, ((int) l0) - 60720, 1L);
-    Words.put64(b, ((int) (l0 + 24L)) - 60720, l3);
-    Words.put64(b, ((int) (l0 + 16L)) - 60720, l2);
+    Words.put64(b, ((int) l0) - 60440, 0L);
+    Words.put64(b, ((int) l0) - 60448, 1L);
+    Words.put64(b, ((int) (l0 + 24L)) - 60448, l3);
+    Words.put64(b, ((int) (l0 + 16L)) - 60448, l2);
     break L2;
    }
-   Words.put64(b, ((int) l0) - 60696, 0L);
-   Words.put64(b, ((int) l0) - 60704, 0L);
-   Words.put64(b, ((int) l0) - 60712, 0L);
-   Words.put64(b, ((int) l0) - 60720, 0L);
+   Words.put64(b, ((int) l0) - 60424, 0L);
+   Words.put64(b, ((int) l0) - 60432, 0L);
+   Words.put64(b, ((int) l0) - 60440, 0L);
+   Words.put64(b, ((int) l0) - 60448, 0L);
   }
   m.g0 = l6 + 112L;
   return;
@@ -1125,66 +1125,66 @@ static int f88(State m, long l0, long l1) {
  m.g0 = l2 = m.g0 - 96L;
  L1: {
   if ((l2 = l2) < 16L) { break L1; }
-  Words.put64(b, ((int) l2) - 60664, 0L);
-  Words.put64(b, ((int) l2) - 60672, 0L);
-  Words.put64(b, ((int) l2) - 60680, 0L);
-  Words.put64(b, ((int) l2) - 60688, 0L);
+  Words.put64(b, ((int) l2) - 60392, 0L);
+  Words.put64(b, ((int) l2) - 60400, 0L);
+  Words.put64(b, ((int) l2) - 60408, 0L);
+  Words.put64(b, ((int) l2) - 60416, 0L);
   Core2.f80(m, l2 + 32L, l0, l1);
   l5 = 1;
   L2: {
-   if ((b[((int) l2) - 60688] & 0xff) != 1) { break L2; }
-   l3 = Words.get64(b, ((int) l2) - 60664);
-   l4 = Words.get64(b, ((int) l2) - 60672);
-   Core2.f61(m, l2 + 24L, Words.get32(b, ((int) l2) - 60680));
+   if ((b[((int) l2) - 60416] & 0xff) != 1) { break L2; }
+   l3 = Words.get64(b, ((int) l2) - 60392);
+   l4 = Words.get64(b, ((int) l2) - 60400);
+   Core2.f61(m, l2 + 24L, Words.get32(b, ((int) l2) - 60408));
    l6 = 1;
    L3: {
-    if ((b[((int) l2) - 60696] & 0xff) != 1) { break L3; }
-    if (((b[((int) l2) - 60695] & 0xff) & 255) != 0) { break L3; }
-    Words.put64(b, ((int) l2) - 60632, 0L);
-    Words.put64(b, ((int) l2) - 60640, 0L);
-    Words.put64(b, ((int) l2) - 60648, 0L);
-    Words.put64(b, ((int) l2) - 60656, 0L);
+    if ((b[((int) l2) - 60424] & 0xff) != 1) { break L3; }
+    if (((b[((int) l2) - 60423] & 0xff) & 255) != 0) { break L3; }
+    Words.put64(b, ((int) l2) - 60360, 0L);
+    Words.put64(b, ((int) l2) - 60368, 0L);
+    Words.put64(b, ((int) l2) - 60376, 0L);
+    Words.put64(b, ((int) l2) - 60384, 0L);
     Core2.f80(m, l2 + 64L, l4, l3);
     L4: {
-     if ((b[((int) l2) - 60656] & 0xff) == 1) { break L4; }
+     if ((b[((int) l2) - 60384] & 0xff) == 1) { break L4; }
      l5 = 0;
      break L2;
     }
-    Core2.f61(m, l2 + 8L, Words.get32(b, ((int) l2) - 60648));
+    Core2.f61(m, l2 + 8L, Words.get32(b, ((int) l2) - 60376));
     l5 = 0;
-    if ((b[((int) l2) - 60712] & 0xff) != 1) { break L2; }
-    if (((b[((int) l2) - 60711] & 0xff) & 255) + Integer.MIN_VALUE < -2147483644) { break L2; }
-    Words.put64(b, ((int) l2) - 60632, 0L);
-    Words.put64(b, ((int) l2) - 60640, 0L);
-    Words.put64(b, ((int) l2) - 60648, 0L);
-    Words.put64(b, ((int) l2) - 60656, 0L);
+    if ((b[((int) l2) - 60440] & 0xff) != 1) { break L2; }
+    if (((b[((int) l2) - 60439] & 0xff) & 255) + Integer.MIN_VALUE < -2147483644) { break L2; }
+    Words.put64(b, ((int) l2) - 60360, 0L);
+    Words.put64(b, ((int) l2) - 60368, 0L);
+    Words.put64(b, ((int) l2) - 60376, 0L);
+    Words.put64(b, ((int) l2) - 60384, 0L);
     l6 = 1;
     L5: while (true) {
      Core2.f80(m, l2 + 64L, l4, l3);
-     if ((l5 = ((b[((int) l2) - 60656] & 0xff) != 1) ? 1 : 0) != 0) { break L2; }
-     l3 = Words.get64(b, ((int) l2) - 60632);
-     l4 = Words.get64(b, ((int) l2) - 60640);
-     Core2.f61(m, l2, Words.get32(b, ((int) l2) - 60648));
-     if ((b[((int) l2) - 60720] & 0xff) != 1) { break L2; }
+     if ((l5 = ((b[((int) l2) - 60384] & 0xff) != 1) ? 1 : 0) != 0) { break L2; }
+     l3 = Words.get64(b, ((int) l2) - 60360);
+     l4 = Words.get64(b, ((int) l2) - 60368);
+     Core2.f61(m, l2, Words.get32(b, ((int) l2) - 60376));
+     if ((b[((int) l2) - 60448] & 0xff) != 1) { break L2; }
      l7 = l6 & 255;
-     l6 = l8 = b[((int) l2) - 60719] & 0xff;
+     l6 = l8 = b[((int) l2) - 60447] & 0xff;
      if (l7 + Integer.MIN_VALUE < (l8 & 255) + Integer.MIN_VALUE) { continue L5; }
      break L2;
     }
    }
-   Words.put64(b, ((int) l2) - 60632, 0L);
-   Words.put64(b, ((int) l2) - 60640, 0L);
-   Words.put64(b, ((int) l2) - 60648, 0L);
-   Words.put64(b, ((int) l2) - 60656, 0L);
+   Words.put64(b, ((int) l2) - 60360, 0L);
+   Words.put64(b, ((int) l2) - 60368, 0L);
+   Words.put64(b, ((int) l2) - 60376, 0L);
+   Words.put64(b, ((int) l2) - 60384, 0L);
    L6: while (true) {
     Core2.f80(m, l2 + 64L, l0, l1);
-    if ((l5 = ((b[((int) l2) - 60656] & 0xff) != 1) ? 1 : 0) != 0) { break L2; }
-    l1 = Words.get64(b, ((int) l2) - 60632);
-    l0 = Words.get64(b, ((int) l2) - 60640);
-    Core2.f61(m, l2 + 16L, Words.get32(b, ((int) l2) - 60648));
-    if ((b[((int) l2) - 60704] & 0xff) != 1) { break L2; }
+    if ((l5 = ((b[((int) l2) - 60384] & 0xff) != 1) ? 1 : 0) != 0) { break L2; }
+    l1 = Words.get64(b, ((int) l2) - 60360);
+    l0 = Words.get64(b, ((int) l2) - 60368);
+    Core2.f61(m, l2 + 16L, Words.get32(b, ((int) l2) - 60376));
+    if ((b[((int) l2) - 60432] & 0xff) != 1) { break L2; }
     l7 = l6 & 255;
-    l6 = l8 = b[((int) l2) - 60703] & 0xff;
+    l6 = l8 = b[((int) l2) - 60431] & 0xff;
     if (l7 + Integer.MIN_VALUE < (l8 & 255) + Integer.MIN_VALUE) { continue L6; }
     break L6;
    }
@@ -1206,72 +1206,72 @@ static void f89(State m, long l0, int l1, int l2, long l3, long l4, long l5, lon
  L1: {
   L2: {
    if ((l7 = l7) < 16L) { break L2; }
-   Words.put64(b, ((int) l7) - 60600, 0L);
-   Words.put64(b, ((int) l7) - 60608, 0L);
-   Words.put64(b, ((int) l7) - 60616, 0L);
-   Words.put64(b, ((int) l7) - 60624, 0L);
-   Words.put64(b, ((int) l7) - 60568, 0L);
-   Words.put64(b, ((int) l7) - 60576, 0L);
-   Words.put64(b, ((int) l7) - 60584, 0L);
-   Words.put64(b, ((int) l7) - 60592, 0L);
+   Words.put64(b, ((int) l7) - 60328, 0L);
+   Words.put64(b, ((int) l7) - 60336, 0L);
+   Words.put64(b, ((int) l7) - 60344, 0L);
+   Words.put64(b, ((int) l7) - 60352, 0L);
+   Words.put64(b, ((int) l7) - 60296, 0L);
+   Words.put64(b, ((int) l7) - 60304, 0L);
+   Words.put64(b, ((int) l7) - 60312, 0L);
+   Words.put64(b, ((int) l7) - 60320, 0L);
    Core2.f80(m, l7 + 128L, l5, l6);
    L3: {
     L4: {
-     if ((b[((int) l7) - 60592] & 0xff) != 1) { break L4; }
+     if ((b[((int) l7) - 60320] & 0xff) != 1) { break L4; }
      L5: {
       if ((l2 & 1) == 0) { break L5; }
       L6: while (true) {
-       l8 = Words.get64(b, ((int) l7) - 60568);
-       l9 = Words.get64(b, ((int) l7) - 60576);
+       l8 = Words.get64(b, ((int) l7) - 60296);
+       l9 = Words.get64(b, ((int) l7) - 60304);
        L7: {
-        if (((l2 = Words.get32(b, ((int) l7) - 60584)) + -48) + Integer.MIN_VALUE < -2147483638) { break L7; }
+        if (((l2 = Words.get32(b, ((int) l7) - 60312)) + -48) + Integer.MIN_VALUE < -2147483638) { break L7; }
         Core2.f63(m, l7 + 40L, l2);
-        if ((b[((int) l7) - 60680] & 0xff) != 1) { break L7; }
-        l2 = b[((int) l7) - 60679] & 0xff;
+        if ((b[((int) l7) - 60408] & 0xff) != 1) { break L7; }
+        l2 = b[((int) l7) - 60407] & 0xff;
         Core1.f3(m, l7, l3, 0L, 10L, 0L);
         Core1.f3(m, l7 + 16L, l4, 0L, 10L, 0L);
-        if ((Words.get64(b, ((int) l7) - 60696) + (((l4 = (l3 = Words.get64(b, ((int) l7) - 60712)) + Words.get64(b, ((int) l7) - 60704)) + Long.MIN_VALUE < l3 + Long.MIN_VALUE) ? 1L : 0L)) != 0L) { break L3; }
-        final int t8 = ((l10 = Words.get64(b, ((int) l7) - 60720) & -2L) + Long.MIN_VALUE > ((l3 = (l2 & 0xffffffffL) & 255L) ^ -1L) + Long.MIN_VALUE) ? 1 : 0;
+        if ((Words.get64(b, ((int) l7) - 60424) + (((l4 = (l3 = Words.get64(b, ((int) l7) - 60440)) + Words.get64(b, ((int) l7) - 60432)) + Long.MIN_VALUE < l3 + Long.MIN_VALUE) ? 1L : 0L)) != 0L) { break L3; }
+        final int t8 = ((l10 = Words.get64(b, ((int) l7) - 60448) & -2L) + Long.MIN_VALUE > ((l3 = (l2 & 0xffffffffL) & 255L) ^ -1L) + Long.MIN_VALUE) ? 1 : 0;
         final int t9 = (l4 == -1L) ? 1 : 0;
         if ((t9 != 0 ? t8 : 0) != 0) { break L3; }
         l4 = l4 + (((l3 = l10 + l3) + Long.MIN_VALUE < l10 + Long.MIN_VALUE) ? 1L : 0L);
        }
        Core2.f80(m, l7 + 128L, l9, l8);
-       if ((b[((int) l7) - 60592] & 0xff) == 1) { continue L6; }
+       if ((b[((int) l7) - 60320] & 0xff) == 1) { continue L6; }
        break L4;
       }
      }
      L10: while (true) {
-      l8 = Words.get64(b, ((int) l7) - 60568);
-      l9 = Words.get64(b, ((int) l7) - 60576);
-      Core1.f24(m, l7 + 88L, Words.get32(b, ((int) l7) - 60584));
+      l8 = Words.get64(b, ((int) l7) - 60296);
+      l9 = Words.get64(b, ((int) l7) - 60304);
+      Core1.f24(m, l7 + 88L, Words.get32(b, ((int) l7) - 60312));
       L11: {
-       if ((b[((int) l7) - 60632] & 0xff) != 1) { break L11; }
-       l2 = b[((int) l7) - 60631] & 0xff;
+       if ((b[((int) l7) - 60360] & 0xff) != 1) { break L11; }
+       l2 = b[((int) l7) - 60359] & 0xff;
        Core1.f3(m, l7 + 48L, l3, 0L, 10L, 0L);
        Core1.f3(m, l7 + 64L, l4, 0L, 10L, 0L);
-       if ((Words.get64(b, ((int) l7) - 60648) + (((l4 = (l3 = Words.get64(b, ((int) l7) - 60664)) + Words.get64(b, ((int) l7) - 60656)) + Long.MIN_VALUE < l3 + Long.MIN_VALUE) ? 1L : 0L)) != 0L) { break L3; }
-       final int t12 = ((l10 = Words.get64(b, ((int) l7) - 60672) & -2L) + Long.MIN_VALUE > ((l3 = (l2 & 0xffffffffL) & 255L) ^ -1L) + Long.MIN_VALUE) ? 1 : 0;
+       if ((Words.get64(b, ((int) l7) - 60376) + (((l4 = (l3 = Words.get64(b, ((int) l7) - 60392)) + Words.get64(b, ((int) l7) - 60384)) + Long.MIN_VALUE < l3 + Long.MIN_VALUE) ? 1L : 0L)) != 0L) { break L3; }
+       final int t12 = ((l10 = Words.get64(b, ((int) l7) - 60400) & -2L) + Long.MIN_VALUE > ((l3 = (l2 & 0xffffffffL) & 255L) ^ -1L) + Long.MIN_VALUE) ? 1 : 0;
        final int t13 = (l4 == -1L) ? 1 : 0;
        if ((t13 != 0 ? t12 : 0) != 0) { break L3; }
        l4 = l4 + (((l3 = l10 + l3) + Long.MIN_VALUE < l10 + Long.MIN_VALUE) ? 1L : 0L);
       }
       Core2.f80(m, l7 + 128L, l9, l8);
-      if ((b[((int) l7) - 60592] & 0xff) == 1) { continue L10; }
+      if ((b[((int) l7) - 60320] & 0xff) == 1) { continue L10; }
       break L10;
      }
     }
     f87(m, l7 + 96L, l1, l3, l4, l5, l6);
-    Words.put64(b, ((int) l0) - 60712, 0L);
-    Words.put64(b, ((int) l0) - 60720, b[((int) l7) - 60624] & 0xffL);
-    Words.put64(b, ((int) (l0 + 16L)) - 60720, Words.get64(b, ((int) l7) - 60608));
-    Words.put64(b, ((int) (l0 + 24L)) - 60720, Words.get64(b, ((int) l7) - 60600));
+    Words.put64(b, ((int) l0) - 60440, 0L);
+    Words.put64(b, ((int) l0) - 60448, b[((int) l7) - 60352] & 0xffL);
+    Words.put64(b, ((int) (l0 + 16L)) - 60448, Words.get64(b, ((int) l7) - 60336));
+    Words.put64(b, ((int) (l0 + 24L)) - 60448, Words.get64(b, ((int) l7) - 60328));
     break L1;
    }
-   Words.put64(b, ((int) l0) - 60696, 0L);
-   Words.put64(b, ((int) l0) - 60704, 0L);
-   Words.put64(b, ((int) l0) - 60712, 0L);
-   Words.put64(b, ((int) l0) - 60720, 0L);
+   Words.put64(b, ((int) l0) - 60424, 0L);
+   Words.put64(b, ((int) l0) - 60432, 0L);
+   Words.put64(b, ((int) l0) - 60440, 0L);
+   Words.put64(b, ((int) l0) - 60448, 0L);
    break L1;
   }
   throw State.trap();
@@ -1297,13 +1297,13 @@ static void f90(State m, long l0, long l1, long l2) {
  m.g0 = l3 = m.g0 - 112L;
  L1: {
   if ((l3 = l3) < 16L) { break L1; }
-  Words.put32(b, ((int) l3) - 60645, 0);
-  Words.put32(b, ((int) l3) - 60648, 0);
+  Words.put32(b, ((int) l3) - 60373, 0);
+  Words.put32(b, ((int) l3) - 60376, 0);
   l4 = 0L;
-  Words.put64(b, ((int) l3) - 60616, 0L);
-  Words.put64(b, ((int) l3) - 60624, 0L);
-  Words.put64(b, ((int) l3) - 60632, 0L);
-  Words.put64(b, ((int) l3) - 60640, 0L);
+  Words.put64(b, ((int) l3) - 60344, 0L);
+  Words.put64(b, ((int) l3) - 60352, 0L);
+  Words.put64(b, ((int) l3) - 60360, 0L);
+  Words.put64(b, ((int) l3) - 60368, 0L);
   l5 = l1;
   l6 = l2;
   l7 = 0L;
@@ -1311,17 +1311,17 @@ static void f90(State m, long l0, long l1, long l2) {
    L3: {
     L4: while (true) {
      Core2.f80(m, l3 + 80L, l5, l6);
-     if ((b[((int) l3) - 60640] & 0xff) != 1) { break L3; }
-     l6 = Words.get64(b, ((int) l3) - 60616);
-     l5 = Words.get64(b, ((int) l3) - 60624);
-     Core1.f24(m, l3 + 64L, Words.get32(b, ((int) l3) - 60632));
-     if ((b[((int) l3) - 60656] & 0xff) != 1) { break L3; }
-     l13 = b[((int) l3) - 60655] & 0xff;
+     if ((b[((int) l3) - 60368] & 0xff) != 1) { break L3; }
+     l6 = Words.get64(b, ((int) l3) - 60344);
+     l5 = Words.get64(b, ((int) l3) - 60352);
+     Core1.f24(m, l3 + 64L, Words.get32(b, ((int) l3) - 60360));
+     if ((b[((int) l3) - 60384] & 0xff) != 1) { break L3; }
+     l13 = b[((int) l3) - 60383] & 0xff;
      Core1.f3(m, l3, l7, 0L, 10L, 0L);
      Core1.f3(m, l3 + 16L, l4, 0L, 10L, 0L);
      L5: {
-      if ((Words.get64(b, ((int) l3) - 60696) + (((l9 = (l8 = Words.get64(b, ((int) l3) - 60712)) + Words.get64(b, ((int) l3) - 60704)) + Long.MIN_VALUE < l8 + Long.MIN_VALUE) ? 1L : 0L)) != 0L) { break L5; }
-      l4 = l9 + (((l7 = (l8 = Words.get64(b, ((int) l3) - 60720) & -2L) + (l10 = (l13 & 0xffffffffL) & 255L)) + Long.MIN_VALUE < l8 + Long.MIN_VALUE) ? 1L : 0L);
+      if ((Words.get64(b, ((int) l3) - 60424) + (((l9 = (l8 = Words.get64(b, ((int) l3) - 60440)) + Words.get64(b, ((int) l3) - 60432)) + Long.MIN_VALUE < l8 + Long.MIN_VALUE) ? 1L : 0L)) != 0L) { break L5; }
+      l4 = l9 + (((l7 = (l8 = Words.get64(b, ((int) l3) - 60448) & -2L) + (l10 = (l13 & 0xffffffffL) & 255L)) + Long.MIN_VALUE < l8 + Long.MIN_VALUE) ? 1L : 0L);
       final int t6 = (l8 + Long.MIN_VALUE > (l10 ^ -1L) + Long.MIN_VALUE) ? 1 : 0;
       final int t7 = (l9 == -1L) ? 1 : 0;
       if ((t7 != 0 ? t6 : 0) == 0) { continue L4; }
@@ -1331,82 +1331,82 @@ static void f90(State m, long l0, long l1, long l2) {
     m.fill((int) l0, 0, (int) 96L);
     break L2;
    }
-   Words.put64(b, ((int) l3) - 60616, 0L);
-   Words.put64(b, ((int) l3) - 60624, 0L);
-   Words.put64(b, ((int) l3) - 60632, 0L);
-   Words.put64(b, ((int) l3) - 60640, 0L);
+   Words.put64(b, ((int) l3) - 60344, 0L);
+   Words.put64(b, ((int) l3) - 60352, 0L);
+   Words.put64(b, ((int) l3) - 60360, 0L);
+   Words.put64(b, ((int) l3) - 60368, 0L);
    Core2.f80(m, l3 + 80L, l1, l2);
    l10 = 0L;
    l11 = l1;
    l12 = l2;
    L8: {
-    if ((b[((int) l3) - 60640] & 0xff) != 1) { break L8; }
-    l9 = Words.get64(b, ((int) l3) - 60616);
-    l8 = Words.get64(b, ((int) l3) - 60624);
-    Core1.f24(m, l3 + 56L, Words.get32(b, ((int) l3) - 60632));
+    if ((b[((int) l3) - 60368] & 0xff) != 1) { break L8; }
+    l9 = Words.get64(b, ((int) l3) - 60344);
+    l8 = Words.get64(b, ((int) l3) - 60352);
+    Core1.f24(m, l3 + 56L, Words.get32(b, ((int) l3) - 60360));
     l10 = 0L;
     l11 = l1;
     l12 = l2;
-    if ((b[((int) l3) - 60664] & 0xff) != 1) { break L8; }
+    if ((b[((int) l3) - 60392] & 0xff) != 1) { break L8; }
     l5 = 1L;
     L9: while (true) {
      l10 = l5;
      Core2.f80(m, l3 + 80L, l11 = l8, l12 = l9);
-     if ((b[((int) l3) - 60640] & 0xff) != 1) { break L8; }
-     l9 = Words.get64(b, ((int) l3) - 60616);
-     l8 = Words.get64(b, ((int) l3) - 60624);
-     Core1.f24(m, l3 + 48L, Words.get32(b, ((int) l3) - 60632));
+     if ((b[((int) l3) - 60368] & 0xff) != 1) { break L8; }
+     l9 = Words.get64(b, ((int) l3) - 60344);
+     l8 = Words.get64(b, ((int) l3) - 60352);
+     Core1.f24(m, l3 + 48L, Words.get32(b, ((int) l3) - 60360));
      l5 = l10 + 1L;
-     if ((b[((int) l3) - 60672] & 0xff) == 1) { continue L9; }
+     if ((b[((int) l3) - 60400] & 0xff) == 1) { continue L9; }
      break L9;
     }
    }
-   Words.put64(b, ((int) l3) - 60616, 0L);
-   Words.put64(b, ((int) l3) - 60624, 0L);
-   Words.put64(b, ((int) l3) - 60632, 0L);
-   Words.put64(b, ((int) l3) - 60640, 0L);
+   Words.put64(b, ((int) l3) - 60344, 0L);
+   Words.put64(b, ((int) l3) - 60352, 0L);
+   Words.put64(b, ((int) l3) - 60360, 0L);
+   Words.put64(b, ((int) l3) - 60368, 0L);
    l13 = 1;
    l9 = l11;
    l8 = l12;
    L10: {
     L11: while (true) {
      Core2.f80(m, l3 + 80L, l6 = l9, l5 = l8);
-     if ((b[((int) l3) - 60640] & 0xff) != 1) { break L10; }
-     l8 = Words.get64(b, ((int) l3) - 60616);
-     l9 = Words.get64(b, ((int) l3) - 60624);
-     Core2.f61(m, l3 + 40L, Words.get32(b, ((int) l3) - 60632));
-     if ((b[((int) l3) - 60680] & 0xff) != 1) { break L10; }
+     if ((b[((int) l3) - 60368] & 0xff) != 1) { break L10; }
+     l8 = Words.get64(b, ((int) l3) - 60344);
+     l9 = Words.get64(b, ((int) l3) - 60352);
+     Core2.f61(m, l3 + 40L, Words.get32(b, ((int) l3) - 60360));
+     if ((b[((int) l3) - 60408] & 0xff) != 1) { break L10; }
      l14 = l13 & 255;
-     l13 = l15 = b[((int) l3) - 60679] & 0xff;
+     l13 = l15 = b[((int) l3) - 60407] & 0xff;
      if (l14 + Integer.MIN_VALUE < (l15 & 255) + Integer.MIN_VALUE) { continue L11; }
      break L11;
     }
    }
-   Words.put64(b, ((int) l3) - 60616, 0L);
-   Words.put64(b, ((int) l3) - 60624, 0L);
-   Words.put64(b, ((int) l3) - 60632, 0L);
-   Words.put64(b, ((int) l3) - 60640, 0L);
+   Words.put64(b, ((int) l3) - 60344, 0L);
+   Words.put64(b, ((int) l3) - 60352, 0L);
+   Words.put64(b, ((int) l3) - 60360, 0L);
+   Words.put64(b, ((int) l3) - 60368, 0L);
    Core2.f80(m, l3 + 80L, l1, l2);
    l13 = 0;
    L12: {
-    if ((b[((int) l3) - 60640] & 0xff) != 1) { break L12; }
-    Core1.f24(m, l3 + 32L, Words.get32(b, ((int) l3) - 60632));
-    l13 = (((b[((int) l3) - 60688] & 0xff) == 1) & (((b[((int) l3) - 60687] & 0xff) & 255) == 0)) ? 1 : 0;
+    if ((b[((int) l3) - 60368] & 0xff) != 1) { break L12; }
+    Core1.f24(m, l3 + 32L, Words.get32(b, ((int) l3) - 60360));
+    l13 = (((b[((int) l3) - 60416] & 0xff) == 1) & (((b[((int) l3) - 60415] & 0xff) & 255) == 0)) ? 1 : 0;
    }
-   Words.put64(b, ((int) l0) - 60712, 0L);
-   Words.put64(b, ((int) l0) - 60720, 1L);
-   Words.put64(b, ((int) (l0 + 40L)) - 60720, l4);
-   Words.put64(b, ((int) (l0 + 32L)) - 60720, l7);
-   b[((int) (l0 + 48L)) - 60720] = (byte) l13;
-   Words.put64(b, ((int) (l0 + 24L)) - 60720, 0L);
-   Words.put64(b, ((int) (l0 + 16L)) - 60720, l10);
-   Words.put32(b, ((int) (l0 + 49L)) - 60720, Words.get32(b, ((int) l3) - 60648));
-   Words.put32(b, ((int) (l0 + 52L)) - 60720, Words.get32(b, ((int) l3) - 60645));
-   Words.put64(b, ((int) (l0 + 88L)) - 60720, 0L);
-   Words.put64(b, ((int) (l0 + 80L)) - 60720, l5);
-   Words.put64(b, ((int) (l0 + 72L)) - 60720, l6);
-   Words.put64(b, ((int) (l0 + 64L)) - 60720, l12 - l5);
-   Words.put64(b, ((int) (l0 + 56L)) - 60720, l11);
+   Words.put64(b, ((int) l0) - 60440, 0L);
+   Words.put64(b, ((int) l0) - 60448, 1L);
+   Words.put64(b, ((int) (l0 + 40L)) - 60448, l4);
+   Words.put64(b, ((int) (l0 + 32L)) - 60448, l7);
+   b[((int) (l0 + 48L)) - 60448] = (byte) l13;
+   Words.put64(b, ((int) (l0 + 24L)) - 60448, 0L);
+   Words.put64(b, ((int) (l0 + 16L)) - 60448, l10);
+   Words.put32(b, ((int) (l0 + 49L)) - 60448, Words.get32(b, ((int) l3) - 60376));
+   Words.put32(b, ((int) (l0 + 52L)) - 60448, Words.get32(b, ((int) l3) - 60373));
+   Words.put64(b, ((int) (l0 + 88L)) - 60448, 0L);
+   Words.put64(b, ((int) (l0 + 80L)) - 60448, l5);
+   Words.put64(b, ((int) (l0 + 72L)) - 60448, l6);
+   Words.put64(b, ((int) (l0 + 64L)) - 60448, l12 - l5);
+   Words.put64(b, ((int) (l0 + 56L)) - 60448, l11);
   }
   m.g0 = l3 + 112L;
   return;
@@ -1423,80 +1423,80 @@ static void f91(State m, long l0, int l1, long l2, long l3, long l4, long l5, lo
  L1: {
   L2: {
    if ((l8 = l8) < 16L) { break L2; }
-   Words.put64(b, ((int) l8) - 60696, 0L);
-   Words.put64(b, ((int) l8) - 60704, 0L);
-   Words.put64(b, ((int) l8) - 60712, 0L);
-   Words.put64(b, ((int) l8) - 60720, 0L);
+   Words.put64(b, ((int) l8) - 60424, 0L);
+   Words.put64(b, ((int) l8) - 60432, 0L);
+   Words.put64(b, ((int) l8) - 60440, 0L);
+   Words.put64(b, ((int) l8) - 60448, 0L);
    f87(m, l8, l1, l4, l5, l6, l7);
    L3: {
     L4: {
      L5: {
-      if ((b[((int) l8) - 60720] & 0xff) != 1) { break L5; }
-      l4 = Words.get64(b, ((int) l8) - 60696);
-      l5 = Words.get64(b, ((int) l8) - 60704);
+      if ((b[((int) l8) - 60448] & 0xff) != 1) { break L5; }
+      l4 = Words.get64(b, ((int) l8) - 60424);
+      l5 = Words.get64(b, ((int) l8) - 60432);
       f87(m, l8, l1, 1L, 0L, l6, l7);
-      if ((b[((int) l8) - 60720] & 0xff) != 1) { break L4; }
+      if ((b[((int) l8) - 60448] & 0xff) != 1) { break L4; }
       final int t6 = (l2 + Long.MIN_VALUE > (l5 ^ -1L) + Long.MIN_VALUE) ? 1 : 0;
       final int t7 = (l3 + Long.MIN_VALUE > (l9 = l4 ^ -1L) + Long.MIN_VALUE) ? 1 : 0;
       final int t8 = (l3 == l9) ? 1 : 0;
       if ((t8 != 0 ? t6 : t7) != 0) { break L3; }
-      l9 = Words.get64(b, ((int) l8) - 60696);
-      l10 = Words.get64(b, ((int) l8) - 60704);
+      l9 = Words.get64(b, ((int) l8) - 60424);
+      l10 = Words.get64(b, ((int) l8) - 60432);
       l5 = (l4 + l3) + (((l4 = l5 + l2) + Long.MIN_VALUE < l5 + Long.MIN_VALUE) ? 1L : 0L);
-      Words.put64(b, ((int) l8) - 60656, 0L);
-      Words.put64(b, ((int) l8) - 60648, 0L);
-      Words.put64(b, ((int) l8) - 60640, 0L);
-      Words.put64(b, ((int) l8) - 60632, 0L);
-      Words.put64(b, ((int) l8) - 60688, 0L);
-      Words.put64(b, ((int) l8) - 60680, 0L);
-      Words.put64(b, ((int) l8) - 60672, 0L);
-      Words.put64(b, ((int) l8) - 60664, 0L);
+      Words.put64(b, ((int) l8) - 60384, 0L);
+      Words.put64(b, ((int) l8) - 60376, 0L);
+      Words.put64(b, ((int) l8) - 60368, 0L);
+      Words.put64(b, ((int) l8) - 60360, 0L);
+      Words.put64(b, ((int) l8) - 60416, 0L);
+      Words.put64(b, ((int) l8) - 60408, 0L);
+      Words.put64(b, ((int) l8) - 60400, 0L);
+      Words.put64(b, ((int) l8) - 60392, 0L);
       Core2.f80(m, l8 + 64L, l6, l7);
       l1 = 0;
       L9: {
-       if ((b[((int) l8) - 60656] & 0xff) != 1) { break L9; }
-       Core2.f80(m, l8 + 32L, Words.get64(b, ((int) l8) - 60640), Words.get64(b, ((int) l8) - 60632));
-       l1 = ((b[((int) l8) - 60688] & 0xff) != 1) ? 1 : 0;
+       if ((b[((int) l8) - 60384] & 0xff) != 1) { break L9; }
+       Core2.f80(m, l8 + 32L, Words.get64(b, ((int) l8) - 60368), Words.get64(b, ((int) l8) - 60360));
+       l1 = ((b[((int) l8) - 60416] & 0xff) != 1) ? 1 : 0;
       }
-      Words.put64(b, ((int) (l0 + 40L)) - 60720, l9);
-      Words.put64(b, ((int) (l0 + 32L)) - 60720, l10);
-      Words.put64(b, ((int) (l0 + 24L)) - 60720, l5);
-      Words.put64(b, ((int) (l0 + 16L)) - 60720, l4);
-      Words.put64(b, ((int) l0) - 60712, 0L);
-      Words.put64(b, ((int) l0) - 60720, 1L);
-      Words.put64(b, ((int) (l0 + 49L)) - 60720, 0L);
-      b[((int) (l0 + 48L)) - 60720] = (byte) l1;
-      Words.put64(b, ((int) (l0 + 56L)) - 60720, 0L);
+      Words.put64(b, ((int) (l0 + 40L)) - 60448, l9);
+      Words.put64(b, ((int) (l0 + 32L)) - 60448, l10);
+      Words.put64(b, ((int) (l0 + 24L)) - 60448, l5);
+      Words.put64(b, ((int) (l0 + 16L)) - 60448, l4);
+      Words.put64(b, ((int) l0) - 60440, 0L);
+      Words.put64(b, ((int) l0) - 60448, 1L);
+      Words.put64(b, ((int) (l0 + 49L)) - 60448, 0L);
+      b[((int) (l0 + 48L)) - 60448] = (byte) l1;
+      Words.put64(b, ((int) (l0 + 56L)) - 60448, 0L);
       break L1;
      }
-     Words.put64(b, ((int) l0) - 60664, 0L);
-     Words.put64(b, ((int) l0) - 60672, 0L);
-     Words.put64(b, ((int) l0) - 60680, 0L);
-     Words.put64(b, ((int) l0) - 60688, 0L);
-     Words.put64(b, ((int) l0) - 60696, 0L);
-     Words.put64(b, ((int) l0) - 60704, 0L);
-     Words.put64(b, ((int) l0) - 60712, 0L);
-     Words.put64(b, ((int) l0) - 60720, 0L);
+     Words.put64(b, ((int) l0) - 60392, 0L);
+     Words.put64(b, ((int) l0) - 60400, 0L);
+     Words.put64(b, ((int) l0) - 60408, 0L);
+     Words.put64(b, ((int) l0) - 60416, 0L);
+     Words.put64(b, ((int) l0) - 60424, 0L);
+     Words.put64(b, ((int) l0) - 60432, 0L);
+     Words.put64(b, ((int) l0) - 60440, 0L);
+     Words.put64(b, ((int) l0) - 60448, 0L);
      break L1;
     }
-    Words.put64(b, ((int) l0) - 60664, 0L);
-    Words.put64(b, ((int) l0) - 60672, 0L);
-    Words.put64(b, ((int) l0) - 60680, 0L);
-    Words.put64(b, ((int) l0) - 60688, 0L);
-    Words.put64(b, ((int) l0) - 60696, 0L);
-    Words.put64(b, ((int) l0) - 60704, 0L);
-    Words.put64(b, ((int) l0) - 60712, 0L);
-    Words.put64(b, ((int) l0) - 60720, 0L);
+    Words.put64(b, ((int) l0) - 60392, 0L);
+    Words.put64(b, ((int) l0) - 60400, 0L);
+    Words.put64(b, ((int) l0) - 60408, 0L);
+    Words.put64(b, ((int) l0) - 60416, 0L);
+    Words.put64(b, ((int) l0) - 60424, 0L);
+    Words.put64(b, ((int) l0) - 60432, 0L);
+    Words.put64(b, ((int) l0) - 60440, 0L);
+    Words.put64(b, ((int) l0) - 60448, 0L);
     break L1;
    }
-   Words.put64(b, ((int) l0) - 60664, 0L);
-   Words.put64(b, ((int) l0) - 60672, 0L);
-   Words.put64(b, ((int) l0) - 60680, 0L);
-   Words.put64(b, ((int) l0) - 60688, 0L);
-   Words.put64(b, ((int) l0) - 60696, 0L);
-   Words.put64(b, ((int) l0) - 60704, 0L);
-   Words.put64(b, ((int) l0) - 60712, 0L);
-   Words.put64(b, ((int) l0) - 60720, 0L);
+   Words.put64(b, ((int) l0) - 60392, 0L);
+   Words.put64(b, ((int) l0) - 60400, 0L);
+   Words.put64(b, ((int) l0) - 60408, 0L);
+   Words.put64(b, ((int) l0) - 60416, 0L);
+   Words.put64(b, ((int) l0) - 60424, 0L);
+   Words.put64(b, ((int) l0) - 60432, 0L);
+   Words.put64(b, ((int) l0) - 60440, 0L);
+   Words.put64(b, ((int) l0) - 60448, 0L);
    break L1;
   }
   throw State.trap();
@@ -1526,135 +1526,135 @@ static void f92(State m, long l0, long l1, long l2) {
    L3: {
     L4: {
      if ((l3 = l3) < 16L) { break L4; }
-     Words.put64(b, ((int) l3) - 60616, 0L);
-     Words.put64(b, ((int) l3) - 60624, 0L);
-     Words.put64(b, ((int) l3) - 60632, 0L);
-     Words.put64(b, ((int) l3) - 60640, 0L);
-     Words.put64(b, ((int) l3) - 60552, 0L);
-     Words.put64(b, ((int) l3) - 60560, 0L);
-     Words.put64(b, ((int) l3) - 60568, 0L);
-     Words.put64(b, ((int) l3) - 60576, 0L);
+     Words.put64(b, ((int) l3) - 60344, 0L);
+     Words.put64(b, ((int) l3) - 60352, 0L);
+     Words.put64(b, ((int) l3) - 60360, 0L);
+     Words.put64(b, ((int) l3) - 60368, 0L);
+     Words.put64(b, ((int) l3) - 60280, 0L);
+     Words.put64(b, ((int) l3) - 60288, 0L);
+     Words.put64(b, ((int) l3) - 60296, 0L);
+     Words.put64(b, ((int) l3) - 60304, 0L);
      l4 = l1;
      l5 = l2;
      L5: {
       L6: {
        L7: while (true) {
         Core2.f80(m, l3 + 144L, l4, l6 = l5);
-        if ((b[((int) l3) - 60576] & 0xff) != 1) { break L6; }
-        l5 = Words.get64(b, ((int) l3) - 60552);
-        l4 = Words.get64(b, ((int) l3) - 60560);
+        if ((b[((int) l3) - 60304] & 0xff) != 1) { break L6; }
+        l5 = Words.get64(b, ((int) l3) - 60280);
+        l4 = Words.get64(b, ((int) l3) - 60288);
         L8: {
-         if ((l15 = Words.get32(b, ((int) l3) - 60568)) == 40670) { break L8; }
+         if ((l15 = Words.get32(b, ((int) l3) - 60296)) == 40670) { break L8; }
          if (l15 != 28857) { continue L7; }
         }
         break L7;
        }
        Core2.f80(m, l3 + 80L, l1, l7 = l2 - l6);
-       if ((b[((int) l3) - 60640] & 0xff) == 1) { break L5; }
-       Words.put64(b, ((int) l0) - 60680, 0L);
-       Words.put64(b, ((int) l0) - 60688, 0L);
-       Words.put64(b, ((int) l0) - 60696, 0L);
-       Words.put64(b, ((int) l0) - 60704, 0L);
-       Words.put64(b, ((int) l0) - 60712, 0L);
-       Words.put64(b, ((int) l0) - 60720, 0L);
+       if ((b[((int) l3) - 60368] & 0xff) == 1) { break L5; }
+       Words.put64(b, ((int) l0) - 60408, 0L);
+       Words.put64(b, ((int) l0) - 60416, 0L);
+       Words.put64(b, ((int) l0) - 60424, 0L);
+       Words.put64(b, ((int) l0) - 60432, 0L);
+       Words.put64(b, ((int) l0) - 60440, 0L);
+       Words.put64(b, ((int) l0) - 60448, 0L);
        break L1;
       }
-      Words.put64(b, ((int) l0) - 60680, 0L);
-      Words.put64(b, ((int) l0) - 60688, 0L);
-      Words.put64(b, ((int) l0) - 60696, 0L);
-      Words.put64(b, ((int) l0) - 60704, 0L);
-      Words.put64(b, ((int) l0) - 60712, 0L);
-      Words.put64(b, ((int) l0) - 60720, 0L);
+      Words.put64(b, ((int) l0) - 60408, 0L);
+      Words.put64(b, ((int) l0) - 60416, 0L);
+      Words.put64(b, ((int) l0) - 60424, 0L);
+      Words.put64(b, ((int) l0) - 60432, 0L);
+      Words.put64(b, ((int) l0) - 60440, 0L);
+      Words.put64(b, ((int) l0) - 60448, 0L);
       break L1;
      }
-     Words.put64(b, ((int) l3) - 60552, 0L);
-     Words.put64(b, ((int) l3) - 60560, 0L);
-     Words.put64(b, ((int) l3) - 60568, 0L);
-     Words.put64(b, ((int) l3) - 60576, 0L);
+     Words.put64(b, ((int) l3) - 60280, 0L);
+     Words.put64(b, ((int) l3) - 60288, 0L);
+     Words.put64(b, ((int) l3) - 60296, 0L);
+     Words.put64(b, ((int) l3) - 60304, 0L);
      Core2.f80(m, l3 + 144L, l4, l5);
      L9: {
       L10: {
-       if ((b[((int) l3) - 60576] & 0xff) != 1) { break L10; }
-       if (((l15 = Words.get32(b, ((int) l3) - 60568)) + -48) + Integer.MIN_VALUE <= -2147483639) { break L10; }
-       l2 = Words.get64(b, ((int) l3) - 60560);
-       l8 = Words.get64(b, ((int) l3) - 60552);
+       if ((b[((int) l3) - 60304] & 0xff) != 1) { break L10; }
+       if (((l15 = Words.get32(b, ((int) l3) - 60296)) + -48) + Integer.MIN_VALUE <= -2147483639) { break L10; }
+       l2 = Words.get64(b, ((int) l3) - 60288);
+       l8 = Words.get64(b, ((int) l3) - 60280);
        Core2.f63(m, l3 + 72L, l15);
        l6 = 0L;
        l9 = l4;
        l10 = l5;
        L11: {
-        if ((b[((int) l3) - 60648] & 0xff) != 1) { break L11; }
+        if ((b[((int) l3) - 60376] & 0xff) != 1) { break L11; }
         l11 = 1L;
         L12: while (true) {
          l6 = l11;
          Core2.f80(m, l3 + 144L, l9 = l2, l10 = l8);
-         if ((b[((int) l3) - 60576] & 0xff) != 1) { break L11; }
-         if (((l15 = Words.get32(b, ((int) l3) - 60568)) + -48) + Integer.MIN_VALUE < -2147483638) { break L11; }
-         l8 = Words.get64(b, ((int) l3) - 60552);
-         l2 = Words.get64(b, ((int) l3) - 60560);
+         if ((b[((int) l3) - 60304] & 0xff) != 1) { break L11; }
+         if (((l15 = Words.get32(b, ((int) l3) - 60296)) + -48) + Integer.MIN_VALUE < -2147483638) { break L11; }
+         l8 = Words.get64(b, ((int) l3) - 60280);
+         l2 = Words.get64(b, ((int) l3) - 60288);
          Core2.f63(m, l3 + 64L, l15);
          l11 = l6 + 1L;
-         if ((b[((int) l3) - 60656] & 0xff) == 1) { continue L12; }
+         if ((b[((int) l3) - 60384] & 0xff) == 1) { continue L12; }
          break L12;
         }
        }
        if (l6 == 0L) { break L10; }
        if (f88(m, l9, l10) != 0) { break L9; }
       }
-      Words.put64(b, ((int) l0) - 60680, 0L);
-      Words.put64(b, ((int) l0) - 60688, 0L);
-      Words.put64(b, ((int) l0) - 60696, 0L);
-      Words.put64(b, ((int) l0) - 60704, 0L);
-      Words.put64(b, ((int) l0) - 60712, 0L);
-      Words.put64(b, ((int) l0) - 60720, 0L);
+      Words.put64(b, ((int) l0) - 60408, 0L);
+      Words.put64(b, ((int) l0) - 60416, 0L);
+      Words.put64(b, ((int) l0) - 60424, 0L);
+      Words.put64(b, ((int) l0) - 60432, 0L);
+      Words.put64(b, ((int) l0) - 60440, 0L);
+      Words.put64(b, ((int) l0) - 60448, 0L);
       break L1;
      }
-     Words.put64(b, ((int) l3) - 60552, 0L);
-     Words.put64(b, ((int) l3) - 60560, 0L);
-     Words.put64(b, ((int) l3) - 60568, 0L);
-     Words.put64(b, ((int) l3) - 60576, 0L);
+     Words.put64(b, ((int) l3) - 60280, 0L);
+     Words.put64(b, ((int) l3) - 60288, 0L);
+     Words.put64(b, ((int) l3) - 60296, 0L);
+     Words.put64(b, ((int) l3) - 60304, 0L);
      Core2.f80(m, l3 + 144L, l4, l5);
      l2 = l4;
      l8 = l5;
      L13: {
-      if ((b[((int) l3) - 60576] & 0xff) != 1) { break L13; }
+      if ((b[((int) l3) - 60304] & 0xff) != 1) { break L13; }
       l2 = l4;
       l8 = l5;
-      if (((l15 = Words.get32(b, ((int) l3) - 60568)) + -48) + Integer.MIN_VALUE < -2147483638) { break L13; }
-      l11 = Words.get64(b, ((int) l3) - 60560);
-      l9 = Words.get64(b, ((int) l3) - 60552);
+      if (((l15 = Words.get32(b, ((int) l3) - 60296)) + -48) + Integer.MIN_VALUE < -2147483638) { break L13; }
+      l11 = Words.get64(b, ((int) l3) - 60288);
+      l9 = Words.get64(b, ((int) l3) - 60280);
       Core2.f63(m, l3 + 56L, l15);
       l2 = l4;
       l8 = l5;
-      if ((b[((int) l3) - 60664] & 0xff) != 1) { break L13; }
+      if ((b[((int) l3) - 60392] & 0xff) != 1) { break L13; }
       L14: while (true) {
        Core2.f80(m, l3 + 144L, l2 = l11, l8 = l9);
-       if ((b[((int) l3) - 60576] & 0xff) != 1) { break L13; }
-       if (((l15 = Words.get32(b, ((int) l3) - 60568)) + -48) + Integer.MIN_VALUE < -2147483638) { break L13; }
-       l9 = Words.get64(b, ((int) l3) - 60552);
-       l11 = Words.get64(b, ((int) l3) - 60560);
+       if ((b[((int) l3) - 60304] & 0xff) != 1) { break L13; }
+       if (((l15 = Words.get32(b, ((int) l3) - 60296)) + -48) + Integer.MIN_VALUE < -2147483638) { break L13; }
+       l9 = Words.get64(b, ((int) l3) - 60280);
+       l11 = Words.get64(b, ((int) l3) - 60288);
        Core2.f63(m, l3 + 48L, l15);
-       if ((b[((int) l3) - 60672] & 0xff) == 1) { continue L14; }
+       if ((b[((int) l3) - 60400] & 0xff) == 1) { continue L14; }
        break L14;
       }
      }
-     Words.put64(b, ((int) l3) - 60576, 0L);
-     Words.put64(b, ((int) l3) - 60568, 0L);
-     Words.put64(b, ((int) l3) - 60560, 0L);
-     Words.put64(b, ((int) l3) - 60552, 0L);
-     Words.put64(b, ((int) l3) - 60608, 0L);
-     Words.put64(b, ((int) l3) - 60600, 0L);
-     Words.put64(b, ((int) l3) - 60592, 0L);
-     Words.put64(b, ((int) l3) - 60584, 0L);
+     Words.put64(b, ((int) l3) - 60304, 0L);
+     Words.put64(b, ((int) l3) - 60296, 0L);
+     Words.put64(b, ((int) l3) - 60288, 0L);
+     Words.put64(b, ((int) l3) - 60280, 0L);
+     Words.put64(b, ((int) l3) - 60336, 0L);
+     Words.put64(b, ((int) l3) - 60328, 0L);
+     Words.put64(b, ((int) l3) - 60320, 0L);
+     Words.put64(b, ((int) l3) - 60312, 0L);
      f85(m, l3 + 144L, l1, l7);
      L15: {
-      if ((b[((int) l3) - 60576] & 0xff) != 1) { break L15; }
-      l15 = Words.get32(b, ((int) l3) - 60568);
-      f85(m, l3 + 112L, Words.get64(b, ((int) l3) - 60560), Words.get64(b, ((int) l3) - 60552));
-      if ((b[((int) l3) - 60608] & 0xff) != 1) { break L15; }
-      Core2.f61(m, l3 + 40L, Words.get32(b, ((int) l3) - 60600));
-      if ((b[((int) l3) - 60680] & 0xff) != 1) { break L15; }
-      if (((b[((int) l3) - 60679] & 0xff) & 255) + Integer.MIN_VALUE <= -2147483647) { break L15; }
+      if ((b[((int) l3) - 60304] & 0xff) != 1) { break L15; }
+      l15 = Words.get32(b, ((int) l3) - 60296);
+      f85(m, l3 + 112L, Words.get64(b, ((int) l3) - 60288), Words.get64(b, ((int) l3) - 60280));
+      if ((b[((int) l3) - 60336] & 0xff) != 1) { break L15; }
+      Core2.f61(m, l3 + 40L, Words.get32(b, ((int) l3) - 60328));
+      if ((b[((int) l3) - 60408] & 0xff) != 1) { break L15; }
+      if (((b[((int) l3) - 60407] & 0xff) & 255) + Integer.MIN_VALUE <= -2147483647) { break L15; }
       Core2.f63(m, l3 + 32L, l15);
       l11 = 0L;
       l9 = 0L;
@@ -1662,54 +1662,54 @@ static void f92(State m, long l0, long l1, long l2) {
       l12 = 0L;
       l13 = 0L;
       l14 = 0L;
-      if ((b[((int) l3) - 60688] & 0xff) == 1) { break L2; }
+      if ((b[((int) l3) - 60416] & 0xff) == 1) { break L2; }
      }
-     Words.put64(b, ((int) l3) - 60584, 0L);
-     Words.put64(b, ((int) l3) - 60592, 0L);
-     Words.put64(b, ((int) l3) - 60600, 0L);
-     Words.put64(b, ((int) l3) - 60608, 0L);
+     Words.put64(b, ((int) l3) - 60312, 0L);
+     Words.put64(b, ((int) l3) - 60320, 0L);
+     Words.put64(b, ((int) l3) - 60328, 0L);
+     Words.put64(b, ((int) l3) - 60336, 0L);
      Core2.f80(m, l3 + 112L, l2, l8);
-     if ((b[((int) l3) - 60608] & 0xff) != 1) { break L3; }
-     l2 = Words.get64(b, ((int) l3) - 60584);
-     l8 = Words.get64(b, ((int) l3) - 60592);
-     Core2.f61(m, l3 + 24L, Words.get32(b, ((int) l3) - 60600));
-     l15 = b[((int) l3) - 60695] & 0xff;
+     if ((b[((int) l3) - 60336] & 0xff) != 1) { break L3; }
+     l2 = Words.get64(b, ((int) l3) - 60312);
+     l8 = Words.get64(b, ((int) l3) - 60320);
+     Core2.f61(m, l3 + 24L, Words.get32(b, ((int) l3) - 60328));
+     l15 = b[((int) l3) - 60423] & 0xff;
      L16: {
       L17: {
-       if ((l16 = b[((int) l3) - 60696] & 0xff) != 1) { break L17; }
+       if ((l16 = b[((int) l3) - 60424] & 0xff) != 1) { break L17; }
        if ((l15 & 255) != 0) { break L17; }
-       Words.put64(b, ((int) l3) - 60552, 0L);
-       Words.put64(b, ((int) l3) - 60560, 0L);
-       Words.put64(b, ((int) l3) - 60568, 0L);
-       Words.put64(b, ((int) l3) - 60576, 0L);
+       Words.put64(b, ((int) l3) - 60280, 0L);
+       Words.put64(b, ((int) l3) - 60288, 0L);
+       Words.put64(b, ((int) l3) - 60296, 0L);
+       Words.put64(b, ((int) l3) - 60304, 0L);
        Core2.f80(m, l3 + 144L, l8, l2);
-       if ((b[((int) l3) - 60576] & 0xff) != 1) { break L3; }
-       Core2.f61(m, l3 + 16L, Words.get32(b, ((int) l3) - 60568));
-       l15 = b[((int) l3) - 60703] & 0xff;
-       l16 = b[((int) l3) - 60704] & 0xff;
-       Words.put64(b, ((int) l3) - 60552, 0L);
-       Words.put64(b, ((int) l3) - 60560, 0L);
-       Words.put64(b, ((int) l3) - 60568, 0L);
-       Words.put64(b, ((int) l3) - 60576, 0L);
+       if ((b[((int) l3) - 60304] & 0xff) != 1) { break L3; }
+       Core2.f61(m, l3 + 16L, Words.get32(b, ((int) l3) - 60296));
+       l15 = b[((int) l3) - 60431] & 0xff;
+       l16 = b[((int) l3) - 60432] & 0xff;
+       Words.put64(b, ((int) l3) - 60280, 0L);
+       Words.put64(b, ((int) l3) - 60288, 0L);
+       Words.put64(b, ((int) l3) - 60296, 0L);
+       Words.put64(b, ((int) l3) - 60304, 0L);
        if ((l16 & 1) != 0) { break L16; }
        break L3;
       }
-      Words.put64(b, ((int) l3) - 60552, 0L);
-      Words.put64(b, ((int) l3) - 60560, 0L);
-      Words.put64(b, ((int) l3) - 60568, 0L);
-      Words.put64(b, ((int) l3) - 60576, 0L);
+      Words.put64(b, ((int) l3) - 60280, 0L);
+      Words.put64(b, ((int) l3) - 60288, 0L);
+      Words.put64(b, ((int) l3) - 60296, 0L);
+      Words.put64(b, ((int) l3) - 60304, 0L);
       if ((l16 & 1) == 0) { break L3; }
      }
      l2 = l1;
      l8 = l7;
      L18: while (true) {
       Core2.f80(m, l3 + 144L, l2, l8);
-      if ((b[((int) l3) - 60576] & 0xff) != 1) { break L3; }
-      l8 = Words.get64(b, ((int) l3) - 60552);
-      l2 = Words.get64(b, ((int) l3) - 60560);
-      Core2.f61(m, l3 + 8L, Words.get32(b, ((int) l3) - 60568));
-      if ((b[((int) l3) - 60712] & 0xff) != 1) { continue L18; }
-      if (((b[((int) l3) - 60711] & 0xff) & 255) + Integer.MIN_VALUE < (l15 & 255) + Integer.MIN_VALUE) { continue L18; }
+      if ((b[((int) l3) - 60304] & 0xff) != 1) { break L3; }
+      l8 = Words.get64(b, ((int) l3) - 60280);
+      l2 = Words.get64(b, ((int) l3) - 60288);
+      Core2.f61(m, l3 + 8L, Words.get32(b, ((int) l3) - 60296));
+      if ((b[((int) l3) - 60440] & 0xff) != 1) { continue L18; }
+      if (((b[((int) l3) - 60439] & 0xff) & 255) + Integer.MIN_VALUE < (l15 & 255) + Integer.MIN_VALUE) { continue L18; }
       break L18;
      }
      l11 = 0L;
@@ -1729,12 +1729,12 @@ static void f92(State m, long l0, long l1, long l2) {
    l12 = l5;
    l14 = l6;
   }
-  Words.put64(b, ((int) l0) - 60720, l13);
-  Words.put64(b, ((int) (l0 + 40L)) - 60720, l14);
-  Words.put64(b, ((int) (l0 + 32L)) - 60720, l12);
-  Words.put64(b, ((int) (l0 + 24L)) - 60720, l10);
-  Words.put64(b, ((int) (l0 + 16L)) - 60720, l9);
-  Words.put64(b, ((int) (l0 + 8L)) - 60720, l11);
+  Words.put64(b, ((int) l0) - 60448, l13);
+  Words.put64(b, ((int) (l0 + 40L)) - 60448, l14);
+  Words.put64(b, ((int) (l0 + 32L)) - 60448, l12);
+  Words.put64(b, ((int) (l0 + 24L)) - 60448, l10);
+  Words.put64(b, ((int) (l0 + 16L)) - 60448, l9);
+  Words.put64(b, ((int) (l0 + 8L)) - 60448, l11);
  }
  m.g0 = l3 + 176L;
 }
@@ -1768,13 +1768,13 @@ static void f93(State m, long l0, long l1, long l2) {
     L4: {
      L5: {
       if ((l3 = l3) < 16L) { break L5; }
-      Words.put64(b, ((int) l3) - 60688, 0L);
-      Words.put64(b, ((int) l3) - 60696, 0L);
-      Words.put64(b, ((int) l3) - 60704, 0L);
-      Words.put64(b, ((int) l3) - 60712, 0L);
+      Words.put64(b, ((int) l3) - 60416, 0L);
+      Words.put64(b, ((int) l3) - 60424, 0L);
+      Words.put64(b, ((int) l3) - 60432, 0L);
+      Words.put64(b, ((int) l3) - 60440, 0L);
       Core2.f80(m, l3 + 8L, l1, l2);
       L6: {
-       if ((b[((int) l3) - 60712] & 0xff) != 1) { break L6; }
+       if ((b[((int) l3) - 60440] & 0xff) != 1) { break L6; }
        l9 = 2;
        l10 = 0;
        l4 = l2;
@@ -1784,15 +1784,15 @@ static void f93(State m, long l0, long l1, long l2) {
        l13 = 0;
        l14 = 2;
        L7: while (true) {
-        l6 = Words.get64(b, ((int) l3) - 60688);
-        l7 = Words.get64(b, ((int) l3) - 60696);
-        l15 = Words.get32(b, ((int) l3) - 60704);
-        b[((int) l3) - 60673] = (byte) l10;
-        b[((int) l3) - 60674] = (byte) l9;
-        b[((int) l3) - 60675] = (byte) l11;
-        b[((int) l3) - 60676] = (byte) l12;
-        b[((int) l3) - 60677] = (byte) l13;
-        b[((int) l3) - 60678] = (byte) l14;
+        l6 = Words.get64(b, ((int) l3) - 60416);
+        l7 = Words.get64(b, ((int) l3) - 60424);
+        l15 = Words.get32(b, ((int) l3) - 60432);
+        b[((int) l3) - 60401] = (byte) l10;
+        b[((int) l3) - 60402] = (byte) l9;
+        b[((int) l3) - 60403] = (byte) l11;
+        b[((int) l3) - 60404] = (byte) l12;
+        b[((int) l3) - 60405] = (byte) l13;
+        b[((int) l3) - 60406] = (byte) l14;
         L8: {
          L9: {
           L10: {
@@ -1805,13 +1805,13 @@ static void f93(State m, long l0, long l1, long l2) {
              l18 = l18 != 0 ? 0 : 2;
              break L11;
             }
-            final int t15 = b[((int) ((l8 = ((((l18 = (((l15 >>> 12) | ((l15 << 2) & 16128)) | ((l15 << 16) & 4128768)) | 8421600) & 0xffffffffL) * 953497L) >>> 22L) & 1016L) + 66857L)) - 60720] & 0xff;
+            final int t15 = b[((int) ((l8 = ((((l18 = (((l15 >>> 12) | ((l15 << 2) & 16128)) | ((l15 << 16) & 4128768)) | 8421600) & 0xffffffffL) * 953497L) >>> 22L) & 1016L) + 66857L)) - 60448] & 0xff;
             final int t16 = l18 = (Words.get32(b, State.far((int) l8, 66852)) == l18) ? 1 : 0;
             l20 = (l19 = t16 != 0 ? t15 : 0) & 255;
             L17: {
              L18: {
               L19: {
-               final int t20 = b[((int) (l8 + 66856L)) - 60720] & 0xff;
+               final int t20 = b[((int) (l8 + 66856L)) - 60448] & 0xff;
                final int t21 = l18;
                if (((l18 = t21 != 0 ? t20 : 2) & 255) != 1) { break L19; }
                if (l20 != 1) { break L19; }
@@ -1921,8 +1921,8 @@ static void f93(State m, long l0, long l1, long l2) {
           L30: {
            if (l19 == 0) { break L30; }
            if (Words.get32(b, State.far((int) (l8 = ((((l14 = (((l15 >>> 12) | ((l15 << 2) & 16128)) | ((l15 << 16) & 4128768)) | 8421600) & 0xffffffffL) * 953497L) >>> 22L) & 1016L), 66852)) != l14) { break L30; }
-           if (((b[((int) (l8 + 66856L)) - 60720] & 0xff) & 255) != 1) { break L30; }
-           if (((b[((int) (l8 + 66857L)) - 60720] & 0xff) & 255) != 1) { break L30; }
+           if (((b[((int) (l8 + 66856L)) - 60448] & 0xff) & 255) != 1) { break L30; }
+           if (((b[((int) (l8 + 66857L)) - 60448] & 0xff) & 255) != 1) { break L30; }
            L31: {
             L32: {
              switch ((int) ((l18 & 0xffffffffL) & 255L)) {
@@ -1946,12 +1946,12 @@ static void f93(State m, long l0, long l1, long l2) {
           l20 = 0;
          }
          l8 = l2 - l4;
-         b[((int) l3) - 60673] = (byte) l10;
-         b[((int) l3) - 60674] = (byte) l9;
-         b[((int) l3) - 60675] = (byte) l11;
-         b[((int) l3) - 60676] = (byte) l12;
-         b[((int) l3) - 60677] = (byte) l21;
-         b[((int) l3) - 60678] = (byte) l18;
+         b[((int) l3) - 60401] = (byte) l10;
+         b[((int) l3) - 60402] = (byte) l9;
+         b[((int) l3) - 60403] = (byte) l11;
+         b[((int) l3) - 60404] = (byte) l12;
+         b[((int) l3) - 60405] = (byte) l21;
+         b[((int) l3) - 60406] = (byte) l18;
          L33: {
           if (l19 != 0) { break L33; }
           final int t34 = l14 = l15 + -48;
@@ -1963,12 +1963,12 @@ static void f93(State m, long l0, long l1, long l2) {
           l22 = (l14 == 0) ? 1 : 0;
           break L3;
          }
-         final int t36 = b[((int) ((l2 = ((((l14 = (((l15 >>> 12) | ((l15 << 2) & 16128)) | ((l15 << 16) & 4128768)) | 8421600) & 0xffffffffL) * 953497L) >>> 22L) & 1016L) + 66857L)) - 60720] & 0xff;
+         final int t36 = b[((int) ((l2 = ((((l14 = (((l15 >>> 12) | ((l15 << 2) & 16128)) | ((l15 << 16) & 4128768)) | 8421600) & 0xffffffffL) * 953497L) >>> 22L) & 1016L) + 66857L)) - 60448] & 0xff;
          final int t37 = l14 = (Words.get32(b, State.far((int) l2, 66852)) == l14) ? 1 : 0;
          l13 = t37 != 0 ? t36 : 0;
          L38: {
           L39: {
-           final int t40 = b[((int) (l2 + 66856L)) - 60720] & 0xff;
+           final int t40 = b[((int) (l2 + 66856L)) - 60448] & 0xff;
            final int t41 = l14;
            if (((l19 = t41 != 0 ? t40 : 2) & 255) != 1) { break L39; }
            if ((l13 & 255) != 1) { break L39; }
@@ -2014,10 +2014,10 @@ static void f93(State m, long l0, long l1, long l2) {
         L44: {
          L45: {
           if (l16 + Integer.MIN_VALUE > -2147420161) { break L45; }
-          final int t46 = b[((int) ((l8 = ((((l15 = (((l15 >>> 12) | ((l15 << 2) & 16128)) | ((l15 << 16) & 4128768)) | 8421600) & 0xffffffffL) * 953497L) >>> 22L) & 1016L) + 66857L)) - 60720] & 0xff;
+          final int t46 = b[((int) ((l8 = ((((l15 = (((l15 >>> 12) | ((l15 << 2) & 16128)) | ((l15 << 16) & 4128768)) | 8421600) & 0xffffffffL) * 953497L) >>> 22L) & 1016L) + 66857L)) - 60448] & 0xff;
           final int t47 = l18 = (Words.get32(b, State.far((int) l8, 66852)) == l15) ? 1 : 0;
           l15 = t47 != 0 ? t46 : 0;
-          final int t48 = b[((int) (l8 + 66856L)) - 60720] & 0xff;
+          final int t48 = b[((int) (l8 + 66856L)) - 60448] & 0xff;
           final int t49 = l18;
           l18 = t49 != 0 ? t48 : 2;
           break L44;
@@ -2036,16 +2036,16 @@ static void f93(State m, long l0, long l1, long l2) {
         l12 = l14;
         l13 = l15;
         l14 = l18;
-        if ((b[((int) l3) - 60712] & 0xff) == 1) { continue L7; }
+        if ((b[((int) l3) - 60440] & 0xff) == 1) { continue L7; }
         break L7;
        }
       }
-      Words.put64(b, ((int) l0) - 60680, 0L);
-      Words.put64(b, ((int) l0) - 60688, 0L);
-      Words.put64(b, ((int) l0) - 60696, 0L);
-      Words.put64(b, ((int) l0) - 60704, 0L);
-      Words.put64(b, ((int) l0) - 60712, 0L);
-      Words.put64(b, ((int) l0) - 60720, 0L);
+      Words.put64(b, ((int) l0) - 60408, 0L);
+      Words.put64(b, ((int) l0) - 60416, 0L);
+      Words.put64(b, ((int) l0) - 60424, 0L);
+      Words.put64(b, ((int) l0) - 60432, 0L);
+      Words.put64(b, ((int) l0) - 60440, 0L);
+      Words.put64(b, ((int) l0) - 60448, 0L);
       break L1;
      }
      throw State.trap();
@@ -2085,16 +2085,16 @@ static void f93(State m, long l0, long l1, long l2) {
    }
    l14 = 4;
   }
-  Words.put64(b, ((int) l0) - 60720, 1L);
-  Words.put32(b, ((int) (l0 + 43L)) - 60720, 0);
-  b[((int) (l0 + 42L)) - 60720] = (byte) l14;
-  b[((int) (l0 + 41L)) - 60720] = (byte) l20;
-  b[((int) (l0 + 40L)) - 60720] = (byte) l16;
-  Words.put64(b, ((int) (l0 + 32L)) - 60720, l4);
-  Words.put64(b, ((int) (l0 + 24L)) - 60720, l5);
-  Words.put64(b, ((int) (l0 + 16L)) - 60720, l8);
-  Words.put64(b, ((int) (l0 + 8L)) - 60720, l1);
-  b[((int) (l0 + 47L)) - 60720] = (byte) 0;
+  Words.put64(b, ((int) l0) - 60448, 1L);
+  Words.put32(b, ((int) (l0 + 43L)) - 60448, 0);
+  b[((int) (l0 + 42L)) - 60448] = (byte) l14;
+  b[((int) (l0 + 41L)) - 60448] = (byte) l20;
+  b[((int) (l0 + 40L)) - 60448] = (byte) l16;
+  Words.put64(b, ((int) (l0 + 32L)) - 60448, l4);
+  Words.put64(b, ((int) (l0 + 24L)) - 60448, l5);
+  Words.put64(b, ((int) (l0 + 16L)) - 60448, l8);
+  Words.put64(b, ((int) (l0 + 8L)) - 60448, l1);
+  b[((int) (l0 + 47L)) - 60448] = (byte) 0;
  }
  m.g0 = l3 + 48L;
 }
@@ -2121,50 +2121,50 @@ static void f94(State m, long l0, int l1, long l2, long l3, long l4) {
        L7: {
         L8: {
          if ((l5 = l5) < 16L) { break L8; }
-         Words.put64(b, ((int) l5) - 60680, 0L);
-         Words.put64(b, ((int) l5) - 60688, 0L);
-         Words.put64(b, ((int) l5) - 60696, 0L);
-         Words.put64(b, ((int) l5) - 60704, 0L);
-         Words.put64(b, ((int) l5) - 60552, 0L);
-         Words.put64(b, ((int) l5) - 60560, 0L);
-         Words.put64(b, ((int) l5) - 60568, 0L);
-         Words.put64(b, ((int) l5) - 60576, 0L);
+         Words.put64(b, ((int) l5) - 60408, 0L);
+         Words.put64(b, ((int) l5) - 60416, 0L);
+         Words.put64(b, ((int) l5) - 60424, 0L);
+         Words.put64(b, ((int) l5) - 60432, 0L);
+         Words.put64(b, ((int) l5) - 60280, 0L);
+         Words.put64(b, ((int) l5) - 60288, 0L);
+         Words.put64(b, ((int) l5) - 60296, 0L);
+         Words.put64(b, ((int) l5) - 60304, 0L);
          l6 = l3;
          l7 = l4;
          L9: {
           L10: while (true) {
            Core2.f80(m, l5 + 144L, l6, l7);
-           if ((b[((int) l5) - 60576] & 0xff) != 1) { break L9; }
-           l7 = Words.get64(b, ((int) l5) - 60552);
-           l6 = Words.get64(b, ((int) l5) - 60560);
-           Core2.f63(m, l5 + 8L, Words.get32(b, ((int) l5) - 60568));
-           if ((b[((int) l5) - 60712] & 0xff) == 1) { continue L10; }
+           if ((b[((int) l5) - 60304] & 0xff) != 1) { break L9; }
+           l7 = Words.get64(b, ((int) l5) - 60280);
+           l6 = Words.get64(b, ((int) l5) - 60288);
+           Core2.f63(m, l5 + 8L, Words.get32(b, ((int) l5) - 60296));
+           if ((b[((int) l5) - 60440] & 0xff) == 1) { continue L10; }
            break L10;
           }
-          Words.put64(b, ((int) l5) - 60608, 0L);
-          Words.put64(b, ((int) l5) - 60600, 0L);
-          Words.put64(b, ((int) l5) - 60592, 0L);
-          Words.put64(b, ((int) l5) - 60584, 0L);
-          Words.put64(b, ((int) l5) - 60640, 0L);
-          Words.put64(b, ((int) l5) - 60632, 0L);
-          Words.put64(b, ((int) l5) - 60624, 0L);
-          Words.put64(b, ((int) l5) - 60616, 0L);
-          Words.put64(b, ((int) l5) - 60672, 0L);
-          Words.put64(b, ((int) l5) - 60664, 0L);
-          Words.put64(b, ((int) l5) - 60656, 0L);
-          Words.put64(b, ((int) l5) - 60648, 0L);
+          Words.put64(b, ((int) l5) - 60336, 0L);
+          Words.put64(b, ((int) l5) - 60328, 0L);
+          Words.put64(b, ((int) l5) - 60320, 0L);
+          Words.put64(b, ((int) l5) - 60312, 0L);
+          Words.put64(b, ((int) l5) - 60368, 0L);
+          Words.put64(b, ((int) l5) - 60360, 0L);
+          Words.put64(b, ((int) l5) - 60352, 0L);
+          Words.put64(b, ((int) l5) - 60344, 0L);
+          Words.put64(b, ((int) l5) - 60400, 0L);
+          Words.put64(b, ((int) l5) - 60392, 0L);
+          Words.put64(b, ((int) l5) - 60384, 0L);
+          Words.put64(b, ((int) l5) - 60376, 0L);
           L11: {
            if (!(l4 == 0L)) { break L11; }
-           Words.put64(b, ((int) l5) - 60600, 0L);
-           Words.put64(b, ((int) l5) - 60592, 0L);
-           Words.put64(b, ((int) l5) - 60688, 0L);
-           Words.put64(b, ((int) l5) - 60680, Words.get64(b, ((int) l5) - 60584));
+           Words.put64(b, ((int) l5) - 60328, 0L);
+           Words.put64(b, ((int) l5) - 60320, 0L);
+           Words.put64(b, ((int) l5) - 60416, 0L);
+           Words.put64(b, ((int) l5) - 60408, Words.get64(b, ((int) l5) - 60312));
            break L2;
           }
           L12: while (true) {
            L13: {
             L14: {
-             if ((l9 = b[((int) l3) - 60720] & 0xff) + Integer.MIN_VALUE > -2147483616) { break L14; }
+             if ((l9 = b[((int) l3) - 60448] & 0xff) + Integer.MIN_VALUE > -2147483616) { break L14; }
              if (((1L << (l9 & 0xffffffffL)) & 4294983168L) == 0L) { break L14; }
              l6 = 1L;
              break L13;
@@ -2175,8 +2175,8 @@ static void f94(State m, long l0, int l1, long l2, long l3, long l4) {
                if (l9 == 194) { break L17; }
                if (l4 + Long.MIN_VALUE < -9223372036854775805L) { break L16; }
                if (((l9 + 28) & 255) + Integer.MIN_VALUE < -2147483395) { break L16; }
-               l10 = b[((int) (l3 + 1L)) - 60720] & 0xff;
-               l12 = (int) (byte) (l11 = b[((int) (l3 + 2L)) - 60720] & 0xff);
+               l10 = b[((int) (l3 + 1L)) - 60448] & 0xff;
+               l12 = (int) (byte) (l11 = b[((int) (l3 + 2L)) - 60448] & 0xff);
                if (l9 != 226) { break L15; }
                if ((l10 & 255) != 128) { break L15; }
                l6 = 3L;
@@ -2186,7 +2186,7 @@ static void f94(State m, long l0, int l1, long l2, long l3, long l4) {
                break L13;
               }
               l6 = 1L;
-              l9 = b[((int) l3) - 60719] & 0xff;
+              l9 = b[((int) l3) - 60447] & 0xff;
               L18: {
                if (l4 != 1L) { break L18; }
                l12 = l9 & 63;
@@ -2198,7 +2198,7 @@ static void f94(State m, long l0, int l1, long l2, long l3, long l4) {
               if (l9 == 160) { break L13; }
              }
              if (l4 + Long.MIN_VALUE >= -9223372036854775805L) { break L7; }
-             l10 = b[((int) l3) - 60720] & 0xff;
+             l10 = b[((int) l3) - 60448] & 0xff;
              break L6;
             }
             L19: {
@@ -2229,21 +2229,21 @@ static void f94(State m, long l0, int l1, long l2, long l3, long l4) {
            if (!((l4 = l4 - l6) == 0L)) { continue L12; }
            break L12;
           }
-          Words.put64(b, ((int) l5) - 60600, 0L);
-          Words.put64(b, ((int) l5) - 60592, 0L);
-          Words.put64(b, ((int) l5) - 60688, 0L);
-          Words.put64(b, ((int) l5) - 60680, Words.get64(b, ((int) l5) - 60584));
+          Words.put64(b, ((int) l5) - 60328, 0L);
+          Words.put64(b, ((int) l5) - 60320, 0L);
+          Words.put64(b, ((int) l5) - 60416, 0L);
+          Words.put64(b, ((int) l5) - 60408, Words.get64(b, ((int) l5) - 60312));
           break L2;
          }
          Core2.f39(m, l5 + 16L, l2, l3, l4);
-         l10 = b[((int) l5) - 60696] & 0xff;
-         l9 = b[((int) l5) - 60704] & 0xff;
+         l10 = b[((int) l5) - 60424] & 0xff;
+         l9 = b[((int) l5) - 60432] & 0xff;
          break L1;
         }
         throw State.trap();
        }
-       if (((l10 = b[((int) l3) - 60720] & 0xff) & 240) != 224) { break L6; }
-       l9 = (((b[((int) l3) - 60718] & 0xff) + ((b[((int) l3) - 60719] & 0xff) << 6)) + (l10 << 12)) + -925824;
+       if (((l10 = b[((int) l3) - 60448] & 0xff) & 240) != 224) { break L6; }
+       l9 = (((b[((int) l3) - 60446] & 0xff) + ((b[((int) l3) - 60447] & 0xff) << 6)) + (l10 << 12)) + -925824;
        l6 = l4 + -3L;
        l3 = l3 + 3L;
        break L3;
@@ -2252,20 +2252,20 @@ static void f94(State m, long l0, int l1, long l2, long l3, long l4) {
       l7 = 1L;
       L23: {
        if (((int) (byte) l10) > -1) { break L23; }
-       l12 = (b[((int) l3) - 60719] & 0xff) & 63;
+       l12 = (b[((int) l3) - 60447] & 0xff) & 63;
        L24: {
         if ((l10 & 255) + Integer.MIN_VALUE > -2147483425) { break L24; }
         l6 = l4;
         break L5;
        }
-       l11 = (b[((int) l3) - 60718] & 0xff) & 63;
+       l11 = (b[((int) l3) - 60446] & 0xff) & 63;
        L25: {
         if ((l10 & 255) + Integer.MIN_VALUE > -2147483409) { break L25; }
         l9 = ((l12 << 6) | ((l9 << 12) & 61440)) | l11;
         l7 = 3L;
         break L23;
        }
-       l9 = ((l11 << 6) | ((l12 << 12) | ((l9 << 18) & 1835008))) | ((b[((int) l3) - 60717] & 0xff) & 63);
+       l9 = ((l11 << 6) | ((l12 << 12) | ((l9 << 18) & 1835008))) | ((b[((int) l3) - 60445] & 0xff) & 63);
        l7 = 4L;
       }
       l6 = l4;
@@ -2277,10 +2277,10 @@ static void f94(State m, long l0, int l1, long l2, long l3, long l4) {
     l6 = l6 - l7;
     l3 = l3 + l7;
    }
-   Words.put64(b, ((int) l5) - 60552, 0L);
-   Words.put64(b, ((int) l5) - 60560, 0L);
-   Words.put64(b, ((int) l5) - 60568, 0L);
-   Words.put64(b, ((int) l5) - 60576, 0L);
+   Words.put64(b, ((int) l5) - 60280, 0L);
+   Words.put64(b, ((int) l5) - 60288, 0L);
+   Words.put64(b, ((int) l5) - 60296, 0L);
+   Words.put64(b, ((int) l5) - 60304, 0L);
    L26: {
     L27: {
      L28: {
@@ -2288,106 +2288,106 @@ static void f94(State m, long l0, int l1, long l2, long l3, long l4) {
        L30: {
         L31: {
          if (l6 + Long.MIN_VALUE < -9223372036854775804L) { break L31; }
-         if (Words.get32(b, ((int) ((l8 = ((((l10 = Words.get32(b, ((int) ((l3 + l6) + -4L)) - 60720) >>> 8) & 0xffffffffL) * 953497L) >>> 22L) & 1016L) + 66852L)) - 60720) != l10) { break L29; }
+         if (Words.get32(b, ((int) ((l8 = ((((l10 = Words.get32(b, ((int) ((l3 + l6) + -4L)) - 60448) >>> 8) & 0xffffffffL) * 953497L) >>> 22L) & 1016L) + 66852L)) - 60448) != l10) { break L29; }
          l7 = l6 + -3L;
          l4 = l3;
          break L30;
         }
         if (l6 != 3L) { break L29; }
-        if (Words.get32(b, ((int) ((l8 = ((((l10 = (Words.get16(b, ((int) l3) - 60720) & 0xffff) | ((b[((int) l3) - 60718] & 0xff) << 16)) & 0xffffffffL) * 953497L) >>> 22L) & 1016L) + 66852L)) - 60720) != l10) { break L29; }
+        if (Words.get32(b, ((int) ((l8 = ((((l10 = (Words.get16(b, ((int) l3) - 60448) & 0xffff) | ((b[((int) l3) - 60446] & 0xff) << 16)) & 0xffffffffL) * 953497L) >>> 22L) & 1016L) + 66852L)) - 60448) != l10) { break L29; }
         l4 = l3 + 3L;
         l7 = 0L;
        }
-       l11 = b[((int) (l8 + 66856L)) - 60720] & 0xff;
-       l13 = b[((int) (l8 + 66857L)) - 60720] & 0xff;
+       l11 = b[((int) (l8 + 66856L)) - 60448] & 0xff;
+       l13 = b[((int) (l8 + 66857L)) - 60448] & 0xff;
        break L28;
       }
       Core2.f41(m, l5 + 144L, l3, l6);
-      if ((b[((int) l5) - 60576] & 0xff) != 1) { break L27; }
-      l7 = Words.get64(b, ((int) l5) - 60552);
-      l4 = Words.get64(b, ((int) l5) - 60560);
-      l13 = b[((int) l5) - 60567] & 0xff;
-      l11 = b[((int) l5) - 60568] & 0xff;
+      if ((b[((int) l5) - 60304] & 0xff) != 1) { break L27; }
+      l7 = Words.get64(b, ((int) l5) - 60280);
+      l4 = Words.get64(b, ((int) l5) - 60288);
+      l13 = b[((int) l5) - 60295] & 0xff;
+      l11 = b[((int) l5) - 60296] & 0xff;
      }
-     Words.put64(b, ((int) l5) - 60552, 0L);
-     Words.put64(b, ((int) l5) - 60560, 0L);
-     Words.put64(b, ((int) l5) - 60568, 0L);
-     Words.put64(b, ((int) l5) - 60576, 0L);
+     Words.put64(b, ((int) l5) - 60280, 0L);
+     Words.put64(b, ((int) l5) - 60288, 0L);
+     Words.put64(b, ((int) l5) - 60296, 0L);
+     Words.put64(b, ((int) l5) - 60304, 0L);
      L32: {
       L33: {
        L34: {
         if (l7 + Long.MIN_VALUE < -9223372036854775804L) { break L34; }
-        if (Words.get32(b, ((int) ((l8 = ((((l10 = Words.get32(b, ((int) ((l4 + l7) + -4L)) - 60720) >>> 8) & 0xffffffffL) * 953497L) >>> 22L) & 1016L) + 66852L)) - 60720) != l10) { break L33; }
-        l12 = b[((int) (l8 + 66856L)) - 60720] & 0xff;
-        l14 = b[((int) (l8 + 66857L)) - 60720] & 0xff;
+        if (Words.get32(b, ((int) ((l8 = ((((l10 = Words.get32(b, ((int) ((l4 + l7) + -4L)) - 60448) >>> 8) & 0xffffffffL) * 953497L) >>> 22L) & 1016L) + 66852L)) - 60448) != l10) { break L33; }
+        l12 = b[((int) (l8 + 66856L)) - 60448] & 0xff;
+        l14 = b[((int) (l8 + 66857L)) - 60448] & 0xff;
         l10 = 1;
         break L32;
        }
        if (l7 != 3L) { break L33; }
-       if (Words.get32(b, ((int) ((l8 = ((((l10 = (Words.get16(b, ((int) l4) - 60720) & 0xffff) | ((b[((int) l4) - 60718] & 0xff) << 16)) & 0xffffffffL) * 953497L) >>> 22L) & 1016L) + 66852L)) - 60720) != l10) { break L33; }
-       l12 = b[((int) (l8 + 66856L)) - 60720] & 0xff;
-       l14 = b[((int) (l8 + 66857L)) - 60720] & 0xff;
+       if (Words.get32(b, ((int) ((l8 = ((((l10 = (Words.get16(b, ((int) l4) - 60448) & 0xffff) | ((b[((int) l4) - 60446] & 0xff) << 16)) & 0xffffffffL) * 953497L) >>> 22L) & 1016L) + 66852L)) - 60448) != l10) { break L33; }
+       l12 = b[((int) (l8 + 66856L)) - 60448] & 0xff;
+       l14 = b[((int) (l8 + 66857L)) - 60448] & 0xff;
        l10 = 1;
        break L32;
       }
       Core2.f41(m, l5 + 144L, l4, l7);
-      l10 = ((b[((int) l5) - 60576] & 0xff) == 1) ? 1 : 0;
-      l14 = b[((int) l5) - 60567] & 0xff;
-      l12 = b[((int) l5) - 60568] & 0xff;
+      l10 = ((b[((int) l5) - 60304] & 0xff) == 1) ? 1 : 0;
+      l14 = b[((int) l5) - 60295] & 0xff;
+      l12 = b[((int) l5) - 60296] & 0xff;
      }
      if (l10 == 0) { break L27; }
      if ((l12 & 255) != 1) { break L27; }
      if (((((l11 & 255) != 1) | ((l13 & 255) == 0)) ? 1 : 0) != 1) { break L27; }
      if ((l14 & 255) + Integer.MIN_VALUE <= -2147483647) { break L27; }
      Core2.f42(m, l5 + 80L, l1, l2, l9, l4, l7);
-     l3 = Words.get64(b, ((int) l5) - 60624);
-     if ((b[((int) l5) - 60640] & 0xff) != 0) { break L26; }
+     l3 = Words.get64(b, ((int) l5) - 60352);
+     if ((b[((int) l5) - 60368] & 0xff) != 0) { break L26; }
      L35: {
       if ((l11 & 255) != 0) { break L35; }
-      Core2.f43(m, l5 + 48L, l1, l3, Words.get64(b, ((int) l5) - 60616), l14, l13);
+      Core2.f43(m, l5 + 48L, l1, l3, Words.get64(b, ((int) l5) - 60344), l14, l13);
       final int t36 = (int) l5;
-      final long t37 = Words.get64(b, ((int) l5) - 60656);
-      final int t38 = l9 = ((b[((int) l5) - 60672] & 0xff) != 1) ? 1 : 0;
-      Words.put64(b, t36 - 60592, l3 = t38 != 0 ? 0L : t37);
+      final long t37 = Words.get64(b, ((int) l5) - 60384);
+      final int t38 = l9 = ((b[((int) l5) - 60400] & 0xff) != 1) ? 1 : 0;
+      Words.put64(b, t36 - 60320, l3 = t38 != 0 ? 0L : t37);
       final int t39 = (int) l5;
-      final long t40 = Words.get64(b, ((int) l5) - 60648);
+      final long t40 = Words.get64(b, ((int) l5) - 60376);
       final int t41 = l9;
-      Words.put64(b, t39 - 60584, l6 = t41 != 0 ? 0L : t40);
-      Words.put64(b, ((int) l5) - 60688, l3);
-      Words.put64(b, ((int) l5) - 60680, l6);
+      Words.put64(b, t39 - 60312, l6 = t41 != 0 ? 0L : t40);
+      Words.put64(b, ((int) l5) - 60416, l3);
+      Words.put64(b, ((int) l5) - 60408, l6);
       l10 = l9 != 0 ? 2 : 0;
       break L1;
      }
      l3 = Core2.f44(m, l4, l7);
-     Words.put64(b, ((int) l5) - 60680, Words.get64(b, ((int) l5) - 60584));
-     Words.put64(b, ((int) l5) - 60688, l3 = (l3 + l2) + 1L);
-     Words.put64(b, ((int) l5) - 60592, l3);
+     Words.put64(b, ((int) l5) - 60408, Words.get64(b, ((int) l5) - 60312));
+     Words.put64(b, ((int) l5) - 60416, l3 = (l3 + l2) + 1L);
+     Words.put64(b, ((int) l5) - 60320, l3);
      l10 = 1;
      l9 = 1;
      break L1;
     }
     Core2.f42(m, l5 + 112L, l1, l2, l9, l3, l6);
-    Words.put64(b, ((int) l5) - 60688, Words.get64(b, ((int) l5) - 60592));
-    Words.put64(b, ((int) l5) - 60680, Words.get64(b, ((int) l5) - 60584));
-    l10 = b[((int) l5) - 60600] & 0xff;
-    l9 = b[((int) l5) - 60608] & 0xff;
+    Words.put64(b, ((int) l5) - 60416, Words.get64(b, ((int) l5) - 60320));
+    Words.put64(b, ((int) l5) - 60408, Words.get64(b, ((int) l5) - 60312));
+    l10 = b[((int) l5) - 60328] & 0xff;
+    l9 = b[((int) l5) - 60336] & 0xff;
     break L1;
    }
-   Words.put64(b, ((int) l5) - 60584, 0L);
-   Words.put64(b, ((int) l5) - 60592, l3);
-   Words.put64(b, ((int) l5) - 60688, l3);
-   Words.put64(b, ((int) l5) - 60680, 0L);
+   Words.put64(b, ((int) l5) - 60312, 0L);
+   Words.put64(b, ((int) l5) - 60320, l3);
+   Words.put64(b, ((int) l5) - 60416, l3);
+   Words.put64(b, ((int) l5) - 60408, 0L);
    l9 = 1;
-   l10 = b[((int) l5) - 60632] & 0xff;
+   l10 = b[((int) l5) - 60360] & 0xff;
    break L1;
   }
   l9 = 1;
   l10 = 0;
  }
- Words.put64(b, ((int) (l0 + 16L)) - 60720, Words.get64(b, ((int) l5) - 60688));
- Words.put64(b, ((int) (l0 + 24L)) - 60720, Words.get64(b, ((int) l5) - 60680));
- Words.put64(b, ((int) (l0 + 8L)) - 60720, (l10 & 0xffffffffL) & 255L);
- Words.put64(b, ((int) l0) - 60720, (l9 & 0xffffffffL) & 255L);
+ Words.put64(b, ((int) (l0 + 16L)) - 60448, Words.get64(b, ((int) l5) - 60416));
+ Words.put64(b, ((int) (l0 + 24L)) - 60448, Words.get64(b, ((int) l5) - 60408));
+ Words.put64(b, ((int) (l0 + 8L)) - 60448, (l10 & 0xffffffffL) & 255L);
+ Words.put64(b, ((int) l0) - 60448, (l9 & 0xffffffffL) & 255L);
  m.g0 = l5 + 176L;
 }
 
@@ -2410,7 +2410,7 @@ static int f95_1(State m, long l0, int l1, long l2, long l4, long l6, long l8, l
           L56: while (true) {
            L57: {
             L58: {
-             if ((l18 = b[((int) l4) - 60720] & 0xff) + Integer.MIN_VALUE > -2147483616) { break L58; }
+             if ((l18 = b[((int) l4) - 60448] & 0xff) + Integer.MIN_VALUE > -2147483616) { break L58; }
              if (((1L << (l18 & 0xffffffffL)) & 4294983168L) == 0L) { break L58; }
              l13 = 1L;
              break L57;
@@ -2421,8 +2421,8 @@ static int f95_1(State m, long l0, int l1, long l2, long l4, long l6, long l8, l
                if (l18 == 194) { break L61; }
                if (l12 + Long.MIN_VALUE < -9223372036854775805L) { break L60; }
                if (((l18 + 28) & 255) + Integer.MIN_VALUE < -2147483395) { break L60; }
-               l19 = b[((int) (l4 + 1L)) - 60720] & 0xff;
-               l21 = (int) (byte) (l20 = b[((int) (l4 + 2L)) - 60720] & 0xff);
+               l19 = b[((int) (l4 + 1L)) - 60448] & 0xff;
+               l21 = (int) (byte) (l20 = b[((int) (l4 + 2L)) - 60448] & 0xff);
                if (l18 != 226) { break L59; }
                if ((l19 & 255) != 128) { break L59; }
                l13 = 3L;
@@ -2432,7 +2432,7 @@ static int f95_1(State m, long l0, int l1, long l2, long l4, long l6, long l8, l
                break L57;
               }
               l13 = 1L;
-              l18 = b[((int) l4) - 60719] & 0xff;
+              l18 = b[((int) l4) - 60447] & 0xff;
               L62: {
                if (l12 != 1L) { break L62; }
                l21 = l18 & 63;
@@ -2444,7 +2444,7 @@ static int f95_1(State m, long l0, int l1, long l2, long l4, long l6, long l8, l
               if (l18 == 160) { break L57; }
              }
              if (l12 + Long.MIN_VALUE >= -9223372036854775805L) { break L54; }
-             l19 = b[((int) l4) - 60720] & 0xff;
+             l19 = b[((int) l4) - 60448] & 0xff;
              break L53;
             }
             L63: {
@@ -2477,13 +2477,13 @@ static int f95_1(State m, long l0, int l1, long l2, long l4, long l6, long l8, l
           }
           l4 = 0L;
          }
-         Words.put64(b, ((int) l6) - 60560, l4);
-         Words.put64(b, ((int) l6) - 60568, l4);
+         Words.put64(b, ((int) l6) - 60288, l4);
+         Words.put64(b, ((int) l6) - 60296, l4);
          l18 = 0;
          break L49;
         }
-        if (((l19 = b[((int) l4) - 60720] & 0xff) & 240) != 224) { break L53; }
-        l18 = (((b[((int) l4) - 60718] & 0xff) + ((b[((int) l4) - 60719] & 0xff) << 6)) + (l19 << 12)) + -925824;
+        if (((l19 = b[((int) l4) - 60448] & 0xff) & 240) != 224) { break L53; }
+        l18 = (((b[((int) l4) - 60446] & 0xff) + ((b[((int) l4) - 60447] & 0xff) << 6)) + (l19 << 12)) + -925824;
         l13 = l12 + -3L;
         l4 = l4 + 3L;
         break L50;
@@ -2492,20 +2492,20 @@ static int f95_1(State m, long l0, int l1, long l2, long l4, long l6, long l8, l
        l16 = 1L;
        L67: {
         if (((int) (byte) l19) > -1) { break L67; }
-        l21 = (b[((int) l4) - 60719] & 0xff) & 63;
+        l21 = (b[((int) l4) - 60447] & 0xff) & 63;
         L68: {
          if ((l19 & 255) + Integer.MIN_VALUE > -2147483425) { break L68; }
          l13 = l12;
          break L52;
         }
-        l20 = (b[((int) l4) - 60718] & 0xff) & 63;
+        l20 = (b[((int) l4) - 60446] & 0xff) & 63;
         L69: {
          if ((l19 & 255) + Integer.MIN_VALUE > -2147483409) { break L69; }
          l18 = ((l21 << 6) | ((l18 << 12) & 61440)) | l20;
          l16 = 3L;
          break L67;
         }
-        l18 = ((l20 << 6) | ((l21 << 12) | ((l18 << 18) & 1835008))) | ((b[((int) l4) - 60717] & 0xff) & 63);
+        l18 = ((l20 << 6) | ((l21 << 12) | ((l18 << 18) & 1835008))) | ((b[((int) l4) - 60445] & 0xff) & 63);
         l16 = 4L;
        }
        l13 = l12;
@@ -2517,10 +2517,10 @@ static int f95_1(State m, long l0, int l1, long l2, long l4, long l6, long l8, l
      l13 = l13 - l16;
      l4 = l4 + l16;
     }
-    Words.put64(b, ((int) l6) - 60520, 0L);
-    Words.put64(b, ((int) l6) - 60528, 0L);
-    Words.put64(b, ((int) l6) - 60536, 0L);
-    Words.put64(b, ((int) l6) - 60544, 0L);
+    Words.put64(b, ((int) l6) - 60248, 0L);
+    Words.put64(b, ((int) l6) - 60256, 0L);
+    Words.put64(b, ((int) l6) - 60264, 0L);
+    Words.put64(b, ((int) l6) - 60272, 0L);
     L70: {
      L71: {
       L72: {
@@ -2530,83 +2530,83 @@ static int f95_1(State m, long l0, int l1, long l2, long l4, long l6, long l8, l
           L76: {
            L77: {
             if (l13 + Long.MIN_VALUE < -9223372036854775804L) { break L77; }
-            if (Words.get32(b, ((int) ((l17 = ((((l19 = Words.get32(b, ((int) ((l4 + l13) + -4L)) - 60720) >>> 8) & 0xffffffffL) * 953497L) >>> 22L) & 1016L) + 66852L)) - 60720) != l19) { break L75; }
+            if (Words.get32(b, ((int) ((l17 = ((((l19 = Words.get32(b, ((int) ((l4 + l13) + -4L)) - 60448) >>> 8) & 0xffffffffL) * 953497L) >>> 22L) & 1016L) + 66852L)) - 60448) != l19) { break L75; }
             l12 = l13 + -3L;
             l16 = l4;
             break L76;
            }
            if (l13 != 3L) { break L75; }
-           if (Words.get32(b, ((int) ((l17 = ((((l19 = (Words.get16(b, ((int) l4) - 60720) & 0xffff) | ((b[((int) l4) - 60718] & 0xff) << 16)) & 0xffffffffL) * 953497L) >>> 22L) & 1016L) + 66852L)) - 60720) != l19) { break L75; }
+           if (Words.get32(b, ((int) ((l17 = ((((l19 = (Words.get16(b, ((int) l4) - 60448) & 0xffff) | ((b[((int) l4) - 60446] & 0xff) << 16)) & 0xffffffffL) * 953497L) >>> 22L) & 1016L) + 66852L)) - 60448) != l19) { break L75; }
            l16 = l4 + 3L;
            l12 = 0L;
           }
-          l20 = b[((int) (l17 + 66856L)) - 60720] & 0xff;
-          l22 = b[((int) (l17 + 66857L)) - 60720] & 0xff;
+          l20 = b[((int) (l17 + 66856L)) - 60448] & 0xff;
+          l22 = b[((int) (l17 + 66857L)) - 60448] & 0xff;
           break L74;
          }
          Core2.f41(m, l6 + 176L, l4, l13);
-         if ((b[((int) l6) - 60544] & 0xff) != 1) { break L73; }
-         l12 = Words.get64(b, ((int) l6) - 60520);
-         l16 = Words.get64(b, ((int) l6) - 60528);
-         l22 = b[((int) l6) - 60535] & 0xff;
-         l20 = b[((int) l6) - 60536] & 0xff;
+         if ((b[((int) l6) - 60272] & 0xff) != 1) { break L73; }
+         l12 = Words.get64(b, ((int) l6) - 60248);
+         l16 = Words.get64(b, ((int) l6) - 60256);
+         l22 = b[((int) l6) - 60263] & 0xff;
+         l20 = b[((int) l6) - 60264] & 0xff;
         }
-        Words.put64(b, ((int) l6) - 60520, 0L);
-        Words.put64(b, ((int) l6) - 60528, 0L);
-        Words.put64(b, ((int) l6) - 60536, 0L);
-        Words.put64(b, ((int) l6) - 60544, 0L);
+        Words.put64(b, ((int) l6) - 60248, 0L);
+        Words.put64(b, ((int) l6) - 60256, 0L);
+        Words.put64(b, ((int) l6) - 60264, 0L);
+        Words.put64(b, ((int) l6) - 60272, 0L);
         L78: {
          L79: {
           L80: {
            if (l12 + Long.MIN_VALUE < -9223372036854775804L) { break L80; }
-           if (Words.get32(b, ((int) ((l17 = ((((l19 = Words.get32(b, ((int) ((l16 + l12) + -4L)) - 60720) >>> 8) & 0xffffffffL) * 953497L) >>> 22L) & 1016L) + 66852L)) - 60720) != l19) { break L79; }
-           l21 = b[((int) (l17 + 66856L)) - 60720] & 0xff;
-           l23 = b[((int) (l17 + 66857L)) - 60720] & 0xff;
+           if (Words.get32(b, ((int) ((l17 = ((((l19 = Words.get32(b, ((int) ((l16 + l12) + -4L)) - 60448) >>> 8) & 0xffffffffL) * 953497L) >>> 22L) & 1016L) + 66852L)) - 60448) != l19) { break L79; }
+           l21 = b[((int) (l17 + 66856L)) - 60448] & 0xff;
+           l23 = b[((int) (l17 + 66857L)) - 60448] & 0xff;
            l19 = 1;
            break L78;
           }
           if (l12 != 3L) { break L79; }
-          if (Words.get32(b, ((int) ((l17 = ((((l19 = (Words.get16(b, ((int) l16) - 60720) & 0xffff) | ((b[((int) l16) - 60718] & 0xff) << 16)) & 0xffffffffL) * 953497L) >>> 22L) & 1016L) + 66852L)) - 60720) != l19) { break L79; }
-          l21 = b[((int) (l17 + 66856L)) - 60720] & 0xff;
-          l23 = b[((int) (l17 + 66857L)) - 60720] & 0xff;
+          if (Words.get32(b, ((int) ((l17 = ((((l19 = (Words.get16(b, ((int) l16) - 60448) & 0xffff) | ((b[((int) l16) - 60446] & 0xff) << 16)) & 0xffffffffL) * 953497L) >>> 22L) & 1016L) + 66852L)) - 60448) != l19) { break L79; }
+          l21 = b[((int) (l17 + 66856L)) - 60448] & 0xff;
+          l23 = b[((int) (l17 + 66857L)) - 60448] & 0xff;
           l19 = 1;
           break L78;
          }
          Core2.f41(m, l6 + 176L, l16, l12);
-         l19 = ((b[((int) l6) - 60544] & 0xff) == 1) ? 1 : 0;
-         l23 = b[((int) l6) - 60535] & 0xff;
-         l21 = b[((int) l6) - 60536] & 0xff;
+         l19 = ((b[((int) l6) - 60272] & 0xff) == 1) ? 1 : 0;
+         l23 = b[((int) l6) - 60263] & 0xff;
+         l21 = b[((int) l6) - 60264] & 0xff;
         }
         if (l19 == 0) { break L73; }
         if ((l21 & 255) != 1) { break L73; }
         if (((((l20 & 255) != 1) | ((l22 & 255) == 0)) ? 1 : 0) != 1) { break L73; }
         if ((l23 & 255) + Integer.MIN_VALUE <= -2147483647) { break L73; }
         Core2.f42(m, l6 + 112L, l1, l14, l18, l16, l12);
-        l4 = Words.get64(b, ((int) l6) - 60592);
-        if ((b[((int) l6) - 60608] & 0xff) != 0) { break L72; }
+        l4 = Words.get64(b, ((int) l6) - 60320);
+        if ((b[((int) l6) - 60336] & 0xff) != 0) { break L72; }
         if ((l20 & 255) == 0) { break L71; }
-        Words.put64(b, ((int) l6) - 60560, l4 = (Core2.f44(m, l16, l12) + l14) + 1L);
+        Words.put64(b, ((int) l6) - 60288, l4 = (Core2.f44(m, l16, l12) + l14) + 1L);
         l18 = 1;
         break L49;
        }
        Core2.f42(m, l6 + 144L, l1, l14, l18, l4, l13);
-       l4 = Words.get64(b, ((int) l6) - 60560);
-       if ((b[((int) l6) - 60576] & 0xff) != 0) { break L70; }
-       l13 = Words.get64(b, ((int) l6) - 60552);
+       l4 = Words.get64(b, ((int) l6) - 60288);
+       if ((b[((int) l6) - 60304] & 0xff) != 0) { break L70; }
+       l13 = Words.get64(b, ((int) l6) - 60280);
        break L48;
       }
-      Words.put64(b, ((int) l6) - 60552, 0L);
-      Words.put64(b, ((int) l6) - 60560, l4);
-      l18 = b[((int) l6) - 60600] & 0xff;
+      Words.put64(b, ((int) l6) - 60280, 0L);
+      Words.put64(b, ((int) l6) - 60288, l4);
+      l18 = b[((int) l6) - 60328] & 0xff;
       break L49;
      }
-     Core2.f43(m, l6 + 80L, l1, l4, Words.get64(b, ((int) l6) - 60584), l23, l22);
-     final long t81 = Words.get64(b, ((int) l6) - 60624);
-     final int t82 = l18 = ((b[((int) l6) - 60640] & 0xff) == 1) ? 1 : 0;
+     Core2.f43(m, l6 + 80L, l1, l4, Words.get64(b, ((int) l6) - 60312), l23, l22);
+     final long t81 = Words.get64(b, ((int) l6) - 60352);
+     final int t82 = l18 = ((b[((int) l6) - 60368] & 0xff) == 1) ? 1 : 0;
      l4 = t82 != 0 ? t81 : 0L;
      L83: {
       if (l18 == 0) { break L83; }
-      final long t84 = Words.get64(b, ((int) l6) - 60616);
+      final long t84 = Words.get64(b, ((int) l6) - 60344);
       final int t85 = l18;
       l13 = t85 != 0 ? t84 : 0L;
       break L48;
@@ -2614,12 +2614,12 @@ static int f95_1(State m, long l0, int l1, long l2, long l4, long l6, long l8, l
      l18 = l18 != 0 ? 0 : 2;
      break L49;
     }
-    l18 = b[((int) l6) - 60568] & 0xff;
+    l18 = b[((int) l6) - 60296] & 0xff;
    }
-   Words.put64(b, ((int) l0) - 60720, 1L);
-   Words.put64(b, ((int) (l0 + 24L)) - 60720, 0L);
-   Words.put64(b, ((int) (l0 + 16L)) - 60720, l4);
-   Words.put64(b, ((int) (l0 + 8L)) - 60720, (l18 & 0xffffffffL) & 255L);
+   Words.put64(b, ((int) l0) - 60448, 1L);
+   Words.put64(b, ((int) (l0 + 24L)) - 60448, 0L);
+   Words.put64(b, ((int) (l0 + 16L)) - 60448, l4);
+   Words.put64(b, ((int) (l0 + 8L)) - 60448, (l18 & 0xffffffffL) & 255L);
    exit = 1; break PART;
   }
  }
@@ -2670,29 +2670,29 @@ static void f95(State m, long l0, int l1, long l2, int l3, long l4) {
         L8: {
          L9: {
           if ((l6 = l5) < 16L) { break L9; }
-          l7 = Words.get64(b, ((int) l4) - 60688);
-          l8 = Words.get64(b, ((int) l4) - 60696);
-          l9 = Words.get64(b, ((int) l4) - 60704);
-          l10 = Words.get64(b, ((int) l4) - 60712);
-          l11 = Words.get64(b, ((int) l4) - 60720);
+          l7 = Words.get64(b, ((int) l4) - 60416);
+          l8 = Words.get64(b, ((int) l4) - 60424);
+          l9 = Words.get64(b, ((int) l4) - 60432);
+          l10 = Words.get64(b, ((int) l4) - 60440);
+          l11 = Words.get64(b, ((int) l4) - 60448);
           l5 = 0L;
-          Words.put64(b, ((int) l6) - 60648, 0L);
-          Words.put64(b, ((int) l6) - 60656, 0L);
-          Words.put64(b, ((int) l6) - 60664, 0L);
-          Words.put64(b, ((int) l6) - 60672, 0L);
-          Words.put64(b, ((int) l6) - 60680, 0L);
-          Words.put64(b, ((int) l6) - 60576, 0L);
-          Words.put64(b, ((int) l6) - 60568, 0L);
-          Words.put64(b, ((int) l6) - 60560, 0L);
-          Words.put64(b, ((int) l6) - 60552, 0L);
-          Words.put64(b, ((int) l6) - 60608, 0L);
-          Words.put64(b, ((int) l6) - 60600, 0L);
-          Words.put64(b, ((int) l6) - 60592, 0L);
-          Words.put64(b, ((int) l6) - 60584, 0L);
-          Words.put64(b, ((int) l6) - 60640, 0L);
-          Words.put64(b, ((int) l6) - 60632, 0L);
-          Words.put64(b, ((int) l6) - 60624, 0L);
-          Words.put64(b, ((int) l6) - 60616, 0L);
+          Words.put64(b, ((int) l6) - 60376, 0L);
+          Words.put64(b, ((int) l6) - 60384, 0L);
+          Words.put64(b, ((int) l6) - 60392, 0L);
+          Words.put64(b, ((int) l6) - 60400, 0L);
+          Words.put64(b, ((int) l6) - 60408, 0L);
+          Words.put64(b, ((int) l6) - 60304, 0L);
+          Words.put64(b, ((int) l6) - 60296, 0L);
+          Words.put64(b, ((int) l6) - 60288, 0L);
+          Words.put64(b, ((int) l6) - 60280, 0L);
+          Words.put64(b, ((int) l6) - 60336, 0L);
+          Words.put64(b, ((int) l6) - 60328, 0L);
+          Words.put64(b, ((int) l6) - 60320, 0L);
+          Words.put64(b, ((int) l6) - 60312, 0L);
+          Words.put64(b, ((int) l6) - 60368, 0L);
+          Words.put64(b, ((int) l6) - 60360, 0L);
+          Words.put64(b, ((int) l6) - 60352, 0L);
+          Words.put64(b, ((int) l6) - 60344, 0L);
           l12 = l2;
           l13 = l10;
           l4 = l11;
@@ -2700,7 +2700,7 @@ static void f95(State m, long l0, int l1, long l2, int l3, long l4) {
           L10: while (true) {
            L11: {
             L12: {
-             if ((l18 = b[((int) l4) - 60720] & 0xff) + Integer.MIN_VALUE > -2147483616) { break L12; }
+             if ((l18 = b[((int) l4) - 60448] & 0xff) + Integer.MIN_VALUE > -2147483616) { break L12; }
              if (((1L << (l18 & 0xffffffffL)) & 4294983168L) == 0L) { break L12; }
              l5 = 1L;
              break L11;
@@ -2711,8 +2711,8 @@ static void f95(State m, long l0, int l1, long l2, int l3, long l4) {
                if (l18 == 194) { break L15; }
                if (l13 + Long.MIN_VALUE < -9223372036854775805L) { break L14; }
                if (((l18 + 28) & 255) + Integer.MIN_VALUE < -2147483395) { break L14; }
-               l19 = b[((int) (l4 + 1L)) - 60720] & 0xff;
-               l21 = (int) (byte) (l20 = b[((int) (l4 + 2L)) - 60720] & 0xff);
+               l19 = b[((int) (l4 + 1L)) - 60448] & 0xff;
+               l21 = (int) (byte) (l20 = b[((int) (l4 + 2L)) - 60448] & 0xff);
                if (l18 != 226) { break L13; }
                if ((l19 & 255) != 128) { break L13; }
                l5 = 3L;
@@ -2722,7 +2722,7 @@ static void f95(State m, long l0, int l1, long l2, int l3, long l4) {
                break L11;
               }
               l5 = 1L;
-              l18 = b[((int) l4) - 60719] & 0xff;
+              l18 = b[((int) l4) - 60447] & 0xff;
               L16: {
                if (l13 != 1L) { break L16; }
                l21 = l18 & 63;
@@ -2734,7 +2734,7 @@ static void f95(State m, long l0, int l1, long l2, int l3, long l4) {
               if (l18 == 160) { break L11; }
              }
              if (l13 + Long.MIN_VALUE >= -9223372036854775805L) { break L8; }
-             l19 = b[((int) l4) - 60720] & 0xff;
+             l19 = b[((int) l4) - 60448] & 0xff;
              break L7;
             }
             L17: {
@@ -2770,8 +2770,8 @@ static void f95(State m, long l0, int l1, long l2, int l3, long l4) {
          }
          throw State.trap();
         }
-        if (((l19 = b[((int) l4) - 60720] & 0xff) & 240) != 224) { break L7; }
-        l18 = (((b[((int) l4) - 60718] & 0xff) + ((b[((int) l4) - 60719] & 0xff) << 6)) + (l19 << 12)) + -925824;
+        if (((l19 = b[((int) l4) - 60448] & 0xff) & 240) != 224) { break L7; }
+        l18 = (((b[((int) l4) - 60446] & 0xff) + ((b[((int) l4) - 60447] & 0xff) << 6)) + (l19 << 12)) + -925824;
         l5 = l13 + -3L;
         l4 = l4 + 3L;
         break L4;
@@ -2780,20 +2780,20 @@ static void f95(State m, long l0, int l1, long l2, int l3, long l4) {
        l14 = 1L;
        L21: {
         if (((int) (byte) l19) > -1) { break L21; }
-        l21 = (b[((int) l4) - 60719] & 0xff) & 63;
+        l21 = (b[((int) l4) - 60447] & 0xff) & 63;
         L22: {
          if ((l19 & 255) + Integer.MIN_VALUE > -2147483425) { break L22; }
          l5 = l13;
          break L6;
         }
-        l20 = (b[((int) l4) - 60718] & 0xff) & 63;
+        l20 = (b[((int) l4) - 60446] & 0xff) & 63;
         L23: {
          if ((l19 & 255) + Integer.MIN_VALUE > -2147483409) { break L23; }
          l18 = ((l21 << 6) | ((l18 << 12) & 61440)) | l20;
          l14 = 3L;
          break L21;
         }
-        l18 = ((l20 << 6) | ((l21 << 12) | ((l18 << 18) & 1835008))) | ((b[((int) l4) - 60717] & 0xff) & 63);
+        l18 = ((l20 << 6) | ((l21 << 12) | ((l18 << 18) & 1835008))) | ((b[((int) l4) - 60445] & 0xff) & 63);
         l14 = 4L;
        }
        l5 = l13;
@@ -2805,10 +2805,10 @@ static void f95(State m, long l0, int l1, long l2, int l3, long l4) {
      l5 = l5 - l14;
      l4 = l4 + l14;
     }
-    Words.put64(b, ((int) l6) - 60520, 0L);
-    Words.put64(b, ((int) l6) - 60528, 0L);
-    Words.put64(b, ((int) l6) - 60536, 0L);
-    Words.put64(b, ((int) l6) - 60544, 0L);
+    Words.put64(b, ((int) l6) - 60248, 0L);
+    Words.put64(b, ((int) l6) - 60256, 0L);
+    Words.put64(b, ((int) l6) - 60264, 0L);
+    Words.put64(b, ((int) l6) - 60272, 0L);
     L24: {
      L25: {
       L26: {
@@ -2821,82 +2821,82 @@ static void f95(State m, long l0, int l1, long l2, int l3, long l4) {
              L33: {
               L34: {
                if (l5 + Long.MIN_VALUE < -9223372036854775804L) { break L34; }
-               if (Words.get32(b, ((int) ((l15 = ((((l19 = Words.get32(b, ((int) ((l4 + l5) + -4L)) - 60720) >>> 8) & 0xffffffffL) * 953497L) >>> 22L) & 1016L) + 66852L)) - 60720) != l19) { break L32; }
+               if (Words.get32(b, ((int) ((l15 = ((((l19 = Words.get32(b, ((int) ((l4 + l5) + -4L)) - 60448) >>> 8) & 0xffffffffL) * 953497L) >>> 22L) & 1016L) + 66852L)) - 60448) != l19) { break L32; }
                l13 = l5 + -3L;
                l14 = l4;
                break L33;
               }
               if (l5 != 3L) { break L32; }
-              if (Words.get32(b, ((int) ((l15 = ((((l19 = (Words.get16(b, ((int) l4) - 60720) & 0xffff) | ((b[((int) l4) - 60718] & 0xff) << 16)) & 0xffffffffL) * 953497L) >>> 22L) & 1016L) + 66852L)) - 60720) != l19) { break L32; }
+              if (Words.get32(b, ((int) ((l15 = ((((l19 = (Words.get16(b, ((int) l4) - 60448) & 0xffff) | ((b[((int) l4) - 60446] & 0xff) << 16)) & 0xffffffffL) * 953497L) >>> 22L) & 1016L) + 66852L)) - 60448) != l19) { break L32; }
               l14 = l4 + 3L;
               l13 = 0L;
              }
-             l20 = b[((int) (l15 + 66856L)) - 60720] & 0xff;
-             l22 = b[((int) (l15 + 66857L)) - 60720] & 0xff;
+             l20 = b[((int) (l15 + 66856L)) - 60448] & 0xff;
+             l22 = b[((int) (l15 + 66857L)) - 60448] & 0xff;
              break L31;
             }
             Core2.f41(m, l6 + 176L, l4, l5);
-            if ((b[((int) l6) - 60544] & 0xff) != 1) { break L30; }
-            l13 = Words.get64(b, ((int) l6) - 60520);
-            l14 = Words.get64(b, ((int) l6) - 60528);
-            l22 = b[((int) l6) - 60535] & 0xff;
-            l20 = b[((int) l6) - 60536] & 0xff;
+            if ((b[((int) l6) - 60272] & 0xff) != 1) { break L30; }
+            l13 = Words.get64(b, ((int) l6) - 60248);
+            l14 = Words.get64(b, ((int) l6) - 60256);
+            l22 = b[((int) l6) - 60263] & 0xff;
+            l20 = b[((int) l6) - 60264] & 0xff;
            }
-           Words.put64(b, ((int) l6) - 60520, 0L);
-           Words.put64(b, ((int) l6) - 60528, 0L);
-           Words.put64(b, ((int) l6) - 60536, 0L);
-           Words.put64(b, ((int) l6) - 60544, 0L);
+           Words.put64(b, ((int) l6) - 60248, 0L);
+           Words.put64(b, ((int) l6) - 60256, 0L);
+           Words.put64(b, ((int) l6) - 60264, 0L);
+           Words.put64(b, ((int) l6) - 60272, 0L);
            L35: {
             L36: {
              L37: {
               if (l13 + Long.MIN_VALUE < -9223372036854775804L) { break L37; }
-              if (Words.get32(b, ((int) ((l15 = ((((l19 = Words.get32(b, ((int) ((l14 + l13) + -4L)) - 60720) >>> 8) & 0xffffffffL) * 953497L) >>> 22L) & 1016L) + 66852L)) - 60720) != l19) { break L36; }
-              l21 = b[((int) (l15 + 66856L)) - 60720] & 0xff;
-              l23 = b[((int) (l15 + 66857L)) - 60720] & 0xff;
+              if (Words.get32(b, ((int) ((l15 = ((((l19 = Words.get32(b, ((int) ((l14 + l13) + -4L)) - 60448) >>> 8) & 0xffffffffL) * 953497L) >>> 22L) & 1016L) + 66852L)) - 60448) != l19) { break L36; }
+              l21 = b[((int) (l15 + 66856L)) - 60448] & 0xff;
+              l23 = b[((int) (l15 + 66857L)) - 60448] & 0xff;
               l19 = 1;
               break L35;
              }
              if (l13 != 3L) { break L36; }
-             if (Words.get32(b, ((int) ((l15 = ((((l19 = (Words.get16(b, ((int) l14) - 60720) & 0xffff) | ((b[((int) l14) - 60718] & 0xff) << 16)) & 0xffffffffL) * 953497L) >>> 22L) & 1016L) + 66852L)) - 60720) != l19) { break L36; }
-             l21 = b[((int) (l15 + 66856L)) - 60720] & 0xff;
-             l23 = b[((int) (l15 + 66857L)) - 60720] & 0xff;
+             if (Words.get32(b, ((int) ((l15 = ((((l19 = (Words.get16(b, ((int) l14) - 60448) & 0xffff) | ((b[((int) l14) - 60446] & 0xff) << 16)) & 0xffffffffL) * 953497L) >>> 22L) & 1016L) + 66852L)) - 60448) != l19) { break L36; }
+             l21 = b[((int) (l15 + 66856L)) - 60448] & 0xff;
+             l23 = b[((int) (l15 + 66857L)) - 60448] & 0xff;
              l19 = 1;
              break L35;
             }
             Core2.f41(m, l6 + 176L, l14, l13);
-            l19 = ((b[((int) l6) - 60544] & 0xff) == 1) ? 1 : 0;
-            l23 = b[((int) l6) - 60535] & 0xff;
-            l21 = b[((int) l6) - 60536] & 0xff;
+            l19 = ((b[((int) l6) - 60272] & 0xff) == 1) ? 1 : 0;
+            l23 = b[((int) l6) - 60263] & 0xff;
+            l21 = b[((int) l6) - 60264] & 0xff;
            }
            if (l19 == 0) { break L30; }
            if ((l21 & 255) != 1) { break L30; }
            if (((((l20 & 255) != 1) | ((l22 & 255) == 0)) ? 1 : 0) != 1) { break L30; }
            if ((l23 & 255) + Integer.MIN_VALUE <= -2147483647) { break L30; }
            Core2.f42(m, l6 + 112L, l1, l12, l18, l14, l13);
-           l5 = Words.get64(b, ((int) l6) - 60592);
-           if ((b[((int) l6) - 60608] & 0xff) != 0) { break L29; }
+           l5 = Words.get64(b, ((int) l6) - 60320);
+           if ((b[((int) l6) - 60336] & 0xff) != 0) { break L29; }
            if ((l20 & 255) == 0) { break L28; }
-           Words.put64(b, ((int) l6) - 60560, l5 = (Core2.f44(m, l14, l13) + l12) + 1L);
+           Words.put64(b, ((int) l6) - 60288, l5 = (Core2.f44(m, l14, l13) + l12) + 1L);
            l18 = 1;
            break L2;
           }
           Core2.f42(m, l6 + 144L, l1, l12, l18, l4, l5);
-          l5 = Words.get64(b, ((int) l6) - 60560);
-          if ((b[((int) l6) - 60576] & 0xff) != 0) { break L26; }
-          l15 = Words.get64(b, ((int) l6) - 60552);
+          l5 = Words.get64(b, ((int) l6) - 60288);
+          if ((b[((int) l6) - 60304] & 0xff) != 0) { break L26; }
+          l15 = Words.get64(b, ((int) l6) - 60280);
           break L27;
          }
-         Words.put64(b, ((int) l6) - 60552, 0L);
-         Words.put64(b, ((int) l6) - 60560, l5);
-         l18 = b[((int) l6) - 60600] & 0xff;
+         Words.put64(b, ((int) l6) - 60280, 0L);
+         Words.put64(b, ((int) l6) - 60288, l5);
+         l18 = b[((int) l6) - 60328] & 0xff;
          break L2;
         }
-        Core2.f43(m, l6 + 80L, l1, l5, Words.get64(b, ((int) l6) - 60584), l23, l22);
-        final long t38 = Words.get64(b, ((int) l6) - 60624);
-        final int t39 = l19 = ((l18 = b[((int) l6) - 60640] & 0xff) == 1) ? 1 : 0;
+        Core2.f43(m, l6 + 80L, l1, l5, Words.get64(b, ((int) l6) - 60312), l23, l22);
+        final long t38 = Words.get64(b, ((int) l6) - 60352);
+        final int t39 = l19 = ((l18 = b[((int) l6) - 60368] & 0xff) == 1) ? 1 : 0;
         l5 = t39 != 0 ? t38 : 0L;
         if (l18 != 1) { break L25; }
-        final long t40 = Words.get64(b, ((int) l6) - 60616);
+        final long t40 = Words.get64(b, ((int) l6) - 60344);
         final int t41 = l19;
         l15 = t41 != 0 ? t40 : 0L;
        }
@@ -2905,14 +2905,14 @@ static void f95(State m, long l0, int l1, long l2, int l3, long l4) {
        L42: {
         if (l10 + Long.MIN_VALUE < -9223372036854775776L) { break L42; }
         Core1.f25(m, l6 + 24L, l11, l10, l10);
-        l13 = l10 - Words.get64(b, ((int) l6) - 60688);
-        l4 = Words.get64(b, ((int) l6) - 60696);
+        l13 = l10 - Words.get64(b, ((int) l6) - 60416);
+        l4 = Words.get64(b, ((int) l6) - 60424);
        }
        if ((l10 - l4) + Long.MIN_VALUE < -9223372036854775800L) { break L24; }
        L43: while (true) {
         L44: {
          L45: {
-          if (((l12 = Words.get64(b, ((int) (l11 + l4)) - 60720)) & 67553998437089520L) != 63050398541283552L) { break L45; }
+          if (((l12 = Words.get64(b, ((int) (l11 + l4)) - 60448)) & 67553998437089520L) != 63050398541283552L) { break L45; }
           l13 = l13 + 3L;
           l4 = l4 + 9L;
           break L44;
@@ -2925,7 +2925,7 @@ static void f95(State m, long l0, int l1, long l2, int l3, long l4) {
         continue L43;
        }
       }
-      l18 = b[((int) l6) - 60568] & 0xff;
+      l18 = b[((int) l6) - 60296] & 0xff;
       break L2;
      }
      l18 = l19 != 0 ? 0 : 2;
@@ -2935,23 +2935,23 @@ static void f95(State m, long l0, int l1, long l2, int l3, long l4) {
      if (l4 + Long.MIN_VALUE >= l10 + Long.MIN_VALUE) { break L46; }
      L47: while (true) {
       l13 = l13 + 1L;
-      if ((l4 = Words.get64(b, ((int) (((((b[((int) (l11 + l4)) - 60720] & 0xff) >>> 1) & 0xffffffffL) & 120L) + 66680L)) - 60720) + l4) + Long.MIN_VALUE < l10 + Long.MIN_VALUE) { continue L47; }
+      if ((l4 = Words.get64(b, ((int) (((((b[((int) (l11 + l4)) - 60448] & 0xff) >>> 1) & 0xffffffffL) & 120L) + 66680L)) - 60448) + l4) + Long.MIN_VALUE < l10 + Long.MIN_VALUE) { continue L47; }
       break L47;
      }
     }
     l4 = 0L;
-    Words.put64(b, ((int) l6) - 60576, 0L);
-    Words.put64(b, ((int) l6) - 60568, 0L);
-    Words.put64(b, ((int) l6) - 60560, 0L);
-    Words.put64(b, ((int) l6) - 60552, 0L);
-    Words.put64(b, ((int) l6) - 60608, 0L);
-    Words.put64(b, ((int) l6) - 60600, 0L);
-    Words.put64(b, ((int) l6) - 60592, 0L);
-    Words.put64(b, ((int) l6) - 60584, 0L);
-    Words.put64(b, ((int) l6) - 60640, 0L);
-    Words.put64(b, ((int) l6) - 60632, 0L);
-    Words.put64(b, ((int) l6) - 60624, 0L);
-    Words.put64(b, ((int) l6) - 60616, 0L);
+    Words.put64(b, ((int) l6) - 60304, 0L);
+    Words.put64(b, ((int) l6) - 60296, 0L);
+    Words.put64(b, ((int) l6) - 60288, 0L);
+    Words.put64(b, ((int) l6) - 60280, 0L);
+    Words.put64(b, ((int) l6) - 60336, 0L);
+    Words.put64(b, ((int) l6) - 60328, 0L);
+    Words.put64(b, ((int) l6) - 60320, 0L);
+    Words.put64(b, ((int) l6) - 60312, 0L);
+    Words.put64(b, ((int) l6) - 60368, 0L);
+    Words.put64(b, ((int) l6) - 60360, 0L);
+    Words.put64(b, ((int) l6) - 60352, 0L);
+    Words.put64(b, ((int) l6) - 60344, 0L);
     final int x86 = f95_1(m, l0, l1, l2, l4, l6, l8, l9, l12, l13, l14, l16, l17, l18, l19, l20, l21, l22, l23);
     l4 = m.kept[0];
     l12 = m.kept[1];
@@ -2971,9 +2971,9 @@ static void f95(State m, long l0, int l1, long l2, int l3, long l4) {
     L87: {
      L88: {
       L89: {
-       if ((l12 = Words.get16(b, ((int) (((((l1 & 0xffffffffL) & 255L) << 5L) + (((l3 & 0xffffffffL) & 255L) << 1L)) + 68960L)) - 60720) & 0xffffL) + Long.MIN_VALUE > -9223372036854775770L) { break L89; }
-       final int t90 = (l4 + Long.MIN_VALUE < Words.get64(b, ((int) ((l12 = l12 << 4L) + 68336L)) - 60720) + Long.MIN_VALUE) ? 1 : 0;
-       final int t91 = (l13 + Long.MIN_VALUE < (l12 = Words.get64(b, ((int) (l12 + 68344L)) - 60720)) + Long.MIN_VALUE) ? 1 : 0;
+       if ((l12 = Words.get16(b, ((int) (((((l1 & 0xffffffffL) & 255L) << 5L) + (((l3 & 0xffffffffL) & 255L) << 1L)) + 68960L)) - 60448) & 0xffffL) + Long.MIN_VALUE > -9223372036854775770L) { break L89; }
+       final int t90 = (l4 + Long.MIN_VALUE < Words.get64(b, ((int) ((l12 = l12 << 4L) + 68336L)) - 60448) + Long.MIN_VALUE) ? 1 : 0;
+       final int t91 = (l13 + Long.MIN_VALUE < (l12 = Words.get64(b, ((int) (l12 + 68344L)) - 60448)) + Long.MIN_VALUE) ? 1 : 0;
        final int t92 = (l13 == l12) ? 1 : 0;
        if ((t92 != 0 ? t90 : t91) == 0) { break L88; }
       }
@@ -2987,31 +2987,31 @@ static void f95(State m, long l0, int l1, long l2, int l3, long l4) {
       l13 = l18 & 0xffffffffL;
       break L87;
      }
-     Words.put64(b, ((int) l6) - 60648, l7);
-     Words.put64(b, ((int) l6) - 60656, l8);
-     Words.put64(b, ((int) l6) - 60664, l9);
-     Words.put64(b, ((int) l6) - 60672, l10);
-     Words.put64(b, ((int) l6) - 60680, l11);
+     Words.put64(b, ((int) l6) - 60376, l7);
+     Words.put64(b, ((int) l6) - 60384, l8);
+     Words.put64(b, ((int) l6) - 60392, l9);
+     Words.put64(b, ((int) l6) - 60400, l10);
+     Words.put64(b, ((int) l6) - 60408, l11);
      f96(m, l6 + 8L, l2, l6 + 40L);
      l4 = 0L;
      l13 = 1L;
-     l5 = Words.get64(b, ((int) l6) - 60704);
-     l19 = b[((int) l6) - 60712] & 0xff;
+     l5 = Words.get64(b, ((int) l6) - 60432);
+     l19 = b[((int) l6) - 60440] & 0xff;
     }
-    Words.put64(b, ((int) l0) - 60720, l13);
-    Words.put64(b, ((int) (l0 + 24L)) - 60720, l4);
-    Words.put64(b, ((int) (l0 + 16L)) - 60720, l5);
-    Words.put64(b, ((int) (l0 + 8L)) - 60720, (l19 & 0xffffffffL) & 255L);
+    Words.put64(b, ((int) l0) - 60448, l13);
+    Words.put64(b, ((int) (l0 + 24L)) - 60448, l4);
+    Words.put64(b, ((int) (l0 + 16L)) - 60448, l5);
+    Words.put64(b, ((int) (l0 + 8L)) - 60448, (l19 & 0xffffffffL) & 255L);
     break L1;
    }
-   Words.put64(b, ((int) l6) - 60560, l5);
-   Words.put64(b, ((int) l6) - 60568, l5);
+   Words.put64(b, ((int) l6) - 60288, l5);
+   Words.put64(b, ((int) l6) - 60296, l5);
    l18 = 0;
   }
-  Words.put64(b, ((int) l0) - 60720, 1L);
-  Words.put64(b, ((int) (l0 + 24L)) - 60720, 0L);
-  Words.put64(b, ((int) (l0 + 16L)) - 60720, l5);
-  Words.put64(b, ((int) (l0 + 8L)) - 60720, (l18 & 0xffffffffL) & 255L);
+  Words.put64(b, ((int) l0) - 60448, 1L);
+  Words.put64(b, ((int) (l0 + 24L)) - 60448, 0L);
+  Words.put64(b, ((int) (l0 + 16L)) - 60448, l5);
+  Words.put64(b, ((int) (l0 + 8L)) - 60448, (l18 & 0xffffffffL) & 255L);
  }
  m.g0 = l6 + 208L;
 }
@@ -3036,14 +3036,14 @@ static void f96(State m, long l0, long l1, long l2) {
     if ((l4 = l3) < 16L) { break L3; }
     l5 = 0L;
     l9 = 0;
-    if ((l6 = Words.get64(b, ((int) l2) - 60696)) == 0L) { break L1; }
-    l7 = Words.get64(b, ((int) l2) - 60712);
-    l8 = Words.get64(b, ((int) l2) - 60720);
-    l2 = Words.get64(b, ((int) l2) - 60704);
+    if ((l6 = Words.get64(b, ((int) l2) - 60424)) == 0L) { break L1; }
+    l7 = Words.get64(b, ((int) l2) - 60440);
+    l8 = Words.get64(b, ((int) l2) - 60448);
+    l2 = Words.get64(b, ((int) l2) - 60432);
     L4: while (true) {
      L5: {
       L6: {
-       if ((l10 = b[((int) l2) - 60720] & 0xff) + Integer.MIN_VALUE > -2147483616) { break L6; }
+       if ((l10 = b[((int) l2) - 60448] & 0xff) + Integer.MIN_VALUE > -2147483616) { break L6; }
        if (((1L << (l10 & 0xffffffffL)) & 4294983168L) == 0L) { break L6; }
        l3 = 1L;
        break L5;
@@ -3052,14 +3052,14 @@ static void f96(State m, long l0, long l1, long l2) {
        if (l10 != 194) { break L7; }
        if (l6 == 1L) { break L2; }
        l3 = 2L;
-       if ((l10 = b[((int) l2) - 60719] & 0xff) == 133) { break L5; }
+       if ((l10 = b[((int) l2) - 60447] & 0xff) == 133) { break L5; }
        if (l10 == 160) { break L5; }
        break L2;
       }
       if (l6 + Long.MIN_VALUE < -9223372036854775805L) { break L2; }
       if (((l10 + 28) & 255) + Integer.MIN_VALUE < -2147483395) { break L2; }
-      l11 = b[((int) (l2 + 1L)) - 60720] & 0xff;
-      l13 = (int) (byte) (l12 = b[((int) (l2 + 2L)) - 60720] & 0xff);
+      l11 = b[((int) (l2 + 1L)) - 60448] & 0xff;
+      l13 = (int) (byte) (l12 = b[((int) (l2 + 2L)) - 60448] & 0xff);
       L8: {
        if (l10 != 226) { break L8; }
        if ((l11 & 255) != 128) { break L8; }
@@ -3105,15 +3105,15 @@ static void f96(State m, long l0, long l1, long l2) {
   L13: {
    if (l7 + Long.MIN_VALUE < -9223372036854775776L) { break L13; }
    Core1.f25(m, l4, l8, l7, l7);
-   l3 = l7 - Words.get64(b, ((int) l4) - 60712);
-   l2 = Words.get64(b, ((int) l4) - 60720);
+   l3 = l7 - Words.get64(b, ((int) l4) - 60440);
+   l2 = Words.get64(b, ((int) l4) - 60448);
   }
   L14: {
    if ((l7 - l2) + Long.MIN_VALUE < -9223372036854775800L) { break L14; }
    L15: while (true) {
     L16: {
      L17: {
-      if (((l6 = Words.get64(b, ((int) (l8 + l2)) - 60720)) & 67553998437089520L) != 63050398541283552L) { break L17; }
+      if (((l6 = Words.get64(b, ((int) (l8 + l2)) - 60448)) & 67553998437089520L) != 63050398541283552L) { break L17; }
       l3 = l3 + 3L;
       l2 = l2 + 9L;
       break L16;
@@ -3130,15 +3130,15 @@ static void f96(State m, long l0, long l1, long l2) {
    if (l2 + Long.MIN_VALUE >= l7 + Long.MIN_VALUE) { break L18; }
    L19: while (true) {
     l3 = l3 + 1L;
-    if ((l2 = Words.get64(b, ((int) (((((b[((int) (l8 + l2)) - 60720] & 0xff) >>> 1) & 0xffffffffL) & 120L) + 66680L)) - 60720) + l2) + Long.MIN_VALUE < l7 + Long.MIN_VALUE) { continue L19; }
+    if ((l2 = Words.get64(b, ((int) (((((b[((int) (l8 + l2)) - 60448] & 0xff) >>> 1) & 0xffffffffL) & 120L) + 66680L)) - 60448) + l2) + Long.MIN_VALUE < l7 + Long.MIN_VALUE) { continue L19; }
     break L19;
    }
   }
   l5 = l3 + l1;
   l9 = 1;
  }
- Words.put64(b, ((int) l0) - 60712, l5);
- b[((int) l0) - 60720] = (byte) l9;
+ Words.put64(b, ((int) l0) - 60440, l5);
+ b[((int) l0) - 60448] = (byte) l9;
  m.g0 = l4 + 16L;
 }
 
@@ -3152,21 +3152,21 @@ static int f97(State m, int l0, long l1, long l2) {
  L1: {
   L2: {
    if ((l3 = l3) < 16L) { break L2; }
-   Words.put64(b, ((int) l3) - 60696, 0L);
-   Words.put64(b, ((int) l3) - 60704, 0L);
-   Words.put64(b, ((int) l3) - 60712, 0L);
-   Words.put64(b, ((int) l3) - 60720, 0L);
+   Words.put64(b, ((int) l3) - 60424, 0L);
+   Words.put64(b, ((int) l3) - 60432, 0L);
+   Words.put64(b, ((int) l3) - 60440, 0L);
+   Words.put64(b, ((int) l3) - 60448, 0L);
    Core2.f80(m, l3, l1, l2);
-   if ((b[((int) l3) - 60720] & 0xff) != 1) { break L1; }
+   if ((b[((int) l3) - 60448] & 0xff) != 1) { break L1; }
    L3: while (true) {
-    l2 = Words.get64(b, ((int) l3) - 60696);
-    l1 = Words.get64(b, ((int) l3) - 60704);
+    l2 = Words.get64(b, ((int) l3) - 60424);
+    l1 = Words.get64(b, ((int) l3) - 60432);
     L4: {
-     if (((l5 = Words.get32(b, ((int) l3) - 60712)) + -2048) + Integer.MIN_VALUE > -2147420161) { break L4; }
+     if (((l5 = Words.get32(b, ((int) l3) - 60440)) + -2048) + Integer.MIN_VALUE > -2147420161) { break L4; }
      if ((l6 = Words.get32(b, State.far((int) (l4 = ((((l5 = (((l5 >>> 12) | ((l5 << 2) & 16128)) | ((l5 << 16) & 4128768)) | 8421600) & 0xffffffffL) * 953497L) >>> 22L) & 1016L), 66852))) != l5) { break L4; }
-     if (((b[((int) (l4 + 66856L)) - 60720] & 0xff) & 255) != 1) { break L4; }
+     if (((b[((int) (l4 + 66856L)) - 60448] & 0xff) & 255) != 1) { break L4; }
      L5: {
-      final int t6 = b[((int) (l4 + 66857L)) - 60720] & 0xff;
+      final int t6 = b[((int) (l4 + 66857L)) - 60448] & 0xff;
       final int t7 = (l6 == l5) ? 1 : 0;
       if (((l5 = t7 != 0 ? t6 : 0) & 255) + Integer.MIN_VALUE < -2147483644) { break L5; }
       l0 = 0;
@@ -3175,7 +3175,7 @@ static int f97(State m, int l0, long l1, long l2) {
      l0 = (((l5 & 255) != 0) ? 1 : 0) | l0;
     }
     Core2.f80(m, l3, l1, l2);
-    if ((b[((int) l3) - 60720] & 0xff) == 1) { continue L3; }
+    if ((b[((int) l3) - 60448] & 0xff) == 1) { continue L3; }
     break L1;
    }
   }
@@ -3197,12 +3197,12 @@ static int f98(State m, long l0, int l1, long l2, long l3) {
   L2: {
    L3: {
     if ((l4 = l4) < 16L) { break L3; }
-    l5 = b[((int) l0) - 60719] & 0xff;
-    l6 = b[((int) l0) - 60720] & 0xff;
-    Words.put64(b, ((int) l4) - 60696, 0L);
-    Words.put64(b, ((int) l4) - 60704, 0L);
-    Words.put64(b, ((int) l4) - 60712, 0L);
-    Words.put64(b, ((int) l4) - 60720, 0L);
+    l5 = b[((int) l0) - 60447] & 0xff;
+    l6 = b[((int) l0) - 60448] & 0xff;
+    Words.put64(b, ((int) l4) - 60424, 0L);
+    Words.put64(b, ((int) l4) - 60432, 0L);
+    Words.put64(b, ((int) l4) - 60440, 0L);
+    Words.put64(b, ((int) l4) - 60448, 0L);
     l7 = 0;
     L4: {
      if (l1 == 20004) { break L4; }
@@ -3211,14 +3211,14 @@ static int f98(State m, long l0, int l1, long l2, long l3) {
     Core2.f80(m, l4, l2, l3);
     l7 = 1;
     L5: {
-     if ((b[((int) l4) - 60720] & 0xff) != 1) { break L5; }
+     if ((b[((int) l4) - 60448] & 0xff) != 1) { break L5; }
      L6: {
       L7: {
-       if (((l7 = Words.get32(b, ((int) l4) - 60712)) + -2048) + Integer.MIN_VALUE > -2147420161) { break L7; }
-       final int t8 = b[((int) ((l0 = ((((l7 = (((l7 >>> 12) | ((l7 << 2) & 16128)) | ((l7 << 16) & 4128768)) | 8421600) & 0xffffffffL) * 953497L) >>> 22L) & 1016L) + 66857L)) - 60720] & 0xff;
+       if (((l7 = Words.get32(b, ((int) l4) - 60440)) + -2048) + Integer.MIN_VALUE > -2147420161) { break L7; }
+       final int t8 = b[((int) ((l0 = ((((l7 = (((l7 >>> 12) | ((l7 << 2) & 16128)) | ((l7 << 16) & 4128768)) | 8421600) & 0xffffffffL) * 953497L) >>> 22L) & 1016L) + 66857L)) - 60448] & 0xff;
        final int t9 = l7 = (Words.get32(b, State.far((int) l0, 66852)) != l7) ? 1 : 0;
        l1 = t9 != 0 ? 0 : t8;
-       l8 = l7 | ((((b[((int) (l0 + 66856L)) - 60720] & 0xff) & 255) != 1) ? 1 : 0);
+       l8 = l7 | ((((b[((int) (l0 + 66856L)) - 60448] & 0xff) & 255) != 1) ? 1 : 0);
        break L6;
       }
       final int t10 = l7 = l7 + -48;
@@ -3285,7 +3285,7 @@ static int f99(State m, long l0, long l1, long l2, int l3, int l4, long l5, long
       l10 = l0;
       l9 = l1;
       L6: while (true) {
-       if (((Words.get32(b, ((int) l10) - 60720) + 16776990) & 12632312) != 8421376) { break L4; }
+       if (((Words.get32(b, ((int) l10) - 60448) + 16776990) & 12632312) != 8421376) { break L4; }
        l10 = l10 + 3L;
        if ((l9 = l9 + -3L) + Long.MIN_VALUE > -9223372036854775805L) { continue L6; }
        break L6;
@@ -3299,7 +3299,7 @@ static int f99(State m, long l0, long l1, long l2, int l3, int l4, long l5, long
       default: break L2;
       }
      }
-     if (((((Words.get16(b, ((int) l10) - 60720) & 0xffff) | ((b[((int) (l10 + 2L)) - 60720] & 0xff) << 16)) + 16776990) & 12632312) == 8421376) { break L2; }
+     if (((((Words.get16(b, ((int) l10) - 60448) & 0xffff) | ((b[((int) (l10 + 2L)) - 60448] & 0xff) << 16)) + 16776990) & 12632312) == 8421376) { break L2; }
      if (!(l1 == 0L)) { break L3; }
      break L2;
     }
@@ -3311,7 +3311,7 @@ static int f99(State m, long l0, long l1, long l2, int l3, int l4, long l5, long
     L9: {
      L10: {
       if (l10 + Long.MIN_VALUE < -9223372036854775804L) { break L10; }
-      l15 = Words.get32(b, ((int) l11) - 60720);
+      l15 = Words.get32(b, ((int) l11) - 60448);
       break L9;
      }
      L11: {
@@ -3324,13 +3324,13 @@ static int f99(State m, long l0, long l1, long l2, int l3, int l4, long l5, long
         default: break L13;
         }
        }
-       l15 = b[((int) l11) - 60720] & 0xff;
+       l15 = b[((int) l11) - 60448] & 0xff;
        break L9;
       }
-      l15 = Words.get16(b, ((int) l11) - 60720) & 0xffff;
+      l15 = Words.get16(b, ((int) l11) - 60448) & 0xffff;
       break L9;
      }
-     l15 = (Words.get16(b, ((int) l11) - 60720) & 0xffff) | ((b[((int) (l11 + 2L)) - 60720] & 0xff) << 16);
+     l15 = (Words.get16(b, ((int) l11) - 60448) & 0xffff) | ((b[((int) (l11 + 2L)) - 60448] & 0xff) << 16);
     }
     l9 = 3L;
     L14: {
@@ -3347,7 +3347,7 @@ static int f99(State m, long l0, long l1, long l2, int l3, int l4, long l5, long
        }
        l12 = 4L;
        if (l10 + Long.MIN_VALUE < -9223372036854775800L) { break L15; }
-       if ((Words.get64(b, ((int) l11) - 60720) & -9187201950435737472L) != 0L) { break L15; }
+       if ((Words.get64(b, ((int) l11) - 60448) & -9187201950435737472L) != 0L) { break L15; }
        L20: {
         if (l10 + Long.MIN_VALUE >= -9223372036854775784L) { break L20; }
         l9 = 8L;
@@ -3358,7 +3358,7 @@ static int f99(State m, long l0, long l1, long l2, int l3, int l4, long l5, long
        L21: {
         L22: while (true) {
          if (l13 + Long.MIN_VALUE < -9223372036854775800L) { break L21; }
-         if (((Words.get64(b, ((int) ((l14 = l11 + l9) + 8L)) - 60720) | Words.get64(b, ((int) l14) - 60720)) & -9187201950435737472L) != 0L) { break L21; }
+         if (((Words.get64(b, ((int) ((l14 = l11 + l9) + 8L)) - 60448) | Words.get64(b, ((int) l14) - 60448)) & -9187201950435737472L) != 0L) { break L21; }
          l9 = l9 + 16L;
          l14 = l13 + -8L;
          l13 = l13 + -16L;
@@ -3387,7 +3387,7 @@ static int f99(State m, long l0, long l1, long l2, int l3, int l4, long l5, long
        l9 = 4L;
        break L14;
       }
-      Words.put64(b, ((int) l7) - 60720, 0L);
+      Words.put64(b, ((int) l7) - 60448, 0L);
       m.g0 = l8;
       return 5;
      }
@@ -3423,10 +3423,10 @@ static int f100_1(State m, long l0, long l1, long l8, long l9, long l11, long l1
             L73: {
              L74: {
               if (l15 + Long.MIN_VALUE < -9223372036854775805L) { break L74; }
-              if (((l22 = b[((int) ((l11 = l0 + l15) + -3L)) - 60720] & 0xff) & 240) != 224) { break L73; }
-              l19 = (((l22 << 12) | (l23 = b[((int) (l11 + -1L)) - 60720] & 0xff)) + ((l20 = b[((int) (l11 + -2L)) - 60720] & 0xff) << 6)) + -925824;
+              if (((l22 = b[((int) ((l11 = l0 + l15) + -3L)) - 60448] & 0xff) & 240) != 224) { break L73; }
+              l19 = (((l22 << 12) | (l23 = b[((int) (l11 + -1L)) - 60448] & 0xff)) + ((l20 = b[((int) (l11 + -2L)) - 60448] & 0xff) << 6)) + -925824;
               l11 = l15 + -3L;
-              if (Words.get32(b, ((int) ((l12 = ((((l22 = ((l20 << 8) | (l23 << 16)) | l22) & 0xffffffffL) * 953497L) >>> 22L) & 1016L) + 66852L)) - 60720) == l22) { break L72; }
+              if (Words.get32(b, ((int) ((l12 = ((((l22 = ((l20 << 8) | (l23 << 16)) | l22) & 0xffffffffL) * 953497L) >>> 22L) & 1016L) + 66852L)) - 60448) == l22) { break L72; }
               break L70;
              }
              if (l1 != l8) { break L73; }
@@ -3436,33 +3436,33 @@ static int f100_1(State m, long l0, long l1, long l8, long l9, long l11, long l1
              break L63;
             }
             l23 = 0;
-            if ((l19 = (int) b[((int) (l0 + (l11 = l15 + -1L))) - 60720]) >= 0) { break L71; }
+            if ((l19 = (int) b[((int) (l0 + (l11 = l15 + -1L))) - 60448]) >= 0) { break L71; }
             l11 = -2L;
             L75: {
-             if ((b[((int) ((l12 = l0 + l15) + -2L)) - 60720] & 0xff) + Integer.MIN_VALUE > -2147483457) { break L75; }
-             l11 = ((b[((int) (l12 + -3L)) - 60720] & 0xff) + Integer.MIN_VALUE > -2147483457) ? -3L : -4L;
+             if ((b[((int) ((l12 = l0 + l15) + -2L)) - 60448] & 0xff) + Integer.MIN_VALUE > -2147483457) { break L75; }
+             l11 = ((b[((int) (l12 + -3L)) - 60448] & 0xff) + Integer.MIN_VALUE > -2147483457) ? -3L : -4L;
             }
-            l19 = (l22 = (int) b[((int) (l12 = l0 + (l11 = l11 + l15))) - 60720]) & 255;
+            l19 = (l22 = (int) b[((int) (l12 = l0 + (l11 = l11 + l15))) - 60448]) & 255;
             if (l22 > -1) { break L71; }
-            l20 = (b[((int) l12) - 60719] & 0xff) & 63;
+            l20 = (b[((int) l12) - 60447] & 0xff) & 63;
             L76: {
              if (l22 + Integer.MIN_VALUE > 2147483615) { break L76; }
              l19 = ((l19 << 6) & 1984) | l20;
              break L71;
             }
-            l24 = (b[((int) l12) - 60718] & 0xff) & 63;
+            l24 = (b[((int) l12) - 60446] & 0xff) & 63;
             L77: {
              L78: {
               if (l22 + Integer.MIN_VALUE > 2147483631) { break L78; }
               l19 = ((l20 << 6) | ((l19 << 12) & 61440)) | l24;
               break L77;
              }
-             l19 = ((l24 << 6) | ((l20 << 12) | ((l19 << 18) & 1835008))) | ((b[((int) l12) - 60717] & 0xff) & 63);
+             l19 = ((l24 << 6) | ((l20 << 12) | ((l19 << 18) & 1835008))) | ((b[((int) l12) - 60445] & 0xff) & 63);
             }
             if ((l19 + -2048) + Integer.MIN_VALUE > -2147420161) { break L71; }
-            if (Words.get32(b, ((int) ((l12 = ((((l22 = (((l19 >>> 12) | ((l19 << 2) & 16128)) | ((l19 << 16) & 4128768)) | 8421600) & 0xffffffffL) * 953497L) >>> 22L) & 1016L) + 66852L)) - 60720) != l22) { break L69; }
+            if (Words.get32(b, ((int) ((l12 = ((((l22 = (((l19 >>> 12) | ((l19 << 2) & 16128)) | ((l19 << 16) & 4128768)) | 8421600) & 0xffffffffL) * 953497L) >>> 22L) & 1016L) + 66852L)) - 60448) != l22) { break L69; }
            }
-           if ((b[((int) (l12 + 66856L)) - 60720] & 0xff) != 0) { break L70; }
+           if ((b[((int) (l12 + 66856L)) - 60448] & 0xff) != 0) { break L70; }
            break L66;
           }
           if ((l19 + -48) + Integer.MIN_VALUE >= -2147483638) { break L70; }
@@ -3546,10 +3546,10 @@ static int f100_1(State m, long l0, long l1, long l8, long l9, long l11, long l1
        l22 = 0;
        break L63;
       }
-      Words.put64(b, ((int) l9) - 60680, 0L);
-      Words.put64(b, ((int) l9) - 60688, 0L);
-      Words.put64(b, ((int) l9) - 60696, 0L);
-      Words.put64(b, ((int) l9) - 60704, 0L);
+      Words.put64(b, ((int) l9) - 60408, 0L);
+      Words.put64(b, ((int) l9) - 60416, 0L);
+      Words.put64(b, ((int) l9) - 60424, 0L);
+      Words.put64(b, ((int) l9) - 60432, 0L);
       L88: {
        L89: {
         L90: {
@@ -3557,59 +3557,59 @@ static int f100_1(State m, long l0, long l1, long l8, long l9, long l11, long l1
           L92: {
            L93: {
             if (l11 + Long.MIN_VALUE < -9223372036854775805L) { break L93; }
-            if (((l19 = b[((int) ((l12 = l0 + l11) + -3L)) - 60720] & 0xff) & 240) != 224) { break L92; }
-            Words.put64(b, ((int) l9) - 60688, l0);
-            Words.put64(b, ((int) l9) - 60704, 1L);
-            Words.put64(b, ((int) l9) - 60680, l11 + -3L);
-            Words.put32(b, ((int) l9) - 60696, (((l19 << 12) | (l22 = b[((int) (l12 + -1L)) - 60720] & 0xff)) + ((l23 = b[((int) (l12 + -2L)) - 60720] & 0xff) << 6)) + -925824);
+            if (((l19 = b[((int) ((l12 = l0 + l11) + -3L)) - 60448] & 0xff) & 240) != 224) { break L92; }
+            Words.put64(b, ((int) l9) - 60416, l0);
+            Words.put64(b, ((int) l9) - 60432, 1L);
+            Words.put64(b, ((int) l9) - 60408, l11 + -3L);
+            Words.put32(b, ((int) l9) - 60424, (((l19 << 12) | (l22 = b[((int) (l12 + -1L)) - 60448] & 0xff)) + ((l23 = b[((int) (l12 + -2L)) - 60448] & 0xff) << 6)) + -925824);
             final int t94 = (int) l9;
-            final int t95 = b[((int) ((l11 = ((((l19 = ((l23 << 8) | (l22 << 16)) | l19) & 0xffffffffL) * 953497L) >>> 22L) & 1016L) + 66857L)) - 60720] & 0xff;
+            final int t95 = b[((int) ((l11 = ((((l19 = ((l23 << 8) | (l22 << 16)) | l19) & 0xffffffffL) * 953497L) >>> 22L) & 1016L) + 66857L)) - 60448] & 0xff;
             final int t96 = l19 = (Words.get32(b, State.far((int) l11, 66852)) == l19) ? 1 : 0;
-            b[t94 - 60691] = (byte) (t96 != 0 ? t95 : 0);
+            b[t94 - 60419] = (byte) (t96 != 0 ? t95 : 0);
             final int t97 = (int) l9;
-            final int t98 = b[((int) (l11 + 66856L)) - 60720] & 0xff;
+            final int t98 = b[((int) (l11 + 66856L)) - 60448] & 0xff;
             final int t99 = l19;
-            b[t97 - 60692] = (byte) (t99 != 0 ? t98 : 2);
+            b[t97 - 60420] = (byte) (t99 != 0 ? t98 : 2);
             break L88;
            }
            if (l11 == 0L) { break L91; }
           }
-          if ((l19 = (int) b[((int) (l0 + (l12 = l11 + -1L))) - 60720]) >= 0) { break L90; }
+          if ((l19 = (int) b[((int) (l0 + (l12 = l11 + -1L))) - 60448]) >= 0) { break L90; }
           l12 = -2L;
           L100: {
-           if ((b[((int) ((l17 = l0 + l11) + -2L)) - 60720] & 0xff) + Integer.MIN_VALUE > -2147483457) { break L100; }
-           l12 = ((b[((int) (l17 + -3L)) - 60720] & 0xff) + Integer.MIN_VALUE > -2147483457) ? -3L : -4L;
+           if ((b[((int) ((l17 = l0 + l11) + -2L)) - 60448] & 0xff) + Integer.MIN_VALUE > -2147483457) { break L100; }
+           l12 = ((b[((int) (l17 + -3L)) - 60448] & 0xff) + Integer.MIN_VALUE > -2147483457) ? -3L : -4L;
           }
-          l19 = (l22 = (int) b[((int) (l11 = l0 + (l12 = l12 + l11))) - 60720]) & 255;
+          l19 = (l22 = (int) b[((int) (l11 = l0 + (l12 = l12 + l11))) - 60448]) & 255;
           if (l22 > -1) { break L90; }
-          l23 = (b[((int) l11) - 60719] & 0xff) & 63;
+          l23 = (b[((int) l11) - 60447] & 0xff) & 63;
           L101: {
            if (l22 + Integer.MIN_VALUE > 2147483615) { break L101; }
            l19 = ((l19 << 6) & 1984) | l23;
            break L90;
           }
-          l20 = (b[((int) l11) - 60718] & 0xff) & 63;
+          l20 = (b[((int) l11) - 60446] & 0xff) & 63;
           L102: {
            L103: {
             if (l22 + Integer.MIN_VALUE > 2147483631) { break L103; }
             l19 = ((l23 << 6) | ((l19 << 12) & 61440)) | l20;
             break L102;
            }
-           l19 = ((l20 << 6) | ((l23 << 12) | ((l19 << 18) & 1835008))) | ((b[((int) l11) - 60717] & 0xff) & 63);
+           l19 = ((l20 << 6) | ((l23 << 12) | ((l19 << 18) & 1835008))) | ((b[((int) l11) - 60445] & 0xff) & 63);
           }
           if ((l19 + -2048) + Integer.MIN_VALUE > -2147420161) { break L90; }
-          final int t104 = b[((int) ((l11 = ((((l22 = (((l19 >>> 12) | ((l19 << 2) & 16128)) | ((l19 << 16) & 4128768)) | 8421600) & 0xffffffffL) * 953497L) >>> 22L) & 1016L) + 66857L)) - 60720] & 0xff;
+          final int t104 = b[((int) ((l11 = ((((l22 = (((l19 >>> 12) | ((l19 << 2) & 16128)) | ((l19 << 16) & 4128768)) | 8421600) & 0xffffffffL) * 953497L) >>> 22L) & 1016L) + 66857L)) - 60448] & 0xff;
           final int t105 = l23 = (Words.get32(b, State.far((int) l11, 66852)) == l22) ? 1 : 0;
           l22 = t105 != 0 ? t104 : 0;
-          final int t106 = b[((int) (l11 + 66856L)) - 60720] & 0xff;
+          final int t106 = b[((int) (l11 + 66856L)) - 60448] & 0xff;
           final int t107 = l23;
           l23 = t107 != 0 ? t106 : 2;
           break L89;
          }
-         Words.put64(b, ((int) l13) - 60720, 0L);
-         Words.put64(b, ((int) l13) - 60712, 0L);
-         Words.put64(b, ((int) l9) - 60698, 0L);
-         Words.put64(b, ((int) l9) - 60704, 0L);
+         Words.put64(b, ((int) l13) - 60448, 0L);
+         Words.put64(b, ((int) l13) - 60440, 0L);
+         Words.put64(b, ((int) l9) - 60426, 0L);
+         Words.put64(b, ((int) l9) - 60432, 0L);
          break L88;
         }
         final int t108 = l22 = l19 + -48;
@@ -3617,12 +3617,12 @@ static int f100_1(State m, long l0, long l1, long l8, long l9, long l11, long l1
         l22 = t109 != 0 ? t108 : 0;
         l23 = l23 != 0 ? 0 : 2;
        }
-       Words.put64(b, ((int) l9) - 60680, l12);
-       Words.put64(b, ((int) l9) - 60688, l0);
-       b[((int) l9) - 60691] = (byte) l22;
-       b[((int) l9) - 60692] = (byte) l23;
-       Words.put32(b, ((int) l9) - 60696, l19);
-       Words.put64(b, ((int) l9) - 60704, 1L);
+       Words.put64(b, ((int) l9) - 60408, l12);
+       Words.put64(b, ((int) l9) - 60416, l0);
+       b[((int) l9) - 60419] = (byte) l22;
+       b[((int) l9) - 60420] = (byte) l23;
+       Words.put32(b, ((int) l9) - 60424, l19);
+       Words.put64(b, ((int) l9) - 60432, 1L);
       }
       l22 = f103(m, l9 + 16L);
       break L65;
@@ -3660,48 +3660,48 @@ static int f100_2(State m, long l9, long l11, long l13, long l14, long l16, long
           L119: {
            L120: {
             if (l21 != 0) { break L120; }
-            if (((l19 = b[((int) l14) - 60720] & 0xff) & 240) != 224) { break L119; }
-            l20 = (((l21 = b[((int) l14) - 60719] & 0xff) << 8) | ((l24 = b[((int) l14) - 60718] & 0xff) << 16)) | l19;
+            if (((l19 = b[((int) l14) - 60448] & 0xff) & 240) != 224) { break L119; }
+            l20 = (((l21 = b[((int) l14) - 60447] & 0xff) << 8) | ((l24 = b[((int) l14) - 60446] & 0xff) << 16)) | l19;
             l19 = (((l19 << 12) | l24) + (l21 << 6)) + -925824;
             l17 = l16 + -3L;
             l11 = l14 + 3L;
-            if (l20 != Words.get32(b, ((int) ((l18 = (((l20 & 0xffffffffL) * 953497L) >>> 22L) & 1016L) + 66852L)) - 60720)) { break L117; }
+            if (l20 != Words.get32(b, ((int) ((l18 = (((l20 & 0xffffffffL) * 953497L) >>> 22L) & 1016L) + 66852L)) - 60448)) { break L117; }
             break L118;
            }
            if (l16 == 0L) { break L112; }
-           l19 = b[((int) l14) - 60720] & 0xff;
+           l19 = b[((int) l14) - 60448] & 0xff;
           }
           l11 = 1L;
           L121: {
            if (((int) (byte) l19) > -1) { break L121; }
-           l20 = (b[((int) l14) - 60719] & 0xff) & 63;
+           l20 = (b[((int) l14) - 60447] & 0xff) & 63;
            L122: {
             if (l19 + Integer.MIN_VALUE > -2147483425) { break L122; }
             l19 = ((l19 << 6) & 1984) | l20;
             l11 = 2L;
             break L121;
            }
-           l21 = (b[((int) l14) - 60718] & 0xff) & 63;
+           l21 = (b[((int) l14) - 60446] & 0xff) & 63;
            L123: {
             if (l19 + Integer.MIN_VALUE > -2147483409) { break L123; }
             l19 = ((l20 << 6) | ((l19 << 12) & 61440)) | l21;
             l11 = 3L;
             break L121;
            }
-           l19 = ((l21 << 6) | ((l20 << 12) | ((l19 << 18) & 1835008))) | ((b[((int) l14) - 60717] & 0xff) & 63);
+           l19 = ((l21 << 6) | ((l20 << 12) | ((l19 << 18) & 1835008))) | ((b[((int) l14) - 60445] & 0xff) & 63);
            l11 = 4L;
           }
           l17 = l16 - l11;
           l11 = l14 + l11;
           L124: {
            if ((l19 + -2048) + Integer.MIN_VALUE > -2147420161) { break L124; }
-           if (Words.get32(b, ((int) ((l18 = ((((l20 = (((l19 >>> 12) | ((l19 << 2) & 16128)) | ((l19 << 16) & 4128768)) | 8421600) & 0xffffffffL) * 953497L) >>> 22L) & 1016L) + 66852L)) - 60720) == l20) { break L118; }
+           if (Words.get32(b, ((int) ((l18 = ((((l20 = (((l19 >>> 12) | ((l19 << 2) & 16128)) | ((l19 << 16) & 4128768)) | 8421600) & 0xffffffffL) * 953497L) >>> 22L) & 1016L) + 66852L)) - 60448) == l20) { break L118; }
            break L116;
           }
           if ((l19 + -48) + Integer.MIN_VALUE >= -2147483638) { break L117; }
           break L114;
          }
-         if ((b[((int) (l18 + 66856L)) - 60720] & 0xff) == 0) { break L114; }
+         if ((b[((int) (l18 + 66856L)) - 60448] & 0xff) == 0) { break L114; }
         }
         if (l19 + Integer.MIN_VALUE > -2147483521) { break L116; }
         l21 = 1;
@@ -3775,53 +3775,53 @@ static int f100_2(State m, long l9, long l11, long l13, long l14, long l16, long
        if ((l19 + -65296) + Integer.MIN_VALUE > -2147483639) { break L112; }
        break L114;
       }
-      Words.put64(b, ((int) l9) - 60680, 0L);
-      Words.put64(b, ((int) l9) - 60688, 0L);
-      Words.put64(b, ((int) l9) - 60696, 0L);
-      Words.put64(b, ((int) l9) - 60704, 0L);
+      Words.put64(b, ((int) l9) - 60408, 0L);
+      Words.put64(b, ((int) l9) - 60416, 0L);
+      Words.put64(b, ((int) l9) - 60424, 0L);
+      Words.put64(b, ((int) l9) - 60432, 0L);
       L135: {
        L136: {
         L137: {
          L138: {
           if (l17 + Long.MIN_VALUE < -9223372036854775805L) { break L138; }
-          if (((l19 = b[((int) l11) - 60720] & 0xff) & 240) != 224) { break L137; }
-          l20 = b[((int) l11) - 60718] & 0xff;
-          l21 = b[((int) l11) - 60719] & 0xff;
-          Words.put64(b, ((int) l9) - 60680, l17 + -3L);
-          Words.put64(b, ((int) l9) - 60688, l11 + 3L);
-          Words.put64(b, ((int) l9) - 60704, 1L);
-          Words.put32(b, ((int) l9) - 60696, ((l20 | (l19 << 12)) + (l21 << 6)) + -925824);
+          if (((l19 = b[((int) l11) - 60448] & 0xff) & 240) != 224) { break L137; }
+          l20 = b[((int) l11) - 60446] & 0xff;
+          l21 = b[((int) l11) - 60447] & 0xff;
+          Words.put64(b, ((int) l9) - 60408, l17 + -3L);
+          Words.put64(b, ((int) l9) - 60416, l11 + 3L);
+          Words.put64(b, ((int) l9) - 60432, 1L);
+          Words.put32(b, ((int) l9) - 60424, ((l20 | (l19 << 12)) + (l21 << 6)) + -925824);
           final int t139 = (int) l9;
-          final int t140 = b[((int) ((l11 = ((((l19 = ((l21 << 8) | (l20 << 16)) | l19) & 0xffffffffL) * 953497L) >>> 22L) & 1016L) + 66857L)) - 60720] & 0xff;
+          final int t140 = b[((int) ((l11 = ((((l19 = ((l21 << 8) | (l20 << 16)) | l19) & 0xffffffffL) * 953497L) >>> 22L) & 1016L) + 66857L)) - 60448] & 0xff;
           final int t141 = l19 = (Words.get32(b, State.far((int) l11, 66852)) == l19) ? 1 : 0;
-          b[t139 - 60691] = (byte) (t141 != 0 ? t140 : 0);
+          b[t139 - 60419] = (byte) (t141 != 0 ? t140 : 0);
           final int t142 = (int) l9;
-          final int t143 = b[((int) (l11 + 66856L)) - 60720] & 0xff;
+          final int t143 = b[((int) (l11 + 66856L)) - 60448] & 0xff;
           final int t144 = l19;
-          b[t142 - 60692] = (byte) (t144 != 0 ? t143 : 2);
+          b[t142 - 60420] = (byte) (t144 != 0 ? t143 : 2);
           break L135;
          }
          if (l17 == 0L) { break L136; }
-         l19 = b[((int) l11) - 60720] & 0xff;
+         l19 = b[((int) l11) - 60448] & 0xff;
         }
         l18 = 1L;
         L145: {
          if (((int) (byte) l19) > -1) { break L145; }
-         l20 = (b[((int) l11) - 60719] & 0xff) & 63;
+         l20 = (b[((int) l11) - 60447] & 0xff) & 63;
          L146: {
           if (l19 + Integer.MIN_VALUE > -2147483425) { break L146; }
           l19 = ((l19 << 6) & 1984) | l20;
           l18 = 2L;
           break L145;
          }
-         l21 = (b[((int) l11) - 60718] & 0xff) & 63;
+         l21 = (b[((int) l11) - 60446] & 0xff) & 63;
          L147: {
           if (l19 + Integer.MIN_VALUE > -2147483409) { break L147; }
           l19 = ((l20 << 6) | ((l19 << 12) & 61440)) | l21;
           l18 = 3L;
           break L145;
          }
-         l19 = ((l21 << 6) | ((l20 << 12) | ((l19 << 18) & 1835008))) | ((b[((int) l11) - 60717] & 0xff) & 63);
+         l19 = ((l21 << 6) | ((l20 << 12) | ((l19 << 18) & 1835008))) | ((b[((int) l11) - 60445] & 0xff) & 63);
          l18 = 4L;
         }
         l17 = l17 - l18;
@@ -3829,10 +3829,10 @@ static int f100_2(State m, long l9, long l11, long l13, long l14, long l16, long
         L148: {
          L149: {
           if ((l19 + -2048) + Integer.MIN_VALUE > -2147420161) { break L149; }
-          final int t150 = b[((int) ((l18 = ((((l20 = (((l19 >>> 12) | ((l19 << 2) & 16128)) | ((l19 << 16) & 4128768)) | 8421600) & 0xffffffffL) * 953497L) >>> 22L) & 1016L) + 66857L)) - 60720] & 0xff;
+          final int t150 = b[((int) ((l18 = ((((l20 = (((l19 >>> 12) | ((l19 << 2) & 16128)) | ((l19 << 16) & 4128768)) | 8421600) & 0xffffffffL) * 953497L) >>> 22L) & 1016L) + 66857L)) - 60448] & 0xff;
           final int t151 = l21 = (Words.get32(b, State.far((int) l18, 66852)) == l20) ? 1 : 0;
           l20 = t151 != 0 ? t150 : 0;
-          final int t152 = b[((int) (l18 + 66856L)) - 60720] & 0xff;
+          final int t152 = b[((int) (l18 + 66856L)) - 60448] & 0xff;
           final int t153 = l21;
           l21 = t153 != 0 ? t152 : 2;
           break L148;
@@ -3842,18 +3842,18 @@ static int f100_2(State m, long l9, long l11, long l13, long l14, long l16, long
          l20 = t155 != 0 ? t154 : 0;
          l21 = l21 != 0 ? 0 : 2;
         }
-        Words.put64(b, ((int) l9) - 60680, l17);
-        Words.put64(b, ((int) l9) - 60688, l11);
-        b[((int) l9) - 60691] = (byte) l20;
-        b[((int) l9) - 60692] = (byte) l21;
-        Words.put32(b, ((int) l9) - 60696, l19);
-        Words.put64(b, ((int) l9) - 60704, 1L);
+        Words.put64(b, ((int) l9) - 60408, l17);
+        Words.put64(b, ((int) l9) - 60416, l11);
+        b[((int) l9) - 60419] = (byte) l20;
+        b[((int) l9) - 60420] = (byte) l21;
+        Words.put32(b, ((int) l9) - 60424, l19);
+        Words.put64(b, ((int) l9) - 60432, 1L);
         break L135;
        }
-       Words.put64(b, ((int) l13) - 60720, 0L);
-       Words.put64(b, ((int) l13) - 60712, 0L);
-       Words.put64(b, ((int) l9) - 60698, 0L);
-       Words.put64(b, ((int) l9) - 60704, 0L);
+       Words.put64(b, ((int) l13) - 60448, 0L);
+       Words.put64(b, ((int) l13) - 60440, 0L);
+       Words.put64(b, ((int) l9) - 60426, 0L);
+       Words.put64(b, ((int) l9) - 60432, 0L);
       }
       l21 = f105(m, l9 + 16L);
       break L113;
@@ -3905,7 +3905,7 @@ static int f100(State m, long l0, long l1, long l2, int l3, int l4, long l5, lon
     l19 = 5;
     l10 = 0L;
     if (l1 + Long.MIN_VALUE < l2 + Long.MIN_VALUE) { break L2; }
-    if (((int) b[((int) (l0 + l2)) - 60720]) < -64) { break L2; }
+    if (((int) b[((int) (l0 + l2)) - 60448]) < -64) { break L2; }
    }
    l19 = 0;
    l10 = 0L;
@@ -3928,15 +3928,15 @@ static int f100(State m, long l0, long l1, long l2, int l3, int l4, long l5, lon
          L11: {
           L12: {
            if ((l8 = l11) + Long.MIN_VALUE < -9223372036854775805L) { break L12; }
-           if (((l19 = b[((int) l2) - 60720] & 0xff) & 240) != 224) { break L11; }
-           final int t13 = b[((int) ((l14 = ((((l22 = (((l20 = b[((int) l2) - 60719] & 0xff) << 8) | ((l21 = b[((int) l2) - 60718] & 0xff) << 16)) | l19) & 0xffffffffL) * 953497L) >>> 22L) & 1016L) + 66857L)) - 60720] & 0xff;
+           if (((l19 = b[((int) l2) - 60448] & 0xff) & 240) != 224) { break L11; }
+           final int t13 = b[((int) ((l14 = ((((l22 = (((l20 = b[((int) l2) - 60447] & 0xff) << 8) | ((l21 = b[((int) l2) - 60446] & 0xff) << 16)) | l19) & 0xffffffffL) * 953497L) >>> 22L) & 1016L) + 66857L)) - 60448] & 0xff;
            final int t14 = l22 = (Words.get32(b, State.far((int) l14, 66852)) == l22) ? 1 : 0;
            l23 = t14 != 0 ? t13 : 0;
            l11 = l8 + -3L;
            l12 = l2 + 3L;
            L15: {
             L16: {
-             final int t17 = b[((int) (l14 + 66856L)) - 60720] & 0xff;
+             final int t17 = b[((int) (l14 + 66856L)) - 60448] & 0xff;
              final int t18 = l22;
              switch ((int) (((l22 = t18 != 0 ? t17 : 2) & 0xffffffffL) & 255L)) {
              case 1: break L16;
@@ -4000,26 +4000,26 @@ static int f100(State m, long l0, long l1, long l2, int l3, int l4, long l5, lon
            l19 = 0;
            break L2;
           }
-          l19 = b[((int) l2) - 60720] & 0xff;
+          l19 = b[((int) l2) - 60448] & 0xff;
          }
          l12 = 1L;
          L27: {
           if (((int) (byte) l19) > -1) { break L27; }
-          l22 = (b[((int) l2) - 60719] & 0xff) & 63;
+          l22 = (b[((int) l2) - 60447] & 0xff) & 63;
           L28: {
            if (l19 + Integer.MIN_VALUE > -2147483425) { break L28; }
            l19 = ((l19 << 6) & 1984) | l22;
            l12 = 2L;
            break L27;
           }
-          l23 = (b[((int) l2) - 60718] & 0xff) & 63;
+          l23 = (b[((int) l2) - 60446] & 0xff) & 63;
           L29: {
            if (l19 + Integer.MIN_VALUE > -2147483409) { break L29; }
            l19 = ((l22 << 6) | ((l19 << 12) & 61440)) | l23;
            l12 = 3L;
            break L27;
           }
-          l19 = ((l23 << 6) | ((l22 << 12) | ((l19 << 18) & 1835008))) | ((b[((int) l2) - 60717] & 0xff) & 63);
+          l19 = ((l23 << 6) | ((l22 << 12) | ((l19 << 18) & 1835008))) | ((b[((int) l2) - 60445] & 0xff) & 63);
           l12 = 4L;
          }
          l11 = l8 - l12;
@@ -4029,9 +4029,9 @@ static int f100(State m, long l0, long l1, long l2, int l3, int l4, long l5, lon
            L32: {
             if ((l19 + -2048) + Integer.MIN_VALUE > -2147420161) { break L32; }
             if (Words.get32(b, State.far((int) (l14 = ((((l22 = (((l19 >>> 12) | ((l19 << 2) & 16128)) | ((l19 << 16) & 4128768)) | 8421600) & 0xffffffffL) * 953497L) >>> 22L) & 1016L), 66852)) != l22) { continue L5; }
-            l22 = b[((int) (l14 + 66857L)) - 60720] & 0xff;
+            l22 = b[((int) (l14 + 66857L)) - 60448] & 0xff;
             l23 = 0;
-            switch ((int) (b[((int) (l14 + 66856L)) - 60720] & 0xffL)) {
+            switch ((int) (b[((int) (l14 + 66856L)) - 60448] & 0xffL)) {
             case 1: break L31;
             case 2: continue L5;
             default: break L30;
@@ -4115,9 +4115,9 @@ static int f100(State m, long l0, long l1, long l2, int l3, int l4, long l5, lon
           L46: {
            L47: {
             if ((l21 = ((l16 = l11) + Long.MIN_VALUE < -9223372036854775805L) ? 1 : 0) != 0) { break L47; }
-            if (((l19 = b[((int) l14) - 60720] & 0xff) & 240) != 224) { break L46; }
+            if (((l19 = b[((int) l14) - 60448] & 0xff) & 240) != 224) { break L46; }
             L48: {
-             if (Words.get32(b, ((int) ((l17 = ((((l23 = (((l20 = b[((int) l14) - 60719] & 0xff) << 8) | ((l24 = b[((int) l14) - 60718] & 0xff) << 16)) | l19) & 0xffffffffL) * 953497L) >>> 22L) & 1016L) + 66852L)) - 60720) != l23) { break L48; }
+             if (Words.get32(b, ((int) ((l17 = ((((l23 = (((l20 = b[((int) l14) - 60447] & 0xff) << 8) | ((l24 = b[((int) l14) - 60446] & 0xff) << 16)) | l19) & 0xffffffffL) * 953497L) >>> 22L) & 1016L) + 66852L)) - 60448) != l23) { break L48; }
              l19 = (((l19 << 12) | l24) + (l20 << 6)) + -925824;
              l11 = l16 + -3L;
              l12 = l14 + 3L;
@@ -4131,36 +4131,36 @@ static int f100(State m, long l0, long l1, long l2, int l3, int l4, long l5, lon
             l21 = 1;
             break L40;
            }
-           l19 = b[((int) l14) - 60720] & 0xff;
+           l19 = b[((int) l14) - 60448] & 0xff;
           }
           l12 = 1L;
           L50: {
            if (((int) (byte) l19) > -1) { break L50; }
-           l23 = (b[((int) l14) - 60719] & 0xff) & 63;
+           l23 = (b[((int) l14) - 60447] & 0xff) & 63;
            L51: {
             if (l19 + Integer.MIN_VALUE > -2147483425) { break L51; }
             l19 = ((l19 << 6) & 1984) | l23;
             l12 = 2L;
             break L50;
            }
-           l20 = (b[((int) l14) - 60718] & 0xff) & 63;
+           l20 = (b[((int) l14) - 60446] & 0xff) & 63;
            L52: {
             if (l19 + Integer.MIN_VALUE > -2147483409) { break L52; }
             l19 = ((l23 << 6) | ((l19 << 12) & 61440)) | l20;
             l12 = 3L;
             break L50;
            }
-           l19 = ((l20 << 6) | ((l23 << 12) | ((l19 << 18) & 1835008))) | ((b[((int) l14) - 60717] & 0xff) & 63);
+           l19 = ((l20 << 6) | ((l23 << 12) | ((l19 << 18) & 1835008))) | ((b[((int) l14) - 60445] & 0xff) & 63);
            l12 = 4L;
           }
           l11 = l16 - l12;
           l12 = l14 + l12;
           if ((l19 + -2048) + Integer.MIN_VALUE > -2147420161) { break L44; }
-          if (Words.get32(b, ((int) ((l17 = ((((l23 = (((l19 >>> 12) | ((l19 << 2) & 16128)) | ((l19 << 16) & 4128768)) | 8421600) & 0xffffffffL) * 953497L) >>> 22L) & 1016L) + 66852L)) - 60720) != l23) { break L40; }
+          if (Words.get32(b, ((int) ((l17 = ((((l23 = (((l19 >>> 12) | ((l19 << 2) & 16128)) | ((l19 << 16) & 4128768)) | 8421600) & 0xffffffffL) * 953497L) >>> 22L) & 1016L) + 66852L)) - 60448) != l23) { break L40; }
          }
-         l20 = b[((int) (l17 + 66857L)) - 60720] & 0xff;
+         l20 = b[((int) (l17 + 66857L)) - 60448] & 0xff;
          l23 = 0;
-         switch ((int) (b[((int) (l17 + 66856L)) - 60720] & 0xffL)) {
+         switch ((int) (b[((int) (l17 + 66856L)) - 60448] & 0xffL)) {
          case 1: break L43;
          case 2: break L40;
          default: break L42;
@@ -4228,12 +4228,12 @@ static int f100(State m, long l0, long l1, long l2, int l3, int l4, long l5, lon
        if ((l22 + -48) + Integer.MIN_VALUE > -2147483639) { break L62; }
        Core2.f63(m, l9 + 8L, l19);
        if ((l19 + -58) + Integer.MIN_VALUE > 2147483637) { break L62; }
-       if (((b[((int) l9) - 60712] & 0xff) & 255) == 1) { break L40; }
+       if (((b[((int) l9) - 60440] & 0xff) & 255) == 1) { break L40; }
       }
       if ((l19 + -48) + Integer.MIN_VALUE > -2147483639) { continue L41; }
       Core2.f63(m, l9, l22);
       if ((l22 + -58) + Integer.MIN_VALUE > 2147483637) { continue L41; }
-      if (((b[((int) l9) - 60720] & 0xff) & 255) != 1) { continue L41; }
+      if (((b[((int) l9) - 60448] & 0xff) & 255) != 1) { continue L41; }
       break L41;
      }
     }
@@ -4254,7 +4254,7 @@ static int f100(State m, long l0, long l1, long l2, int l3, int l4, long l5, lon
     l20 = (int) m.kept[4];
     l21 = (int) m.kept[5];
     l24 = (int) m.kept[6];
-    Words.put32(b, ((int) l9) - 60704, 0);
+    Words.put32(b, ((int) l9) - 60432, 0);
     l19 = l22 | l21;
     L157: {
      L158: {
@@ -4272,26 +4272,26 @@ static int f100(State m, long l0, long l1, long l2, int l3, int l4, long l5, lon
              default: break L161;
              }
             }
-            if ((l22 = (Words.get32(b, State.far((int) (l11 = ((((l22 = (((b[((int) l2) - 60719] & 0xff) << 8) | (l24 = b[((int) l2) - 60720] & 0xff)) | ((b[((int) l2) - 60718] & 0xff) << 16)) & 0xffffffffL) * 953497L) >>> 22L) & 1016L), 66852)) != l22) ? 1 : 0) != 0) { break L163; }
+            if ((l22 = (Words.get32(b, State.far((int) (l11 = ((((l22 = (((b[((int) l2) - 60447] & 0xff) << 8) | (l24 = b[((int) l2) - 60448] & 0xff)) | ((b[((int) l2) - 60446] & 0xff) << 16)) & 0xffffffffL) * 953497L) >>> 22L) & 1016L), 66852)) != l22) ? 1 : 0) != 0) { break L163; }
             l21 = 1;
-            final int t166 = b[((int) (l11 + 66856L)) - 60720] & 0xff;
+            final int t166 = b[((int) (l11 + 66856L)) - 60448] & 0xff;
             final int t167 = l22;
             if (((l22 = t167 != 0 ? 0 : t166) & 255) == 2) { break L163; }
             break L160;
            }
            if (l8 + Long.MIN_VALUE > -9223372036854775804L) { break L159; }
            if (l12 == l16) { break L162; }
-           l24 = b[((int) l2) - 60720] & 0xff;
+           l24 = b[((int) l2) - 60448] & 0xff;
           }
           if (((int) (byte) l24) > -1) { break L159; }
          }
          f106(m, l9 + 16L, l2, l8);
-         if ((b[((int) l9) - 60704] & 0xff) != 1) { break L159; }
-         l21 = b[((int) l9) - 60701] & 0xff;
-         l22 = b[((int) l9) - 60703] & 0xff;
+         if ((b[((int) l9) - 60432] & 0xff) != 1) { break L159; }
+         l21 = b[((int) l9) - 60429] & 0xff;
+         l22 = b[((int) l9) - 60431] & 0xff;
          break L160;
         }
-        l22 = ((l21 = ((((b[((int) l2) - 60720] & 0xff) + -58) & 255) + Integer.MIN_VALUE < -2147483402) ? 1 : 0) != 0) ? 2 : 0;
+        l22 = ((l21 = ((((b[((int) l2) - 60448] & 0xff) + -58) & 255) + Integer.MIN_VALUE < -2147483402) ? 1 : 0) != 0) ? 2 : 0;
        }
        l22 = (l19 != 0 ? 0 : 2) | (((l19 = l22 & 255) == 0) ? 1 : 0);
        l21 = ((l21 & 1) != 0) ? 8 : 0;
@@ -4319,10 +4319,10 @@ static int f100(State m, long l0, long l1, long l2, int l3, int l4, long l5, lon
      l22 = l22 | 4;
     }
     l19 = 0;
-    Words.put32(b, ((int) (l2 = l5 + (l10 * 24L))) - 60700, 0);
-    Words.put32(b, ((int) l2) - 60704, l21 | l22);
-    Words.put64(b, ((int) l2) - 60712, l1 - l16);
-    Words.put64(b, ((int) l2) - 60720, l15);
+    Words.put32(b, ((int) (l2 = l5 + (l10 * 24L))) - 60428, 0);
+    Words.put32(b, ((int) l2) - 60432, l21 | l22);
+    Words.put64(b, ((int) l2) - 60440, l1 - l16);
+    Words.put64(b, ((int) l2) - 60448, l15);
     if ((l10 = l10 + 1L) + Long.MIN_VALUE >= l6 + Long.MIN_VALUE) { break L2; }
     l11 = l16;
     l12 = l14;
@@ -4330,7 +4330,7 @@ static int f100(State m, long l0, long l1, long l2, int l3, int l4, long l5, lon
     break L5;
    }
   }
-  Words.put64(b, ((int) l7) - 60720, l10);
+  Words.put64(b, ((int) l7) - 60448, l10);
   m.g0 = l9 + 48L;
   final int t171 = l19;
   return t171;
@@ -4356,45 +4356,45 @@ static int f101(State m, long l0, long l1) {
        if (!(l1 == 0L)) { break L6; }
        return 0;
       }
-      l3 = (l2 = (int) b[((int) l0) - 60720]) & 255;
+      l3 = (l2 = (int) b[((int) l0) - 60448]) & 255;
       l7 = 1L;
       L7: {
        if (l2 > -1) { break L7; }
-       l4 = (b[((int) l0) - 60719] & 0xff) & 63;
+       l4 = (b[((int) l0) - 60447] & 0xff) & 63;
        L8: {
         if (l2 + Integer.MIN_VALUE > 2147483615) { break L8; }
         l3 = ((l3 << 6) & 1984) | l4;
         l7 = 2L;
         break L7;
        }
-       l5 = (b[((int) l0) - 60718] & 0xff) & 63;
+       l5 = (b[((int) l0) - 60446] & 0xff) & 63;
        L9: {
         if (l2 + Integer.MIN_VALUE > 2147483631) { break L9; }
         l3 = ((l4 << 6) | ((l3 << 12) & 61440)) | l5;
         l7 = 3L;
         break L7;
        }
-       l3 = ((l5 << 6) | ((l4 << 12) | ((l3 << 18) & 1835008))) | ((b[((int) l0) - 60717] & 0xff) & 63);
+       l3 = ((l5 << 6) | ((l4 << 12) | ((l3 << 18) & 1835008))) | ((b[((int) l0) - 60445] & 0xff) & 63);
        l7 = 4L;
       }
       l2 = 0;
       L10: {
        if (l1 == l7) { break L10; }
-       l2 = (l4 = (int) b[((int) (l1 = l0 + l7)) - 60720]) & 255;
+       l2 = (l4 = (int) b[((int) (l1 = l0 + l7)) - 60448]) & 255;
        if (l4 > -1) { break L10; }
-       l5 = (b[((int) l1) - 60719] & 0xff) & 63;
+       l5 = (b[((int) l1) - 60447] & 0xff) & 63;
        L11: {
         if (l4 + Integer.MIN_VALUE > 2147483615) { break L11; }
         l2 = ((l2 << 6) & 1984) | l5;
         break L10;
        }
-       l6 = (b[((int) l1) - 60718] & 0xff) & 63;
+       l6 = (b[((int) l1) - 60446] & 0xff) & 63;
        L12: {
         if (l4 + Integer.MIN_VALUE > 2147483631) { break L12; }
         l2 = ((l5 << 6) | ((l2 << 12) & 61440)) | l6;
         break L10;
        }
-       l2 = ((l6 << 6) | ((l5 << 12) | ((l2 << 18) & 1835008))) | ((b[((int) l1) - 60717] & 0xff) & 63);
+       l2 = ((l6 << 6) | ((l5 << 12) | ((l2 << 18) & 1835008))) | ((b[((int) l1) - 60445] & 0xff) & 63);
       }
       L13: {
        L14: {
@@ -4502,11 +4502,11 @@ static int f102(State m, int l0, int l1, long l2, long l3) {
    L3: {
     L4: {
      if (l3 + Long.MIN_VALUE < -9223372036854775805L) { break L4; }
-     if (((l7 = b[((int) l2) - 60720] & 0xff) & 240) != 224) { break L3; }
-     final int t5 = b[((int) ((l5 = ((((l10 = (((l8 = b[((int) l2) - 60719] & 0xff) << 8) | ((l9 = b[((int) l2) - 60718] & 0xff) << 16)) | l7) & 0xffffffffL) * 953497L) >>> 22L) & 1016L) + 66857L)) - 60720] & 0xff;
+     if (((l7 = b[((int) l2) - 60448] & 0xff) & 240) != 224) { break L3; }
+     final int t5 = b[((int) ((l5 = ((((l10 = (((l8 = b[((int) l2) - 60447] & 0xff) << 8) | ((l9 = b[((int) l2) - 60446] & 0xff) << 16)) | l7) & 0xffffffffL) * 953497L) >>> 22L) & 1016L) + 66857L)) - 60448] & 0xff;
      final int t6 = l11 = (Words.get32(b, State.far((int) l5, 66852)) == l10) ? 1 : 0;
      l10 = t6 != 0 ? t5 : 0;
-     final int t7 = b[((int) (l5 + 66856L)) - 60720] & 0xff;
+     final int t7 = b[((int) (l5 + 66856L)) - 60448] & 0xff;
      final int t8 = l11;
      l11 = t8 != 0 ? t7 : 2;
      l8 = ((l9 + (l8 << 6)) + (l7 << 12)) + -925824;
@@ -4519,27 +4519,27 @@ static int f102(State m, int l0, int l1, long l2, long l3) {
      m.g0 = l4;
      return 0;
     }
-    l7 = b[((int) l2) - 60720] & 0xff;
+    l7 = b[((int) l2) - 60448] & 0xff;
    }
    l8 = l7 & 255;
    l5 = 1L;
    L10: {
     if (((int) (byte) l7) > -1) { break L10; }
-    l10 = (b[((int) l2) - 60719] & 0xff) & 63;
+    l10 = (b[((int) l2) - 60447] & 0xff) & 63;
     L11: {
      if ((l7 & 255) + Integer.MIN_VALUE > -2147483425) { break L11; }
      l8 = ((l8 << 6) & 1984) | l10;
      l5 = 2L;
      break L10;
     }
-    l11 = (b[((int) l2) - 60718] & 0xff) & 63;
+    l11 = (b[((int) l2) - 60446] & 0xff) & 63;
     L12: {
      if ((l7 & 255) + Integer.MIN_VALUE > -2147483409) { break L12; }
      l8 = ((l10 << 6) | ((l8 << 12) & 61440)) | l11;
      l5 = 3L;
      break L10;
     }
-    l8 = ((l11 << 6) | ((l10 << 12) | ((l8 << 18) & 1835008))) | ((b[((int) l2) - 60717] & 0xff) & 63);
+    l8 = ((l11 << 6) | ((l10 << 12) | ((l8 << 18) & 1835008))) | ((b[((int) l2) - 60445] & 0xff) & 63);
     l5 = 4L;
    }
    L13: {
@@ -4547,10 +4547,10 @@ static int f102(State m, int l0, int l1, long l2, long l3) {
     m.g0 = l4;
     return 0;
    }
-   final int t14 = b[((int) ((l6 = ((((l7 = (((l8 >>> 12) | ((l8 << 2) & 16128)) | ((l8 << 16) & 4128768)) | 8421600) & 0xffffffffL) * 953497L) >>> 22L) & 1016L) + 66857L)) - 60720] & 0xff;
+   final int t14 = b[((int) ((l6 = ((((l7 = (((l8 >>> 12) | ((l8 << 2) & 16128)) | ((l8 << 16) & 4128768)) | 8421600) & 0xffffffffL) * 953497L) >>> 22L) & 1016L) + 66857L)) - 60448] & 0xff;
    final int t15 = l7 = (Words.get32(b, State.far((int) l6, 66852)) == l7) ? 1 : 0;
    l10 = t15 != 0 ? t14 : 0;
-   final int t16 = b[((int) (l6 + 66856L)) - 60720] & 0xff;
+   final int t16 = b[((int) (l6 + 66856L)) - 60448] & 0xff;
    final int t17 = l7;
    l11 = t17 != 0 ? t16 : 2;
    l2 = l2 + l5;
@@ -4621,13 +4621,13 @@ static int f103(State m, long l0) {
   if (m.g0 < 16L) { break L1; }
   l1 = 1;
   L2: {
-   if ((b[((int) l0) - 60720] & 0xff) == 1) { break L2; }
+   if ((b[((int) l0) - 60448] & 0xff) == 1) { break L2; }
    return 0;
   }
   L3: {
-   if (((b[((int) (l0 + 12L)) - 60720] & 0xff) & 255) != 2) { break L3; }
+   if (((b[((int) (l0 + 12L)) - 60448] & 0xff) & 255) != 2) { break L3; }
    L4: {
-    if ((l2 = Words.get32(b, ((int) (l0 + 8L)) - 60720)) + Integer.MIN_VALUE > -2147483521) { break L4; }
+    if ((l2 = Words.get32(b, ((int) (l0 + 8L)) - 60448)) + Integer.MIN_VALUE > -2147483521) { break L4; }
     if (l2 == 95) { break L3; }
     l1 = 0;
     if ((l2 + -44) + Integer.MIN_VALUE < -2147483645) { break L3; }
@@ -4731,43 +4731,43 @@ static int f104(State m, int l0, long l1, long l2) {
     if (l0 == 20986) { break L3; }
     if (l0 != 22909) { break L2; }
     if (l2 == 0L) { break L2; }
-    l0 = (l3 = (int) b[((int) l1) - 60720]) & 255;
+    l0 = (l3 = (int) b[((int) l1) - 60448]) & 255;
     L4: {
      if (l3 > -1) { break L4; }
-     l4 = (b[((int) l1) - 60719] & 0xff) & 63;
+     l4 = (b[((int) l1) - 60447] & 0xff) & 63;
      L5: {
       if (l3 + Integer.MIN_VALUE > 2147483615) { break L5; }
       l0 = ((l0 << 6) & 1984) | l4;
       break L4;
      }
-     l5 = (b[((int) l1) - 60718] & 0xff) & 63;
+     l5 = (b[((int) l1) - 60446] & 0xff) & 63;
      L6: {
       if (l3 + Integer.MIN_VALUE > 2147483631) { break L6; }
       l0 = ((l4 << 6) | ((l0 << 12) & 61440)) | l5;
       break L4;
      }
-     l0 = ((l5 << 6) | ((l4 << 12) | ((l0 << 18) & 1835008))) | ((b[((int) l1) - 60717] & 0xff) & 63);
+     l0 = ((l5 << 6) | ((l4 << 12) | ((l0 << 18) & 1835008))) | ((b[((int) l1) - 60445] & 0xff) & 63);
     }
     final int t7 = ((l0 == 20960) | (l0 == 24190)) ? 1 : 0;
     return t7;
    }
    if (l2 == 0L) { break L2; }
-   l0 = (l3 = (int) b[((int) l1) - 60720]) & 255;
+   l0 = (l3 = (int) b[((int) l1) - 60448]) & 255;
    L8: {
     if (l3 > -1) { break L8; }
-    l4 = (b[((int) l1) - 60719] & 0xff) & 63;
+    l4 = (b[((int) l1) - 60447] & 0xff) & 63;
     L9: {
      if (l3 + Integer.MIN_VALUE > 2147483615) { break L9; }
      l0 = ((l0 << 6) & 1984) | l4;
      break L8;
     }
-    l5 = (b[((int) l1) - 60718] & 0xff) & 63;
+    l5 = (b[((int) l1) - 60446] & 0xff) & 63;
     L10: {
      if (l3 + Integer.MIN_VALUE > 2147483631) { break L10; }
      l0 = ((l4 << 6) | ((l0 << 12) & 61440)) | l5;
      break L8;
     }
-    l0 = ((l5 << 6) | ((l4 << 12) | ((l0 << 18) & 1835008))) | ((b[((int) l1) - 60717] & 0xff) & 63);
+    l0 = ((l5 << 6) | ((l4 << 12) | ((l0 << 18) & 1835008))) | ((b[((int) l1) - 60445] & 0xff) & 63);
    }
    l3 = ((l0 == 22836) | (l0 == 38957)) ? 1 : 0;
   }
@@ -4785,13 +4785,13 @@ static int f105(State m, long l0) {
   if (m.g0 < 16L) { break L1; }
   l1 = 1;
   L2: {
-   if ((b[((int) l0) - 60720] & 0xff) == 1) { break L2; }
+   if ((b[((int) l0) - 60448] & 0xff) == 1) { break L2; }
    return 0;
   }
   L3: {
-   if (((b[((int) (l0 + 12L)) - 60720] & 0xff) & 255) != 2) { break L3; }
+   if (((b[((int) (l0 + 12L)) - 60448] & 0xff) & 255) != 2) { break L3; }
    L4: {
-    if ((l2 = Words.get32(b, ((int) (l0 + 8L)) - 60720)) + Integer.MIN_VALUE > -2147483521) { break L4; }
+    if ((l2 = Words.get32(b, ((int) (l0 + 8L)) - 60448)) + Integer.MIN_VALUE > -2147483521) { break L4; }
     if (l2 == 95) { break L3; }
     l1 = 0;
     if ((l2 + -44) + Integer.MIN_VALUE < -2147483645) { break L3; }
@@ -4899,11 +4899,11 @@ static void f106(State m, long l0, long l1, long l2) {
     L4: {
      L5: {
       if (l2 + Long.MIN_VALUE < -9223372036854775805L) { break L5; }
-      if (((l3 = b[((int) l1) - 60720] & 0xff) & 240) != 224) { break L4; }
-      final int t6 = b[((int) ((l1 = ((((l6 = (((l4 = b[((int) l1) - 60719] & 0xff) << 8) | ((l5 = b[((int) l1) - 60718] & 0xff) << 16)) | l3) & 0xffffffffL) * 953497L) >>> 22L) & 1016L) + 66857L)) - 60720] & 0xff;
+      if (((l3 = b[((int) l1) - 60448] & 0xff) & 240) != 224) { break L4; }
+      final int t6 = b[((int) ((l1 = ((((l6 = (((l4 = b[((int) l1) - 60447] & 0xff) << 8) | ((l5 = b[((int) l1) - 60446] & 0xff) << 16)) | l3) & 0xffffffffL) * 953497L) >>> 22L) & 1016L) + 66857L)) - 60448] & 0xff;
       final int t7 = l6 = (Words.get32(b, State.far((int) l1, 66852)) == l6) ? 1 : 0;
       l7 = t7 != 0 ? t6 : 0;
-      final int t8 = b[((int) (l1 + 66856L)) - 60720] & 0xff;
+      final int t8 = b[((int) (l1 + 66856L)) - 60448] & 0xff;
       final int t9 = l6;
       l8 = t9 != 0 ? t8 : 2;
       l4 = ((l5 + (l4 << 6)) + (l3 << 12)) + -925824;
@@ -4911,36 +4911,36 @@ static void f106(State m, long l0, long l1, long l2) {
       break L3;
      }
      if (l2 == 0L) { break L1; }
-     l3 = b[((int) l1) - 60720] & 0xff;
+     l3 = b[((int) l1) - 60448] & 0xff;
     }
     l4 = l3 & 255;
     l10 = -1L;
     L10: {
      if (((int) (byte) l3) > -1) { break L10; }
-     l5 = (b[((int) l1) - 60719] & 0xff) & 63;
+     l5 = (b[((int) l1) - 60447] & 0xff) & 63;
      L11: {
       if ((l3 & 255) + Integer.MIN_VALUE > -2147483425) { break L11; }
       l4 = ((l4 << 6) & 1984) | l5;
       l10 = -2L;
       break L10;
      }
-     l6 = (b[((int) l1) - 60718] & 0xff) & 63;
+     l6 = (b[((int) l1) - 60446] & 0xff) & 63;
      L12: {
       if ((l3 & 255) + Integer.MIN_VALUE > -2147483409) { break L12; }
       l4 = ((l5 << 6) | ((l4 << 12) & 61440)) | l6;
       l10 = -3L;
       break L10;
      }
-     l4 = ((l6 << 6) | ((l5 << 12) | ((l4 << 18) & 1835008))) | ((b[((int) l1) - 60717] & 0xff) & 63);
+     l4 = ((l6 << 6) | ((l5 << 12) | ((l4 << 18) & 1835008))) | ((b[((int) l1) - 60445] & 0xff) & 63);
      l10 = -4L;
     }
     l2 = l10 + l2;
     L13: {
      if ((l4 + -2048) + Integer.MIN_VALUE > -2147420161) { break L13; }
-     final int t14 = b[((int) ((l1 = ((((l3 = (((l4 >>> 12) | ((l4 << 2) & 16128)) | ((l4 << 16) & 4128768)) | 8421600) & 0xffffffffL) * 953497L) >>> 22L) & 1016L) + 66857L)) - 60720] & 0xff;
+     final int t14 = b[((int) ((l1 = ((((l3 = (((l4 >>> 12) | ((l4 << 2) & 16128)) | ((l4 << 16) & 4128768)) | 8421600) & 0xffffffffL) * 953497L) >>> 22L) & 1016L) + 66857L)) - 60448] & 0xff;
      final int t15 = l3 = (Words.get32(b, State.far((int) l1, 66852)) == l3) ? 1 : 0;
      l7 = t15 != 0 ? t14 : 0;
-     final int t16 = b[((int) (l1 + 66856L)) - 60720] & 0xff;
+     final int t16 = b[((int) (l1 + 66856L)) - 60448] & 0xff;
      final int t17 = l3;
      l8 = t17 != 0 ? t16 : 2;
      break L3;
@@ -4961,15 +4961,15 @@ static void f106(State m, long l0, long l1, long l2) {
     l5 = l8;
     l6 = l7;
    }
-   b[((int) l0) - 60720] = (byte) l3;
-   b[((int) (l0 + 3L)) - 60720] = (byte) l9;
-   b[((int) (l0 + 2L)) - 60720] = (byte) l6;
-   b[((int) (l0 + 1L)) - 60720] = (byte) l5;
+   b[((int) l0) - 60448] = (byte) l3;
+   b[((int) (l0 + 3L)) - 60448] = (byte) l9;
+   b[((int) (l0 + 2L)) - 60448] = (byte) l6;
+   b[((int) (l0 + 1L)) - 60448] = (byte) l5;
    return;
   }
   throw State.trap();
  }
- Words.put32(b, ((int) l0) - 60720, 0);
+ Words.put32(b, ((int) l0) - 60448, 0);
 }
 
 static int f107(State m, long l0, long l1) {
@@ -4988,9 +4988,9 @@ static int f107(State m, long l0, long l1) {
       L6: {
        L7: {
         if (l1 + Long.MIN_VALUE < -9223372036854775805L) { break L7; }
-        if (((l2 = b[((int) l0) - 60720] & 0xff) & 240) != 224) { break L6; }
-        if (Words.get32(b, State.far((int) (l6 = ((((l3 = (((b[((int) l0) - 60719] & 0xff) << 8) | ((b[((int) l0) - 60718] & 0xff) << 16)) | l2) & 0xffffffffL) * 953497L) >>> 22L) & 1016L), 66852)) != l3) { break L3; }
-        l2 = b[((int) (l6 + 66856L)) - 60720] & 0xff;
+        if (((l2 = b[((int) l0) - 60448] & 0xff) & 240) != 224) { break L6; }
+        if (Words.get32(b, State.far((int) (l6 = ((((l3 = (((b[((int) l0) - 60447] & 0xff) << 8) | ((b[((int) l0) - 60446] & 0xff) << 16)) | l2) & 0xffffffffL) * 953497L) >>> 22L) & 1016L), 66852)) != l3) { break L3; }
+        l2 = b[((int) (l6 + 66856L)) - 60448] & 0xff;
         l1 = l1 + -3L;
         l0 = l0 + 3L;
         break L5;
@@ -4999,27 +4999,27 @@ static int f107(State m, long l0, long l1) {
         if (!(l1 == 0L)) { break L8; }
         return 1;
        }
-       l2 = b[((int) l0) - 60720] & 0xff;
+       l2 = b[((int) l0) - 60448] & 0xff;
       }
       l3 = l2 & 255;
       l6 = 1L;
       L9: {
        if (((int) (byte) l2) > -1) { break L9; }
-       l4 = (b[((int) l0) - 60719] & 0xff) & 63;
+       l4 = (b[((int) l0) - 60447] & 0xff) & 63;
        L10: {
         if ((l2 & 255) + Integer.MIN_VALUE > -2147483425) { break L10; }
         l3 = ((l3 << 6) & 1984) | l4;
         l6 = 2L;
         break L9;
        }
-       l5 = (b[((int) l0) - 60718] & 0xff) & 63;
+       l5 = (b[((int) l0) - 60446] & 0xff) & 63;
        L11: {
         if ((l2 & 255) + Integer.MIN_VALUE > -2147483409) { break L11; }
         l3 = ((l4 << 6) | ((l3 << 12) & 61440)) | l5;
         l6 = 3L;
         break L9;
        }
-       l3 = ((l5 << 6) | ((l4 << 12) | ((l3 << 18) & 1835008))) | ((b[((int) l0) - 60717] & 0xff) & 63);
+       l3 = ((l5 << 6) | ((l4 << 12) | ((l3 << 18) & 1835008))) | ((b[((int) l0) - 60445] & 0xff) & 63);
        l6 = 4L;
       }
       l1 = l1 - l6;
@@ -5027,7 +5027,7 @@ static int f107(State m, long l0, long l1) {
       L12: {
        if ((l3 + -2048) + Integer.MIN_VALUE > -2147420161) { break L12; }
        if (Words.get32(b, State.far((int) (l6 = ((((l3 = (((l3 >>> 12) | ((l3 << 2) & 16128)) | ((l3 << 16) & 4128768)) | 8421600) & 0xffffffffL) * 953497L) >>> 22L) & 1016L), 66852)) != l3) { break L3; }
-       l2 = b[((int) (l6 + 66856L)) - 60720] & 0xff;
+       l2 = b[((int) (l6 + 66856L)) - 60448] & 0xff;
        break L5;
       }
       l2 = 0;
@@ -5058,8 +5058,8 @@ static int f108(State m, long l0, long l1) {
     L4: {
      L5: {
       if (l1 + Long.MIN_VALUE < -9223372036854775805L) { break L5; }
-      if (((l2 = b[((int) l0) - 60720] & 0xff) & 240) != 224) { break L4; }
-      final int t6 = b[((int) ((l0 = ((((l3 = (((b[((int) l0) - 60719] & 0xff) << 8) | ((b[((int) l0) - 60718] & 0xff) << 16)) | l2) & 0xffffffffL) * 953497L) >>> 22L) & 1016L) + 66856L)) - 60720] & 0xff;
+      if (((l2 = b[((int) l0) - 60448] & 0xff) & 240) != 224) { break L4; }
+      final int t6 = b[((int) ((l0 = ((((l3 = (((b[((int) l0) - 60447] & 0xff) << 8) | ((b[((int) l0) - 60446] & 0xff) << 16)) | l2) & 0xffffffffL) * 953497L) >>> 22L) & 1016L) + 66856L)) - 60448] & 0xff;
       final int t7 = (Words.get32(b, State.far((int) l0, 66852)) == l3) ? 1 : 0;
       l3 = t7 != 0 ? t6 : 2;
       break L3;
@@ -5070,28 +5070,28 @@ static int f108(State m, long l0, long l1) {
       l3 = 0;
       break L2;
      }
-     l2 = b[((int) l0) - 60720] & 0xff;
+     l2 = b[((int) l0) - 60448] & 0xff;
     }
     l3 = l2 & 255;
     L9: {
      if (((int) (byte) l2) > -1) { break L9; }
-     l4 = (b[((int) l0) - 60719] & 0xff) & 63;
+     l4 = (b[((int) l0) - 60447] & 0xff) & 63;
      L10: {
       if ((l2 & 255) + Integer.MIN_VALUE > -2147483425) { break L10; }
       l3 = ((l3 << 6) & 1984) | l4;
       break L9;
      }
-     l5 = (b[((int) l0) - 60718] & 0xff) & 63;
+     l5 = (b[((int) l0) - 60446] & 0xff) & 63;
      L11: {
       if ((l2 & 255) + Integer.MIN_VALUE > -2147483409) { break L11; }
       l3 = ((l4 << 6) | ((l3 << 12) & 61440)) | l5;
       break L9;
      }
-     l3 = ((l5 << 6) | ((l4 << 12) | ((l3 << 18) & 1835008))) | ((b[((int) l0) - 60717] & 0xff) & 63);
+     l3 = ((l5 << 6) | ((l4 << 12) | ((l3 << 18) & 1835008))) | ((b[((int) l0) - 60445] & 0xff) & 63);
     }
     L12: {
      if ((l3 + -2048) + Integer.MIN_VALUE > -2147420161) { break L12; }
-     final int t13 = b[((int) ((l0 = ((((l3 = (((l3 >>> 12) | ((l3 << 2) & 16128)) | ((l3 << 16) & 4128768)) | 8421600) & 0xffffffffL) * 953497L) >>> 22L) & 1016L) + 66856L)) - 60720] & 0xff;
+     final int t13 = b[((int) ((l0 = ((((l3 = (((l3 >>> 12) | ((l3 << 2) & 16128)) | ((l3 << 16) & 4128768)) | 8421600) & 0xffffffffL) * 953497L) >>> 22L) & 1016L) + 66856L)) - 60448] & 0xff;
      final int t14 = (Words.get32(b, State.far((int) l0, 66852)) == l3) ? 1 : 0;
      l3 = t14 != 0 ? t13 : 2;
      break L3;
@@ -5125,8 +5125,8 @@ static int f109(State m, long l0, long l1) {
       L6: {
        L7: {
         if (l1 + Long.MIN_VALUE < -9223372036854775805L) { break L7; }
-        if (((l4 = b[((int) l0) - 60720] & 0xff) & 240) != 224) { break L6; }
-        final int t8 = b[((int) ((l2 = ((((l7 = (((l5 = b[((int) l0) - 60719] & 0xff) << 8) | ((l6 = b[((int) l0) - 60718] & 0xff) << 16)) | l4) & 0xffffffffL) * 953497L) >>> 22L) & 1016L) + 66856L)) - 60720] & 0xff;
+        if (((l4 = b[((int) l0) - 60448] & 0xff) & 240) != 224) { break L6; }
+        final int t8 = b[((int) ((l2 = ((((l7 = (((l5 = b[((int) l0) - 60447] & 0xff) << 8) | ((l6 = b[((int) l0) - 60446] & 0xff) << 16)) | l4) & 0xffffffffL) * 953497L) >>> 22L) & 1016L) + 66856L)) - 60448] & 0xff;
         final int t9 = (Words.get32(b, State.far((int) l2, 66852)) == l7) ? 1 : 0;
         l7 = t9 != 0 ? t8 : 2;
         l5 = ((l6 + (l5 << 6)) + (l4 << 12)) + -925824;
@@ -5135,34 +5135,34 @@ static int f109(State m, long l0, long l1) {
         break L5;
        }
        if (l1 == 0L) { break L3; }
-       l4 = b[((int) l0) - 60720] & 0xff;
+       l4 = b[((int) l0) - 60448] & 0xff;
       }
       l5 = l4 & 255;
       l2 = 1L;
       L10: {
        if (((int) (byte) l4) > -1) { break L10; }
-       l7 = (b[((int) l0) - 60719] & 0xff) & 63;
+       l7 = (b[((int) l0) - 60447] & 0xff) & 63;
        L11: {
         if ((l4 & 255) + Integer.MIN_VALUE > -2147483425) { break L11; }
         l5 = ((l5 << 6) & 1984) | l7;
         l2 = 2L;
         break L10;
        }
-       l6 = (b[((int) l0) - 60718] & 0xff) & 63;
+       l6 = (b[((int) l0) - 60446] & 0xff) & 63;
        L12: {
         if ((l4 & 255) + Integer.MIN_VALUE > -2147483409) { break L12; }
         l5 = ((l7 << 6) | ((l5 << 12) & 61440)) | l6;
         l2 = 3L;
         break L10;
        }
-       l5 = ((l6 << 6) | ((l7 << 12) | ((l5 << 18) & 1835008))) | ((b[((int) l0) - 60717] & 0xff) & 63);
+       l5 = ((l6 << 6) | ((l7 << 12) | ((l5 << 18) & 1835008))) | ((b[((int) l0) - 60445] & 0xff) & 63);
        l2 = 4L;
       }
       l1 = l1 - l2;
       l0 = l0 + l2;
       L13: {
        if ((l5 + -2048) + Integer.MIN_VALUE > -2147420161) { break L13; }
-       final int t14 = b[((int) ((l2 = ((((l4 = (((l5 >>> 12) | ((l5 << 2) & 16128)) | ((l5 << 16) & 4128768)) | 8421600) & 0xffffffffL) * 953497L) >>> 22L) & 1016L) + 66856L)) - 60720] & 0xff;
+       final int t14 = b[((int) ((l2 = ((((l4 = (((l5 >>> 12) | ((l5 << 2) & 16128)) | ((l5 << 16) & 4128768)) | 8421600) & 0xffffffffL) * 953497L) >>> 22L) & 1016L) + 66856L)) - 60448] & 0xff;
        final int t15 = (Words.get32(b, State.far((int) l2, 66852)) == l4) ? 1 : 0;
        l7 = t15 != 0 ? t14 : 2;
        break L5;
@@ -5179,36 +5179,36 @@ static int f109(State m, long l0, long l1) {
       L18: {
        L19: {
         if (l1 + Long.MIN_VALUE < -9223372036854775805L) { break L19; }
-        if (((l7 = b[((int) l0) - 60720] & 0xff) & 240) != 224) { break L18; }
-        final int t20 = b[((int) ((l2 = ((((l6 = (((l4 = b[((int) l0) - 60719] & 0xff) << 8) | ((l8 = b[((int) l0) - 60718] & 0xff) << 16)) | l7) & 0xffffffffL) * 953497L) >>> 22L) & 1016L) + 66856L)) - 60720] & 0xff;
+        if (((l7 = b[((int) l0) - 60448] & 0xff) & 240) != 224) { break L18; }
+        final int t20 = b[((int) ((l2 = ((((l6 = (((l4 = b[((int) l0) - 60447] & 0xff) << 8) | ((l8 = b[((int) l0) - 60446] & 0xff) << 16)) | l7) & 0xffffffffL) * 953497L) >>> 22L) & 1016L) + 66856L)) - 60448] & 0xff;
         final int t21 = (Words.get32(b, State.far((int) l2, 66852)) == l6) ? 1 : 0;
         l6 = t21 != 0 ? t20 : 2;
         l4 = ((l8 + (l4 << 6)) + (l7 << 12)) + -925824;
         break L17;
        }
        if (l1 == 0L) { continue L4; }
-       l7 = b[((int) l0) - 60720] & 0xff;
+       l7 = b[((int) l0) - 60448] & 0xff;
       }
       l4 = l7 & 255;
       L22: {
        if (((int) (byte) l7) > -1) { break L22; }
-       l6 = (b[((int) l0) - 60719] & 0xff) & 63;
+       l6 = (b[((int) l0) - 60447] & 0xff) & 63;
        L23: {
         if ((l7 & 255) + Integer.MIN_VALUE > -2147483425) { break L23; }
         l4 = ((l4 << 6) & 1984) | l6;
         break L22;
        }
-       l8 = (b[((int) l0) - 60718] & 0xff) & 63;
+       l8 = (b[((int) l0) - 60446] & 0xff) & 63;
        L24: {
         if ((l7 & 255) + Integer.MIN_VALUE > -2147483409) { break L24; }
         l4 = ((l6 << 6) | ((l4 << 12) & 61440)) | l8;
         break L22;
        }
-       l4 = ((l8 << 6) | ((l6 << 12) | ((l4 << 18) & 1835008))) | ((b[((int) l0) - 60717] & 0xff) & 63);
+       l4 = ((l8 << 6) | ((l6 << 12) | ((l4 << 18) & 1835008))) | ((b[((int) l0) - 60445] & 0xff) & 63);
       }
       L25: {
        if ((l4 + -2048) + Integer.MIN_VALUE > -2147420161) { break L25; }
-       final int t26 = b[((int) ((l2 = ((((l7 = (((l4 >>> 12) | ((l4 << 2) & 16128)) | ((l4 << 16) & 4128768)) | 8421600) & 0xffffffffL) * 953497L) >>> 22L) & 1016L) + 66856L)) - 60720] & 0xff;
+       final int t26 = b[((int) ((l2 = ((((l7 = (((l4 >>> 12) | ((l4 << 2) & 16128)) | ((l4 << 16) & 4128768)) | 8421600) & 0xffffffffL) * 953497L) >>> 22L) & 1016L) + 66856L)) - 60448] & 0xff;
        final int t27 = (Words.get32(b, State.far((int) l2, 66852)) == l7) ? 1 : 0;
        l6 = t27 != 0 ? t26 : 2;
        break L17;
@@ -5223,18 +5223,18 @@ static int f109(State m, long l0, long l1) {
     }
     Core2.f63(m, l3 + 24L, l5);
     if ((l5 + -58) + Integer.MIN_VALUE > 2147483637) { break L3; }
-    if (((b[((int) l3) - 60696] & 0xff) & 255) != 1) { break L3; }
+    if (((b[((int) l3) - 60424] & 0xff) & 255) != 1) { break L3; }
     Core2.f63(m, l3 + 16L, l4);
     if ((l4 + -58) + Integer.MIN_VALUE > 2147483637) { break L3; }
-    if (((b[((int) l3) - 60704] & 0xff) & 255) != 1) { break L3; }
+    if (((b[((int) l3) - 60432] & 0xff) & 255) != 1) { break L3; }
     Core2.f63(m, l3 + 8L, l5);
-    l5 = b[((int) l3) - 60711] & 0xff;
-    l7 = b[((int) l3) - 60712] & 0xff;
+    l5 = b[((int) l3) - 60439] & 0xff;
+    l7 = b[((int) l3) - 60440] & 0xff;
     Core2.f63(m, l3, l4);
-    if (((l7 & (b[((int) l3) - 60720] & 0xff)) & 255) == 0) { break L3; }
+    if (((l7 & (b[((int) l3) - 60448] & 0xff)) & 255) == 0) { break L3; }
     if ((l4 = l5 & 255) == 0) { break L3; }
     L29: {
-     if ((l7 = (b[((int) l3) - 60719] & 0xff) & 255) == ((l5 + 1) & 255)) { break L29; }
+     if ((l7 = (b[((int) l3) - 60447] & 0xff) & 255) == ((l5 + 1) & 255)) { break L29; }
      if (!((l4 == 3) & (l7 == 5))) { break L3; }
     }
     L30: while (true) {
@@ -5242,8 +5242,8 @@ static int f109(State m, long l0, long l1) {
       L32: {
        L33: {
         if (l1 + Long.MIN_VALUE < -9223372036854775805L) { break L33; }
-        if (((l4 = b[((int) l0) - 60720] & 0xff) & 240) != 224) { break L32; }
-        final int t34 = b[((int) ((l2 = ((((l7 = (((l5 = b[((int) l0) - 60719] & 0xff) << 8) | ((l6 = b[((int) l0) - 60718] & 0xff) << 16)) | l4) & 0xffffffffL) * 953497L) >>> 22L) & 1016L) + 66856L)) - 60720] & 0xff;
+        if (((l4 = b[((int) l0) - 60448] & 0xff) & 240) != 224) { break L32; }
+        final int t34 = b[((int) ((l2 = ((((l7 = (((l5 = b[((int) l0) - 60447] & 0xff) << 8) | ((l6 = b[((int) l0) - 60446] & 0xff) << 16)) | l4) & 0xffffffffL) * 953497L) >>> 22L) & 1016L) + 66856L)) - 60448] & 0xff;
         final int t35 = (Words.get32(b, State.far((int) l2, 66852)) == l7) ? 1 : 0;
         l7 = t35 != 0 ? t34 : 2;
         l4 = (((l4 << 12) | l6) + (l5 << 6)) + -925824;
@@ -5256,33 +5256,33 @@ static int f109(State m, long l0, long l1) {
         l5 = 1;
         break L2;
        }
-       l4 = b[((int) l0) - 60720] & 0xff;
+       l4 = b[((int) l0) - 60448] & 0xff;
       }
       l2 = 1L;
       L37: {
        if (((int) (byte) l4) > -1) { break L37; }
-       l5 = (b[((int) l0) - 60719] & 0xff) & 63;
+       l5 = (b[((int) l0) - 60447] & 0xff) & 63;
        L38: {
         if (l4 + Integer.MIN_VALUE > -2147483425) { break L38; }
         l4 = ((l4 << 6) & 1984) | l5;
         l2 = 2L;
         break L37;
        }
-       l7 = (b[((int) l0) - 60718] & 0xff) & 63;
+       l7 = (b[((int) l0) - 60446] & 0xff) & 63;
        L39: {
         if (l4 + Integer.MIN_VALUE > -2147483409) { break L39; }
         l4 = ((l5 << 6) | ((l4 << 12) & 61440)) | l7;
         l2 = 3L;
         break L37;
        }
-       l4 = ((l7 << 6) | ((l5 << 12) | ((l4 << 18) & 1835008))) | ((b[((int) l0) - 60717] & 0xff) & 63);
+       l4 = ((l7 << 6) | ((l5 << 12) | ((l4 << 18) & 1835008))) | ((b[((int) l0) - 60445] & 0xff) & 63);
        l2 = 4L;
       }
       l1 = l1 - l2;
       l0 = l0 + l2;
       L40: {
        if ((l4 + -2048) + Integer.MIN_VALUE > -2147420161) { break L40; }
-       final int t41 = b[((int) ((l2 = ((((l5 = (((l4 >>> 12) | ((l4 << 2) & 16128)) | ((l4 << 16) & 4128768)) | 8421600) & 0xffffffffL) * 953497L) >>> 22L) & 1016L) + 66856L)) - 60720] & 0xff;
+       final int t41 = b[((int) ((l2 = ((((l5 = (((l4 >>> 12) | ((l4 << 2) & 16128)) | ((l4 << 16) & 4128768)) | 8421600) & 0xffffffffL) * 953497L) >>> 22L) & 1016L) + 66856L)) - 60448] & 0xff;
        final int t42 = (Words.get32(b, State.far((int) l2, 66852)) == l5) ? 1 : 0;
        l7 = t42 != 0 ? t41 : 2;
        break L31;
@@ -5300,35 +5300,35 @@ static int f109(State m, long l0, long l1) {
       L45: {
        L46: {
         if (l1 + Long.MIN_VALUE < -9223372036854775805L) { break L46; }
-        if (((l5 = b[((int) l0) - 60720] & 0xff) & 240) != 224) { break L45; }
-        final int t47 = b[((int) ((l2 = ((((l4 = (((l7 = b[((int) l0) - 60719] & 0xff) << 8) | ((l6 = b[((int) l0) - 60718] & 0xff) << 16)) | l5) & 0xffffffffL) * 953497L) >>> 22L) & 1016L) + 66856L)) - 60720] & 0xff;
+        if (((l5 = b[((int) l0) - 60448] & 0xff) & 240) != 224) { break L45; }
+        final int t47 = b[((int) ((l2 = ((((l4 = (((l7 = b[((int) l0) - 60447] & 0xff) << 8) | ((l6 = b[((int) l0) - 60446] & 0xff) << 16)) | l5) & 0xffffffffL) * 953497L) >>> 22L) & 1016L) + 66856L)) - 60448] & 0xff;
         final int t48 = (Words.get32(b, State.far((int) l2, 66852)) == l4) ? 1 : 0;
         l4 = t48 != 0 ? t47 : 2;
         l5 = (((l5 << 12) | l6) + (l7 << 6)) + -925824;
         break L44;
        }
        if (l1 == 0L) { continue L30; }
-       l5 = b[((int) l0) - 60720] & 0xff;
+       l5 = b[((int) l0) - 60448] & 0xff;
       }
       L49: {
        if (((int) (byte) l5) > -1) { break L49; }
-       l4 = (b[((int) l0) - 60719] & 0xff) & 63;
+       l4 = (b[((int) l0) - 60447] & 0xff) & 63;
        L50: {
         if (l5 + Integer.MIN_VALUE > -2147483425) { break L50; }
         l5 = ((l5 << 6) & 1984) | l4;
         break L49;
        }
-       l7 = (b[((int) l0) - 60718] & 0xff) & 63;
+       l7 = (b[((int) l0) - 60446] & 0xff) & 63;
        L51: {
         if (l5 + Integer.MIN_VALUE > -2147483409) { break L51; }
         l5 = ((l4 << 6) | ((l5 << 12) & 61440)) | l7;
         break L49;
        }
-       l5 = ((l7 << 6) | ((l4 << 12) | ((l5 << 18) & 1835008))) | ((b[((int) l0) - 60717] & 0xff) & 63);
+       l5 = ((l7 << 6) | ((l4 << 12) | ((l5 << 18) & 1835008))) | ((b[((int) l0) - 60445] & 0xff) & 63);
       }
       L52: {
        if ((l5 + -2048) + Integer.MIN_VALUE > -2147420161) { break L52; }
-       final int t53 = b[((int) ((l2 = ((((l4 = (((l5 >>> 12) | ((l5 << 2) & 16128)) | ((l5 << 16) & 4128768)) | 8421600) & 0xffffffffL) * 953497L) >>> 22L) & 1016L) + 66856L)) - 60720] & 0xff;
+       final int t53 = b[((int) ((l2 = ((((l4 = (((l5 >>> 12) | ((l5 << 2) & 16128)) | ((l5 << 16) & 4128768)) | 8421600) & 0xffffffffL) * 953497L) >>> 22L) & 1016L) + 66856L)) - 60448] & 0xff;
        final int t54 = (Words.get32(b, State.far((int) l2, 66852)) == l4) ? 1 : 0;
        l4 = t54 != 0 ? t53 : 2;
        break L44;
@@ -5349,231 +5349,543 @@ static int f109(State m, long l0, long l1) {
  throw State.trap();
 }
 
-static int f110_1(State m, long l2, long l8, long l12, long l22, long l25, long l26, long l27, int l29, int l31, int l32, int l33, int l39) {
+static int f110_1(State m, long l8, long l13, long l14, long l15, long l16, long l17, long l18, long l23, long l24, long l25, long l26, long l27, long l28, long l29, long l30, long l31, long l32, long l33, long l34, long l35, long l36, long l37, long l38, long l39, long l40, long l41, int l42, int l43, int l44, int l45, int l46, int l47, int l48, int l49, int l50, int l51) {
  final byte[] b = m.bytes;
  int exit = 0;
  PART: {
-  L22: {
-   L23: {
-    L24: {
-     L25: {
-      L26: {
-       L27: {
-        L28: {
-         L29: {
-          L30: {
-           L31: {
-            L32: {
-             if (l2 + Long.MIN_VALUE < -9223372036854775805L) { break L32; }
-             if (((l32 = b[((int) ((l27 = l22 + l2) + -3L)) - 60720] & 0xff) & 240) != 224) { break L31; }
-             l29 = (((l32 << 12) | (l33 = b[((int) (l27 + -1L)) - 60720] & 0xff)) + ((l31 = b[((int) (l27 + -2L)) - 60720] & 0xff) << 6)) + -925824;
-             l27 = l2 + -3L;
-             if (Words.get32(b, ((int) ((l26 = ((((l32 = ((l31 << 8) | (l33 << 16)) | l32) & 0xffffffffL) * 953497L) >>> 22L) & 1016L) + 66852L)) - 60720) == l32) { break L30; }
-             break L28;
-            }
-            if (l2 == 0L) { break L23; }
-           }
-           l32 = 0;
-           if ((l29 = (int) b[((int) (l22 + (l27 = l2 + -1L))) - 60720]) >= 0) { break L29; }
-           l27 = -2L;
-           L33: {
-            if ((b[((int) ((l26 = l22 + l2) + -2L)) - 60720] & 0xff) + Integer.MIN_VALUE > -2147483457) { break L33; }
-            l27 = ((b[((int) (l26 + -3L)) - 60720] & 0xff) + Integer.MIN_VALUE > -2147483457) ? -3L : -4L;
-           }
-           l29 = (l33 = (int) b[((int) (l26 = l22 + (l27 = l27 + l2))) - 60720]) & 255;
-           if (l33 > -1) { break L29; }
-           l31 = (b[((int) l26) - 60719] & 0xff) & 63;
-           L34: {
-            if (l33 + Integer.MIN_VALUE > 2147483615) { break L34; }
-            l29 = ((l29 << 6) & 1984) | l31;
-            break L29;
-           }
-           l39 = (b[((int) l26) - 60718] & 0xff) & 63;
-           L35: {
-            L36: {
-             if (l33 + Integer.MIN_VALUE > 2147483631) { break L36; }
-             l29 = ((l31 << 6) | ((l29 << 12) & 61440)) | l39;
-             break L35;
-            }
-            l29 = ((l39 << 6) | ((l31 << 12) | ((l29 << 18) & 1835008))) | ((b[((int) l26) - 60717] & 0xff) & 63);
-           }
-           if ((l29 + -2048) + Integer.MIN_VALUE > -2147420161) { break L29; }
-           if (Words.get32(b, ((int) ((l26 = ((((l32 = (((l29 >>> 12) | ((l29 << 2) & 16128)) | ((l29 << 16) & 4128768)) | 8421600) & 0xffffffffL) * 953497L) >>> 22L) & 1016L) + 66852L)) - 60720) != l32) { break L27; }
-          }
-          if ((b[((int) (l26 + 66856L)) - 60720] & 0xff) != 0) { break L28; }
-          break L25;
-         }
-         if ((l29 + -48) + Integer.MIN_VALUE >= -2147483638) { break L28; }
-         l31 = 1;
-         break L22;
-        }
-        if (l29 + Integer.MIN_VALUE > -2147483521) { break L27; }
-        l31 = 1;
-        l32 = 0;
-        if (l29 == 95) { break L22; }
-        if ((l29 + -44) + Integer.MIN_VALUE < -2147483645) { break L26; }
-        if ((l29 + -48) + Integer.MIN_VALUE < -2147483638) { break L22; }
-        if (((l29 & 95) + -65) + Integer.MIN_VALUE >= -2147483622) { break L23; }
-        break L22;
-       }
-       l31 = 0;
-       l32 = 1;
-       L37: {
-        L38: {
-         if (l29 > 24185) { break L38; }
-         L39: {
-          if (l29 > 21316) { break L39; }
-          L40: {
-           if (l29 > 20959) { break L40; }
-           if (l29 == 20313) { break L23; }
-           if (l29 == 20358) { break L23; }
-           break L37;
-          }
-          if (l29 == 20960) { break L22; }
-          if (l29 == 20986) { break L23; }
-          break L37;
-         }
-         L41: {
-          switch (l29 + -21317) {
-          case 0: case 7: break L25;
-          case 1: case 2: case 3: case 4: case 5: case 6: break L37;
-          default: break L41;
-          }
-         }
-         if (l29 == 22810) { break L23; }
-         if (l29 == 22909) { break L23; }
-         break L37;
-        }
-        L42: {
-         if (l29 > 26468) { break L42; }
-         L43: {
-          switch (l29 + -24186) {
-          case 0: break L25;
-          case 1: case 2: case 3: break L37;
-          case 4: break L22;
-          default: break L43;
-          }
-         }
-         L44: {
-          switch (l29 + -25968) {
-          case 0: case 8: break L22;
-          case 1: case 2: case 3: case 4: case 5: case 6: case 7: break L37;
-          default: break L44;
-          }
-         }
-         if (l29 == 24319) { break L25; }
-         break L37;
-        }
-        L45: {
-         if (l29 > 39191) { break L45; }
-         if (l29 == 26469) { break L23; }
-         if (l29 != 28857) { break L37; }
-         break L26;
-        }
-        if (l29 == 39192) { break L23; }
-        if (l29 == 40670) { break L26; }
-       }
-       if ((l29 + -65296) + Integer.MIN_VALUE > -2147483639) { break L23; }
-       break L25;
-      }
-      Words.put64(b, ((int) l8) - 60552, 0L);
-      Words.put64(b, ((int) l8) - 60560, 0L);
-      Words.put64(b, ((int) l8) - 60568, 0L);
-      Words.put64(b, ((int) l8) - 60576, 0L);
-      L46: {
-       L47: {
-        L48: {
-         L49: {
-          L50: {
-           L51: {
-            if (l27 + Long.MIN_VALUE < -9223372036854775805L) { break L51; }
-            if (((l29 = b[((int) ((l26 = l22 + l27) + -3L)) - 60720] & 0xff) & 240) != 224) { break L50; }
-            Words.put64(b, ((int) l8) - 60560, l22);
-            Words.put64(b, ((int) l8) - 60576, 1L);
-            Words.put64(b, ((int) l8) - 60552, l27 + -3L);
-            Words.put32(b, ((int) l8) - 60568, (((l29 << 12) | (l32 = b[((int) (l26 + -1L)) - 60720] & 0xff)) + ((l33 = b[((int) (l26 + -2L)) - 60720] & 0xff) << 6)) + -925824);
-            final int t52 = (int) l8;
-            final int t53 = b[((int) ((l27 = ((((l29 = ((l33 << 8) | (l32 << 16)) | l29) & 0xffffffffL) * 953497L) >>> 22L) & 1016L) + 66857L)) - 60720] & 0xff;
-            final int t54 = l29 = (Words.get32(b, State.far((int) l27, 66852)) == l29) ? 1 : 0;
-            b[t52 - 60563] = (byte) (t54 != 0 ? t53 : 0);
-            final int t55 = (int) l8;
-            final int t56 = b[((int) (l27 + 66856L)) - 60720] & 0xff;
-            final int t57 = l29;
-            b[t55 - 60564] = (byte) (t57 != 0 ? t56 : 2);
-            break L46;
-           }
-           if (l27 == 0L) { break L49; }
-          }
-          if ((l29 = (int) b[((int) (l22 + (l26 = l27 + -1L))) - 60720]) >= 0) { break L48; }
-          l26 = -2L;
-          L58: {
-           if ((b[((int) ((l25 = l22 + l27) + -2L)) - 60720] & 0xff) + Integer.MIN_VALUE > -2147483457) { break L58; }
-           l26 = ((b[((int) (l25 + -3L)) - 60720] & 0xff) + Integer.MIN_VALUE > -2147483457) ? -3L : -4L;
-          }
-          l29 = (l32 = (int) b[((int) (l27 = l22 + (l26 = l26 + l27))) - 60720]) & 255;
-          if (l32 > -1) { break L48; }
-          l33 = (b[((int) l27) - 60719] & 0xff) & 63;
-          L59: {
-           if (l32 + Integer.MIN_VALUE > 2147483615) { break L59; }
-           l29 = ((l29 << 6) & 1984) | l33;
-           break L48;
-          }
-          l31 = (b[((int) l27) - 60718] & 0xff) & 63;
-          L60: {
-           L61: {
-            if (l32 + Integer.MIN_VALUE > 2147483631) { break L61; }
-            l29 = ((l33 << 6) | ((l29 << 12) & 61440)) | l31;
-            break L60;
-           }
-           l29 = ((l31 << 6) | ((l33 << 12) | ((l29 << 18) & 1835008))) | ((b[((int) l27) - 60717] & 0xff) & 63);
-          }
-          if ((l29 + -2048) + Integer.MIN_VALUE > -2147420161) { break L48; }
-          final int t62 = b[((int) ((l27 = ((((l32 = (((l29 >>> 12) | ((l29 << 2) & 16128)) | ((l29 << 16) & 4128768)) | 8421600) & 0xffffffffL) * 953497L) >>> 22L) & 1016L) + 66857L)) - 60720] & 0xff;
-          final int t63 = l33 = (Words.get32(b, State.far((int) l27, 66852)) == l32) ? 1 : 0;
-          l32 = t63 != 0 ? t62 : 0;
-          final int t64 = b[((int) (l27 + 66856L)) - 60720] & 0xff;
-          final int t65 = l33;
-          l33 = t65 != 0 ? t64 : 2;
-          break L47;
-         }
-         Words.put64(b, ((int) l12) - 60720, 0L);
-         Words.put64(b, ((int) l12) - 60712, 0L);
-         Words.put64(b, ((int) l8) - 60570, 0L);
-         Words.put64(b, ((int) l8) - 60576, 0L);
-         break L46;
-        }
-        final int t66 = l32 = l29 + -48;
-        final int t67 = l33 = (l32 + Integer.MIN_VALUE < -2147483638) ? 1 : 0;
-        l32 = t67 != 0 ? t66 : 0;
-        l33 = l33 != 0 ? 0 : 2;
-       }
-       Words.put64(b, ((int) l8) - 60552, l26);
-       Words.put64(b, ((int) l8) - 60560, l22);
-       b[((int) l8) - 60563] = (byte) l32;
-       b[((int) l8) - 60564] = (byte) l33;
-       Words.put32(b, ((int) l8) - 60568, l29);
-       Words.put64(b, ((int) l8) - 60576, 1L);
-      }
-      l31 = f103(m, l8 + 144L);
-      break L24;
-     }
-     l31 = 1;
-    }
-    l32 = 0;
-    break L22;
+  L6: {
+   L7: {
+    if (l42 == 1) { break L7; }
+    l47 = 0;
+    l48 = 0;
+    l49 = 0;
+    l50 = 0;
+    l51 = 0;
+    break L6;
    }
-   l32 = 0;
-   l31 = 0;
+   l31 = Words.get64(b, ((int) l8) - 60128);
+   l32 = Words.get64(b, ((int) l8) - 60136);
+   l47 = 0;
+   l48 = 0;
+   l49 = 0;
+   l50 = 0;
+   l51 = 0;
+   L8: {
+    L9: {
+     L10: {
+      L11: {
+       L12: {
+        L13: {
+         L14: {
+          L15: {
+           switch (l45) {
+           case 1: break L14;
+           case 2: break L13;
+           case 3: break L6;
+           default: break L15;
+           }
+          }
+          l30 = 0L;
+          Words.put64(b, ((int) l8) - 60096, 0L);
+          l48 = 0;
+          Words.put32(b, ((int) l8) - 60088, 0);
+          f113(m, l8 + 352L, l46, l8 + 216L);
+          l43 = Words.get32(b, State.far((int) (((l46 & 0xffffffffL) & 255L) << 2L), 88816));
+          l47 = 2;
+          l49 = 0;
+          l50 = 0;
+          l51 = 0;
+          if ((b[((int) l8) - 60096] & 0xff) != 1) { break L6; }
+          Words.put32(b, ((int) l13) - 60448, Words.get32(b, ((int) l8) - 60232));
+          Words.put16(b, ((int) l13) - 60444, (short) (Words.get16(b, ((int) l8) - 60228) & 0xffff));
+          b[((int) l8) - 60223] = (byte) l46;
+          b[((int) l8) - 60224] = (byte) l44;
+          Words.put64(b, ((int) l8) - 60208, l28);
+          Words.put64(b, ((int) l8) - 60216, l27);
+          l46 = b[((int) l8) - 60085] & 0xff;
+          l51 = b[((int) l8) - 60086] & 0xff;
+          l45 = b[((int) l8) - 60087] & 0xff;
+          l50 = b[((int) l8) - 60088] & 0xff;
+          l49 = Words.get16(b, ((int) l8) - 60090) & 0xffff;
+          l48 = Words.get16(b, ((int) l8) - 60092) & 0xffff;
+          l42 = b[((int) l8) - 60093] & 0xff;
+          l29 = b[((int) l8) - 60094] & 0xffL;
+          l47 = f114(m, l23, l24, l8 + 224L, l25, l26);
+          L16: {
+           L17: {
+            L18: {
+             L19: {
+              L20: {
+               L21: {
+                L22: {
+                 L23: {
+                  switch ((int) l29) {
+                  case 1: case 8: break L17;
+                  case 2: break L22;
+                  case 3: break L21;
+                  case 4: break L20;
+                  case 5: break L16;
+                  case 6: break L18;
+                  case 7: break L19;
+                  default: break L23;
+                  }
+                 }
+                 l51 = ((((l42 = (l50 == 1) ? 1 : 0) != 0) ? 2 : 0) | (l50 = ((l48 & 255) == 1) ? 1 : 0)) | (((l44 = ((l51 & 255) == 1) ? 1 : 0) != 0) ? 4 : 0);
+                 l48 = l50 != 0 ? l49 : 0;
+                 l49 = (l42 != 0 ? l45 : 0) & 255;
+                 l50 = (l44 != 0 ? l46 : 0) & 255;
+                 break L6;
+                }
+                l49 = l48 & 255;
+                break L8;
+               }
+               l49 = l48 & 255;
+               break L8;
+              }
+              b[((int) l8) - 59984] = (byte) l42;
+              Words.put16(b, ((int) l8) - 59983, (short) l48);
+              f115(m, l8 + 8L, l44, l25, l26, l8 + 464L);
+              l49 = l48 & 255;
+              l50 = l48 >>> 8;
+              final int t24 = b[((int) l8) - 60439] & 0xff;
+              final int t25 = ((b[((int) l8) - 60440] & 0xff) == 1) ? 1 : 0;
+              l51 = (t25 != 0 ? t24 : -1) & 255;
+              l48 = l42;
+              break L6;
+             }
+             l50 = l49 >>> 8;
+             l51 = 0;
+             l49 = l49 & 255;
+             break L6;
+            }
+            l49 = 0;
+           }
+           l50 = 0;
+          }
+          l51 = 0;
+          break L6;
+         }
+         l30 = Words.get64(b, ((int) l8) - 60104);
+         Words.put32(b, ((int) l13) - 60448, Words.get32(b, ((int) l8) - 60232));
+         Words.put16(b, ((int) l13) - 60444, (short) (Words.get16(b, ((int) l8) - 60228) & 0xffff));
+         Words.put64(b, ((int) l18) - 60448, Words.get64(b, ((int) l8) - 60272));
+         Words.put64(b, ((int) l18) - 60440, Words.get64(b, ((int) l8) - 60264));
+         Words.put64(b, ((int) l18) - 60432, Words.get64(b, ((int) l8) - 60256));
+         Words.put64(b, ((int) l18) - 60424, Words.get64(b, ((int) l8) - 60248));
+         Words.put64(b, ((int) l18) - 60416, Words.get64(b, ((int) l8) - 60240));
+         b[((int) l8) - 60223] = (byte) l46;
+         b[((int) l8) - 60224] = (byte) l44;
+         Words.put64(b, ((int) l8) - 60200, l29);
+         Words.put64(b, ((int) l8) - 60208, l28);
+         Words.put64(b, ((int) l8) - 60216, l27);
+         Words.put64(b, ((int) l17) - 60448, Words.get64(b, ((int) l8) - 60288));
+         Words.put64(b, ((int) l17) - 60440, Words.get64(b, ((int) l8) - 60280));
+         Words.put32(b, ((int) l16) - 60448, Words.get32(b, ((int) l8) - 60232));
+         Words.put16(b, ((int) l16) - 60444, (short) (Words.get16(b, ((int) l8) - 60228) & 0xffff));
+         Words.put64(b, ((int) l15) - 60416, Words.get64(b, ((int) l8) - 60240));
+         Words.put64(b, ((int) l15) - 60424, Words.get64(b, ((int) l8) - 60248));
+         Words.put64(b, ((int) l15) - 60432, Words.get64(b, ((int) l8) - 60256));
+         Words.put64(b, ((int) l15) - 60440, Words.get64(b, ((int) l8) - 60264));
+         Words.put64(b, ((int) l15) - 60448, Words.get64(b, ((int) l8) - 60272));
+         Words.put64(b, ((int) l8) - 60144, l31);
+         Words.put64(b, ((int) l8) - 60152, l32);
+         Words.put64(b, ((int) l8) - 60120, l30);
+         b[((int) l8) - 60095] = (byte) l46;
+         b[((int) l8) - 60096] = (byte) l44;
+         Words.put64(b, ((int) l8) - 60088, l27);
+         Words.put64(b, ((int) l8) - 60080, l28);
+         Words.put64(b, ((int) l8) - 60072, l29);
+         Words.put64(b, ((int) l14) - 60448, Words.get64(b, ((int) l8) - 60288));
+         Words.put64(b, ((int) l14) - 60440, Words.get64(b, ((int) l8) - 60280));
+         Words.put64(b, ((int) l8) - 60016, l31);
+         Words.put64(b, ((int) l8) - 60024, l32);
+         Words.put64(b, ((int) l8) - 59992, l30);
+         l47 = Core4.f116(m, l23, l24, l8 + 352L);
+         l30 = 0L;
+         Words.put64(b, ((int) l8) - 59928, 0L);
+         Words.put64(b, ((int) l8) - 59936, 0L);
+         Words.put64(b, ((int) l8) - 59944, 0L);
+         Words.put64(b, ((int) l8) - 59952, 0L);
+         Words.put64(b, ((int) l8) - 59960, 0L);
+         Words.put64(b, ((int) l8) - 59968, 0L);
+         Words.put64(b, ((int) l8) - 59976, 0L);
+         Words.put64(b, ((int) l8) - 59984, 0L);
+         Core4.f117(m, l8 + 464L, l8 + 224L);
+         l51 = 0;
+         l50 = 0;
+         l33 = 0L;
+         if ((b[((int) l8) - 59984] & 0xff) != 1) { break L9; }
+         l33 = 0L;
+         final long t26 = l8 + 64L;
+         final long t27 = 0L - (l29 = Words.get64(b, ((int) l8) - 59968));
+         final long t28 = l29;
+         final int t29 = l42 = ((l28 = Words.get64(b, ((int) l8) - 59960)) < 0L) ? 1 : 0;
+         Core1.f3(m, t26, t29 != 0 ? t27 : t28, 0L, 100L, 0L);
+         final long t30 = l8 + 80L;
+         final long t31 = 0L - (l28 + ((l29 != 0L) ? 1L : 0L));
+         final long t32 = l28;
+         final int t33 = l42;
+         Core1.f3(m, t30, t33 != 0 ? t31 : t32, 0L, 100L, 0L);
+         L34: {
+          if ((Words.get64(b, ((int) l8) - 60360) + (((l34 = (l29 = Words.get64(b, ((int) l8) - 60376)) + Words.get64(b, ((int) l8) - 60368)) + Long.MIN_VALUE < l29 + Long.MIN_VALUE) ? 1L : 0L)) == 0L) { break L34; }
+          l50 = 0;
+          break L9;
+         }
+         l50 = 0;
+         if ((l42 = (((l35 = Words.get64(b, ((int) l8) - 59952)) | (l36 = Words.get64(b, ((int) l8) - 59944))) == 0L) ? 1 : 0) != 0) { break L9; }
+         l33 = 0L;
+         final long t35 = l34;
+         final int t36 = l42 | ((((l37 = Words.get64(b, ((int) l8) - 60384) & -4L) | l34) == 0L) ? 1 : 0);
+         final long t37 = (long) Long.numberOfLeadingZeros(l36);
+         final long t38 = ((long) Long.numberOfLeadingZeros(l35)) + 64L;
+         final int t39 = (l36 != 0L) ? 1 : 0;
+         final long t40 = l29 = t39 != 0 ? t37 : t38;
+         final long t41 = (long) Long.numberOfLeadingZeros(l34);
+         final long t42 = ((long) Long.numberOfLeadingZeros(l37)) + 64L;
+         final int t43 = (l34 != 0L) ? 1 : 0;
+         final int t44 = ((l26 = t40 - (l28 = t43 != 0 ? t41 : t42)) + Long.MIN_VALUE > -9223372036854775681L) ? 1 : 0;
+         final int t45 = ((l25 = 0L - ((l29 + Long.MIN_VALUE < l28 + Long.MIN_VALUE) ? 1L : 0L)) != 0L) ? 1 : 0;
+         final int t46 = (l25 == 0L) ? 1 : 0;
+         l28 = ((l42 = t36 | (t46 != 0 ? t44 : t45)) != 0) ? 0L : t35;
+         l29 = l42 != 0 ? 0L : l37;
+         if (l42 != 0) { break L10; }
+         if (((l26 ^ 127L) | l25) == 0L) { break L10; }
+         Core1.f4(m, l8 + 48L, l37, l34, 127 - ((int) l26));
+         l27 = Words.get64(b, ((int) l8) - 60392);
+         l29 = Words.get64(b, ((int) l8) - 60400);
+         if (((l28 = l26 + 1L) | (l31 = l25 + ((l28 == 0L) ? 1L : 0L))) == 0L) { break L12; }
+         Core1.f5(m, l8 + 32L, l37, l34, (int) l28);
+         l38 = l35 + -1L;
+         l39 = l36 - ((l35 == 0L) ? 1L : 0L);
+         l32 = Words.get64(b, ((int) l8) - 60408);
+         l25 = Words.get64(b, ((int) l8) - 60416);
+         l26 = 0L;
+         L47: while (true) {
+          l40 = l26;
+          l32 = ((l26 = (l32 << 1L) | (l25 >>> 63L)) - ((l26 = ((l39 - l26) - ((l38 + Long.MIN_VALUE < (l25 = (l25 << 1L) | (l27 >>> 63L)) + Long.MIN_VALUE) ? 1L : 0L)) >> 63L) & l36)) - ((l25 + Long.MIN_VALUE < (l41 = l26 & l35) + Long.MIN_VALUE) ? 1L : 0L);
+          l26 = l26 & 1L;
+          l25 = l25 - l41;
+          l27 = 0L | ((l27 << 1L) | (l29 >>> 63L));
+          l42 = (l28 == 0L) ? 1 : 0;
+          l29 = l40 | (l29 << 1L);
+          l28 = l40 = l28 + -1L;
+          if (!((l40 | (l31 = l31 - (l42 & 0xffffffffL))) == 0L)) { continue L47; }
+          break L11;
+         }
+        }
+        l48 = 0;
+        m.fill((int) (l8 + 224L), 0, (int) 112L);
+        Core2.f72(m, l8 + 224L, l28, l29, l32, l31);
+        l47 = 2;
+        L48: {
+         if ((b[((int) l8) - 60224] & 0xff) != 1) { break L48; }
+         Words.put32(b, ((int) l16) - 60448, Words.get32(b, ((int) l8) - 60232));
+         Words.put16(b, ((int) l16) - 60444, (short) (Words.get16(b, ((int) l8) - 60228) & 0xffff));
+         Words.put64(b, ((int) l15) - 60448, Words.get64(b, ((int) l8) - 60272));
+         Words.put64(b, ((int) l15) - 60440, Words.get64(b, ((int) l8) - 60264));
+         Words.put64(b, ((int) l15) - 60432, Words.get64(b, ((int) l8) - 60256));
+         Words.put64(b, ((int) l15) - 60424, Words.get64(b, ((int) l8) - 60248));
+         Words.put64(b, ((int) l15) - 60416, Words.get64(b, ((int) l8) - 60240));
+         b[((int) l8) - 60095] = (byte) l46;
+         b[((int) l8) - 60096] = (byte) l44;
+         Words.put64(b, ((int) l8) - 60072, l29);
+         Words.put64(b, ((int) l8) - 60080, l28);
+         Words.put64(b, ((int) l8) - 60088, l27);
+         Words.put64(b, ((int) l14) - 60448, Words.get64(b, ((int) l8) - 60288));
+         Words.put64(b, ((int) l14) - 60440, Words.get64(b, ((int) l8) - 60280));
+         Words.put64(b, ((int) l8) - 60016, l31);
+         Words.put64(b, ((int) l8) - 60024, l32);
+         l47 = Core4.f118(m, l8 + 352L);
+        }
+        l43 = 10;
+        l49 = 0;
+        l50 = 0;
+        l51 = 0;
+        l30 = l29;
+        break L6;
+       }
+       l26 = 0L;
+      }
+      l28 = (l27 << 1L) | (l29 >>> 63L);
+      l29 = l26 | (l29 << 1L);
+     }
+     Core1.f3(m, l8 + 16L, l29, l28, l35, l36);
+     l50 = 0;
+     if (((l37 - (l27 = Words.get64(b, ((int) l8) - 60432))) | ((l34 - Words.get64(b, ((int) l8) - 60424)) - ((l37 + Long.MIN_VALUE < l27 + Long.MIN_VALUE) ? 1L : 0L))) != 0L) { break L9; }
+     final long t49 = l29;
+     final int t50 = (l29 + Long.MIN_VALUE < -8223372036854775808L) ? 1 : 0;
+     final int t51 = (l28 == 0L) ? 1 : 0;
+     l33 = ((l50 = t51 != 0 ? t50 : 0) != 0) ? t49 : 0L;
+    }
+    final int t52 = (int) l33;
+    final int t53 = l50;
+    l48 = t53 != 0 ? t52 : 0;
+    final int t54 = (int) (l33 >>> 32L);
+    final int t55 = l50;
+    l49 = t55 != 0 ? t54 : 0;
+    l43 = 11;
+    break L6;
+   }
+   l50 = 0;
+   l48 = l42;
+   l51 = 0;
   }
  }
  m.kept[0] = l25;
  m.kept[1] = l26;
  m.kept[2] = l27;
- m.kept[3] = l29;
- m.kept[4] = l31;
- m.kept[5] = l32;
- m.kept[6] = l33;
- m.kept[7] = l39;
+ m.kept[3] = l28;
+ m.kept[4] = l29;
+ m.kept[5] = l30;
+ m.kept[6] = l31;
+ m.kept[7] = l32;
+ m.kept[8] = l33;
+ m.kept[9] = l34;
+ m.kept[10] = l35;
+ m.kept[11] = l36;
+ m.kept[12] = l37;
+ m.kept[13] = l38;
+ m.kept[14] = l39;
+ m.kept[15] = l40;
+ m.kept[16] = l41;
+ m.kept[17] = l42;
+ m.kept[18] = l43;
+ m.kept[19] = l44;
+ m.kept[20] = l45;
+ m.kept[21] = l46;
+ m.kept[22] = l47;
+ m.kept[23] = l48;
+ m.kept[24] = l49;
+ m.kept[25] = l50;
+ m.kept[26] = l51;
+ return exit;
+}
+
+static int f110_2(State m, long l8, long l12, long l23, long l24, long l27, long l28, long l29, int l42, int l44, int l45, int l46, int l52) {
+ final byte[] b = m.bytes;
+ int exit = 0;
+ PART: {
+  L57: {
+   L58: {
+    L59: {
+     L60: {
+      L61: {
+       L62: {
+        L63: {
+         L64: {
+          L65: {
+           L66: {
+            L67: {
+             if (l24 + Long.MIN_VALUE < -9223372036854775805L) { break L67; }
+             if (((l46 = b[((int) ((l29 = l23 + l24) + -3L)) - 60448] & 0xff) & 240) != 224) { break L66; }
+             l42 = (((l46 << 12) | (l45 = b[((int) (l29 + -1L)) - 60448] & 0xff)) + ((l44 = b[((int) (l29 + -2L)) - 60448] & 0xff) << 6)) + -925824;
+             l29 = l24 + -3L;
+             if (Words.get32(b, ((int) ((l28 = ((((l46 = ((l44 << 8) | (l45 << 16)) | l46) & 0xffffffffL) * 953497L) >>> 22L) & 1016L) + 66852L)) - 60448) == l46) { break L65; }
+             break L63;
+            }
+            if (l24 == 0L) { break L58; }
+           }
+           l46 = 0;
+           if ((l42 = (int) b[((int) (l23 + (l29 = l24 + -1L))) - 60448]) >= 0) { break L64; }
+           l29 = -2L;
+           L68: {
+            if ((b[((int) ((l28 = l23 + l24) + -2L)) - 60448] & 0xff) + Integer.MIN_VALUE > -2147483457) { break L68; }
+            l29 = ((b[((int) (l28 + -3L)) - 60448] & 0xff) + Integer.MIN_VALUE > -2147483457) ? -3L : -4L;
+           }
+           l42 = (l45 = (int) b[((int) (l28 = l23 + (l29 = l29 + l24))) - 60448]) & 255;
+           if (l45 > -1) { break L64; }
+           l44 = (b[((int) l28) - 60447] & 0xff) & 63;
+           L69: {
+            if (l45 + Integer.MIN_VALUE > 2147483615) { break L69; }
+            l42 = ((l42 << 6) & 1984) | l44;
+            break L64;
+           }
+           l52 = (b[((int) l28) - 60446] & 0xff) & 63;
+           L70: {
+            L71: {
+             if (l45 + Integer.MIN_VALUE > 2147483631) { break L71; }
+             l42 = ((l44 << 6) | ((l42 << 12) & 61440)) | l52;
+             break L70;
+            }
+            l42 = ((l52 << 6) | ((l44 << 12) | ((l42 << 18) & 1835008))) | ((b[((int) l28) - 60445] & 0xff) & 63);
+           }
+           if ((l42 + -2048) + Integer.MIN_VALUE > -2147420161) { break L64; }
+           if (Words.get32(b, ((int) ((l28 = ((((l46 = (((l42 >>> 12) | ((l42 << 2) & 16128)) | ((l42 << 16) & 4128768)) | 8421600) & 0xffffffffL) * 953497L) >>> 22L) & 1016L) + 66852L)) - 60448) != l46) { break L62; }
+          }
+          if ((b[((int) (l28 + 66856L)) - 60448] & 0xff) != 0) { break L63; }
+          break L60;
+         }
+         if ((l42 + -48) + Integer.MIN_VALUE >= -2147483638) { break L63; }
+         l44 = 1;
+         break L57;
+        }
+        if (l42 + Integer.MIN_VALUE > -2147483521) { break L62; }
+        l44 = 1;
+        l46 = 0;
+        if (l42 == 95) { break L57; }
+        if ((l42 + -44) + Integer.MIN_VALUE < -2147483645) { break L61; }
+        if ((l42 + -48) + Integer.MIN_VALUE < -2147483638) { break L57; }
+        if (((l42 & 95) + -65) + Integer.MIN_VALUE >= -2147483622) { break L58; }
+        break L57;
+       }
+       l44 = 0;
+       l46 = 1;
+       L72: {
+        L73: {
+         if (l42 > 24185) { break L73; }
+         L74: {
+          if (l42 > 21316) { break L74; }
+          L75: {
+           if (l42 > 20959) { break L75; }
+           if (l42 == 20313) { break L58; }
+           if (l42 == 20358) { break L58; }
+           break L72;
+          }
+          if (l42 == 20960) { break L57; }
+          if (l42 == 20986) { break L58; }
+          break L72;
+         }
+         L76: {
+          switch (l42 + -21317) {
+          case 0: case 7: break L60;
+          case 1: case 2: case 3: case 4: case 5: case 6: break L72;
+          default: break L76;
+          }
+         }
+         if (l42 == 22810) { break L58; }
+         if (l42 == 22909) { break L58; }
+         break L72;
+        }
+        L77: {
+         if (l42 > 26468) { break L77; }
+         L78: {
+          switch (l42 + -24186) {
+          case 0: break L60;
+          case 1: case 2: case 3: break L72;
+          case 4: break L57;
+          default: break L78;
+          }
+         }
+         L79: {
+          switch (l42 + -25968) {
+          case 0: case 8: break L57;
+          case 1: case 2: case 3: case 4: case 5: case 6: case 7: break L72;
+          default: break L79;
+          }
+         }
+         if (l42 == 24319) { break L60; }
+         break L72;
+        }
+        L80: {
+         if (l42 > 39191) { break L80; }
+         if (l42 == 26469) { break L58; }
+         if (l42 != 28857) { break L72; }
+         break L61;
+        }
+        if (l42 == 39192) { break L58; }
+        if (l42 == 40670) { break L61; }
+       }
+       if ((l42 + -65296) + Integer.MIN_VALUE > -2147483639) { break L58; }
+       break L60;
+      }
+      Words.put64(b, ((int) l8) - 60200, 0L);
+      Words.put64(b, ((int) l8) - 60208, 0L);
+      Words.put64(b, ((int) l8) - 60216, 0L);
+      Words.put64(b, ((int) l8) - 60224, 0L);
+      L81: {
+       L82: {
+        L83: {
+         L84: {
+          L85: {
+           L86: {
+            if (l29 + Long.MIN_VALUE < -9223372036854775805L) { break L86; }
+            if (((l42 = b[((int) ((l28 = l23 + l29) + -3L)) - 60448] & 0xff) & 240) != 224) { break L85; }
+            Words.put64(b, ((int) l8) - 60208, l23);
+            Words.put64(b, ((int) l8) - 60224, 1L);
+            Words.put64(b, ((int) l8) - 60200, l29 + -3L);
+            Words.put32(b, ((int) l8) - 60216, (((l42 << 12) | (l46 = b[((int) (l28 + -1L)) - 60448] & 0xff)) + ((l45 = b[((int) (l28 + -2L)) - 60448] & 0xff) << 6)) + -925824);
+            final int t87 = (int) l8;
+            final int t88 = b[((int) ((l29 = ((((l42 = ((l45 << 8) | (l46 << 16)) | l42) & 0xffffffffL) * 953497L) >>> 22L) & 1016L) + 66857L)) - 60448] & 0xff;
+            final int t89 = l42 = (Words.get32(b, State.far((int) l29, 66852)) == l42) ? 1 : 0;
+            b[t87 - 60211] = (byte) (t89 != 0 ? t88 : 0);
+            final int t90 = (int) l8;
+            final int t91 = b[((int) (l29 + 66856L)) - 60448] & 0xff;
+            final int t92 = l42;
+            b[t90 - 60212] = (byte) (t92 != 0 ? t91 : 2);
+            break L81;
+           }
+           if (l29 == 0L) { break L84; }
+          }
+          if ((l42 = (int) b[((int) (l23 + (l28 = l29 + -1L))) - 60448]) >= 0) { break L83; }
+          l28 = -2L;
+          L93: {
+           if ((b[((int) ((l27 = l23 + l29) + -2L)) - 60448] & 0xff) + Integer.MIN_VALUE > -2147483457) { break L93; }
+           l28 = ((b[((int) (l27 + -3L)) - 60448] & 0xff) + Integer.MIN_VALUE > -2147483457) ? -3L : -4L;
+          }
+          l42 = (l46 = (int) b[((int) (l29 = l23 + (l28 = l28 + l29))) - 60448]) & 255;
+          if (l46 > -1) { break L83; }
+          l45 = (b[((int) l29) - 60447] & 0xff) & 63;
+          L94: {
+           if (l46 + Integer.MIN_VALUE > 2147483615) { break L94; }
+           l42 = ((l42 << 6) & 1984) | l45;
+           break L83;
+          }
+          l44 = (b[((int) l29) - 60446] & 0xff) & 63;
+          L95: {
+           L96: {
+            if (l46 + Integer.MIN_VALUE > 2147483631) { break L96; }
+            l42 = ((l45 << 6) | ((l42 << 12) & 61440)) | l44;
+            break L95;
+           }
+           l42 = ((l44 << 6) | ((l45 << 12) | ((l42 << 18) & 1835008))) | ((b[((int) l29) - 60445] & 0xff) & 63);
+          }
+          if ((l42 + -2048) + Integer.MIN_VALUE > -2147420161) { break L83; }
+          final int t97 = b[((int) ((l29 = ((((l46 = (((l42 >>> 12) | ((l42 << 2) & 16128)) | ((l42 << 16) & 4128768)) | 8421600) & 0xffffffffL) * 953497L) >>> 22L) & 1016L) + 66857L)) - 60448] & 0xff;
+          final int t98 = l45 = (Words.get32(b, State.far((int) l29, 66852)) == l46) ? 1 : 0;
+          l46 = t98 != 0 ? t97 : 0;
+          final int t99 = b[((int) (l29 + 66856L)) - 60448] & 0xff;
+          final int t100 = l45;
+          l45 = t100 != 0 ? t99 : 2;
+          break L82;
+         }
+         Words.put64(b, ((int) l12) - 60448, 0L);
+         Words.put64(b, ((int) l12) - 60440, 0L);
+         Words.put64(b, ((int) l8) - 60218, 0L);
+         Words.put64(b, ((int) l8) - 60224, 0L);
+         break L81;
+        }
+        final int t101 = l46 = l42 + -48;
+        final int t102 = l45 = (l46 + Integer.MIN_VALUE < -2147483638) ? 1 : 0;
+        l46 = t102 != 0 ? t101 : 0;
+        l45 = l45 != 0 ? 0 : 2;
+       }
+       Words.put64(b, ((int) l8) - 60200, l28);
+       Words.put64(b, ((int) l8) - 60208, l23);
+       b[((int) l8) - 60211] = (byte) l46;
+       b[((int) l8) - 60212] = (byte) l45;
+       Words.put32(b, ((int) l8) - 60216, l42);
+       Words.put64(b, ((int) l8) - 60224, 1L);
+      }
+      l44 = f103(m, l8 + 224L);
+      break L59;
+     }
+     l44 = 1;
+    }
+    l46 = 0;
+    break L57;
+   }
+   l46 = 0;
+   l44 = 0;
+  }
+ }
+ m.kept[0] = l27;
+ m.kept[1] = l28;
+ m.kept[2] = l29;
+ m.kept[3] = l42;
+ m.kept[4] = l44;
+ m.kept[5] = l45;
+ m.kept[6] = l46;
+ m.kept[7] = l52;
  return exit;
 }
 
@@ -5600,555 +5912,456 @@ static int f110(State m, long l0, long l1, long l2, int l3, int l4, long l5, lon
  long l26 = 0;
  long l27 = 0;
  long l28 = 0;
- int l29 = 0;
- int l30 = 0;
- int l31 = 0;
- int l32 = 0;
- int l33 = 0;
- int l34 = 0;
- int l35 = 0;
- int l36 = 0;
- int l37 = 0;
- int l38 = 0;
- int l39 = 0;
- int l40 = 0;
- int l41 = 0;
- m.g0 = l8 = m.g0 - 384L;
+ long l29 = 0;
+ long l30 = 0;
+ long l31 = 0;
+ long l32 = 0;
+ long l33 = 0;
+ long l34 = 0;
+ long l35 = 0;
+ long l36 = 0;
+ long l37 = 0;
+ long l38 = 0;
+ long l39 = 0;
+ long l40 = 0;
+ long l41 = 0;
+ int l42 = 0;
+ int l43 = 0;
+ int l44 = 0;
+ int l45 = 0;
+ int l46 = 0;
+ int l47 = 0;
+ int l48 = 0;
+ int l49 = 0;
+ int l50 = 0;
+ int l51 = 0;
+ int l52 = 0;
+ int l53 = 0;
+ int l54 = 0;
+ m.g0 = l8 = m.g0 - 528L;
  L1: {
   if ((l8 = l8) < 16L) { break L1; }
   L2: {
    L3: {
     if (l1 == l2) { break L3; }
-    l29 = 5;
+    l42 = 5;
     l9 = 0L;
     if (l1 + Long.MIN_VALUE < l2 + Long.MIN_VALUE) { break L2; }
-    if (((int) b[((int) (l0 + l2)) - 60720]) < -64) { break L2; }
+    if (((int) b[((int) (l0 + l2)) - 60448]) < -64) { break L2; }
    }
    l9 = 0L;
-   Words.put64(b, ((int) l8) - 60648, 0L);
-   Words.put64(b, ((int) l8) - 60656, 0L);
-   Words.put64(b, ((int) l8) - 60664, 0L);
-   Words.put64(b, ((int) l8) - 60672, 0L);
-   Words.put64(b, ((int) l8) - 60680, 0L);
-   Words.put64(b, ((int) l8) - 60688, 0L);
-   Words.put64(b, ((int) l8) - 60696, 0L);
+   Words.put64(b, ((int) l8) - 60296, 0L);
+   Words.put64(b, ((int) l8) - 60304, 0L);
+   Words.put64(b, ((int) l8) - 60312, 0L);
+   Words.put64(b, ((int) l8) - 60320, 0L);
+   Words.put64(b, ((int) l8) - 60328, 0L);
+   Words.put64(b, ((int) l8) - 60336, 0L);
+   Words.put64(b, ((int) l8) - 60344, 0L);
    L4: {
     if (l6 == 0L) { break L4; }
     l10 = l0 + l2;
     l11 = l1 - l2;
-    l12 = l8 + 160L;
-    l13 = (l8 + 144L) | 2L;
-    l14 = l8 + 368L;
-    l15 = l8 + 312L;
-    l16 = (l8 + 280L) | 2L;
-    l17 = l8 + 248L;
-    l18 = l8 + 192L;
-    l19 = l8 + 162L;
+    l12 = l8 + 240L;
+    l13 = (l8 + 224L) | 2L;
+    l14 = (l8 + 352L) + 88L;
+    l15 = (l8 + 352L) + 32L;
+    l16 = (l8 + 352L) | 2L;
+    l17 = (l8 + 224L) + 88L;
+    l18 = (l8 + 224L) + 32L;
+    l19 = l8 + 328L;
+    l20 = l8 + 272L;
+    l21 = l8 + 242L;
     l9 = 0L;
     L5: while (true) {
-     f111(m, l8 + 24L, l0, l1, l10, l11, l3, l4);
-     if ((b[((int) l8) - 60696] & 0xff) != 1) { break L4; }
-     l11 = Words.get64(b, ((int) l8) - 60648);
-     l10 = Words.get64(b, ((int) l8) - 60656);
-     l20 = Words.get64(b, ((int) l8) - 60664);
-     l21 = Words.get64(b, ((int) l8) - 60672);
-     l22 = Words.get64(b, ((int) l8) - 60688);
-     l2 = Words.get64(b, ((int) l8) - 60680);
-     l30 = 0;
-     m.fill((int) (l8 + 144L), 0, (int) 120L);
-     f112(m, l8 + 144L, l0, l1, l23 = l0 + l2, l24 = l1 - l2, l3, l4);
-     Words.put32(b, ((int) l8) - 60584, Words.get32(b, ((int) l19) - 60720));
-     Words.put16(b, ((int) l8) - 60580, (short) (Words.get16(b, ((int) l19) - 60716) & 0xffff));
-     Words.put64(b, ((int) l8) - 60624, Words.get64(b, ((int) l18) - 60720));
-     Words.put64(b, ((int) l8) - 60616, Words.get64(b, ((int) l18) - 60712));
-     Words.put64(b, ((int) l8) - 60608, Words.get64(b, ((int) l18) - 60704));
-     Words.put64(b, ((int) l8) - 60600, Words.get64(b, ((int) l18) - 60696));
-     Words.put64(b, ((int) l8) - 60592, Words.get64(b, ((int) l18) - 60688));
-     l31 = b[((int) l8) - 60560] & 0xff;
-     l32 = b[((int) l8) - 60568] & 0xff;
-     l25 = Words.get64(b, ((int) l8) - 60552);
-     l26 = Words.get64(b, ((int) l8) - 60544);
-     l27 = Words.get64(b, ((int) l8) - 60536);
-     l29 = b[((int) l8) - 60576] & 0xff;
-     l33 = b[((int) l8) - 60559] & 0xff;
-     Words.put64(b, ((int) l8) - 60640, Words.get64(b, ((int) l17) - 60720));
-     Words.put64(b, ((int) l8) - 60632, Words.get64(b, ((int) l17) - 60712));
-     l28 = 0L;
-     L6: {
-      L7: {
-       if (l29 == 1) { break L7; }
-       l34 = 0;
-       l35 = 0;
-       l36 = 0;
-       l37 = 0;
-       l38 = 0;
-       break L6;
-      }
-      l34 = 0;
-      l35 = 0;
-      l36 = 0;
-      l37 = 0;
-      l38 = 0;
-      L8: {
-       L9: {
-        L10: {
-         switch (l32) {
-         case 1: break L9;
-         case 2: break L6;
-         default: break L10;
-         }
-        }
-        l28 = 0L;
-        Words.put64(b, ((int) l8) - 60440, 0L);
-        l35 = 0;
-        Words.put32(b, ((int) l8) - 60432, 0);
-        f113(m, l8 + 280L, l33, l8 + 136L);
-        l30 = Words.get32(b, State.far((int) (((l33 & 0xffffffffL) & 255L) << 2L), 87912));
-        l34 = 2;
-        l36 = 0;
-        l37 = 0;
-        l38 = 0;
-        if ((b[((int) l8) - 60440] & 0xff) != 1) { break L6; }
-        Words.put32(b, ((int) l13) - 60720, Words.get32(b, ((int) l8) - 60584));
-        Words.put16(b, ((int) l13) - 60716, (short) (Words.get16(b, ((int) l8) - 60580) & 0xffff));
-        b[((int) l8) - 60575] = (byte) l33;
-        b[((int) l8) - 60576] = (byte) l31;
-        Words.put64(b, ((int) l8) - 60560, l26);
-        Words.put64(b, ((int) l8) - 60568, l25);
-        l32 = b[((int) l8) - 60429] & 0xff;
-        l38 = b[((int) l8) - 60430] & 0xff;
-        l33 = b[((int) l8) - 60431] & 0xff;
-        l37 = b[((int) l8) - 60432] & 0xff;
-        l36 = Words.get16(b, ((int) l8) - 60434) & 0xffff;
-        l35 = Words.get16(b, ((int) l8) - 60436) & 0xffff;
-        l29 = b[((int) l8) - 60437] & 0xff;
-        l27 = b[((int) l8) - 60438] & 0xffL;
-        l34 = f114(m, l22, l2, l8 + 144L, l23, l24);
-        L11: {
-         L12: {
-          L13: {
-           L14: {
-            L15: {
-             L16: {
-              L17: {
-               L18: {
-                switch ((int) l27) {
-                case 1: case 8: break L12;
-                case 2: break L17;
-                case 3: break L16;
-                case 4: break L15;
-                case 5: break L11;
-                case 6: break L13;
-                case 7: break L14;
-                default: break L18;
-                }
-               }
-               l38 = ((((l29 = (l37 == 1) ? 1 : 0) != 0) ? 2 : 0) | (l35 = ((l35 & 255) == 1) ? 1 : 0)) | (((l37 = ((l38 & 255) == 1) ? 1 : 0) != 0) ? 4 : 0);
-               l35 = l35 != 0 ? l36 : 0;
-               l36 = (l29 != 0 ? l33 : 0) & 255;
-               l37 = (l37 != 0 ? l32 : 0) & 255;
-               break L6;
-              }
-              l36 = l35 & 255;
-              break L8;
-             }
-             l36 = l35 & 255;
-             break L8;
-            }
-            b[((int) l8) - 60443] = (byte) l29;
-            Words.put16(b, ((int) l8) - 60442, (short) l35);
-            f115(m, l8 + 16L, l31, l23, l24, l8 + 277L);
-            l36 = l35 & 255;
-            l37 = l35 >>> 8;
-            final int t19 = b[((int) l8) - 60703] & 0xff;
-            final int t20 = ((b[((int) l8) - 60704] & 0xff) == 1) ? 1 : 0;
-            l38 = (t20 != 0 ? t19 : -1) & 255;
-            l35 = l29;
-            break L6;
-           }
-           l37 = l36 >>> 8;
-           l38 = 0;
-           l36 = l36 & 255;
-           break L6;
-          }
-          l36 = 0;
-         }
-         l37 = 0;
-        }
-        l38 = 0;
-        break L6;
-       }
-       l28 = Words.get64(b, ((int) l8) - 60480);
-       l23 = Words.get64(b, ((int) l8) - 60488);
-       l35 = 0;
-       m.fill((int) (l8 + 144L), 0, (int) 112L);
-       Core2.f72(m, l8 + 144L, l26, l27, l23, l28);
-       l34 = 2;
-       L21: {
-        if ((b[((int) l8) - 60576] & 0xff) != 1) { break L21; }
-        Words.put32(b, ((int) l16) - 60720, Words.get32(b, ((int) l8) - 60584));
-        Words.put16(b, ((int) l16) - 60716, (short) (Words.get16(b, ((int) l8) - 60580) & 0xffff));
-        Words.put64(b, ((int) l15) - 60720, Words.get64(b, ((int) l8) - 60624));
-        Words.put64(b, ((int) l15) - 60712, Words.get64(b, ((int) l8) - 60616));
-        Words.put64(b, ((int) l15) - 60704, Words.get64(b, ((int) l8) - 60608));
-        Words.put64(b, ((int) l15) - 60696, Words.get64(b, ((int) l8) - 60600));
-        Words.put64(b, ((int) l15) - 60688, Words.get64(b, ((int) l8) - 60592));
-        b[((int) l8) - 60439] = (byte) l33;
-        b[((int) l8) - 60440] = (byte) l31;
-        Words.put64(b, ((int) l8) - 60416, l27);
-        Words.put64(b, ((int) l8) - 60424, l26);
-        Words.put64(b, ((int) l8) - 60432, l25);
-        Words.put64(b, ((int) l14) - 60720, Words.get64(b, ((int) l8) - 60640));
-        Words.put64(b, ((int) l14) - 60712, Words.get64(b, ((int) l8) - 60632));
-        Words.put64(b, ((int) l8) - 60360, l28);
-        Words.put64(b, ((int) l8) - 60368, l23);
-        l34 = f116(m, l8 + 280L);
-       }
-       l30 = 10;
-       l36 = 0;
-       l37 = 0;
-       l38 = 0;
-       l28 = l27;
-       break L6;
-      }
-      l37 = 0;
-      l35 = l29;
-      l38 = 0;
-     }
-     f110_1(m, l2, l8, l12, l22, l25, l26, l27, l29, l31, l32, l33, l39);
+     f111(m, l8 + 104L, l0, l1, l10, l11, l3, l4);
+     if ((b[((int) l8) - 60344] & 0xff) != 1) { break L4; }
+     l11 = Words.get64(b, ((int) l8) - 60296);
+     l10 = Words.get64(b, ((int) l8) - 60304);
+     l2 = Words.get64(b, ((int) l8) - 60312);
+     l22 = Words.get64(b, ((int) l8) - 60320);
+     l23 = Words.get64(b, ((int) l8) - 60336);
+     l24 = Words.get64(b, ((int) l8) - 60328);
+     l43 = 0;
+     m.fill((int) (l8 + 224L), 0, (int) 128L);
+     f112(m, l8 + 224L, l0, l1, l25 = l0 + l24, l26 = l1 - l24, l3, l4);
+     Words.put32(b, ((int) l8) - 60232, Words.get32(b, ((int) l21) - 60448));
+     Words.put16(b, ((int) l8) - 60228, (short) (Words.get16(b, ((int) l21) - 60444) & 0xffff));
+     Words.put64(b, ((int) l8) - 60272, Words.get64(b, ((int) l20) - 60448));
+     Words.put64(b, ((int) l8) - 60264, Words.get64(b, ((int) l20) - 60440));
+     Words.put64(b, ((int) l8) - 60256, Words.get64(b, ((int) l20) - 60432));
+     Words.put64(b, ((int) l8) - 60248, Words.get64(b, ((int) l20) - 60424));
+     Words.put64(b, ((int) l8) - 60240, Words.get64(b, ((int) l20) - 60416));
+     l44 = b[((int) l8) - 60208] & 0xff;
+     l45 = b[((int) l8) - 60216] & 0xff;
+     l27 = Words.get64(b, ((int) l8) - 60200);
+     l28 = Words.get64(b, ((int) l8) - 60192);
+     l29 = Words.get64(b, ((int) l8) - 60184);
+     l42 = b[((int) l8) - 60224] & 0xff;
+     l46 = b[((int) l8) - 60207] & 0xff;
+     Words.put64(b, ((int) l8) - 60288, Words.get64(b, ((int) l19) - 60448));
+     Words.put64(b, ((int) l8) - 60280, Words.get64(b, ((int) l19) - 60440));
+     l30 = 0L;
+     f110_1(m, l8, l13, l14, l15, l16, l17, l18, l23, l24, l25, l26, l27, l28, l29, l30, l31, l32, l33, l34, l35, l36, l37, l38, l39, l40, l41, l42, l43, l44, l45, l46, l47, l48, l49, l50, l51);
      l25 = m.kept[0];
      l26 = m.kept[1];
      l27 = m.kept[2];
-     l29 = (int) m.kept[3];
-     l31 = (int) m.kept[4];
-     l32 = (int) m.kept[5];
-     l33 = (int) m.kept[6];
-     l39 = (int) m.kept[7];
-     L69: {
-      L70: {
-       L71: {
-        L72: {
-         L73: {
-          L74: {
-           L75: {
-            L76: {
-             L77: {
-              L78: {
-               if (l11 + Long.MIN_VALUE < -9223372036854775805L) { break L78; }
-               if (((l29 = b[((int) l10) - 60720] & 0xff) & 240) != 224) { break L77; }
-               l33 = (((l39 = b[((int) l10) - 60719] & 0xff) << 8) | ((l40 = b[((int) l10) - 60718] & 0xff) << 16)) | l29;
-               l29 = (((l29 << 12) | l40) + (l39 << 6)) + -925824;
-               l26 = l11 + -3L;
-               l27 = l10 + 3L;
-               if (l33 != Words.get32(b, ((int) ((l25 = (((l33 & 0xffffffffL) * 953497L) >>> 22L) & 1016L) + 66852L)) - 60720)) { break L75; }
-               break L76;
+     l28 = m.kept[3];
+     l29 = m.kept[4];
+     l30 = m.kept[5];
+     l31 = m.kept[6];
+     l32 = m.kept[7];
+     l33 = m.kept[8];
+     l34 = m.kept[9];
+     l35 = m.kept[10];
+     l36 = m.kept[11];
+     l37 = m.kept[12];
+     l38 = m.kept[13];
+     l39 = m.kept[14];
+     l40 = m.kept[15];
+     l41 = m.kept[16];
+     l42 = (int) m.kept[17];
+     l43 = (int) m.kept[18];
+     l44 = (int) m.kept[19];
+     l45 = (int) m.kept[20];
+     l46 = (int) m.kept[21];
+     l47 = (int) m.kept[22];
+     l48 = (int) m.kept[23];
+     l49 = (int) m.kept[24];
+     l50 = (int) m.kept[25];
+     l51 = (int) m.kept[26];
+     f110_2(m, l8, l12, l23, l24, l27, l28, l29, l42, l44, l45, l46, l52);
+     l27 = m.kept[0];
+     l28 = m.kept[1];
+     l29 = m.kept[2];
+     l42 = (int) m.kept[3];
+     l44 = (int) m.kept[4];
+     l45 = (int) m.kept[5];
+     l46 = (int) m.kept[6];
+     l52 = (int) m.kept[7];
+     L104: {
+      L105: {
+       L106: {
+        L107: {
+         L108: {
+          L109: {
+           L110: {
+            L111: {
+             L112: {
+              L113: {
+               if (l11 + Long.MIN_VALUE < -9223372036854775805L) { break L113; }
+               if (((l42 = b[((int) l10) - 60448] & 0xff) & 240) != 224) { break L112; }
+               l45 = (((l52 = b[((int) l10) - 60447] & 0xff) << 8) | ((l53 = b[((int) l10) - 60446] & 0xff) << 16)) | l42;
+               l42 = (((l42 << 12) | l53) + (l52 << 6)) + -925824;
+               l28 = l11 + -3L;
+               l29 = l10 + 3L;
+               if (l45 != Words.get32(b, ((int) ((l27 = (((l45 & 0xffffffffL) * 953497L) >>> 22L) & 1016L) + 66852L)) - 60448)) { break L110; }
+               break L111;
               }
-              if (l11 == 0L) { break L70; }
-              l29 = b[((int) l10) - 60720] & 0xff;
+              if (l11 == 0L) { break L105; }
+              l42 = b[((int) l10) - 60448] & 0xff;
              }
-             l27 = 1L;
-             L79: {
-              if (((int) (byte) l29) > -1) { break L79; }
-              l33 = (b[((int) l10) - 60719] & 0xff) & 63;
-              L80: {
-               if (l29 + Integer.MIN_VALUE > -2147483425) { break L80; }
-               l29 = ((l29 << 6) & 1984) | l33;
-               l27 = 2L;
-               break L79;
+             l29 = 1L;
+             L114: {
+              if (((int) (byte) l42) > -1) { break L114; }
+              l45 = (b[((int) l10) - 60447] & 0xff) & 63;
+              L115: {
+               if (l42 + Integer.MIN_VALUE > -2147483425) { break L115; }
+               l42 = ((l42 << 6) & 1984) | l45;
+               l29 = 2L;
+               break L114;
               }
-              l39 = (b[((int) l10) - 60718] & 0xff) & 63;
-              L81: {
-               if (l29 + Integer.MIN_VALUE > -2147483409) { break L81; }
-               l29 = ((l33 << 6) | ((l29 << 12) & 61440)) | l39;
-               l27 = 3L;
-               break L79;
+              l52 = (b[((int) l10) - 60446] & 0xff) & 63;
+              L116: {
+               if (l42 + Integer.MIN_VALUE > -2147483409) { break L116; }
+               l42 = ((l45 << 6) | ((l42 << 12) & 61440)) | l52;
+               l29 = 3L;
+               break L114;
               }
-              l29 = ((l39 << 6) | ((l33 << 12) | ((l29 << 18) & 1835008))) | ((b[((int) l10) - 60717] & 0xff) & 63);
-              l27 = 4L;
+              l42 = ((l52 << 6) | ((l45 << 12) | ((l42 << 18) & 1835008))) | ((b[((int) l10) - 60445] & 0xff) & 63);
+              l29 = 4L;
              }
-             l26 = l11 - l27;
-             l27 = l10 + l27;
-             L82: {
-              if ((l29 + -2048) + Integer.MIN_VALUE > -2147420161) { break L82; }
-              if (Words.get32(b, ((int) ((l25 = ((((l33 = (((l29 >>> 12) | ((l29 << 2) & 16128)) | ((l29 << 16) & 4128768)) | 8421600) & 0xffffffffL) * 953497L) >>> 22L) & 1016L) + 66852L)) - 60720) == l33) { break L76; }
-              break L74;
+             l28 = l11 - l29;
+             l29 = l10 + l29;
+             L117: {
+              if ((l42 + -2048) + Integer.MIN_VALUE > -2147420161) { break L117; }
+              if (Words.get32(b, ((int) ((l27 = ((((l45 = (((l42 >>> 12) | ((l42 << 2) & 16128)) | ((l42 << 16) & 4128768)) | 8421600) & 0xffffffffL) * 953497L) >>> 22L) & 1016L) + 66852L)) - 60448) == l45) { break L111; }
+              break L109;
              }
-             if ((l29 + -48) + Integer.MIN_VALUE >= -2147483638) { break L75; }
-             break L72;
+             if ((l42 + -48) + Integer.MIN_VALUE >= -2147483638) { break L110; }
+             break L107;
             }
-            if ((b[((int) (l25 + 66856L)) - 60720] & 0xff) == 0) { break L72; }
+            if ((b[((int) (l27 + 66856L)) - 60448] & 0xff) == 0) { break L107; }
            }
-           if (l29 + Integer.MIN_VALUE > -2147483521) { break L74; }
-           l39 = 1;
-           l33 = 0;
-           if (l29 == 95) { break L69; }
-           if ((l29 + -44) + Integer.MIN_VALUE < -2147483645) { break L73; }
-           if ((l29 + -48) + Integer.MIN_VALUE < -2147483638) { break L69; }
-           if (((l29 & 95) + -65) + Integer.MIN_VALUE >= -2147483622) { break L70; }
-           break L69;
+           if (l42 + Integer.MIN_VALUE > -2147483521) { break L109; }
+           l52 = 1;
+           l45 = 0;
+           if (l42 == 95) { break L104; }
+           if ((l42 + -44) + Integer.MIN_VALUE < -2147483645) { break L108; }
+           if ((l42 + -48) + Integer.MIN_VALUE < -2147483638) { break L104; }
+           if (((l42 & 95) + -65) + Integer.MIN_VALUE >= -2147483622) { break L105; }
+           break L104;
           }
-          l39 = 0;
-          l33 = 1;
-          L83: {
-           L84: {
-            if (l29 > 24185) { break L84; }
-            L85: {
-             L86: {
-              if (l29 > 21316) { break L86; }
-              L87: {
-               if (l29 > 20959) { break L87; }
-               if (l29 == 20313) { break L69; }
-               if (l29 != 20358) { break L83; }
-               break L69;
+          l52 = 0;
+          l45 = 1;
+          L118: {
+           L119: {
+            if (l42 > 24185) { break L119; }
+            L120: {
+             L121: {
+              if (l42 > 21316) { break L121; }
+              L122: {
+               if (l42 > 20959) { break L122; }
+               if (l42 == 20313) { break L104; }
+               if (l42 != 20358) { break L118; }
+               break L104;
               }
-              if (l29 == 20960) { break L69; }
-              if (l29 == 20986) { break L85; }
-              break L83;
+              if (l42 == 20960) { break L104; }
+              if (l42 == 20986) { break L120; }
+              break L118;
              }
-             L88: {
-              switch (l29 + -21317) {
-              case 0: case 7: break L72;
-              case 1: case 2: case 3: case 4: case 5: case 6: break L83;
-              default: break L88;
+             L123: {
+              switch (l42 + -21317) {
+              case 0: case 7: break L107;
+              case 1: case 2: case 3: case 4: case 5: case 6: break L118;
+              default: break L123;
               }
              }
-             if (l29 == 22810) { break L69; }
-             if (l29 != 22909) { break L83; }
+             if (l42 == 22810) { break L104; }
+             if (l42 != 22909) { break L118; }
             }
-            l33 = f104(m, l29, l27, l26);
-            break L69;
+            l45 = f104(m, l42, l29, l28);
+            break L104;
            }
-           L89: {
-            if (l29 > 26468) { break L89; }
-            L90: {
-             switch (l29 + -24186) {
-             case 0: break L72;
-             case 1: case 2: case 3: break L83;
-             case 4: break L69;
-             default: break L90;
+           L124: {
+            if (l42 > 26468) { break L124; }
+            L125: {
+             switch (l42 + -24186) {
+             case 0: break L107;
+             case 1: case 2: case 3: break L118;
+             case 4: break L104;
+             default: break L125;
              }
             }
-            L91: {
-             switch (l29 + -25968) {
-             case 0: case 8: break L70;
-             case 1: case 2: case 3: case 4: case 5: case 6: case 7: break L83;
-             default: break L91;
+            L126: {
+             switch (l42 + -25968) {
+             case 0: case 8: break L105;
+             case 1: case 2: case 3: case 4: case 5: case 6: case 7: break L118;
+             default: break L126;
              }
             }
-            if (l29 == 24319) { break L72; }
-            break L83;
+            if (l42 == 24319) { break L107; }
+            break L118;
            }
-           L92: {
-            if (l29 > 39191) { break L92; }
-            if (l29 == 26469) { break L69; }
-            if (l29 != 28857) { break L83; }
-            break L73;
+           L127: {
+            if (l42 > 39191) { break L127; }
+            if (l42 == 26469) { break L104; }
+            if (l42 != 28857) { break L118; }
+            break L108;
            }
-           if (l29 == 39192) { break L69; }
-           if (l29 == 40670) { break L73; }
+           if (l42 == 39192) { break L104; }
+           if (l42 == 40670) { break L108; }
           }
-          if ((l29 + -65296) + Integer.MIN_VALUE > -2147483639) { break L70; }
-          break L72;
+          if ((l42 + -65296) + Integer.MIN_VALUE > -2147483639) { break L105; }
+          break L107;
          }
-         Words.put64(b, ((int) l8) - 60552, 0L);
-         Words.put64(b, ((int) l8) - 60560, 0L);
-         Words.put64(b, ((int) l8) - 60568, 0L);
-         Words.put64(b, ((int) l8) - 60576, 0L);
-         L93: {
-          L94: {
-           L95: {
-            L96: {
-             if (l26 + Long.MIN_VALUE < -9223372036854775805L) { break L96; }
-             if (((l29 = b[((int) l27) - 60720] & 0xff) & 240) != 224) { break L95; }
-             l33 = b[((int) l27) - 60718] & 0xff;
-             l39 = b[((int) l27) - 60719] & 0xff;
-             Words.put64(b, ((int) l8) - 60552, l26 + -3L);
-             Words.put64(b, ((int) l8) - 60560, l27 + 3L);
-             Words.put64(b, ((int) l8) - 60576, 1L);
-             Words.put32(b, ((int) l8) - 60568, ((l33 | (l29 << 12)) + (l39 << 6)) + -925824);
-             final int t97 = (int) l8;
-             final int t98 = b[((int) ((l27 = ((((l29 = ((l39 << 8) | (l33 << 16)) | l29) & 0xffffffffL) * 953497L) >>> 22L) & 1016L) + 66857L)) - 60720] & 0xff;
-             final int t99 = l29 = (Words.get32(b, State.far((int) l27, 66852)) == l29) ? 1 : 0;
-             b[t97 - 60563] = (byte) (t99 != 0 ? t98 : 0);
-             final int t100 = (int) l8;
-             final int t101 = b[((int) (l27 + 66856L)) - 60720] & 0xff;
-             final int t102 = l29;
-             b[t100 - 60564] = (byte) (t102 != 0 ? t101 : 2);
-             break L93;
+         Words.put64(b, ((int) l8) - 60200, 0L);
+         Words.put64(b, ((int) l8) - 60208, 0L);
+         Words.put64(b, ((int) l8) - 60216, 0L);
+         Words.put64(b, ((int) l8) - 60224, 0L);
+         L128: {
+          L129: {
+           L130: {
+            L131: {
+             if (l28 + Long.MIN_VALUE < -9223372036854775805L) { break L131; }
+             if (((l42 = b[((int) l29) - 60448] & 0xff) & 240) != 224) { break L130; }
+             l45 = b[((int) l29) - 60446] & 0xff;
+             l52 = b[((int) l29) - 60447] & 0xff;
+             Words.put64(b, ((int) l8) - 60200, l28 + -3L);
+             Words.put64(b, ((int) l8) - 60208, l29 + 3L);
+             Words.put64(b, ((int) l8) - 60224, 1L);
+             Words.put32(b, ((int) l8) - 60216, ((l45 | (l42 << 12)) + (l52 << 6)) + -925824);
+             final int t132 = (int) l8;
+             final int t133 = b[((int) ((l29 = ((((l42 = ((l52 << 8) | (l45 << 16)) | l42) & 0xffffffffL) * 953497L) >>> 22L) & 1016L) + 66857L)) - 60448] & 0xff;
+             final int t134 = l42 = (Words.get32(b, State.far((int) l29, 66852)) == l42) ? 1 : 0;
+             b[t132 - 60211] = (byte) (t134 != 0 ? t133 : 0);
+             final int t135 = (int) l8;
+             final int t136 = b[((int) (l29 + 66856L)) - 60448] & 0xff;
+             final int t137 = l42;
+             b[t135 - 60212] = (byte) (t137 != 0 ? t136 : 2);
+             break L128;
             }
-            if (l26 == 0L) { break L94; }
-            l29 = b[((int) l27) - 60720] & 0xff;
+            if (l28 == 0L) { break L129; }
+            l42 = b[((int) l29) - 60448] & 0xff;
            }
-           l25 = 1L;
-           L103: {
-            if (((int) (byte) l29) > -1) { break L103; }
-            l33 = (b[((int) l27) - 60719] & 0xff) & 63;
-            L104: {
-             if (l29 + Integer.MIN_VALUE > -2147483425) { break L104; }
-             l29 = ((l29 << 6) & 1984) | l33;
-             l25 = 2L;
-             break L103;
+           l27 = 1L;
+           L138: {
+            if (((int) (byte) l42) > -1) { break L138; }
+            l45 = (b[((int) l29) - 60447] & 0xff) & 63;
+            L139: {
+             if (l42 + Integer.MIN_VALUE > -2147483425) { break L139; }
+             l42 = ((l42 << 6) & 1984) | l45;
+             l27 = 2L;
+             break L138;
             }
-            l39 = (b[((int) l27) - 60718] & 0xff) & 63;
-            L105: {
-             if (l29 + Integer.MIN_VALUE > -2147483409) { break L105; }
-             l29 = ((l33 << 6) | ((l29 << 12) & 61440)) | l39;
-             l25 = 3L;
-             break L103;
+            l52 = (b[((int) l29) - 60446] & 0xff) & 63;
+            L140: {
+             if (l42 + Integer.MIN_VALUE > -2147483409) { break L140; }
+             l42 = ((l45 << 6) | ((l42 << 12) & 61440)) | l52;
+             l27 = 3L;
+             break L138;
             }
-            l29 = ((l39 << 6) | ((l33 << 12) | ((l29 << 18) & 1835008))) | ((b[((int) l27) - 60717] & 0xff) & 63);
-            l25 = 4L;
+            l42 = ((l52 << 6) | ((l45 << 12) | ((l42 << 18) & 1835008))) | ((b[((int) l29) - 60445] & 0xff) & 63);
+            l27 = 4L;
            }
-           l26 = l26 - l25;
-           l27 = l27 + l25;
-           L106: {
-            L107: {
-             if ((l29 + -2048) + Integer.MIN_VALUE > -2147420161) { break L107; }
-             final int t108 = b[((int) ((l25 = ((((l33 = (((l29 >>> 12) | ((l29 << 2) & 16128)) | ((l29 << 16) & 4128768)) | 8421600) & 0xffffffffL) * 953497L) >>> 22L) & 1016L) + 66857L)) - 60720] & 0xff;
-             final int t109 = l39 = (Words.get32(b, State.far((int) l25, 66852)) == l33) ? 1 : 0;
-             l33 = t109 != 0 ? t108 : 0;
-             final int t110 = b[((int) (l25 + 66856L)) - 60720] & 0xff;
-             final int t111 = l39;
-             l39 = t111 != 0 ? t110 : 2;
-             break L106;
+           l28 = l28 - l27;
+           l29 = l29 + l27;
+           L141: {
+            L142: {
+             if ((l42 + -2048) + Integer.MIN_VALUE > -2147420161) { break L142; }
+             final int t143 = b[((int) ((l27 = ((((l45 = (((l42 >>> 12) | ((l42 << 2) & 16128)) | ((l42 << 16) & 4128768)) | 8421600) & 0xffffffffL) * 953497L) >>> 22L) & 1016L) + 66857L)) - 60448] & 0xff;
+             final int t144 = l52 = (Words.get32(b, State.far((int) l27, 66852)) == l45) ? 1 : 0;
+             l45 = t144 != 0 ? t143 : 0;
+             final int t145 = b[((int) (l27 + 66856L)) - 60448] & 0xff;
+             final int t146 = l52;
+             l52 = t146 != 0 ? t145 : 2;
+             break L141;
             }
-            final int t112 = l33 = l29 + -48;
-            final int t113 = l39 = (l33 + Integer.MIN_VALUE < -2147483638) ? 1 : 0;
-            l33 = t113 != 0 ? t112 : 0;
-            l39 = l39 != 0 ? 0 : 2;
+            final int t147 = l45 = l42 + -48;
+            final int t148 = l52 = (l45 + Integer.MIN_VALUE < -2147483638) ? 1 : 0;
+            l45 = t148 != 0 ? t147 : 0;
+            l52 = l52 != 0 ? 0 : 2;
            }
-           Words.put64(b, ((int) l8) - 60552, l26);
-           Words.put64(b, ((int) l8) - 60560, l27);
-           b[((int) l8) - 60563] = (byte) l33;
-           b[((int) l8) - 60564] = (byte) l39;
-           Words.put32(b, ((int) l8) - 60568, l29);
-           Words.put64(b, ((int) l8) - 60576, 1L);
-           break L93;
+           Words.put64(b, ((int) l8) - 60200, l28);
+           Words.put64(b, ((int) l8) - 60208, l29);
+           b[((int) l8) - 60211] = (byte) l45;
+           b[((int) l8) - 60212] = (byte) l52;
+           Words.put32(b, ((int) l8) - 60216, l42);
+           Words.put64(b, ((int) l8) - 60224, 1L);
+           break L128;
           }
-          Words.put64(b, ((int) l12) - 60720, 0L);
-          Words.put64(b, ((int) l12) - 60712, 0L);
-          Words.put64(b, ((int) l8) - 60570, 0L);
-          Words.put64(b, ((int) l8) - 60576, 0L);
+          Words.put64(b, ((int) l12) - 60448, 0L);
+          Words.put64(b, ((int) l12) - 60440, 0L);
+          Words.put64(b, ((int) l8) - 60218, 0L);
+          Words.put64(b, ((int) l8) - 60224, 0L);
          }
-         l39 = f105(m, l8 + 144L);
-         break L71;
+         l52 = f105(m, l8 + 224L);
+         break L106;
         }
-        l39 = 1;
+        l52 = 1;
        }
-       l33 = 0;
-       break L69;
+       l45 = 0;
+       break L104;
       }
-      l33 = 0;
-      l39 = 0;
+      l45 = 0;
+      l52 = 0;
      }
-     Words.put32(b, ((int) l8) - 60576, 0);
-     L114: {
-      L115: {
-       L116: {
-        L117: {
-         L118: {
-          L119: {
-           L120: {
-            L121: {
-             if ((l27 = l20 + -1L) + Long.MIN_VALUE > -9223372036854775806L) { break L121; }
-             L122: {
-              switch ((int) l27) {
-              case 1: break L121;
-              case 2: break L122;
-              default: break L118;
+     Words.put32(b, ((int) l8) - 60224, 0);
+     L149: {
+      L150: {
+       L151: {
+        L152: {
+         L153: {
+          L154: {
+           L155: {
+            L156: {
+             if ((l29 = l2 + -1L) + Long.MIN_VALUE > -9223372036854775806L) { break L156; }
+             L157: {
+              switch ((int) l29) {
+              case 1: break L156;
+              case 2: break L157;
+              default: break L153;
               }
              }
-             if ((l29 = (Words.get32(b, State.far((int) (l27 = ((((l29 = (((b[((int) l21) - 60719] & 0xff) << 8) | (l41 = b[((int) l21) - 60720] & 0xff)) | ((b[((int) l21) - 60718] & 0xff) << 16)) & 0xffffffffL) * 953497L) >>> 22L) & 1016L), 66852)) != l29) ? 1 : 0) != 0) { break L120; }
-             l40 = 1;
-             final int t123 = b[((int) (l27 + 66856L)) - 60720] & 0xff;
-             final int t124 = l29;
-             if (((l29 = t124 != 0 ? 0 : t123) & 255) == 2) { break L120; }
-             break L117;
+             if ((l42 = (Words.get32(b, State.far((int) (l29 = ((((l42 = (((b[((int) l22) - 60447] & 0xff) << 8) | (l54 = b[((int) l22) - 60448] & 0xff)) | ((b[((int) l22) - 60446] & 0xff) << 16)) & 0xffffffffL) * 953497L) >>> 22L) & 1016L), 66852)) != l42) ? 1 : 0) != 0) { break L155; }
+             l53 = 1;
+             final int t158 = b[((int) (l29 + 66856L)) - 60448] & 0xff;
+             final int t159 = l42;
+             if (((l42 = t159 != 0 ? 0 : t158) & 255) == 2) { break L155; }
+             break L152;
             }
-            if (l20 + Long.MIN_VALUE > -9223372036854775804L) { break L116; }
-            if (l20 == 0L) { break L119; }
-            l41 = b[((int) l21) - 60720] & 0xff;
+            if (l2 + Long.MIN_VALUE > -9223372036854775804L) { break L151; }
+            if (l2 == 0L) { break L154; }
+            l54 = b[((int) l22) - 60448] & 0xff;
            }
-           if (((int) (byte) l41) > -1) { break L116; }
+           if (((int) (byte) l54) > -1) { break L151; }
           }
-          f106(m, l8 + 144L, l21, l20);
-          if ((b[((int) l8) - 60576] & 0xff) != 1) { break L116; }
-          l40 = b[((int) l8) - 60573] & 0xff;
-          l29 = b[((int) l8) - 60575] & 0xff;
-          break L117;
+          f106(m, l8 + 224L, l22, l2);
+          if ((b[((int) l8) - 60224] & 0xff) != 1) { break L151; }
+          l53 = b[((int) l8) - 60221] & 0xff;
+          l42 = b[((int) l8) - 60223] & 0xff;
+          break L152;
          }
-         l29 = ((l40 = ((((b[((int) l21) - 60720] & 0xff) + -58) & 255) + Integer.MIN_VALUE < -2147483402) ? 1 : 0) != 0) ? 2 : 0;
+         l42 = ((l53 = ((((b[((int) l22) - 60448] & 0xff) + -58) & 255) + Integer.MIN_VALUE < -2147483402) ? 1 : 0) != 0) ? 2 : 0;
         }
-        final int t125 = l39 != 0 ? 0 : 2;
-        final int t126 = l31;
-        l29 = (t126 != 0 ? 0 : t125) | (((l31 = l29 & 255) == 0) ? 1 : 0);
-        l40 = ((l40 & 1) != 0) ? 8 : 0;
-        l27 = l20 + l2;
-        if ((l33 | (l32 & ((l31 == 1) ? 1 : 0))) != 0) { break L115; }
-        break L114;
+        final int t160 = l52 != 0 ? 0 : 2;
+        final int t161 = l44;
+        l42 = (t161 != 0 ? 0 : t160) | (((l44 = l42 & 255) == 0) ? 1 : 0);
+        l53 = ((l53 & 1) != 0) ? 8 : 0;
+        l29 = l2 + l24;
+        if ((l45 | (l46 & ((l44 == 1) ? 1 : 0))) != 0) { break L150; }
+        break L149;
        }
-       l29 = f107(m, l21, l20);
-       L127: {
-        L128: {
-         L129: {
-          if (l32 == 0) { break L129; }
-          if ((l33 | f108(m, l21, l20)) != 0) { break L128; }
-          break L127;
+       l42 = f107(m, l22, l2);
+       L162: {
+        L163: {
+         L164: {
+          if (l46 == 0) { break L164; }
+          if ((l45 | f108(m, l22, l2)) != 0) { break L163; }
+          break L162;
          }
-         if (l33 == 0) { break L127; }
+         if (l45 == 0) { break L162; }
         }
-        l40 = 0;
-        final int t130 = l39 != 0 ? 0 : 2;
-        final int t131 = l31;
-        l29 = (t131 != 0 ? 0 : t130) | l29;
-        l27 = l20 + l2;
-        break L115;
+        l53 = 0;
+        final int t165 = l52 != 0 ? 0 : 2;
+        final int t166 = l44;
+        l42 = (t166 != 0 ? 0 : t165) | l42;
+        l29 = l2 + l24;
+        break L150;
        }
-       l40 = 0;
-       final int t132 = l39 != 0 ? 0 : 2;
-       final int t133 = l31;
-       l29 = (t133 != 0 ? 0 : t132) | l29;
-       l27 = l20 + l2;
-       if (f109(m, l21, l20) == 0) { break L114; }
+       l53 = 0;
+       final int t167 = l52 != 0 ? 0 : 2;
+       final int t168 = l44;
+       l42 = (t168 != 0 ? 0 : t167) | l42;
+       l29 = l2 + l24;
+       if (f109(m, l22, l2) == 0) { break L149; }
       }
-      l29 = l29 | 4;
+      l42 = l42 | 4;
      }
-     Words.put64(b, ((int) l8) - 60536, l11);
-     Words.put64(b, ((int) l8) - 60544, l10);
-     Words.put64(b, ((int) l8) - 60552, l20);
-     Words.put64(b, ((int) l8) - 60560, l21);
-     Words.put64(b, ((int) l8) - 60568, l2);
-     Words.put64(b, ((int) l8) - 60576, l22);
-     Core4.f117(m, l8 + 8L, l8 + 144L);
-     l32 = b[((int) l8) - 60711] & 0xff;
-     l33 = b[((int) l8) - 60712] & 0xff;
-     Words.put32(b, ((int) (l5 + 52L)) - 60720, 0);
-     Words.put32(b, ((int) (l5 + 48L)) - 60720, l38);
-     Words.put32(b, ((int) (l5 + 44L)) - 60720, l37);
-     Words.put32(b, ((int) (l5 + 40L)) - 60720, l36);
-     Words.put32(b, ((int) (l5 + 36L)) - 60720, l35);
-     Words.put32(b, ((int) (l5 + 28L)) - 60720, l34);
-     Words.put32(b, ((int) (l5 + 24L)) - 60720, l30);
-     Words.put64(b, ((int) (l5 + 16L)) - 60720, l28);
-     Words.put64(b, ((int) (l5 + 8L)) - 60720, l27);
-     Words.put64(b, ((int) l5) - 60720, l2);
-     final int t134 = (int) (l5 + 32L);
-     final int t135 = l40 | l29;
-     final int t136 = ((l32 + 1) & 255) << 4;
-     final int t137 = l33 & 1;
-     Words.put32(b, t134 - 60720, t135 | (t137 != 0 ? t136 : 0));
-     l5 = l5 + 56L;
-     if (l6 != (l9 = l9 + 1L)) { continue L5; }
+     Words.put64(b, ((int) l8) - 60184, l11);
+     Words.put64(b, ((int) l8) - 60192, l10);
+     Words.put64(b, ((int) l8) - 60200, l2);
+     Words.put64(b, ((int) l8) - 60208, l22);
+     Words.put64(b, ((int) l8) - 60216, l24);
+     Words.put64(b, ((int) l8) - 60224, l23);
+     Core4.f119(m, l8, l8 + 224L);
+     l46 = b[((int) l8) - 60447] & 0xff;
+     l45 = b[((int) l8) - 60448] & 0xff;
+     Words.put32(b, ((int) (l2 = l5 + (l9 * 56L))) - 60396, 0);
+     Words.put32(b, ((int) l2) - 60400, l51);
+     Words.put32(b, ((int) l2) - 60404, l50);
+     Words.put32(b, ((int) l2) - 60408, l49);
+     Words.put32(b, ((int) l2) - 60412, l48);
+     Words.put32(b, ((int) l2) - 60420, l47);
+     Words.put32(b, ((int) l2) - 60424, l43);
+     Words.put64(b, ((int) l2) - 60432, l30);
+     Words.put64(b, ((int) l2) - 60440, l29);
+     Words.put64(b, ((int) l2) - 60448, l24);
+     final int t169 = (int) l2;
+     final int t170 = l53 | l42;
+     final int t171 = ((l46 + 1) & 255) << 4;
+     final int t172 = l45 & 1;
+     Words.put32(b, t169 - 60416, t170 | (t172 != 0 ? t171 : 0));
+     if ((l9 = l9 + 1L) != l6) { continue L5; }
      break L5;
     }
     l9 = l6;
    }
-   l29 = 0;
+   l42 = 0;
   }
-  Words.put64(b, ((int) l7) - 60720, l9);
-  m.g0 = l8 + 384L;
-  final int t138 = l29;
-  return t138;
+  Words.put64(b, ((int) l7) - 60448, l9);
+  m.g0 = l8 + 528L;
+  final int t173 = l42;
+  return t173;
  }
  throw State.trap();
 }
@@ -6172,7 +6385,7 @@ static void f111(State m, long l0, long l1, long l2, long l3, long l4, int l5, i
     L4: while (true) {
      L5: {
       L6: {
-       if ((l11 = (int) b[((int) l3) - 60720]) <= -1) { break L6; }
+       if ((l11 = (int) b[((int) l3) - 60448]) <= -1) { break L6; }
        l8 = 1L;
        break L5;
       }
@@ -6184,7 +6397,7 @@ static void f111(State m, long l0, long l1, long l2, long l3, long l4, int l5, i
       l8 = (l11 + Integer.MIN_VALUE < 2147483632) ? 3L : 4L;
      }
      l12 = l11 & 255;
-     m.fill((int) (l7 + 8L), 0, (int) 120L);
+     m.fill((int) l7, 0, (int) 128L);
      L8: {
       L9: {
        L10: {
@@ -6193,31 +6406,31 @@ static void f111(State m, long l0, long l1, long l2, long l3, long l4, int l5, i
           L13: {
            if (l4 + Long.MIN_VALUE < -9223372036854775805L) { break L13; }
            if ((l12 & 240) != 224) { break L13; }
-           l11 = (((l13 = b[((int) l3) - 60719] & 0xff) << 8) | ((l14 = b[((int) l3) - 60718] & 0xff) << 16)) | l12;
+           l11 = (((l13 = b[((int) l3) - 60447] & 0xff) << 8) | ((l14 = b[((int) l3) - 60446] & 0xff) << 16)) | l12;
            l12 = (((l12 << 12) | l14) + (l13 << 6)) + -925824;
-           if (l11 == Words.get32(b, ((int) ((l9 = (((l11 & 0xffffffffL) * 953497L) >>> 22L) & 1016L) + 66852L)) - 60720)) { break L12; }
+           if (l11 == Words.get32(b, ((int) ((l9 = (((l11 & 0xffffffffL) * 953497L) >>> 22L) & 1016L) + 66852L)) - 60448)) { break L12; }
            break L10;
           }
           L14: {
            if (l11 > -1) { break L14; }
-           l13 = (b[((int) l3) - 60719] & 0xff) & 63;
+           l13 = (b[((int) l3) - 60447] & 0xff) & 63;
            L15: {
             if (l11 + Integer.MIN_VALUE > 2147483615) { break L15; }
             l12 = ((l12 << 6) & 1984) | l13;
             break L14;
            }
-           l14 = (b[((int) l3) - 60718] & 0xff) & 63;
+           l14 = (b[((int) l3) - 60446] & 0xff) & 63;
            L16: {
             if (l11 + Integer.MIN_VALUE > 2147483631) { break L16; }
             l12 = ((l13 << 6) | ((l12 << 12) & 61440)) | l14;
             break L14;
            }
-           l12 = ((l14 << 6) | ((l13 << 12) | ((l12 << 18) & 1835008))) | ((b[((int) l3) - 60717] & 0xff) & 63);
+           l12 = ((l14 << 6) | ((l13 << 12) | ((l12 << 18) & 1835008))) | ((b[((int) l3) - 60445] & 0xff) & 63);
           }
           if ((l12 + -2048) + Integer.MIN_VALUE > -2147420161) { break L11; }
-          if (Words.get32(b, ((int) ((l9 = ((((l11 = (((l12 >>> 12) | ((l12 << 2) & 16128)) | ((l12 << 16) & 4128768)) | 8421600) & 0xffffffffL) * 953497L) >>> 22L) & 1016L) + 66852L)) - 60720) != l11) { break L10; }
+          if (Words.get32(b, ((int) ((l9 = ((((l11 = (((l12 >>> 12) | ((l12 << 2) & 16128)) | ((l12 << 16) & 4128768)) | 8421600) & 0xffffffffL) * 953497L) >>> 22L) & 1016L) + 66852L)) - 60448) != l11) { break L10; }
          }
-         if ((b[((int) (l9 + 66856L)) - 60720] & 0xff) != 2) { break L9; }
+         if ((b[((int) (l9 + 66856L)) - 60448] & 0xff) != 2) { break L9; }
          break L10;
         }
         if ((l12 + -48) + Integer.MIN_VALUE < -2147483638) { break L9; }
@@ -6297,36 +6510,42 @@ static void f111(State m, long l0, long l1, long l2, long l3, long l4, int l5, i
         if (l12 + Integer.MIN_VALUE < -2147483601) { break L9; }
         if ((l12 + -65292) + Integer.MIN_VALUE < -2147483645) { break L9; }
        }
-       if (Core4.f118(m, l12) == 0) { break L8; }
+       if (Core4.f120(m, l12) == 0) { break L8; }
       }
-      f112(m, l7 + 8L, l1, l2, l3, l4, l5, l6);
-      if ((b[((int) l7) - 60712] & 0xff) != 1) { break L8; }
-      l8 = Words.get64(b, ((int) l7) - 60600);
-      l9 = Words.get64(b, ((int) l7) - 60608);
-      l10 = Words.get64(b, ((int) l7) - 60688);
+      f112(m, l7, l1, l2, l3, l4, l5, l6);
+      if ((b[((int) l7) - 60448] & 0xff) != 1) { break L8; }
+      l8 = Words.get64(b, ((int) l7) - 60336);
+      l9 = Words.get64(b, ((int) l7) - 60344);
+      l10 = Words.get64(b, ((int) l7) - 60424);
       L29: {
        L30: {
         L31: {
-         switch ((int) (b[((int) l7) - 60704] & 0xffL)) {
-         case 1: break L29;
-         case 2: break L31;
-         default: break L30;
+         L32: {
+          switch ((int) (b[((int) l7) - 60440] & 0xffL)) {
+          case 1: break L32;
+          case 2: break L29;
+          case 3: break L31;
+          default: break L30;
+          }
          }
+         l9 = l8;
+         l8 = Words.get64(b, ((int) l7) - 60328);
+         break L29;
         }
-        l9 = Words.get64(b, ((int) l7) - 60696);
+        l9 = Words.get64(b, ((int) l7) - 60432);
         l8 = l10;
         break L29;
        }
-       l8 = Words.get64(b, ((int) l7) - 60680);
+       l8 = Words.get64(b, ((int) l7) - 60416);
        l9 = l10;
       }
-      Words.put64(b, ((int) l0) - 60720, 1L);
-      Words.put64(b, ((int) (l0 + 48L)) - 60720, l8);
-      Words.put64(b, ((int) (l0 + 40L)) - 60720, l9);
-      Words.put64(b, ((int) (l0 + 32L)) - 60720, l4 - l8);
-      Words.put64(b, ((int) (l0 + 24L)) - 60720, l3);
-      Words.put64(b, ((int) (l0 + 16L)) - 60720, l2 - l4);
-      Words.put64(b, ((int) (l0 + 8L)) - 60720, l1);
+      Words.put64(b, ((int) l0) - 60448, 1L);
+      Words.put64(b, ((int) (l0 + 48L)) - 60448, l8);
+      Words.put64(b, ((int) (l0 + 40L)) - 60448, l9);
+      Words.put64(b, ((int) (l0 + 32L)) - 60448, l4 - l8);
+      Words.put64(b, ((int) (l0 + 24L)) - 60448, l3);
+      Words.put64(b, ((int) (l0 + 16L)) - 60448, l2 - l4);
+      Words.put64(b, ((int) (l0 + 8L)) - 60448, l1);
       break L1;
      }
      l3 = l3 + l8;
@@ -6334,13 +6553,13 @@ static void f111(State m, long l0, long l1, long l2, long l3, long l4, int l5, i
      break L4;
     }
    }
-   Words.put64(b, ((int) l0) - 60672, 0L);
-   Words.put64(b, ((int) l0) - 60680, 0L);
-   Words.put64(b, ((int) l0) - 60688, 0L);
-   Words.put64(b, ((int) l0) - 60696, 0L);
-   Words.put64(b, ((int) l0) - 60704, 0L);
-   Words.put64(b, ((int) l0) - 60712, 0L);
-   Words.put64(b, ((int) l0) - 60720, 0L);
+   Words.put64(b, ((int) l0) - 60400, 0L);
+   Words.put64(b, ((int) l0) - 60408, 0L);
+   Words.put64(b, ((int) l0) - 60416, 0L);
+   Words.put64(b, ((int) l0) - 60424, 0L);
+   Words.put64(b, ((int) l0) - 60432, 0L);
+   Words.put64(b, ((int) l0) - 60440, 0L);
+   Words.put64(b, ((int) l0) - 60448, 0L);
    break L1;
   }
   throw State.trap();
@@ -6348,448 +6567,940 @@ static void f111(State m, long l0, long l1, long l2, long l3, long l4, int l5, i
  m.g0 = l7 + 128L;
 }
 
-static int f112_1(State m, long l1, long l2, long l3, long l4, int l5, int l6, long l7, long l8, long l9, long l10, long l11, long l12, long l13, long l14, long l15, long l16, long l17, long l18, long l19, long l20, long l21, int l22, int l23, int l24, int l25, int l26) {
+static int f112_1(State m, long l0, long l1, long l2, long l3, long l4, int l5, int l6, long l7, long l8, long l9, long l10, long l11, long l12, long l13, long l14, int l24, int l25, int l26, int l27, int l28) {
  final byte[] b = m.bytes;
  int exit = 0;
  PART: {
   L66: {
+   if (l28 != 0) { break L66; }
+   l24 = (l25 = (int) b[((int) l3) - 60448]) & 255;
+   l10 = 1L;
    L67: {
-    if ((l12 = b[((int) l7) - 60656] & 0xffL) == 1L) { break L67; }
-    l25 = 0;
-    l1 = 0L;
-    l9 = 0L;
-    l3 = 0L;
-    l10 = 0L;
-    l8 = 0L;
-    l4 = 0L;
-    l2 = 0L;
-    l13 = 0L;
-    l16 = 0L;
-    l15 = 0L;
-    l14 = 0L;
-    l17 = 0L;
-    break L66;
-   }
-   l10 = Words.get64(b, ((int) l7) - 60648);
-   l17 = 2L;
-   l25 = 0;
-   L68: {
-    L69: {
-     L70: {
-      if (!((l8 = Words.get64(b, ((int) l7) - 60640)) == 0L)) { break L70; }
-      l9 = 0L;
-      l12 = 1L;
-      l1 = l10;
-      l3 = 0L;
-      break L69;
-     }
-     l23 = (l22 = (int) b[((int) l10) - 60720]) & 255;
-     l14 = 1L;
-     L71: {
-      if (l22 > -1) { break L71; }
-      l24 = (b[((int) l10) - 60719] & 0xff) & 63;
-      L72: {
-       if (l22 + Integer.MIN_VALUE > 2147483615) { break L72; }
-       l23 = ((l23 << 6) & 1984) | l24;
-       l14 = 2L;
-       break L71;
-      }
-      l26 = (b[((int) l10) - 60718] & 0xff) & 63;
-      L73: {
-       if (l22 + Integer.MIN_VALUE > 2147483631) { break L73; }
-       l23 = ((l24 << 6) | ((l23 << 12) & 61440)) | l26;
-       l14 = 3L;
-       break L71;
-      }
-      l23 = ((l26 << 6) | ((l24 << 12) | ((l23 << 18) & 1835008))) | ((b[((int) l10) - 60717] & 0xff) & 63);
-      l14 = 4L;
-     }
-     l11 = l4 - l8;
-     l4 = -32L;
-     L74: {
-      L75: while (true) {
-       if ((l24 = Words.get32(b, ((int) (l4 + 83604L)) - 60720)) == l23) { break L74; }
-       l22 = (l4 != 0L) ? 1 : 0;
-       l4 = l4 + 4L;
-       if (l22 != 0) { continue L75; }
-       break L75;
-      }
-     }
-     l4 = 0L;
-     l12 = 1L;
-     L76: {
-      L77: {
-       L78: {
-        if (l24 != l23) { break L78; }
-        l4 = 0L;
-        Words.put64(b, ((int) l7) - 60640, 0L);
-        Words.put64(b, ((int) l7) - 60648, 0L);
-        Words.put64(b, ((int) l7) - 60656, 0L);
-        Core4.f124(m, l7 + 64L, l1, l2, l13 = l10 + l14, l18 = l8 - l14, l5, l6);
-        if ((b[((int) l7) - 60656] & 0xff) != 1) { break L78; }
-        l15 = Words.get64(b, ((int) l7) - 60648);
-        l14 = Words.get64(b, ((int) l7) - 60640);
-        Words.put64(b, ((int) l7) - 60600, 0L);
-        Words.put64(b, ((int) l7) - 60608, 0L);
-        Words.put64(b, ((int) l7) - 60616, 0L);
-        Words.put64(b, ((int) l7) - 60624, 0L);
-        Words.put64(b, ((int) l7) - 60632, 0L);
-        Words.put64(b, ((int) l7) - 60640, 0L);
-        Words.put64(b, ((int) l7) - 60648, 0L);
-        Words.put64(b, ((int) l7) - 60656, 0L);
-        Core2.f75(m, l7 + 64L, l3, l11, 1);
-        if ((b[((int) l7) - 60656] & 0xff) != 0) { break L76; }
-        if (((b[((int) l7) - 60608] & 0xff) & 255) == 3) { break L76; }
-        if (Words.get64(b, ((int) l7) - 60632) <= -1L) { break L76; }
-        Words.put64(b, ((int) l7) - 60664, l8);
-        Words.put64(b, ((int) l7) - 60672, l10);
-        Words.put64(b, ((int) l7) - 60680, l11);
-        Words.put64(b, ((int) l7) - 60688, l3);
-        Words.put64(b, ((int) l7) - 60696, l9);
-        Words.put64(b, ((int) l7) - 60704, l1);
-        l4 = 0L;
-        if (Core4.f125(m, l7 + 16L) != 0) { break L78; }
-        Words.put64(b, ((int) l7) - 60600, 0L);
-        Words.put64(b, ((int) l7) - 60608, 0L);
-        Words.put64(b, ((int) l7) - 60616, 0L);
-        Words.put64(b, ((int) l7) - 60624, 0L);
-        Words.put64(b, ((int) l7) - 60632, 0L);
-        Words.put64(b, ((int) l7) - 60640, 0L);
-        Words.put64(b, ((int) l7) - 60648, 0L);
-        Words.put64(b, ((int) l7) - 60656, 0L);
-        Core2.f75(m, l7 + 64L, l13, l16 = l18 - l14, 1);
-        if ((b[((int) l7) - 60656] & 0xff) != 0) { break L76; }
-        if (((b[((int) l7) - 60608] & 0xff) & 255) == 3) { break L76; }
-        if (Words.get64(b, ((int) l7) - 60632) <= -1L) { break L76; }
-        Words.put64(b, ((int) l7) - 60664, l14);
-        Words.put64(b, ((int) l7) - 60672, l15);
-        Words.put64(b, ((int) l7) - 60680, l16);
-        Words.put64(b, ((int) l7) - 60688, l13);
-        Words.put64(b, ((int) l7) - 60696, l2 = l2 - l18);
-        Words.put64(b, ((int) l7) - 60704, l1);
-        l4 = 0L;
-        if (Core4.f125(m, l7 + 16L) != 0) { break L78; }
-        l4 = 0L;
-        if (Core4.f126(m, l1, l9, l15, l14) != 0) { break L78; }
-        l4 = 0L;
-        if (Core4.f127(m, l1, l9) == 0) { break L77; }
-       }
-       l1 = l10;
-       l9 = l8;
-       l3 = 0L;
-       l11 = 0L;
-       l10 = 0L;
-       l8 = 0L;
-       break L68;
-      }
-      m.fill((int) (l7 + 64L), 0, (int) 112L);
-      L79: {
-       L80: {
-        L81: {
-         L82: {
-          if (l23 == 21040) { break L82; }
-          l4 = l3;
-          l19 = l11;
-          if (l23 != 33267) { break L81; }
-         }
-         if (l11 == 0L) { break L80; }
-         l24 = (l22 = (int) b[((int) l3) - 60720]) & 255;
-         l4 = 1L;
-         L83: {
-          if (l22 > -1) { break L83; }
-          l6 = (b[((int) l3) - 60719] & 0xff) & 63;
-          L84: {
-           if (l22 + Integer.MIN_VALUE > 2147483615) { break L84; }
-           l24 = ((l24 << 6) & 1984) | l6;
-           l4 = 2L;
-           break L83;
-          }
-          l5 = (b[((int) l3) - 60718] & 0xff) & 63;
-          L85: {
-           if (l22 + Integer.MIN_VALUE > 2147483631) { break L85; }
-           l24 = ((l6 << 6) | ((l24 << 12) & 61440)) | l5;
-           l4 = 3L;
-           break L83;
-          }
-          l24 = ((l5 << 6) | ((l6 << 12) | ((l24 << 18) & 1835008))) | ((b[((int) l3) - 60717] & 0xff) & 63);
-          l4 = 4L;
-         }
-         if (l14 == 0L) { break L80; }
-         l22 = (l6 = (int) b[((int) l15) - 60720]) & 255;
-         L86: {
-          if (l6 > -1) { break L86; }
-          l5 = (b[((int) l15) - 60719] & 0xff) & 63;
-          L87: {
-           if (l6 + Integer.MIN_VALUE > 2147483615) { break L87; }
-           l22 = ((l22 << 6) & 1984) | l5;
-           break L86;
-          }
-          l25 = (b[((int) l15) - 60718] & 0xff) & 63;
-          L88: {
-           if (l6 + Integer.MIN_VALUE > 2147483631) { break L88; }
-           l22 = ((l5 << 6) | ((l22 << 12) & 61440)) | l25;
-           break L86;
-          }
-          l22 = ((l25 << 6) | ((l5 << 12) | ((l22 << 18) & 1835008))) | ((b[((int) l15) - 60717] & 0xff) & 63);
-         }
-         if (l11 != l4) { break L80; }
-         if (l24 != 19968) { break L80; }
-         L89: {
-          if (l22 > 26375) { break L89; }
-          L90: {
-           switch (l22 + -26085) {
-           case 0: case 17: break L79;
-           case 1: case 2: case 3: case 4: case 5: case 6: case 7: case 8: case 9: case 10: case 11: case 12: case 13: case 14: case 15: case 16: break L80;
-           default: break L90;
-           }
-          }
-          if (l22 == 21495) { break L79; }
-          if (l22 == 26178) { break L79; }
-          break L80;
-         }
-         L91: {
-          if (l22 > 34398) { break L91; }
-          if (l22 == 26376) { break L79; }
-          if (l22 == 28857) { break L79; }
-          break L80;
-         }
-         if (l22 == 34399) { break L79; }
-         if (l22 == 40670) { break L79; }
-         break L80;
-        }
-        L92: {
-         L93: while (true) {
-          if ((l20 = l19) == 0L) { break L92; }
-          l22 = (l24 = (int) b[((int) l4) - 60720]) & 255;
-          l18 = 1L;
-          L94: {
-           if (l24 > -1) { break L94; }
-           l6 = (b[((int) l4) - 60719] & 0xff) & 63;
-           L95: {
-            if (l24 + Integer.MIN_VALUE > 2147483615) { break L95; }
-            l22 = ((l22 << 6) & 1984) | l6;
-            l18 = 2L;
-            break L94;
-           }
-           l5 = (b[((int) l4) - 60718] & 0xff) & 63;
-           L96: {
-            if (l24 + Integer.MIN_VALUE > 2147483631) { break L96; }
-            l22 = ((l6 << 6) | ((l22 << 12) & 61440)) | l5;
-            l18 = 3L;
-            break L94;
-           }
-           l22 = ((l5 << 6) | ((l6 << 12) | ((l22 << 18) & 1835008))) | ((b[((int) l4) - 60717] & 0xff) & 63);
-           l18 = 4L;
-          }
-          if ((l22 + -48) + Integer.MIN_VALUE < -2147483638) { break L92; }
-          l19 = l20 - l18;
-          l4 = l4 + l18;
-          if ((l22 + -65296) + Integer.MIN_VALUE > -2147483639) { continue L93; }
-          break L93;
-         }
-        }
-        l4 = l13;
-        l19 = l16;
-        L97: {
-         L98: while (true) {
-          if ((l21 = l19) == 0L) { break L97; }
-          l22 = (l24 = (int) b[((int) l4) - 60720]) & 255;
-          l18 = 1L;
-          L99: {
-           if (l24 > -1) { break L99; }
-           l6 = (b[((int) l4) - 60719] & 0xff) & 63;
-           L100: {
-            if (l24 + Integer.MIN_VALUE > 2147483615) { break L100; }
-            l22 = ((l22 << 6) & 1984) | l6;
-            l18 = 2L;
-            break L99;
-           }
-           l5 = (b[((int) l4) - 60718] & 0xff) & 63;
-           L101: {
-            if (l24 + Integer.MIN_VALUE > 2147483631) { break L101; }
-            l22 = ((l6 << 6) | ((l22 << 12) & 61440)) | l5;
-            l18 = 3L;
-            break L99;
-           }
-           l22 = ((l5 << 6) | ((l6 << 12) | ((l22 << 18) & 1835008))) | ((b[((int) l4) - 60717] & 0xff) & 63);
-           l18 = 4L;
-          }
-          if ((l22 + -48) + Integer.MIN_VALUE < -2147483638) { break L97; }
-          l19 = l21 - l18;
-          l4 = l4 + l18;
-          if ((l22 + -65296) + Integer.MIN_VALUE > -2147483639) { continue L98; }
-          break L98;
-         }
-        }
-        if ((l20 != 0L) ^ (l21 != 0L)) { break L79; }
-        if (Core4.f128(m, l3, l11) != 0) { break L79; }
-        if (Core4.f128(m, l13, l16) != 0) { break L79; }
-        L102: {
-         if (l16 == 0L) { break L102; }
-         l22 = (l24 = (int) b[((int) l13) - 60720]) & 255;
-         L103: {
-          if (l24 > -1) { break L103; }
-          l6 = (b[((int) l13) - 60719] & 0xff) & 63;
-          L104: {
-           if (l24 + Integer.MIN_VALUE > 2147483615) { break L104; }
-           l22 = ((l22 << 6) & 1984) | l6;
-           break L103;
-          }
-          l5 = (b[((int) l13) - 60718] & 0xff) & 63;
-          L105: {
-           L106: {
-            if (l24 + Integer.MIN_VALUE > 2147483631) { break L106; }
-            l22 = ((l6 << 6) | ((l22 << 12) & 61440)) | l5;
-            break L105;
-           }
-           l22 = ((l5 << 6) | ((l6 << 12) | ((l22 << 18) & 1835008))) | ((b[((int) l13) - 60717] & 0xff) & 63);
-          }
-          if (l22 == 27491) { break L79; }
-         }
-         L107: {
-          if (l22 > 35999) { break L107; }
-          L108: {
-           switch (l22 + -43) {
-           case 0: case 2: break L79;
-           case 1: break L102;
-           default: break L108;
-           }
-          }
-          if (l22 != 8722) { break L102; }
-          break L79;
-         }
-         L109: {
-          switch (l22 + -65291) {
-          case 0: case 2: break L79;
-          case 1: break L102;
-          default: break L109;
-          }
-         }
-         if (l22 == 36000) { break L79; }
-         if (l22 == 36127) { break L79; }
-        }
-        L110: {
-         if (l9 == 0L) { break L110; }
-         L111: {
-          if ((l22 = (int) b[((int) ((l4 = l1 + l9) + -1L)) - 60720]) >= 0) { break L111; }
-          l18 = -2L;
-          L112: {
-           if ((b[((int) (l4 + -2L)) - 60720] & 0xff) + Integer.MIN_VALUE > -2147483457) { break L112; }
-           l18 = ((b[((int) (l4 + -3L)) - 60720] & 0xff) + Integer.MIN_VALUE > -2147483457) ? -3L : -4L;
-          }
-          l22 = (l24 = (int) b[((int) (l4 = (l1 + l18) + l9)) - 60720]) & 255;
-          if (l24 > -1) { break L111; }
-          l6 = (b[((int) l4) - 60719] & 0xff) & 63;
-          L113: {
-           if (l24 + Integer.MIN_VALUE > 2147483615) { break L113; }
-           l22 = ((l22 << 6) & 1984) | l6;
-           break L111;
-          }
-          l5 = (b[((int) l4) - 60718] & 0xff) & 63;
-          L114: {
-           if (l24 + Integer.MIN_VALUE > 2147483631) { break L114; }
-           l22 = ((l6 << 6) | ((l22 << 12) & 61440)) | l5;
-           break L111;
-          }
-          l22 = ((l5 << 6) | ((l6 << 12) | ((l22 << 18) & 1835008))) | ((b[((int) l4) - 60717] & 0xff) & 63);
-         }
-         if (l22 == 64) { break L79; }
-         if ((l22 + -35) + Integer.MIN_VALUE < -2147483646) { break L79; }
-         if (l22 == 95) { break L79; }
-         if (l22 == 215) { break L79; }
-         if (l22 == 42) { break L79; }
-         if (l22 == 94) { break L79; }
-         if (l22 == 43) { break L79; }
-         if (l22 == 61) { break L79; }
-         if (l22 == 126) { break L79; }
-         if (l22 == 65306) { break L79; }
-         if (l22 == 58) { break L79; }
-         if (l22 == 46) { break L79; }
-         if ((l22 & -3) == 45) { break L79; }
-         if ((l22 + -48) + Integer.MIN_VALUE < -2147483638) { break L79; }
-         if ((l22 + -65296) + Integer.MIN_VALUE < -2147483638) { break L79; }
-        }
-        L115: {
-         if (l14 == 0L) { break L115; }
-         l22 = (l24 = (int) b[((int) l15) - 60720]) & 255;
-         L116: {
-          if (l24 > -1) { break L116; }
-          l6 = (b[((int) l15) - 60719] & 0xff) & 63;
-          L117: {
-           if (l24 + Integer.MIN_VALUE > 2147483615) { break L117; }
-           l22 = ((l22 << 6) & 1984) | l6;
-           break L116;
-          }
-          l5 = (b[((int) l15) - 60718] & 0xff) & 63;
-          L118: {
-           if (l24 + Integer.MIN_VALUE > 2147483631) { break L118; }
-           l22 = ((l6 << 6) | ((l22 << 12) & 61440)) | l5;
-           break L116;
-          }
-          l22 = ((l5 << 6) | ((l6 << 12) | ((l22 << 18) & 1835008))) | ((b[((int) l15) - 60717] & 0xff) & 63);
-         }
-         L119: {
-          switch (l22 + -42) {
-          case 0: case 1: case 3: case 5: case 16: case 19: case 50: case 52: case 53: case 84: break L79;
-          case 2: case 4: case 6: case 7: case 8: case 9: case 10: case 11: case 12: case 13: case 14: case 15: case 17: case 18: case 20: case 21: case 22: case 23: case 24: case 25: case 26: case 27: case 28: case 29: case 30: case 31: case 32: case 33: case 34: case 35: case 36: case 37: case 38: case 39: case 40: case 41: case 42: case 43: case 44: case 45: case 46: case 47: case 48: case 49: case 51: case 54: case 55: case 56: case 57: case 58: case 59: case 60: case 61: case 62: case 63: case 64: case 65: case 66: case 67: case 68: case 69: case 70: case 71: case 72: case 73: case 74: case 75: case 76: case 77: case 78: case 79: case 80: case 81: case 82: case 83: break L115;
-          default: break L119;
-          }
-         }
-         if (l22 == 65306) { break L79; }
-         if (l22 == 215) { break L79; }
-        }
-        Core2.f72(m, l7 + 64L, l3, l11, l13, l16);
-        if ((b[((int) l7) - 60656] & 0xff) != 1) { break L79; }
-       }
-       l12 = 1L;
-       l25 = l23;
-       l4 = l1;
-       l17 = 1L;
-       break L66;
-      }
-      l25 = 0;
-     }
-     l3 = 0L;
-     l1 = l10;
-     l9 = l8;
+    if (l25 > -1) { break L67; }
+    l26 = (b[((int) l3) - 60447] & 0xff) & 63;
+    L68: {
+     if (l25 + Integer.MIN_VALUE > 2147483615) { break L68; }
+     l24 = ((l24 << 6) & 1984) | l26;
+     l10 = 2L;
+     break L67;
     }
-    l11 = 0L;
-    l10 = 0L;
-    l8 = 0L;
-    l4 = 0L;
+    l27 = (b[((int) l3) - 60446] & 0xff) & 63;
+    L69: {
+     if (l25 + Integer.MIN_VALUE > 2147483631) { break L69; }
+     l24 = ((l26 << 6) | ((l24 << 12) & 61440)) | l27;
+     l10 = 3L;
+     break L67;
+    }
+    l24 = ((l27 << 6) | ((l26 << 12) | ((l24 << 18) & 1835008))) | ((b[((int) l3) - 60445] & 0xff) & 63);
+    l10 = 4L;
    }
-   l2 = 0L;
-   l13 = 0L;
-   l16 = 0L;
-   l15 = 0L;
-   l14 = 0L;
+   L70: {
+    if (l24 == 65509) { break L70; }
+    if (l24 != 165) { break L66; }
+   }
+   L71: {
+    if (l2 == l4) { break L71; }
+    L72: {
+     L73: {
+      L74: {
+       if ((l24 = (int) b[((int) ((l8 = l1 + l9) + -1L)) - 60448]) > -1) { break L74; }
+       l11 = -2L;
+       L75: {
+        if ((l26 = b[((int) (l8 + -2L)) - 60448] & 0xff) + Integer.MIN_VALUE > -2147483457) { break L75; }
+        l11 = ((b[((int) (l8 + -3L)) - 60448] & 0xff) + Integer.MIN_VALUE > -2147483457) ? -3L : -4L;
+       }
+       l24 = (l25 = (int) b[((int) (l11 = (l1 + l11) + l9)) - 60448]) & 255;
+       L76: {
+        if (l25 > -1) { break L76; }
+        l27 = (b[((int) l11) - 60447] & 0xff) & 63;
+        L77: {
+         if (l25 + Integer.MIN_VALUE > 2147483615) { break L77; }
+         l24 = ((l24 << 6) & 1984) | l27;
+         break L76;
+        }
+        l28 = (b[((int) l11) - 60446] & 0xff) & 63;
+        L78: {
+         if (l25 + Integer.MIN_VALUE > 2147483631) { break L78; }
+         l24 = ((l27 << 6) | ((l24 << 12) & 61440)) | l28;
+         break L76;
+        }
+        l24 = ((l28 << 6) | ((l27 << 12) | ((l24 << 18) & 1835008))) | ((b[((int) l11) - 60445] & 0xff) & 63);
+       }
+       if (l24 == 95) { break L66; }
+       if (((l24 & 2097119) + -65) + Integer.MIN_VALUE < -2147483622) { break L66; }
+       l11 = -2L;
+       L79: {
+        if (l26 + Integer.MIN_VALUE > -2147483457) { break L79; }
+        l11 = ((b[((int) (l8 + -3L)) - 60448] & 0xff) + Integer.MIN_VALUE > -2147483457) ? -3L : -4L;
+       }
+       l24 = (l25 = (int) b[((int) (l8 = (l1 + l11) + l9)) - 60448]) & 255;
+       if (l25 > -1) { break L72; }
+       l26 = (b[((int) l8) - 60447] & 0xff) & 63;
+       if (l25 + Integer.MIN_VALUE > 2147483615) { break L73; }
+       l24 = ((l24 << 6) & 1984) | l26;
+       break L72;
+      }
+      if (l24 == 95) { break L66; }
+      if ((((l24 & 95) + -65) & 255) + Integer.MIN_VALUE >= -2147483622) { break L72; }
+      break L66;
+     }
+     l27 = (b[((int) l8) - 60446] & 0xff) & 63;
+     L80: {
+      if (l25 + Integer.MIN_VALUE > 2147483631) { break L80; }
+      l24 = ((l26 << 6) | ((l24 << 12) & 61440)) | l27;
+      break L72;
+     }
+     l24 = ((l27 << 6) | ((l26 << 12) | ((l24 << 18) & 1835008))) | ((b[((int) l8) - 60445] & 0xff) & 63);
+    }
+    if ((l24 + -48) + Integer.MIN_VALUE < -2147483638) { break L66; }
+    if ((l24 + -65296) + Integer.MIN_VALUE < -2147483638) { break L66; }
+   }
+   Core4.f123(m, l7 + 24L, 0, l3 + l10, l4 - l10);
+   l10 = Words.get64(b, ((int) l7) - 60416);
+   l8 = Words.get64(b, ((int) l7) - 60424);
+   Words.put64(b, ((int) l7) - 60240, 0L);
+   Words.put64(b, ((int) l7) - 60248, 0L);
+   Words.put64(b, ((int) l7) - 60256, 0L);
+   Core4.f126(m, l7 + 192L, l1, l2, l8, l10, l5, l6);
+   if ((b[((int) l7) - 60256] & 0xff) != 1) { break L66; }
+   if (l10 == (l11 = Words.get64(b, ((int) l7) - 60240))) { break L66; }
+   l24 = (l25 = (int) b[((int) l8) - 60448]) & 255;
+   L81: {
+    if (l25 > -1) { break L81; }
+    l26 = (b[((int) l8) - 60447] & 0xff) & 63;
+    L82: {
+     if (l25 + Integer.MIN_VALUE > 2147483615) { break L82; }
+     l24 = ((l24 << 6) & 1984) | l26;
+     break L81;
+    }
+    l27 = (b[((int) l8) - 60446] & 0xff) & 63;
+    L83: {
+     if (l25 + Integer.MIN_VALUE > 2147483631) { break L83; }
+     l24 = ((l26 << 6) | ((l24 << 12) & 61440)) | l27;
+     break L81;
+    }
+    l24 = ((l27 << 6) | ((l26 << 12) | ((l24 << 18) & 1835008))) | ((b[((int) l8) - 60445] & 0xff) & 63);
+   }
+   l12 = Words.get64(b, ((int) l7) - 60248);
+   L84: {
+    if ((l24 + -48) + Integer.MIN_VALUE < -2147483638) { break L84; }
+    if ((l24 + -65296) + Integer.MIN_VALUE > -2147483639) { break L66; }
+   }
+   Words.put64(b, ((int) l7) - 60216, l11);
+   Words.put64(b, ((int) l7) - 60224, l12);
+   Words.put64(b, ((int) l7) - 60232, l13 = l10 - l11);
+   Words.put64(b, ((int) l7) - 60240, l8);
+   Words.put64(b, ((int) l7) - 60248, l14 = l2 - l10);
+   Words.put64(b, ((int) l7) - 60256, l1);
+   if (Core4.f127(m, l7 + 192L) == 0) { break L66; }
+   Words.put64(b, ((int) l0) - 60448, 1L);
+   Words.put64(b, ((int) (l0 + 96L)) - 60448, 0L);
+   Words.put64(b, ((int) (l0 + 88L)) - 60448, 83372L);
+   Words.put64(b, ((int) (l0 + 80L)) - 60448, l11);
+   Words.put64(b, ((int) (l0 + 72L)) - 60448, l12);
+   Words.put64(b, ((int) (l0 + 64L)) - 60448, l13);
+   Words.put64(b, ((int) (l0 + 56L)) - 60448, l8);
+   Words.put64(b, ((int) (l0 + 48L)) - 60448, l14);
+   Words.put64(b, ((int) (l0 + 40L)) - 60448, l1);
+   Words.put64(b, ((int) (l0 + 32L)) - 60448, l4 - l10);
+   Words.put64(b, ((int) (l0 + 24L)) - 60448, l3);
+   Words.put64(b, ((int) (l0 + 16L)) - 60448, 0L);
+   Words.put64(b, ((int) (l0 + 8L)) - 60448, 1L);
+   Words.put64(b, ((int) (l0 + 104L)) - 60448, 0L);
+   Words.put64(b, ((int) (l0 + 120L)) - 60448, l11);
+   Words.put64(b, ((int) (l0 + 112L)) - 60448, l12);
+   exit = 1; break PART;
+  }
+ }
+ m.kept[0] = l8;
+ m.kept[1] = l10;
+ m.kept[2] = l11;
+ m.kept[3] = l12;
+ m.kept[4] = l13;
+ m.kept[5] = l14;
+ m.kept[6] = l24;
+ m.kept[7] = l25;
+ m.kept[8] = l26;
+ m.kept[9] = l27;
+ m.kept[10] = l28;
+ return exit;
+}
+
+static int f112_2(State m, long l1, long l2, long l3, long l4, long l7, long l8, long l9, long l10, long l11, long l12, long l13, long l14, long l15, long l16, long l17, long l19, long l20, long l21, long l22, long l23, int l24, int l25, int l26, int l27, int l28, int l29, int l30) {
+ final byte[] b = m.bytes;
+ int exit = 0;
+ PART: {
+  L93: {
+   L94: {
+    L95: {
+     if ((l24 = (l11 == 0L) ? 1 : 0) != 0) { break L95; }
+     if ((l25 = (int) b[((int) l10) - 60448]) > -1) { break L95; }
+     if (l25 + Integer.MIN_VALUE < 2147483616) { break L95; }
+     l26 = l25 & 255;
+     l27 = (b[((int) l10) - 60447] & 0xff) & 63;
+     l28 = (b[((int) l10) - 60446] & 0xff) & 63;
+     L96: {
+      L97: {
+       if (l25 + Integer.MIN_VALUE > 2147483631) { break L97; }
+       l29 = ((l27 << 6) | ((l26 << 12) & 61440)) | l28;
+       l4 = 3L;
+       break L96;
+      }
+      l29 = ((l28 << 6) | ((l27 << 12) | ((l26 << 18) & 1835008))) | ((b[((int) l10) - 60445] & 0xff) & 63);
+      l4 = 4L;
+     }
+     L98: {
+      L99: {
+       L100: {
+        L101: {
+         switch (l29 + -22278) {
+         case 0: case 13: break L100;
+         case 1: case 2: case 3: case 4: case 5: case 6: case 7: case 8: case 9: case 10: case 11: case 12: break L99;
+         default: break L101;
+         }
+        }
+        if (l29 != 20803) { break L99; }
+       }
+       Core4.f128(m, l7 + 80L, l10 + l4, l11 - l4);
+       L102: {
+        if ((b[((int) l7) - 60368] & 0xff) != 1) { break L102; }
+        l4 = Words.get64(b, ((int) l7) - 60344);
+        l8 = Words.get64(b, ((int) l7) - 60352);
+        l26 = b[((int) l7) - 60358] & 0xff;
+        l25 = b[((int) l7) - 60359] & 0xff;
+        l27 = b[((int) l7) - 60360] & 0xff;
+        break L98;
+       }
+       if ((l25 = b[((int) l10) - 60448] & 0xff) + Integer.MIN_VALUE < -2147483424) { break L95; }
+       l28 = (b[((int) l10) - 60446] & 0xff) & 63;
+       l27 = (b[((int) l10) - 60447] & 0xff) & 63;
+       l26 = l25;
+      }
+      L103: {
+       L104: {
+        if ((l25 & 255) + Integer.MIN_VALUE > -2147483409) { break L104; }
+        l25 = ((l27 << 6) | l28) | ((l26 << 12) & 61440);
+        l4 = 3L;
+        break L103;
+       }
+       l25 = (((l27 << 12) | (l28 << 6)) | ((l26 << 18) & 1835008)) | ((b[((int) l10) - 60445] & 0xff) & 63);
+       l4 = 4L;
+      }
+      L105: {
+       if (l25 == 22602) { break L105; }
+       if (l25 != 22359) { break L95; }
+      }
+      Words.put64(b, ((int) l7) - 60256, 0L);
+      Words.put64(b, ((int) l7) - 60248, 0L);
+      Words.put64(b, ((int) l7) - 60240, 0L);
+      Words.put64(b, ((int) l7) - 60232, 0L);
+      Words.put64(b, ((int) l7) - 60336, 0L);
+      Words.put64(b, ((int) l7) - 60328, 0L);
+      Words.put64(b, ((int) l7) - 60320, 0L);
+      Words.put64(b, ((int) l7) - 60312, 0L);
+      Core4.f128(m, l7 + 192L, l8 = l10 + l4, l4 = l11 - l4);
+      L106: {
+       if ((b[((int) l7) - 60256] & 0xff) != 1) { break L106; }
+       l4 = Words.get64(b, ((int) l7) - 60232);
+       l8 = Words.get64(b, ((int) l7) - 60240);
+       l26 = b[((int) l7) - 60246] & 0xff;
+       l25 = b[((int) l7) - 60247] & 0xff;
+       l27 = b[((int) l7) - 60248] & 0xff;
+       break L98;
+      }
+      Core4.f129(m, l7 + 112L, l8, l4);
+      if ((b[((int) l7) - 60336] & 0xff) != 1) { break L95; }
+      l26 = 0;
+      l27 = 3;
+      l4 = Words.get64(b, ((int) l7) - 60312);
+      l8 = Words.get64(b, ((int) l7) - 60320);
+      l25 = b[((int) l7) - 60328] & 0xff;
+     }
+     Words.put64(b, ((int) l7) - 60200, 0L);
+     Words.put64(b, ((int) l7) - 60208, 0L);
+     Words.put64(b, ((int) l7) - 60216, 0L);
+     Words.put64(b, ((int) l7) - 60224, 0L);
+     Words.put64(b, ((int) l7) - 60232, 0L);
+     Words.put64(b, ((int) l7) - 60240, 0L);
+     Words.put64(b, ((int) l7) - 60248, 0L);
+     Words.put64(b, ((int) l7) - 60256, 0L);
+     Core2.f75(m, l7 + 192L, l3, l23, 1);
+     if ((b[((int) l7) - 60256] & 0xff) != 0) { break L95; }
+     if ((b[((int) l7) - 60208] & 0xff) != 0) { break L95; }
+     if ((l14 = Words.get64(b, ((int) l7) - 60232)) < 0L) { break L95; }
+     final int t107 = (Words.get64(b, ((int) l7) - 60240) + Long.MIN_VALUE < -9213372036854775808L) ? 1 : 0;
+     final int t108 = (l14 == 0L) ? 1 : 0;
+     if ((t108 != 0 ? t107 : 0) != 0) { break L94; }
+    }
+    Core4.f130(m, l7 + 56L, 85072L, 5L, 85092L, 2L, l10, l11);
+    L109: {
+     if ((b[((int) l7) - 60392] & 0xff) != 1) { break L109; }
+     l25 = 0;
+     l27 = 3;
+     l4 = Words.get64(b, ((int) l7) - 60376);
+     l8 = Words.get64(b, ((int) l7) - 60384);
+     l26 = 0;
+     break L94;
+    }
+    L110: {
+     if ((l27 = (l23 == 0L) ? 1 : 0) != 0) { break L110; }
+     l26 = (l25 = (int) b[((int) l3) - 60448]) & 255;
+     l4 = 1L;
+     L111: {
+      if (l25 > -1) { break L111; }
+      l28 = (b[((int) l3) - 60447] & 0xff) & 63;
+      L112: {
+       if (l25 + Integer.MIN_VALUE > 2147483615) { break L112; }
+       l26 = ((l26 << 6) & 1984) | l28;
+       l4 = 2L;
+       break L111;
+      }
+      l29 = (b[((int) l3) - 60446] & 0xff) & 63;
+      L113: {
+       if (l25 + Integer.MIN_VALUE > 2147483631) { break L113; }
+       l26 = ((l28 << 6) | ((l26 << 12) & 61440)) | l29;
+       l4 = 3L;
+       break L111;
+      }
+      l26 = ((l29 << 6) | ((l28 << 12) | ((l26 << 18) & 1835008))) | ((b[((int) l3) - 60445] & 0xff) & 63);
+      l4 = 4L;
+     }
+     if (l23 != l4) { break L110; }
+     Core4.f131(m, l7, l26);
+     if (((b[((int) l7) - 60448] & 0xff) & 1) == 0) { break L110; }
+     l25 = b[((int) l7) - 60447] & 0xff;
+     Words.put64(b, ((int) l7) - 60352, 0L);
+     Words.put64(b, ((int) l7) - 60360, 0L);
+     Words.put64(b, ((int) l7) - 60368, 0L);
+     L114: {
+      if (l24 != 0) { break L114; }
+      if ((l26 = (int) b[((int) l10) - 60448]) > -1) { break L114; }
+      if (l26 + Integer.MIN_VALUE < 2147483616) { break L114; }
+      l28 = l26 & 255;
+      l29 = (b[((int) l10) - 60447] & 0xff) & 63;
+      l30 = (b[((int) l10) - 60446] & 0xff) & 63;
+      L115: {
+       L116: {
+        if (l26 + Integer.MIN_VALUE > 2147483631) { break L116; }
+        l26 = ((l29 << 6) | ((l28 << 12) & 61440)) | l30;
+        l4 = 3L;
+        break L115;
+       }
+       l26 = ((l30 << 6) | ((l29 << 12) | ((l28 << 18) & 1835008))) | ((b[((int) l10) - 60445] & 0xff) & 63);
+       l4 = 4L;
+      }
+      L117: {
+       if (l26 == 35282) { break L117; }
+       if (l26 != 27611) { break L114; }
+      }
+      Words.put64(b, ((int) l7) - 60256, 0L);
+      Words.put64(b, ((int) l7) - 60248, 0L);
+      Words.put64(b, ((int) l7) - 60240, 0L);
+      Words.put64(b, ((int) l7) - 60232, 0L);
+      Words.put64(b, ((int) l7) - 60336, 0L);
+      Words.put64(b, ((int) l7) - 60328, 0L);
+      Words.put64(b, ((int) l7) - 60320, 0L);
+      Words.put64(b, ((int) l7) - 60312, 0L);
+      Core4.f132(m, l7 + 192L, l8 = l10 + l4, l14 = l11 - l4);
+      L118: {
+       if ((b[((int) l7) - 60256] & 0xff) != 1) { break L118; }
+       l4 = Words.get64(b, ((int) l7) - 60232);
+       l8 = Words.get64(b, ((int) l7) - 60240);
+       l26 = b[((int) l7) - 60248] & 0xff;
+       l27 = 4;
+       break L94;
+      }
+      Core4.f129(m, l7 + 112L, l8, l14);
+      L119: {
+       if ((b[((int) l7) - 60336] & 0xff) != 1) { break L119; }
+       l4 = Words.get64(b, ((int) l7) - 60312);
+       l8 = Words.get64(b, ((int) l7) - 60320);
+       l26 = b[((int) l7) - 60328] & 0xff;
+       l27 = 4;
+       break L94;
+      }
+      if (l11 == l4) { break L114; }
+      if ((l26 = (int) b[((int) l8) - 60448]) > -1) { break L114; }
+      if (l26 + Integer.MIN_VALUE < 2147483616) { break L114; }
+      l28 = l26 & 255;
+      l29 = (b[((int) l8) - 60447] & 0xff) & 63;
+      l30 = (b[((int) l8) - 60446] & 0xff) & 63;
+      L120: {
+       L121: {
+        if (l26 + Integer.MIN_VALUE > 2147483631) { break L121; }
+        l26 = ((l29 << 6) | ((l28 << 12) & 61440)) | l30;
+        l4 = 3L;
+        break L120;
+       }
+       l26 = ((l30 << 6) | ((l29 << 12) | ((l28 << 18) & 1835008))) | ((b[((int) l8) - 60445] & 0xff) & 63);
+       l4 = 4L;
+      }
+      L122: {
+       if (l26 == 38065) { break L122; }
+       if (l26 != 37666) { break L114; }
+      }
+      l8 = l8 + l4;
+      l4 = l14 - l4;
+      l26 = 0;
+      l27 = 4;
+      break L94;
+     }
+     Core4.f130(m, l7 + 80L, 83564L, 1L, 85092L, 2L, l10, l11);
+     if ((b[((int) l7) - 60368] & 0xff) != 1) { break L110; }
+     l4 = Words.get64(b, ((int) l7) - 60352);
+     l8 = Words.get64(b, ((int) l7) - 60360);
+     l27 = 4;
+     l26 = l25;
+     l25 = 0;
+     break L94;
+    }
+    Words.put64(b, ((int) l7) - 60256, 0L);
+    Words.put64(b, ((int) l7) - 60248, 0L);
+    Words.put64(b, ((int) l7) - 60240, 0L);
+    Words.put64(b, ((int) l7) - 60232, 0L);
+    Words.put64(b, ((int) l7) - 60336, 0L);
+    Words.put64(b, ((int) l7) - 60328, 0L);
+    Words.put64(b, ((int) l7) - 60320, 0L);
+    Words.put64(b, ((int) l7) - 60312, 0L);
+    if (l24 != 0) { break L93; }
+    if ((l24 = (int) b[((int) l10) - 60448]) > -1) { break L93; }
+    if (l24 + Integer.MIN_VALUE < 2147483616) { break L93; }
+    l25 = l24 & 255;
+    l26 = (b[((int) l10) - 60447] & 0xff) & 63;
+    l28 = (b[((int) l10) - 60446] & 0xff) & 63;
+    L123: {
+     L124: {
+      if (l24 + Integer.MIN_VALUE > 2147483631) { break L124; }
+      l29 = ((l26 << 6) | ((l25 << 12) & 61440)) | l28;
+      l4 = 3L;
+      break L123;
+     }
+     l29 = ((l28 << 6) | ((l26 << 12) | ((l25 << 18) & 1835008))) | ((b[((int) l10) - 60445] & 0xff) & 63);
+     l4 = 4L;
+    }
+    L125: {
+     L126: {
+      L127: {
+       switch (l29 + -22278) {
+       case 0: case 13: break L126;
+       case 1: case 2: case 3: case 4: case 5: case 6: case 7: case 8: case 9: case 10: case 11: case 12: break L125;
+       default: break L127;
+       }
+      }
+      if (l29 != 20803) { break L125; }
+     }
+     Core4.f133(m, l7 + 192L, 1, l10 + l4, l11 - l4);
+     L128: {
+      if ((b[((int) l7) - 60256] & 0xff) != 1) { break L128; }
+      l4 = Words.get64(b, ((int) l7) - 60232);
+      l8 = Words.get64(b, ((int) l7) - 60240);
+      l26 = b[((int) l7) - 60246] & 0xff;
+      l25 = b[((int) l7) - 60247] & 0xff;
+      l27 = b[((int) l7) - 60248] & 0xff;
+      break L94;
+     }
+     if ((l24 = b[((int) l10) - 60448] & 0xff) + Integer.MIN_VALUE < -2147483424) { break L93; }
+     l28 = (b[((int) l10) - 60446] & 0xff) & 63;
+     l26 = (b[((int) l10) - 60447] & 0xff) & 63;
+     l25 = l24;
+    }
+    L129: {
+     L130: {
+      if ((l24 & 255) + Integer.MIN_VALUE > -2147483409) { break L130; }
+      l24 = ((l26 << 6) | l28) | ((l25 << 12) & 61440);
+      l4 = 3L;
+      break L129;
+     }
+     l24 = (((l26 << 12) | (l28 << 6)) | ((l25 << 18) & 1835008)) | ((b[((int) l10) - 60445] & 0xff) & 63);
+     l4 = 4L;
+    }
+    L131: {
+     if (l24 == 22602) { break L131; }
+     if (l24 != 22359) { break L93; }
+    }
+    Words.put32(b, ((int) l7) - 60368, 0);
+    L132: {
+     L133: {
+      L134: {
+       L135: {
+        L136: {
+         if ((l8 = l23 + -1L) + Long.MIN_VALUE > -9223372036854775806L) { break L136; }
+         L137: {
+          switch ((int) l8) {
+          case 1: break L136;
+          case 2: break L137;
+          default: break L133;
+          }
+         }
+         if (Words.get32(b, State.far((int) (l8 = ((((l25 = (((b[((int) l3) - 60447] & 0xff) << 8) | (l24 = b[((int) l3) - 60448] & 0xff)) | ((b[((int) l3) - 60446] & 0xff) << 16)) & 0xffffffffL) * 953497L) >>> 22L) & 1016L), 66852)) != l25) { break L135; }
+         if (((b[((int) (l8 + 66856L)) - 60448] & 0xff) & 255) == 2) { break L135; }
+         break L93;
+        }
+        if (l23 + Long.MIN_VALUE > -9223372036854775804L) { break L132; }
+        if (l27 != 0) { break L134; }
+        l24 = b[((int) l3) - 60448] & 0xff;
+       }
+       if (((int) (byte) l24) > -1) { break L132; }
+      }
+      f106(m, l7 + 80L, l3, l23);
+      if ((b[((int) l7) - 60368] & 0xff) != 1) { break L132; }
+      if (((b[((int) l7) - 60365] & 0xff) & 1) == 0) { break L132; }
+      break L93;
+     }
+     if ((((b[((int) l3) - 60448] & 0xff) + -58) & 255) + Integer.MIN_VALUE <= -2147483403) { break L93; }
+    }
+    Core4.f133(m, l7 + 112L, 2, l10 + l4, l11 - l4);
+    if ((b[((int) l7) - 60336] & 0xff) != 1) { break L93; }
+    l4 = Words.get64(b, ((int) l7) - 60312);
+    l8 = Words.get64(b, ((int) l7) - 60320);
+    l26 = b[((int) l7) - 60326] & 0xff;
+    l25 = b[((int) l7) - 60327] & 0xff;
+    l27 = b[((int) l7) - 60328] & 0xff;
+   }
+   Words.put64(b, ((int) l7) - 60264, l12);
+   Words.put64(b, ((int) l7) - 60272, l13);
+   Words.put64(b, ((int) l7) - 60280, l23);
+   Words.put64(b, ((int) l7) - 60288, l3);
+   Words.put64(b, ((int) l7) - 60296, l9);
+   Words.put64(b, ((int) l7) - 60304, l1);
+   if (Core4.f127(m, l7 + 144L) == 0) { break L93; }
+   l15 = (((l26 & 0xffffffffL) & 255L) << 8L) | ((l25 & 0xffffffffL) & 255L);
+   l16 = l12 - l4;
+   l10 = (l27 & 0xffffffffL) & 255L;
+   l17 = 1L;
+   l19 = 83372L;
+   l21 = l3;
+   l3 = 0L;
+   l11 = l1;
+   l20 = l9;
+   l22 = l23;
+   l1 = l13;
+   l2 = l12;
+   l14 = l13;
+   exit = 1; break PART;
   }
  }
  m.kept[0] = l1;
  m.kept[1] = l2;
  m.kept[2] = l3;
  m.kept[3] = l4;
- m.kept[4] = l5;
- m.kept[5] = l6;
- m.kept[6] = l8;
- m.kept[7] = l9;
- m.kept[8] = l10;
- m.kept[9] = l11;
- m.kept[10] = l12;
- m.kept[11] = l13;
- m.kept[12] = l14;
- m.kept[13] = l15;
- m.kept[14] = l16;
- m.kept[15] = l17;
- m.kept[16] = l18;
- m.kept[17] = l19;
- m.kept[18] = l20;
- m.kept[19] = l21;
- m.kept[20] = l22;
- m.kept[21] = l23;
- m.kept[22] = l24;
- m.kept[23] = l25;
- m.kept[24] = l26;
+ m.kept[4] = l8;
+ m.kept[5] = l10;
+ m.kept[6] = l11;
+ m.kept[7] = l14;
+ m.kept[8] = l15;
+ m.kept[9] = l16;
+ m.kept[10] = l17;
+ m.kept[11] = l19;
+ m.kept[12] = l20;
+ m.kept[13] = l21;
+ m.kept[14] = l22;
+ m.kept[15] = l24;
+ m.kept[16] = l25;
+ m.kept[17] = l26;
+ m.kept[18] = l27;
+ m.kept[19] = l28;
+ m.kept[20] = l29;
+ m.kept[21] = l30;
+ return exit;
+}
+
+static int f112_3(State m, long l1, long l2, long l3, int l5, int l6, long l7, long l8, long l9, long l10, long l11, long l12, long l13, long l14, long l15, long l16, long l17, long l19, long l20, long l21, long l22, long l23, int l24, int l25, int l26, int l27) {
+ final byte[] b = m.bytes;
+ int exit = 0;
+ PART: {
+  L139: {
+   L140: {
+    L141: {
+     if (!(l12 == 0L)) { break L141; }
+     l19 = 0L;
+     l3 = 0L;
+     break L140;
+    }
+    l25 = (l24 = (int) b[((int) l13) - 60448]) & 255;
+    l8 = 1L;
+    L142: {
+     if (l24 > -1) { break L142; }
+     l26 = (b[((int) l13) - 60447] & 0xff) & 63;
+     L143: {
+      if (l24 + Integer.MIN_VALUE > 2147483615) { break L143; }
+      l25 = ((l25 << 6) & 1984) | l26;
+      l8 = 2L;
+      break L142;
+     }
+     l27 = (b[((int) l13) - 60446] & 0xff) & 63;
+     L144: {
+      if (l24 + Integer.MIN_VALUE > 2147483631) { break L144; }
+      l25 = ((l26 << 6) | ((l25 << 12) & 61440)) | l27;
+      l8 = 3L;
+      break L142;
+     }
+     l25 = ((l27 << 6) | ((l26 << 12) | ((l25 << 18) & 1835008))) | ((b[((int) l13) - 60445] & 0xff) & 63);
+     l8 = 4L;
+    }
+    l10 = -32L;
+    L145: {
+     L146: while (true) {
+      if ((l26 = Words.get32(b, ((int) (l10 + 83604L)) - 60448)) == l25) { break L145; }
+      l24 = (l10 != 0L) ? 1 : 0;
+      l10 = l10 + 4L;
+      if (l24 != 0) { continue L146; }
+      break L146;
+     }
+    }
+    l11 = 0L;
+    L147: {
+     L148: {
+      L149: {
+       if (l26 != l25) { break L149; }
+       l11 = 0L;
+       Words.put64(b, ((int) l7) - 60240, 0L);
+       Words.put64(b, ((int) l7) - 60248, 0L);
+       Words.put64(b, ((int) l7) - 60256, 0L);
+       Core4.f126(m, l7 + 192L, l1, l2, l14 = l13 + l8, l10 = l12 - l8, l5, l6);
+       if ((b[((int) l7) - 60256] & 0xff) != 1) { break L149; }
+       l15 = Words.get64(b, ((int) l7) - 60248);
+       l8 = Words.get64(b, ((int) l7) - 60240);
+       Words.put64(b, ((int) l7) - 60200, 0L);
+       Words.put64(b, ((int) l7) - 60208, 0L);
+       Words.put64(b, ((int) l7) - 60216, 0L);
+       Words.put64(b, ((int) l7) - 60224, 0L);
+       Words.put64(b, ((int) l7) - 60232, 0L);
+       Words.put64(b, ((int) l7) - 60240, 0L);
+       Words.put64(b, ((int) l7) - 60248, 0L);
+       Words.put64(b, ((int) l7) - 60256, 0L);
+       Core2.f75(m, l7 + 192L, l3, l23, 1);
+       if ((b[((int) l7) - 60256] & 0xff) != 0) { break L147; }
+       if (((b[((int) l7) - 60208] & 0xff) & 255) == 3) { break L147; }
+       if (Words.get64(b, ((int) l7) - 60232) <= -1L) { break L147; }
+       Words.put64(b, ((int) l7) - 60264, l12);
+       Words.put64(b, ((int) l7) - 60272, l13);
+       Words.put64(b, ((int) l7) - 60280, l23);
+       Words.put64(b, ((int) l7) - 60288, l3);
+       Words.put64(b, ((int) l7) - 60296, l9);
+       Words.put64(b, ((int) l7) - 60304, l1);
+       l11 = 0L;
+       if (Core4.f134(m, l7 + 144L) != 0) { break L149; }
+       Words.put64(b, ((int) l7) - 60200, 0L);
+       Words.put64(b, ((int) l7) - 60208, 0L);
+       Words.put64(b, ((int) l7) - 60216, 0L);
+       Words.put64(b, ((int) l7) - 60224, 0L);
+       Words.put64(b, ((int) l7) - 60232, 0L);
+       Words.put64(b, ((int) l7) - 60240, 0L);
+       Words.put64(b, ((int) l7) - 60248, 0L);
+       Words.put64(b, ((int) l7) - 60256, 0L);
+       Core2.f75(m, l7 + 192L, l14, l16 = l10 - l8, 1);
+       if ((b[((int) l7) - 60256] & 0xff) != 0) { break L147; }
+       if (((b[((int) l7) - 60208] & 0xff) & 255) == 3) { break L147; }
+       if (Words.get64(b, ((int) l7) - 60232) <= -1L) { break L147; }
+       Words.put64(b, ((int) l7) - 60264, l8);
+       Words.put64(b, ((int) l7) - 60272, l15);
+       Words.put64(b, ((int) l7) - 60280, l16);
+       Words.put64(b, ((int) l7) - 60288, l14);
+       Words.put64(b, ((int) l7) - 60296, l2 = l2 - l10);
+       Words.put64(b, ((int) l7) - 60304, l1);
+       l11 = 0L;
+       if (Core4.f134(m, l7 + 144L) != 0) { break L149; }
+       l11 = 0L;
+       if (Core4.f135(m, l1, l9, l15, l8) != 0) { break L149; }
+       l11 = 0L;
+       if (Core4.f136(m, l1, l9) != 0) { break L149; }
+       m.fill((int) (l7 + 192L), 0, (int) 112L);
+       L150: {
+        L151: {
+         if (l25 == 21040) { break L151; }
+         l10 = l3;
+         l19 = l23;
+         if (l25 != 33267) { break L150; }
+        }
+        if (l23 == 0L) { break L148; }
+        l26 = (l24 = (int) b[((int) l3) - 60448]) & 255;
+        l10 = 1L;
+        L152: {
+         if (l24 > -1) { break L152; }
+         l6 = (b[((int) l3) - 60447] & 0xff) & 63;
+         L153: {
+          if (l24 + Integer.MIN_VALUE > 2147483615) { break L153; }
+          l26 = ((l26 << 6) & 1984) | l6;
+          l10 = 2L;
+          break L152;
+         }
+         l5 = (b[((int) l3) - 60446] & 0xff) & 63;
+         L154: {
+          if (l24 + Integer.MIN_VALUE > 2147483631) { break L154; }
+          l26 = ((l6 << 6) | ((l26 << 12) & 61440)) | l5;
+          l10 = 3L;
+          break L152;
+         }
+         l26 = ((l5 << 6) | ((l6 << 12) | ((l26 << 18) & 1835008))) | ((b[((int) l3) - 60445] & 0xff) & 63);
+         l10 = 4L;
+        }
+        if (l8 == 0L) { break L148; }
+        l24 = (l6 = (int) b[((int) l15) - 60448]) & 255;
+        L155: {
+         if (l6 > -1) { break L155; }
+         l5 = (b[((int) l15) - 60447] & 0xff) & 63;
+         L156: {
+          if (l6 + Integer.MIN_VALUE > 2147483615) { break L156; }
+          l24 = ((l24 << 6) & 1984) | l5;
+          break L155;
+         }
+         l27 = (b[((int) l15) - 60446] & 0xff) & 63;
+         L157: {
+          if (l6 + Integer.MIN_VALUE > 2147483631) { break L157; }
+          l24 = ((l5 << 6) | ((l24 << 12) & 61440)) | l27;
+          break L155;
+         }
+         l24 = ((l27 << 6) | ((l5 << 12) | ((l24 << 18) & 1835008))) | ((b[((int) l15) - 60445] & 0xff) & 63);
+        }
+        if (l23 != l10) { break L148; }
+        if (l26 != 19968) { break L148; }
+        L158: {
+         if (l24 > 26375) { break L158; }
+         L159: {
+          switch (l24 + -26085) {
+          case 0: case 17: break L147;
+          case 1: case 2: case 3: case 4: case 5: case 6: case 7: case 8: case 9: case 10: case 11: case 12: case 13: case 14: case 15: case 16: break L148;
+          default: break L159;
+          }
+         }
+         if (l24 == 21495) { break L147; }
+         if (l24 == 26178) { break L147; }
+         break L148;
+        }
+        L160: {
+         if (l24 > 34398) { break L160; }
+         if (l24 == 26376) { break L147; }
+         if (l24 == 28857) { break L147; }
+         break L148;
+        }
+        if (l24 == 34399) { break L147; }
+        if (l24 == 40670) { break L147; }
+        break L148;
+       }
+       L161: {
+        L162: while (true) {
+         if ((l20 = l19) == 0L) { break L161; }
+         l24 = (l26 = (int) b[((int) l10) - 60448]) & 255;
+         l11 = 1L;
+         L163: {
+          if (l26 > -1) { break L163; }
+          l6 = (b[((int) l10) - 60447] & 0xff) & 63;
+          L164: {
+           if (l26 + Integer.MIN_VALUE > 2147483615) { break L164; }
+           l24 = ((l24 << 6) & 1984) | l6;
+           l11 = 2L;
+           break L163;
+          }
+          l5 = (b[((int) l10) - 60446] & 0xff) & 63;
+          L165: {
+           if (l26 + Integer.MIN_VALUE > 2147483631) { break L165; }
+           l24 = ((l6 << 6) | ((l24 << 12) & 61440)) | l5;
+           l11 = 3L;
+           break L163;
+          }
+          l24 = ((l5 << 6) | ((l6 << 12) | ((l24 << 18) & 1835008))) | ((b[((int) l10) - 60445] & 0xff) & 63);
+          l11 = 4L;
+         }
+         if ((l24 + -48) + Integer.MIN_VALUE < -2147483638) { break L161; }
+         l19 = l20 - l11;
+         l10 = l10 + l11;
+         if ((l24 + -65296) + Integer.MIN_VALUE > -2147483639) { continue L162; }
+         break L162;
+        }
+       }
+       l10 = l14;
+       l19 = l16;
+       L166: {
+        L167: while (true) {
+         if ((l21 = l19) == 0L) { break L166; }
+         l24 = (l26 = (int) b[((int) l10) - 60448]) & 255;
+         l11 = 1L;
+         L168: {
+          if (l26 > -1) { break L168; }
+          l6 = (b[((int) l10) - 60447] & 0xff) & 63;
+          L169: {
+           if (l26 + Integer.MIN_VALUE > 2147483615) { break L169; }
+           l24 = ((l24 << 6) & 1984) | l6;
+           l11 = 2L;
+           break L168;
+          }
+          l5 = (b[((int) l10) - 60446] & 0xff) & 63;
+          L170: {
+           if (l26 + Integer.MIN_VALUE > 2147483631) { break L170; }
+           l24 = ((l6 << 6) | ((l24 << 12) & 61440)) | l5;
+           l11 = 3L;
+           break L168;
+          }
+          l24 = ((l5 << 6) | ((l6 << 12) | ((l24 << 18) & 1835008))) | ((b[((int) l10) - 60445] & 0xff) & 63);
+          l11 = 4L;
+         }
+         if ((l24 + -48) + Integer.MIN_VALUE < -2147483638) { break L166; }
+         l19 = l21 - l11;
+         l10 = l10 + l11;
+         if ((l24 + -65296) + Integer.MIN_VALUE > -2147483639) { continue L167; }
+         break L167;
+        }
+       }
+       if ((l20 != 0L) ^ (l21 != 0L)) { break L147; }
+       if (Core4.f137(m, l3, l23) != 0) { break L147; }
+       if (Core4.f137(m, l14, l16) != 0) { break L147; }
+       L171: {
+        if (l16 == 0L) { break L171; }
+        l24 = (l26 = (int) b[((int) l14) - 60448]) & 255;
+        L172: {
+         if (l26 > -1) { break L172; }
+         l6 = (b[((int) l14) - 60447] & 0xff) & 63;
+         L173: {
+          if (l26 + Integer.MIN_VALUE > 2147483615) { break L173; }
+          l24 = ((l24 << 6) & 1984) | l6;
+          break L172;
+         }
+         l5 = (b[((int) l14) - 60446] & 0xff) & 63;
+         L174: {
+          L175: {
+           if (l26 + Integer.MIN_VALUE > 2147483631) { break L175; }
+           l24 = ((l6 << 6) | ((l24 << 12) & 61440)) | l5;
+           break L174;
+          }
+          l24 = ((l5 << 6) | ((l6 << 12) | ((l24 << 18) & 1835008))) | ((b[((int) l14) - 60445] & 0xff) & 63);
+         }
+         if (l24 == 27491) { break L147; }
+        }
+        L176: {
+         if (l24 > 35999) { break L176; }
+         L177: {
+          switch (l24 + -43) {
+          case 0: case 2: break L147;
+          case 1: break L171;
+          default: break L177;
+          }
+         }
+         if (l24 == 8722) { break L147; }
+         break L171;
+        }
+        L178: {
+         switch (l24 + -65291) {
+         case 0: case 2: break L147;
+         case 1: break L171;
+         default: break L178;
+         }
+        }
+        if (l24 == 36000) { break L147; }
+        if (l24 == 36127) { break L147; }
+       }
+       L179: {
+        if (l9 == 0L) { break L179; }
+        L180: {
+         if ((l24 = (int) b[((int) ((l10 = l1 + l9) + -1L)) - 60448]) >= 0) { break L180; }
+         l11 = -2L;
+         L181: {
+          if ((b[((int) (l10 + -2L)) - 60448] & 0xff) + Integer.MIN_VALUE > -2147483457) { break L181; }
+          l11 = ((b[((int) (l10 + -3L)) - 60448] & 0xff) + Integer.MIN_VALUE > -2147483457) ? -3L : -4L;
+         }
+         l24 = (l26 = (int) b[((int) (l10 = (l1 + l11) + l9)) - 60448]) & 255;
+         if (l26 > -1) { break L180; }
+         l6 = (b[((int) l10) - 60447] & 0xff) & 63;
+         L182: {
+          if (l26 + Integer.MIN_VALUE > 2147483615) { break L182; }
+          l24 = ((l24 << 6) & 1984) | l6;
+          break L180;
+         }
+         l5 = (b[((int) l10) - 60446] & 0xff) & 63;
+         L183: {
+          if (l26 + Integer.MIN_VALUE > 2147483631) { break L183; }
+          l24 = ((l6 << 6) | ((l24 << 12) & 61440)) | l5;
+          break L180;
+         }
+         l24 = ((l5 << 6) | ((l6 << 12) | ((l24 << 18) & 1835008))) | ((b[((int) l10) - 60445] & 0xff) & 63);
+        }
+        if (l24 == 64) { break L147; }
+        if ((l24 + -35) + Integer.MIN_VALUE < -2147483646) { break L147; }
+        if (l24 == 95) { break L147; }
+        if (l24 == 215) { break L147; }
+        if (l24 == 42) { break L147; }
+        if (l24 == 94) { break L147; }
+        if (l24 == 43) { break L147; }
+        if (l24 == 61) { break L147; }
+        if (l24 == 126) { break L147; }
+        if (l24 == 65306) { break L147; }
+        if (l24 == 58) { break L147; }
+        if (l24 == 46) { break L147; }
+        if ((l24 & -3) == 45) { break L147; }
+        if ((l24 + -48) + Integer.MIN_VALUE < -2147483638) { break L147; }
+        if ((l24 + -65296) + Integer.MIN_VALUE < -2147483638) { break L147; }
+       }
+       L184: {
+        if (l8 == 0L) { break L184; }
+        l24 = (l26 = (int) b[((int) l15) - 60448]) & 255;
+        L185: {
+         if (l26 > -1) { break L185; }
+         l6 = (b[((int) l15) - 60447] & 0xff) & 63;
+         L186: {
+          if (l26 + Integer.MIN_VALUE > 2147483615) { break L186; }
+          l24 = ((l24 << 6) & 1984) | l6;
+          break L185;
+         }
+         l5 = (b[((int) l15) - 60446] & 0xff) & 63;
+         L187: {
+          if (l26 + Integer.MIN_VALUE > 2147483631) { break L187; }
+          l24 = ((l6 << 6) | ((l24 << 12) & 61440)) | l5;
+          break L185;
+         }
+         l24 = ((l5 << 6) | ((l6 << 12) | ((l24 << 18) & 1835008))) | ((b[((int) l15) - 60445] & 0xff) & 63);
+        }
+        L188: {
+         switch (l24 + -42) {
+         case 0: case 1: case 3: case 5: case 16: case 19: case 50: case 52: case 53: case 84: break L147;
+         case 2: case 4: case 6: case 7: case 8: case 9: case 10: case 11: case 12: case 13: case 14: case 15: case 17: case 18: case 20: case 21: case 22: case 23: case 24: case 25: case 26: case 27: case 28: case 29: case 30: case 31: case 32: case 33: case 34: case 35: case 36: case 37: case 38: case 39: case 40: case 41: case 42: case 43: case 44: case 45: case 46: case 47: case 48: case 49: case 51: case 54: case 55: case 56: case 57: case 58: case 59: case 60: case 61: case 62: case 63: case 64: case 65: case 66: case 67: case 68: case 69: case 70: case 71: case 72: case 73: case 74: case 75: case 76: case 77: case 78: case 79: case 80: case 81: case 82: case 83: break L184;
+         default: break L188;
+         }
+        }
+        if (l24 == 65306) { break L147; }
+        if (l24 == 215) { break L147; }
+       }
+       Core2.f72(m, l7 + 192L, l3, l23, l14, l16);
+       l11 = 0L;
+       if ((b[((int) l7) - 60256] & 0xff) == 1) { break L148; }
+      }
+      l19 = l12;
+      l3 = 0L;
+      break L139;
+     }
+     l22 = l25 & 0xffffffffL;
+     l17 = 2L;
+     l20 = l13;
+     l19 = l9;
+     l11 = l23;
+     l21 = l12;
+     l10 = l1;
+     exit = 1; break PART;
+    }
+    l3 = 0L;
+    l19 = l12;
+   }
+   l11 = 0L;
+  }
+ }
+ m.kept[0] = l2;
+ m.kept[1] = l3;
+ m.kept[2] = l5;
+ m.kept[3] = l6;
+ m.kept[4] = l8;
+ m.kept[5] = l10;
+ m.kept[6] = l11;
+ m.kept[7] = l14;
+ m.kept[8] = l15;
+ m.kept[9] = l16;
+ m.kept[10] = l17;
+ m.kept[11] = l19;
+ m.kept[12] = l20;
+ m.kept[13] = l21;
+ m.kept[14] = l22;
+ m.kept[15] = l24;
+ m.kept[16] = l25;
+ m.kept[17] = l26;
+ m.kept[18] = l27;
  return exit;
 }
 
@@ -6810,13 +7521,16 @@ static void f112(State m, long l0, long l1, long l2, long l3, long l4, int l5, i
  long l19 = 0;
  long l20 = 0;
  long l21 = 0;
- int l22 = 0;
- int l23 = 0;
+ long l22 = 0;
+ long l23 = 0;
  int l24 = 0;
  int l25 = 0;
  int l26 = 0;
  int l27 = 0;
- m.g0 = l7 = m.g0 - 176L;
+ int l28 = 0;
+ int l29 = 0;
+ int l30 = 0;
+ m.g0 = l7 = m.g0 - 304L;
  L1: {
   L2: {
    L3: {
@@ -6825,71 +7539,71 @@ static void f112(State m, long l0, long l1, long l2, long l3, long l4, int l5, i
       L6: {
        if ((l7 = l7) < 16L) { break L6; }
        l8 = 0L;
-       Words.put64(b, ((int) l7) - 60680, 0L);
-       Words.put64(b, ((int) l7) - 60688, 0L);
-       Words.put64(b, ((int) l7) - 60696, 0L);
-       Words.put64(b, ((int) l7) - 60704, 0L);
-       Words.put64(b, ((int) l7) - 60632, 0L);
-       Words.put64(b, ((int) l7) - 60640, 0L);
-       Words.put64(b, ((int) l7) - 60648, 0L);
-       Words.put64(b, ((int) l7) - 60656, 0L);
+       Words.put64(b, ((int) l7) - 60280, 0L);
+       Words.put64(b, ((int) l7) - 60288, 0L);
+       Words.put64(b, ((int) l7) - 60296, 0L);
+       Words.put64(b, ((int) l7) - 60304, 0L);
+       Words.put64(b, ((int) l7) - 60232, 0L);
+       Words.put64(b, ((int) l7) - 60240, 0L);
+       Words.put64(b, ((int) l7) - 60248, 0L);
+       Words.put64(b, ((int) l7) - 60256, 0L);
        l9 = l2 - l4;
        l10 = 83372L;
        L7: {
-        if (Core4.f119(m, l3, l4) != 0) { break L7; }
+        if (Core4.f121(m, l3, l4) != 0) { break L7; }
         l11 = 0L;
         break L1;
        }
-       Core4.f120(m, l7 + 64L, l3, l4);
-       l11 = Words.get64(b, ((int) l7) - 60632);
-       l12 = Words.get64(b, ((int) l7) - 60640);
+       Core4.f122(m, l7 + 192L, l3, l4);
+       l11 = Words.get64(b, ((int) l7) - 60232);
+       l12 = Words.get64(b, ((int) l7) - 60240);
        L8: {
         L9: {
          if (!(l4 == 0L)) { break L9; }
-         l22 = 0;
+         l24 = 0;
          break L8;
         }
-        l22 = (l23 = (int) b[((int) l3) - 60720]) & 255;
+        l24 = (l25 = (int) b[((int) l3) - 60448]) & 255;
         L10: {
-         if (l23 > -1) { break L10; }
-         l24 = (b[((int) l3) - 60719] & 0xff) & 63;
+         if (l25 > -1) { break L10; }
+         l26 = (b[((int) l3) - 60447] & 0xff) & 63;
          L11: {
-          if (l23 + Integer.MIN_VALUE > 2147483615) { break L11; }
-          l22 = ((l22 << 6) & 1984) | l24;
+          if (l25 + Integer.MIN_VALUE > 2147483615) { break L11; }
+          l24 = ((l24 << 6) & 1984) | l26;
           break L10;
          }
-         l25 = (b[((int) l3) - 60718] & 0xff) & 63;
+         l27 = (b[((int) l3) - 60446] & 0xff) & 63;
          L12: {
-          if (l23 + Integer.MIN_VALUE > 2147483631) { break L12; }
-          l22 = ((l24 << 6) | ((l22 << 12) & 61440)) | l25;
+          if (l25 + Integer.MIN_VALUE > 2147483631) { break L12; }
+          l24 = ((l26 << 6) | ((l24 << 12) & 61440)) | l27;
           break L10;
          }
-         l22 = ((l25 << 6) | ((l24 << 12) | ((l22 << 18) & 1835008))) | ((b[((int) l3) - 60717] & 0xff) & 63);
+         l24 = ((l27 << 6) | ((l26 << 12) | ((l24 << 18) & 1835008))) | ((b[((int) l3) - 60445] & 0xff) & 63);
         }
-        l22 = (((l22 + -48) + Integer.MIN_VALUE < -2147483638) | ((l22 + -65296) + Integer.MIN_VALUE < -2147483638)) ? 1 : 0;
+        l24 = (((l24 + -48) + Integer.MIN_VALUE < -2147483638) | ((l24 + -65296) + Integer.MIN_VALUE < -2147483638)) ? 1 : 0;
        }
-       Core4.f121(m, l7, l22, l12, l11);
+       Core4.f123(m, l7 + 40L, l24, l12, l11);
        L13: {
-        if (!(Words.get64(b, ((int) l7) - 60712) == 0L)) { break L13; }
+        if (!(Words.get64(b, ((int) l7) - 60400) == 0L)) { break L13; }
         l11 = 0L;
         break L1;
        }
-       l22 = (l23 = (int) b[((int) (l11 = Words.get64(b, ((int) l7) - 60720))) - 60720]) & 255;
+       l24 = (l25 = (int) b[((int) (l11 = Words.get64(b, ((int) l7) - 60408))) - 60448]) & 255;
        L14: {
-        if (l23 > -1) { break L14; }
-        l24 = (b[((int) l11) - 60719] & 0xff) & 63;
+        if (l25 > -1) { break L14; }
+        l26 = (b[((int) l11) - 60447] & 0xff) & 63;
         L15: {
-         if (l23 + Integer.MIN_VALUE > 2147483615) { break L15; }
-         l22 = ((l22 << 6) & 1984) | l24;
+         if (l25 + Integer.MIN_VALUE > 2147483615) { break L15; }
+         l24 = ((l24 << 6) & 1984) | l26;
          break L14;
         }
-        l25 = (b[((int) l11) - 60718] & 0xff) & 63;
+        l27 = (b[((int) l11) - 60446] & 0xff) & 63;
         L16: {
-         if (l23 + Integer.MIN_VALUE > 2147483631) { break L16; }
-         l22 = ((l24 << 6) | ((l22 << 12) & 61440)) | l25;
+         if (l25 + Integer.MIN_VALUE > 2147483631) { break L16; }
+         l24 = ((l26 << 6) | ((l24 << 12) & 61440)) | l27;
          break L14;
         }
-        l22 = ((l25 << 6) | ((l24 << 12) | ((l22 << 18) & 1835008))) | ((b[((int) l11) - 60717] & 0xff) & 63);
+        l24 = ((l27 << 6) | ((l26 << 12) | ((l24 << 18) & 1835008))) | ((b[((int) l11) - 60445] & 0xff) & 63);
        }
        l11 = 4L;
        L17: {
@@ -6913,13 +7627,13 @@ static void f112(State m, long l0, long l1, long l2, long l3, long l4, int l5, i
                          L35: {
                           L36: {
                            L37: {
-                            if (l22 > 26084) { break L37; }
+                            if (l24 > 26084) { break L37; }
                             L38: {
-                             if (l22 > 21494) { break L38; }
+                             if (l24 > 21494) { break L38; }
                              L39: {
-                              if (l22 > 20009) { break L39; }
+                              if (l24 > 20009) { break L39; }
                               L40: {
-                               switch (l22 + -45) {
+                               switch (l24 + -45) {
                                case 0: break L25;
                                case 1: case 3: case 4: case 5: case 6: case 7: case 8: case 9: case 10: case 11: case 12: break L18;
                                case 2: break L24;
@@ -6927,102 +7641,102 @@ static void f112(State m, long l0, long l1, long l2, long l3, long l4, int l5, i
                                default: break L40;
                                }
                               }
-                              if (l22 == 126) { break L17; }
-                              if (l22 != 12316) { break L18; }
+                              if (l24 == 126) { break L17; }
+                              if (l24 != 12316) { break L18; }
                               break L17;
                              }
                              L41: {
-                              if (l22 > 20997) { break L41; }
-                              switch (l22 + -20491) {
+                              if (l24 > 20997) { break L41; }
+                              switch (l24 + -20491) {
                               case 0: break L5;
                               case 1: break L18;
                               case 2: break L2;
                               default: break L19;
                               }
                              }
-                             if (l22 == 20998) { break L22; }
-                             if (l22 != 21040) { break L18; }
+                             if (l24 == 20998) { break L22; }
+                             if (l24 != 21040) { break L18; }
                              break L17;
                             }
                             L42: {
-                             if (l22 > 23566) { break L42; }
+                             if (l24 > 23566) { break L42; }
                              L43: {
-                              if (l22 > 21607) { break L43; }
-                              if (l22 == 21495) { break L34; }
-                              if (l22 == 21544) { break L2; }
+                              if (l24 > 21607) { break L43; }
+                              if (l24 == 21495) { break L34; }
+                              if (l24 == 21544) { break L2; }
                               break L18;
                              }
-                             if (l22 == 21608) { break L2; }
-                             if (l22 == 22136) { break L2; }
-                             if (l22 == 22825) { break L2; }
+                             if (l24 == 21608) { break L2; }
+                             if (l24 == 22136) { break L2; }
+                             if (l24 == 22825) { break L2; }
                              break L18;
                             }
                             L44: {
-                             if (l22 > 24179) { break L44; }
-                             if (l22 == 23567) { break L3; }
-                             if (l22 == 23681) { break L2; }
+                             if (l24 > 24179) { break L44; }
+                             if (l24 == 23567) { break L3; }
+                             if (l24 == 23681) { break L2; }
                              break L18;
                             }
                             L45: {
-                             if (l22 != 24180) { break L45; }
+                             if (l24 != 24180) { break L45; }
                              l10 = 83502L;
                              break L1;
                             }
-                            if (l22 == 24230) { break L36; }
-                            if (l22 == 26020) { break L2; }
+                            if (l24 == 24230) { break L36; }
+                            if (l24 == 26020) { break L2; }
                             break L18;
                            }
-                           if (l22 > 33266) { break L35; }
+                           if (l24 > 33266) { break L35; }
                            L46: {
-                            if (l22 > 27603) { break L46; }
+                            if (l24 > 27603) { break L46; }
                             L47: {
-                             if (l22 > 26375) { break L47; }
-                             switch (l22 + -26085) {
+                             if (l24 > 26375) { break L47; }
+                             switch (l24 + -26085) {
                              case 0: break L34;
                              case 1: case 2: case 3: case 4: case 5: case 6: case 7: case 8: case 9: case 10: case 11: case 12: case 13: case 14: case 15: case 16: break L18;
                              case 17: break L27;
                              default: break L28;
                              }
                             }
-                            if (l22 == 26376) { break L29; }
-                            if (l22 != 27506) { break L18; }
+                            if (l24 == 26376) { break L29; }
+                            if (l24 != 27506) { break L18; }
                             break L2;
                            }
                            L48: {
-                            if (l22 > 31185) { break L48; }
-                            if (l22 == 27604) { break L20; }
-                            if (l22 == 28857) { break L31; }
+                            if (l24 > 31185) { break L48; }
+                            if (l24 == 27604) { break L20; }
+                            if (l24 == 28857) { break L31; }
                             break L18;
                            }
-                           if (l22 == 31186) { break L21; }
-                           if (l22 != 31859) { break L18; }
+                           if (l24 == 31186) { break L21; }
+                           if (l24 != 31859) { break L18; }
                           }
                           l10 = 83542L;
                           break L4;
                          }
-                         if (l22 > 38046) { break L32; }
-                         if (l22 > 36912) { break L33; }
-                         if (l22 == 33267) { break L17; }
-                         if (l22 != 34399) { break L18; }
+                         if (l24 > 38046) { break L32; }
+                         if (l24 > 36912) { break L33; }
+                         if (l24 == 33267) { break L17; }
+                         if (l24 != 34399) { break L18; }
                         }
                         l10 = 83510L;
                         l11 = 2L;
                         break L1;
                        }
-                       if (l22 == 36913) { break L2; }
-                       if (l22 == 37324) { break L2; }
-                       if (l22 != 37912) { break L18; }
+                       if (l24 == 36913) { break L2; }
+                       if (l24 == 37324) { break L2; }
+                       if (l24 != 37912) { break L18; }
                        break L3;
                       }
-                      if (l22 > 65292) { break L30; }
-                      if (l22 == 38047) { break L3; }
-                      if (l22 != 40670) { break L18; }
+                      if (l24 > 65292) { break L30; }
+                      if (l24 == 38047) { break L3; }
+                      if (l24 != 40670) { break L18; }
                      }
                      l10 = 83512L;
                      l11 = 7L;
                      break L1;
                     }
-                    switch (l22 + -65293) {
+                    switch (l24 + -65293) {
                     case 0: break L17;
                     case 1: case 2: case 3: case 4: case 5: case 6: case 7: case 8: case 9: case 10: case 11: case 12: break L18;
                     case 13: break L26;
@@ -7032,7 +7746,7 @@ static void f112(State m, long l0, long l1, long l2, long l3, long l4, int l5, i
                    l10 = 83506L;
                    break L1;
                   }
-                  if (l22 != 26178) { break L18; }
+                  if (l24 != 26178) { break L18; }
                  }
                  l10 = 83519L;
                  l11 = 5L;
@@ -7048,7 +7762,7 @@ static void f112(State m, long l0, long l1, long l2, long l3, long l4, int l5, i
               l11 = 1L;
               break L1;
              }
-             if (l22 != 65374) { break L18; }
+             if (l24 != 65374) { break L18; }
              break L17;
             }
             l10 = 83540L;
@@ -7063,10 +7777,10 @@ static void f112(State m, long l0, long l1, long l2, long l3, long l4, int l5, i
           l11 = 1L;
           break L1;
          }
-         if (l22 == 20010) { break L5; }
+         if (l24 == 20010) { break L5; }
         }
         l11 = 0L;
-        if ((l22 + -8211) + Integer.MIN_VALUE > -2147483647) { break L1; }
+        if ((l24 + -8211) + Integer.MIN_VALUE > -2147483647) { break L1; }
        }
        l10 = 83532L;
        break L4;
@@ -7085,92 +7799,92 @@ static void f112(State m, long l0, long l1, long l2, long l3, long l4, int l5, i
   l10 = 83541L;
   l11 = 1L;
  }
- l22 = 0;
- Core4.f122(m, l7 + 16L, l1, l9, l3, l4, 0, l10, l11);
- l12 = Words.get64(b, ((int) l7) - 60680);
- l13 = Words.get64(b, ((int) l7) - 60688);
- l14 = Words.get64(b, ((int) l7) - 60696);
- l23 = b[((int) l7) - 60704] & 0xff;
+ l24 = 0;
+ Core4.f124(m, l7 + 144L, l1, l9, l3, l4, 0, l10, l11);
+ l12 = Words.get64(b, ((int) l7) - 60280);
+ l13 = Words.get64(b, ((int) l7) - 60288);
+ l14 = Words.get64(b, ((int) l7) - 60296);
+ l25 = b[((int) l7) - 60304] & 0xff;
  L49: {
   L50: {
    L51: {
-    if (!(l4 == 0L)) { break L51; }
-    l22 = 0;
+    if ((l28 = (l4 == 0L) ? 1 : 0) == 0) { break L51; }
+    l24 = 0;
     break L50;
    }
-   l24 = (l25 = (int) b[((int) l3) - 60720]) & 255;
+   l26 = (l27 = (int) b[((int) l3) - 60448]) & 255;
    L52: {
-    if (l25 > -1) { break L52; }
-    l26 = (b[((int) l3) - 60719] & 0xff) & 63;
+    if (l27 > -1) { break L52; }
+    l29 = (b[((int) l3) - 60447] & 0xff) & 63;
     L53: {
-     if (l25 + Integer.MIN_VALUE > 2147483615) { break L53; }
-     l24 = ((l24 << 6) & 1984) | l26;
+     if (l27 + Integer.MIN_VALUE > 2147483615) { break L53; }
+     l26 = ((l26 << 6) & 1984) | l29;
      break L52;
     }
-    l27 = (b[((int) l3) - 60718] & 0xff) & 63;
+    l30 = (b[((int) l3) - 60446] & 0xff) & 63;
     L54: {
-     if (l25 + Integer.MIN_VALUE > 2147483631) { break L54; }
-     l24 = ((l26 << 6) | ((l24 << 12) & 61440)) | l27;
+     if (l27 + Integer.MIN_VALUE > 2147483631) { break L54; }
+     l26 = ((l29 << 6) | ((l26 << 12) & 61440)) | l30;
      break L52;
     }
-    l24 = ((l27 << 6) | ((l26 << 12) | ((l24 << 18) & 1835008))) | ((b[((int) l3) - 60717] & 0xff) & 63);
+    l26 = ((l30 << 6) | ((l29 << 12) | ((l26 << 18) & 1835008))) | ((b[((int) l3) - 60445] & 0xff) & 63);
    }
    l8 = 0L;
-   if (Core4.f118(m, l24) == 0) { break L50; }
-   Words.put64(b, ((int) l7) - 60632, 0L);
-   Words.put64(b, ((int) l7) - 60640, 0L);
-   Words.put64(b, ((int) l7) - 60648, 0L);
-   Words.put64(b, ((int) l7) - 60656, 0L);
-   Words.put64(b, ((int) l7) - 60688, 0L);
-   Words.put64(b, ((int) l7) - 60696, 0L);
-   Words.put64(b, ((int) l7) - 60704, 0L);
-   Core4.f123(m, l7 + 16L, 21, l3, l4);
+   if (Core4.f120(m, l26) == 0) { break L50; }
+   Words.put64(b, ((int) l7) - 60232, 0L);
+   Words.put64(b, ((int) l7) - 60240, 0L);
+   Words.put64(b, ((int) l7) - 60248, 0L);
+   Words.put64(b, ((int) l7) - 60256, 0L);
+   Words.put64(b, ((int) l7) - 60288, 0L);
+   Words.put64(b, ((int) l7) - 60296, 0L);
+   Words.put64(b, ((int) l7) - 60304, 0L);
+   Core4.f125(m, l7 + 144L, 21, l3, l4);
    l10 = 0L;
    l11 = 0L;
    l8 = 0L;
-   l24 = 1;
+   l26 = 1;
    L55: {
-    if ((b[((int) l7) - 60704] & 0xff) != 1) { break L55; }
-    Core4.f122(m, l7 + 64L, l1, l9, l3, l4, 1, 85060L, 9L);
-    l24 = ((b[((int) l7) - 60656] & 0xff) == 0) ? 1 : 0;
-    l10 = Words.get64(b, ((int) l7) - 60632);
-    l11 = Words.get64(b, ((int) l7) - 60640);
-    l8 = Words.get64(b, ((int) l7) - 60648);
+    if ((b[((int) l7) - 60304] & 0xff) != 1) { break L55; }
+    Core4.f124(m, l7 + 192L, l1, l9, l3, l4, 1, 85060L, 9L);
+    l26 = ((b[((int) l7) - 60256] & 0xff) == 0) ? 1 : 0;
+    l10 = Words.get64(b, ((int) l7) - 60232);
+    l11 = Words.get64(b, ((int) l7) - 60240);
+    l8 = Words.get64(b, ((int) l7) - 60248);
    }
-   Words.put64(b, ((int) l7) - 60632, 0L);
-   Words.put64(b, ((int) l7) - 60640, 0L);
-   Words.put64(b, ((int) l7) - 60648, 0L);
-   Words.put64(b, ((int) l7) - 60656, 0L);
-   Words.put64(b, ((int) l7) - 60688, 0L);
-   Words.put64(b, ((int) l7) - 60696, 0L);
-   Words.put64(b, ((int) l7) - 60704, 0L);
-   Core4.f123(m, l7 + 16L, 22, l3, l4);
+   Words.put64(b, ((int) l7) - 60232, 0L);
+   Words.put64(b, ((int) l7) - 60240, 0L);
+   Words.put64(b, ((int) l7) - 60248, 0L);
+   Words.put64(b, ((int) l7) - 60256, 0L);
+   Words.put64(b, ((int) l7) - 60288, 0L);
+   Words.put64(b, ((int) l7) - 60296, 0L);
+   Words.put64(b, ((int) l7) - 60304, 0L);
+   Core4.f125(m, l7 + 144L, 22, l3, l4);
    L56: {
     L57: {
-     if ((b[((int) l7) - 60704] & 0xff) != 1) { break L57; }
-     Core4.f122(m, l7 + 64L, l1, l9, l3, l4, 2, 85060L, 9L);
-     l15 = Words.get64(b, ((int) l7) - 60632);
-     l16 = Words.get64(b, ((int) l7) - 60640);
-     l17 = Words.get64(b, ((int) l7) - 60648);
-     l22 = b[((int) l7) - 60656] & 0xff;
-     if (l24 == 0) { break L56; }
+     if ((b[((int) l7) - 60304] & 0xff) != 1) { break L57; }
+     Core4.f124(m, l7 + 192L, l1, l9, l3, l4, 2, 85060L, 9L);
+     l15 = Words.get64(b, ((int) l7) - 60232);
+     l16 = Words.get64(b, ((int) l7) - 60240);
+     l17 = Words.get64(b, ((int) l7) - 60248);
+     l24 = b[((int) l7) - 60256] & 0xff;
+     if (l26 == 0) { break L56; }
      l8 = l17;
      l11 = l16;
      l10 = l15;
      break L49;
     }
-    l22 = 1;
-    if (l24 == 0) { break L49; }
+    l24 = 1;
+    if (l26 == 0) { break L49; }
     l8 = 0L;
-    l22 = 0;
+    l24 = 0;
     break L50;
    }
-   l24 = l22 & 255;
-   l22 = 1;
-   if (l24 == 0) { break L49; }
-   l10 = ((l24 = (l15 + Long.MIN_VALUE < l10 + Long.MIN_VALUE) ? 1 : 0) != 0) ? l15 : l10;
-   l11 = l24 != 0 ? l16 : l11;
-   l8 = l24 != 0 ? l17 : l8;
+   l26 = l24 & 255;
+   l24 = 1;
+   if (l26 == 0) { break L49; }
+   l10 = ((l26 = (l15 + Long.MIN_VALUE < l10 + Long.MIN_VALUE) ? 1 : 0) != 0) ? l15 : l10;
+   l11 = l26 != 0 ? l16 : l11;
+   l8 = l26 != 0 ? l17 : l8;
    break L49;
   }
   l11 = 0L;
@@ -7180,96 +7894,217 @@ static void f112(State m, long l0, long l1, long l2, long l3, long l4, int l5, i
   L59: {
    L60: {
     L61: {
-     if ((l23 & 255) == 0) { break L61; }
+     if ((l25 & 255) == 0) { break L61; }
      L62: {
-      if ((l22 & 255) != 0) { break L62; }
+      if ((l24 & 255) != 0) { break L62; }
       l10 = l12;
       l11 = l13;
       l8 = l14;
       break L60;
      }
-     l10 = ((l22 = (l10 + Long.MIN_VALUE < l12 + Long.MIN_VALUE) ? 1 : 0) != 0) ? l10 : l12;
-     l11 = l22 != 0 ? l11 : l13;
-     l8 = l22 != 0 ? l8 : l14;
+     l10 = ((l24 = (l10 + Long.MIN_VALUE < l12 + Long.MIN_VALUE) ? 1 : 0) != 0) ? l10 : l12;
+     l11 = l24 != 0 ? l11 : l13;
+     l8 = l24 != 0 ? l8 : l14;
      break L60;
     }
-    if ((l22 & 255) != 1) { break L59; }
+    if ((l24 & 255) != 1) { break L59; }
    }
-   Words.put64(b, ((int) l7) - 60640, 0L);
-   Words.put64(b, ((int) l7) - 60648, 0L);
-   Words.put64(b, ((int) l7) - 60656, 0L);
+   Words.put64(b, ((int) l7) - 60240, 0L);
+   Words.put64(b, ((int) l7) - 60248, 0L);
+   Words.put64(b, ((int) l7) - 60256, 0L);
    L63: {
     if (l2 == l10) { break L63; }
     L64: {
-     if (((int) b[((int) (l1 + (l12 = (l13 = l2 - l10) + -1L))) - 60720]) > -1) { break L64; }
+     if (((int) b[((int) (l1 + (l12 = (l13 = l2 - l10) + -1L))) - 60448]) > -1) { break L64; }
      l12 = -2L;
      L65: {
-      if ((b[((int) ((l14 = l1 + l13) + -2L)) - 60720] & 0xff) + Integer.MIN_VALUE > -2147483457) { break L65; }
-      l12 = ((b[((int) (l14 + -3L)) - 60720] & 0xff) + Integer.MIN_VALUE > -2147483457) ? -3L : -4L;
+      if ((b[((int) ((l14 = l1 + l13) + -2L)) - 60448] & 0xff) + Integer.MIN_VALUE > -2147483457) { break L65; }
+      l12 = ((b[((int) (l14 + -3L)) - 60448] & 0xff) + Integer.MIN_VALUE > -2147483457) ? -3L : -4L;
      }
      l12 = l12 + l13;
     }
-    Core4.f124(m, l7 + 64L, l1, l2, l1 + l12, l2 - l12, l5, l6);
-    if ((b[((int) l7) - 60656] & 0xff) != 1) { break L63; }
-    if (Words.get64(b, ((int) l7) - 60640) != l10) { break L59; }
+    Core4.f126(m, l7 + 192L, l1, l2, l1 + l12, l2 - l12, l5, l6);
+    if ((b[((int) l7) - 60256] & 0xff) != 1) { break L63; }
+    if (Words.get64(b, ((int) l7) - 60240) != l10) { break L59; }
    }
-   Words.put64(b, ((int) l0) - 60720, 1L);
-   Words.put64(b, ((int) (l0 + 32L)) - 60720, l10);
-   Words.put64(b, ((int) (l0 + 24L)) - 60720, l11);
-   Words.put64(b, ((int) (l0 + 16L)) - 60720, l8);
-   Words.put64(b, ((int) (l0 + 8L)) - 60720, 0L);
-   m.fill((int) (l0 + 40L), 0, (int) 80L);
+   Words.put64(b, ((int) l0) - 60448, 1L);
+   Words.put64(b, ((int) (l0 + 32L)) - 60448, l10);
+   Words.put64(b, ((int) (l0 + 24L)) - 60448, l11);
+   Words.put64(b, ((int) (l0 + 16L)) - 60448, l8);
+   Words.put64(b, ((int) (l0 + 8L)) - 60448, 0L);
+   m.fill((int) (l0 + 40L), 0, (int) 88L);
    break L58;
   }
-  l11 = 0L;
-  Words.put64(b, ((int) l7) - 60640, 0L);
-  Words.put64(b, ((int) l7) - 60648, 0L);
-  Words.put64(b, ((int) l7) - 60656, 0L);
-  Core4.f124(m, l7 + 64L, l1, l2, l3, l4, l5, l6);
-  f112_1(m, l1, l2, l3, l4, l5, l6, l7, l8, l9, l10, l11, l12, l13, l14, l15, l16, l17, l18, l19, l20, l21, l22, l23, l24, l25, l26);
-  l1 = m.kept[0];
-  l2 = m.kept[1];
-  l3 = m.kept[2];
-  l4 = m.kept[3];
-  l5 = (int) m.kept[4];
-  l6 = (int) m.kept[5];
-  l8 = m.kept[6];
-  l9 = m.kept[7];
-  l10 = m.kept[8];
-  l11 = m.kept[9];
-  l12 = m.kept[10];
-  l13 = m.kept[11];
-  l14 = m.kept[12];
-  l15 = m.kept[13];
-  l16 = m.kept[14];
-  l17 = m.kept[15];
-  l18 = m.kept[16];
-  l19 = m.kept[17];
-  l20 = m.kept[18];
-  l21 = m.kept[19];
-  l22 = (int) m.kept[20];
-  l23 = (int) m.kept[21];
-  l24 = (int) m.kept[22];
-  l25 = (int) m.kept[23];
-  l26 = (int) m.kept[24];
-  Words.put64(b, ((int) l0) - 60720, l12);
-  Words.put64(b, ((int) (l0 + 112L)) - 60720, l14);
-  Words.put64(b, ((int) (l0 + 104L)) - 60720, l15);
-  Words.put64(b, ((int) (l0 + 96L)) - 60720, l16);
-  Words.put64(b, ((int) (l0 + 88L)) - 60720, l13);
-  Words.put64(b, ((int) (l0 + 80L)) - 60720, l2);
-  Words.put64(b, ((int) (l0 + 72L)) - 60720, l4);
-  Words.put32(b, ((int) (l0 + 68L)) - 60720, 0);
-  Words.put32(b, ((int) (l0 + 64L)) - 60720, l25);
-  Words.put64(b, ((int) (l0 + 56L)) - 60720, l8);
-  Words.put64(b, ((int) (l0 + 48L)) - 60720, l10);
-  Words.put64(b, ((int) (l0 + 40L)) - 60720, l11);
-  Words.put64(b, ((int) (l0 + 32L)) - 60720, l3);
-  Words.put64(b, ((int) (l0 + 24L)) - 60720, l9);
-  Words.put64(b, ((int) (l0 + 16L)) - 60720, l1);
-  Words.put64(b, ((int) (l0 + 8L)) - 60720, l17);
+  final int x85 = f112_1(m, l0, l1, l2, l3, l4, l5, l6, l7, l8, l9, l10, l11, l12, l13, l14, l24, l25, l26, l27, l28);
+  l8 = m.kept[0];
+  l10 = m.kept[1];
+  l11 = m.kept[2];
+  l12 = m.kept[3];
+  l13 = m.kept[4];
+  l14 = m.kept[5];
+  l24 = (int) m.kept[6];
+  l25 = (int) m.kept[7];
+  l26 = (int) m.kept[8];
+  l27 = (int) m.kept[9];
+  l28 = (int) m.kept[10];
+  switch (x85) {
+  case 1: break L58;
+  }
+  l10 = 0L;
+  Words.put64(b, ((int) l7) - 60240, 0L);
+  Words.put64(b, ((int) l7) - 60248, 0L);
+  Words.put64(b, ((int) l7) - 60256, 0L);
+  Core4.f126(m, l7 + 192L, l1, l2, l3, l4, l5, l6);
+  L86: {
+   L87: {
+    if ((l18 = b[((int) l7) - 60256] & 0xffL) == 1L) { break L87; }
+    l19 = 0L;
+    l3 = 0L;
+    l11 = 0L;
+    l20 = 0L;
+    l21 = 0L;
+    l22 = 0L;
+    l1 = 0L;
+    l2 = 0L;
+    l14 = 0L;
+    l16 = 0L;
+    l15 = 0L;
+    l8 = 0L;
+    l4 = 0L;
+    l17 = 0L;
+    break L86;
+   }
+   l13 = Words.get64(b, ((int) l7) - 60248);
+   l12 = Words.get64(b, ((int) l7) - 60240);
+   Words.put64(b, ((int) l7) - 60264, 0L);
+   Words.put64(b, ((int) l7) - 60272, 0L);
+   Words.put64(b, ((int) l7) - 60280, 0L);
+   Words.put64(b, ((int) l7) - 60288, 0L);
+   Words.put64(b, ((int) l7) - 60296, 0L);
+   Words.put64(b, ((int) l7) - 60304, 0L);
+   l10 = l3;
+   l8 = l23 = l4 - l12;
+   L88: {
+    L89: while (true) {
+     if ((l11 = l8) == 0L) { break L88; }
+     l24 = (l25 = (int) b[((int) l10) - 60448]) & 255;
+     l4 = 1L;
+     L90: {
+      if (l25 > -1) { break L90; }
+      l26 = (b[((int) l10) - 60447] & 0xff) & 63;
+      L91: {
+       if (l25 + Integer.MIN_VALUE > 2147483615) { break L91; }
+       l24 = ((l24 << 6) & 1984) | l26;
+       l4 = 2L;
+       break L90;
+      }
+      l27 = (b[((int) l10) - 60446] & 0xff) & 63;
+      L92: {
+       if (l25 + Integer.MIN_VALUE > 2147483631) { break L92; }
+       l24 = ((l26 << 6) | ((l24 << 12) & 61440)) | l27;
+       l4 = 3L;
+       break L90;
+      }
+      l24 = ((l27 << 6) | ((l26 << 12) | ((l24 << 18) & 1835008))) | ((b[((int) l10) - 60445] & 0xff) & 63);
+      l4 = 4L;
+     }
+     if ((l24 + -48) + Integer.MIN_VALUE < -2147483638) { break L88; }
+     l8 = l11 - l4;
+     l10 = l10 + l4;
+     if ((l24 + -65296) + Integer.MIN_VALUE > -2147483639) { continue L89; }
+     break L89;
+    }
+   }
+   Core4.f123(m, l7 + 8L, (l11 != 0L) ? 1 : 0, l13, l12);
+   l10 = Words.get64(b, ((int) l7) - 60440);
+   l11 = Words.get64(b, ((int) l7) - 60432);
+   Words.put64(b, ((int) l7) - 60376, 0L);
+   Words.put64(b, ((int) l7) - 60384, 0L);
+   Words.put64(b, ((int) l7) - 60392, 0L);
+   Words.put64(b, ((int) l7) - 60344, 0L);
+   Words.put64(b, ((int) l7) - 60352, 0L);
+   Words.put64(b, ((int) l7) - 60360, 0L);
+   Words.put64(b, ((int) l7) - 60368, 0L);
+   final int x138 = f112_2(m, l1, l2, l3, l4, l7, l8, l9, l10, l11, l12, l13, l14, l15, l16, l17, l19, l20, l21, l22, l23, l24, l25, l26, l27, l28, l29, l30);
+   l1 = m.kept[0];
+   l2 = m.kept[1];
+   l3 = m.kept[2];
+   l4 = m.kept[3];
+   l8 = m.kept[4];
+   l10 = m.kept[5];
+   l11 = m.kept[6];
+   l14 = m.kept[7];
+   l15 = m.kept[8];
+   l16 = m.kept[9];
+   l17 = m.kept[10];
+   l19 = m.kept[11];
+   l20 = m.kept[12];
+   l21 = m.kept[13];
+   l22 = m.kept[14];
+   l24 = (int) m.kept[15];
+   l25 = (int) m.kept[16];
+   l26 = (int) m.kept[17];
+   l27 = (int) m.kept[18];
+   l28 = (int) m.kept[19];
+   l29 = (int) m.kept[20];
+   l30 = (int) m.kept[21];
+   switch (x138) {
+   case 1: break L86;
+   }
+   l17 = 3L;
+   l4 = 0L;
+   final int x189 = f112_3(m, l1, l2, l3, l5, l6, l7, l8, l9, l10, l11, l12, l13, l14, l15, l16, l17, l19, l20, l21, l22, l23, l24, l25, l26, l27);
+   l2 = m.kept[0];
+   l3 = m.kept[1];
+   l5 = (int) m.kept[2];
+   l6 = (int) m.kept[3];
+   l8 = m.kept[4];
+   l10 = m.kept[5];
+   l11 = m.kept[6];
+   l14 = m.kept[7];
+   l15 = m.kept[8];
+   l16 = m.kept[9];
+   l17 = m.kept[10];
+   l19 = m.kept[11];
+   l20 = m.kept[12];
+   l21 = m.kept[13];
+   l22 = m.kept[14];
+   l24 = (int) m.kept[15];
+   l25 = (int) m.kept[16];
+   l26 = (int) m.kept[17];
+   l27 = (int) m.kept[18];
+   switch (x189) {
+   case 1: break L86;
+   }
+   l20 = 0L;
+   l21 = 0L;
+   l22 = 0L;
+   l1 = 0L;
+   l2 = 0L;
+   l14 = 0L;
+   l16 = 0L;
+   l15 = 0L;
+   l8 = 0L;
+   l10 = l13;
+  }
+  Words.put64(b, ((int) l0) - 60448, l18);
+  Words.put64(b, ((int) (l0 + 120L)) - 60448, l4);
+  Words.put64(b, ((int) (l0 + 112L)) - 60448, l8);
+  Words.put64(b, ((int) (l0 + 104L)) - 60448, l15);
+  Words.put64(b, ((int) (l0 + 96L)) - 60448, l16);
+  Words.put64(b, ((int) (l0 + 88L)) - 60448, l14);
+  Words.put64(b, ((int) (l0 + 80L)) - 60448, l2);
+  Words.put64(b, ((int) (l0 + 72L)) - 60448, l1);
+  Words.put64(b, ((int) (l0 + 64L)) - 60448, l22);
+  Words.put64(b, ((int) (l0 + 56L)) - 60448, l21);
+  Words.put64(b, ((int) (l0 + 48L)) - 60448, l20);
+  Words.put64(b, ((int) (l0 + 40L)) - 60448, l11);
+  Words.put64(b, ((int) (l0 + 32L)) - 60448, l3);
+  Words.put64(b, ((int) (l0 + 24L)) - 60448, l19);
+  Words.put64(b, ((int) (l0 + 16L)) - 60448, l10);
+  Words.put64(b, ((int) (l0 + 8L)) - 60448, l17);
  }
- m.g0 = l7 + 176L;
+ m.g0 = l7 + 304L;
 }
 
 static void f113(State m, long l0, int l1, long l2) {
@@ -7294,9 +8129,9 @@ static void f113(State m, long l0, int l1, long l2) {
        L7: {
         L8: {
          if (m.g0 < 16L) { break L8; }
-         l3 = Words.get16(b, ((int) l2) - 60716) & 0xffff;
-         l4 = Words.get16(b, ((int) l2) - 60718) & 0xffff;
-         l5 = Words.get16(b, ((int) l2) - 60720) & 0xffff;
+         l3 = Words.get16(b, ((int) l2) - 60444) & 0xffff;
+         l4 = Words.get16(b, ((int) l2) - 60446) & 0xffff;
+         l5 = Words.get16(b, ((int) l2) - 60448) & 0xffff;
          L9: {
           L10: {
            L11: {
@@ -7416,8 +8251,8 @@ static void f113(State m, long l0, int l1, long l2) {
                                   l11 = l4;
                                   break L1;
                                  }
-                                 Words.put32(b, ((int) l0) - 60712, 0);
-                                 Words.put64(b, ((int) l0) - 60720, 0L);
+                                 Words.put32(b, ((int) l0) - 60440, 0);
+                                 Words.put64(b, ((int) l0) - 60448, 0L);
                                  return;
                                 }
                                 l12 = l3 >>> 8;
@@ -7435,8 +8270,8 @@ static void f113(State m, long l0, int l1, long l2) {
                                 l7 = 0;
                                 break L28;
                                }
-                               Words.put32(b, ((int) l0) - 60712, 0);
-                               Words.put64(b, ((int) l0) - 60720, 0L);
+                               Words.put32(b, ((int) l0) - 60440, 0);
+                               Words.put64(b, ((int) l0) - 60448, 0L);
                                return;
                               }
                               if (((l3 + -1) & 65535) + Integer.MIN_VALUE > -2147483618) { break L27; }
@@ -7452,8 +8287,8 @@ static void f113(State m, long l0, int l1, long l2) {
                             l12 = 0;
                             break L1;
                            }
-                           Words.put32(b, ((int) l0) - 60712, 0);
-                           Words.put64(b, ((int) l0) - 60720, 0L);
+                           Words.put32(b, ((int) l0) - 60440, 0);
+                           Words.put64(b, ((int) l0) - 60448, 0L);
                            return;
                           }
                           l8 = 0;
@@ -7556,8 +8391,8 @@ static void f113(State m, long l0, int l1, long l2) {
                      l8 = l4;
                      break L3;
                     }
-                    Words.put32(b, ((int) l0) - 60712, 0);
-                    Words.put64(b, ((int) l0) - 60720, 0L);
+                    Words.put32(b, ((int) l0) - 60440, 0);
+                    Words.put64(b, ((int) l0) - 60448, 0L);
                     return;
                    }
                    l9 = 0;
@@ -7655,12 +8490,12 @@ static void f113(State m, long l0, int l1, long l2) {
   }
   l13 = 0;
  }
- Words.put16(b, ((int) l0) - 60720, (short) l1);
- Words.put32(b, ((int) (l0 + 8L)) - 60720, l13);
- b[((int) (l0 + 3L)) - 60720] = (byte) l8;
- b[((int) (l0 + 2L)) - 60720] = (byte) l7;
- Words.put16(b, ((int) (l0 + 6L)) - 60720, (short) ((l12 << 8) | (l11 & 255)));
- Words.put16(b, ((int) (l0 + 4L)) - 60720, (short) ((l10 << 8) | (l9 & 255)));
+ Words.put16(b, ((int) l0) - 60448, (short) l1);
+ Words.put32(b, ((int) (l0 + 8L)) - 60448, l13);
+ b[((int) (l0 + 3L)) - 60448] = (byte) l8;
+ b[((int) (l0 + 2L)) - 60448] = (byte) l7;
+ Words.put16(b, ((int) (l0 + 6L)) - 60448, (short) ((l12 << 8) | (l11 & 255)));
+ Words.put16(b, ((int) (l0 + 4L)) - 60448, (short) ((l10 << 8) | (l9 & 255)));
 }
 
 static int f114(State m, long l0, long l1, long l2, long l3, long l4) {
@@ -7682,45 +8517,45 @@ static int f114(State m, long l0, long l1, long l2, long l3, long l4) {
   L2: {
    L3: {
     if ((l5 = l5) < 16L) { break L3; }
-    l10 = b[((int) l2) - 60719] & 0xff;
-    l11 = b[((int) l2) - 60720] & 0xff;
-    l13 = (int) ((((l12 = Words.get16(b, ((int) l2) - 60714) & 0xffff) & 65535) & 0xffffffffL) % 100L);
+    l10 = b[((int) l2) - 60447] & 0xff;
+    l11 = b[((int) l2) - 60448] & 0xff;
+    l13 = (int) ((((l12 = Words.get16(b, ((int) l2) - 60442) & 0xffff) & 65535) & 0xffffffffL) % 100L);
     L4: {
      if (l4 == 0L) { break L4; }
      if ((l10 & 255) != 3) { break L4; }
      if (l13 != 0) { break L4; }
-     l6 = Words.get64(b, ((int) l2) - 60704);
-     l13 = (l14 = (int) b[((int) l3) - 60720]) & 255;
+     l6 = Words.get64(b, ((int) l2) - 60432);
+     l13 = (l14 = (int) b[((int) l3) - 60448]) & 255;
      L5: {
       if (l14 > -1) { break L5; }
-      l15 = (b[((int) l3) - 60719] & 0xff) & 63;
+      l15 = (b[((int) l3) - 60447] & 0xff) & 63;
       L6: {
        if (l14 + Integer.MIN_VALUE > 2147483615) { break L6; }
        l13 = ((l13 << 6) & 1984) | l15;
        break L5;
       }
-      l16 = (b[((int) l3) - 60718] & 0xff) & 63;
+      l16 = (b[((int) l3) - 60446] & 0xff) & 63;
       L7: {
        if (l14 + Integer.MIN_VALUE > 2147483631) { break L7; }
        l13 = ((l15 << 6) | ((l13 << 12) & 61440)) | l16;
        break L5;
       }
-      l13 = ((l16 << 6) | ((l15 << 12) | ((l13 << 18) & 1835008))) | ((b[((int) l3) - 60717] & 0xff) & 63);
+      l13 = ((l16 << 6) | ((l15 << 12) | ((l13 << 18) & 1835008))) | ((b[((int) l3) - 60445] & 0xff) & 63);
      }
      if (l6 == 0L) { break L4; }
      if (((l13 + -58) + Integer.MIN_VALUE < 2147483638) & ((l13 + -65306) + Integer.MIN_VALUE < 2147483638)) { break L4; }
-     if ((l13 = (int) b[((int) (l2 = Words.get64(b, ((int) l2) - 60712))) - 60720]) > -1) { break L4; }
+     if ((l13 = (int) b[((int) (l2 = Words.get64(b, ((int) l2) - 60440))) - 60448]) > -1) { break L4; }
      if (l13 + Integer.MIN_VALUE < 2147483616) { break L4; }
      l14 = l13 & 255;
-     l15 = (b[((int) l2) - 60719] & 0xff) & 63;
-     l16 = (b[((int) l2) - 60718] & 0xff) & 63;
+     l15 = (b[((int) l2) - 60447] & 0xff) & 63;
+     l16 = (b[((int) l2) - 60446] & 0xff) & 63;
      L8: {
       L9: {
        if (l13 + Integer.MIN_VALUE > 2147483631) { break L9; }
        l14 = ((l15 << 6) | ((l14 << 12) & 61440)) | l16;
        break L8;
       }
-      l14 = ((l16 << 6) | ((l15 << 12) | ((l14 << 18) & 1835008))) | ((b[((int) l2) - 60717] & 0xff) & 63);
+      l14 = ((l16 << 6) | ((l15 << 12) | ((l14 << 18) & 1835008))) | ((b[((int) l2) - 60445] & 0xff) & 63);
      }
      l13 = 1;
      L10: {
@@ -7739,39 +8574,39 @@ static int f114(State m, long l0, long l1, long l2, long l3, long l4) {
      if (l14 == 38291) { break L1; }
      if (l14 == 38388) { break L1; }
     }
-    Words.put64(b, ((int) l5) - 60640, 0L);
-    Words.put64(b, ((int) l5) - 60648, 0L);
-    Words.put64(b, ((int) l5) - 60656, 0L);
-    Words.put64(b, ((int) l5) - 60664, 0L);
-    Core4.f120(m, l5 + 56L, l3, l4);
+    Words.put64(b, ((int) l5) - 60368, 0L);
+    Words.put64(b, ((int) l5) - 60376, 0L);
+    Words.put64(b, ((int) l5) - 60384, 0L);
+    Words.put64(b, ((int) l5) - 60392, 0L);
+    Core4.f122(m, l5 + 56L, l3, l4);
     if ((l10 & 255) + Integer.MIN_VALUE > -2147483647) { break L2; }
-    l7 = Words.get64(b, ((int) l5) - 60656);
-    l8 = Words.get64(b, ((int) l5) - 60664);
-    if (Core4.f145(m, 85072L, 1L, 85076L, 1L, l0, l1) != 0) { break L2; }
+    l7 = Words.get64(b, ((int) l5) - 60384);
+    l8 = Words.get64(b, ((int) l5) - 60392);
+    if (Core5.f153(m, 85968L, 1L, 85972L, 1L, l0, l1) != 0) { break L2; }
     l2 = l8;
     l9 = l7;
     L12: {
      L13: while (true) {
       if (l9 == 0L) { break L12; }
-      l13 = (l14 = (int) b[((int) l2) - 60720]) & 255;
+      l13 = (l14 = (int) b[((int) l2) - 60448]) & 255;
       l6 = 1L;
       L14: {
        if (l14 > -1) { break L14; }
-       l15 = (b[((int) l2) - 60719] & 0xff) & 63;
+       l15 = (b[((int) l2) - 60447] & 0xff) & 63;
        L15: {
         if (l14 + Integer.MIN_VALUE > 2147483615) { break L15; }
         l13 = ((l13 << 6) & 1984) | l15;
         l6 = 2L;
         break L14;
        }
-       l16 = (b[((int) l2) - 60718] & 0xff) & 63;
+       l16 = (b[((int) l2) - 60446] & 0xff) & 63;
        L16: {
         if (l14 + Integer.MIN_VALUE > 2147483631) { break L16; }
         l13 = ((l15 << 6) | ((l13 << 12) & 61440)) | l16;
         l6 = 3L;
         break L14;
        }
-       l13 = ((l16 << 6) | ((l15 << 12) | ((l13 << 18) & 1835008))) | ((b[((int) l2) - 60717] & 0xff) & 63);
+       l13 = ((l16 << 6) | ((l15 << 12) | ((l13 << 18) & 1835008))) | ((b[((int) l2) - 60445] & 0xff) & 63);
        l6 = 4L;
       }
       L17: {
@@ -7785,7 +8620,7 @@ static int f114(State m, long l0, long l1, long l2, long l3, long l4) {
      l13 = 1;
      break L1;
     }
-    Words.put32(b, ((int) l5) - 60720, 0);
+    Words.put32(b, ((int) l5) - 60448, 0);
     L18: {
      L19: {
       L20: {
@@ -7798,24 +8633,24 @@ static int f114(State m, long l0, long l1, long l2, long l3, long l4) {
          default: break L18;
          }
         }
-        if (Words.get32(b, State.far((int) (l2 = ((((l14 = (((b[((int) l8) - 60719] & 0xff) << 8) | (l13 = b[((int) l8) - 60720] & 0xff)) | ((b[((int) l8) - 60718] & 0xff) << 16)) & 0xffffffffL) * 953497L) >>> 22L) & 1016L), 66852)) != l14) { break L20; }
-        if (((b[((int) (l2 + 66856L)) - 60720] & 0xff) & 255) == 2) { break L20; }
+        if (Words.get32(b, State.far((int) (l2 = ((((l14 = (((b[((int) l8) - 60447] & 0xff) << 8) | (l13 = b[((int) l8) - 60448] & 0xff)) | ((b[((int) l8) - 60446] & 0xff) << 16)) & 0xffffffffL) * 953497L) >>> 22L) & 1016L), 66852)) != l14) { break L20; }
+        if (((b[((int) (l2 + 66856L)) - 60448] & 0xff) & 255) == 2) { break L20; }
         l13 = 1;
         break L1;
        }
        if (l7 + Long.MIN_VALUE > -9223372036854775804L) { break L2; }
        if (l7 == 0L) { break L19; }
-       l13 = b[((int) l8) - 60720] & 0xff;
+       l13 = b[((int) l8) - 60448] & 0xff;
       }
       if (((int) (byte) l13) > -1) { break L2; }
      }
      f106(m, l5, l8, l7);
      l13 = 1;
-     if ((b[((int) l5) - 60720] & 0xff) != 1) { break L2; }
-     if (((b[((int) l5) - 60717] & 0xff) & 1) != 0) { break L1; }
+     if ((b[((int) l5) - 60448] & 0xff) != 1) { break L2; }
+     if (((b[((int) l5) - 60445] & 0xff) & 1) != 0) { break L1; }
      break L2;
     }
-    if ((((b[((int) l8) - 60720] & 0xff) + -58) & 255) + Integer.MIN_VALUE >= -2147483402) { break L2; }
+    if ((((b[((int) l8) - 60448] & 0xff) + -58) & 255) + Integer.MIN_VALUE >= -2147483402) { break L2; }
     l13 = 1;
     break L1;
    }
@@ -7824,56 +8659,56 @@ static int f114(State m, long l0, long l1, long l2, long l3, long l4) {
   L23: {
    if ((l10 & 255) + Integer.MIN_VALUE > -2147483644) { break L23; }
    l13 = 1;
-   if (Core5.f156(m, l0, l1) != 0) { break L1; }
-   if (Core4.f145(m, 85080L, 2L, 85088L, 9L, l0, l1) != 0) { break L1; }
+   if (Core5.f165(m, l0, l1) != 0) { break L1; }
+   if (Core5.f153(m, 85976L, 2L, 85984L, 9L, l0, l1) != 0) { break L1; }
   }
-  Words.put64(b, ((int) l5) - 60664, 0L);
-  Words.put64(b, ((int) l5) - 60656, 0L);
-  Words.put64(b, ((int) l5) - 60648, 0L);
-  Words.put64(b, ((int) l5) - 60640, 0L);
-  Words.put64(b, ((int) l5) - 60688, 0L);
-  Words.put64(b, ((int) l5) - 60680, 0L);
-  Words.put64(b, ((int) l5) - 60672, 0L);
-  Words.put64(b, ((int) l5) - 60720, 0L);
-  Words.put64(b, ((int) l5) - 60712, 0L);
-  Words.put64(b, ((int) l5) - 60704, 0L);
-  Words.put64(b, ((int) l5) - 60696, 0L);
-  Core4.f120(m, l5 + 56L, l3, l4);
-  Core4.f123(m, l5 + 32L, 3, Words.get64(b, ((int) l5) - 60648), Words.get64(b, ((int) l5) - 60640));
+  Words.put64(b, ((int) l5) - 60392, 0L);
+  Words.put64(b, ((int) l5) - 60384, 0L);
+  Words.put64(b, ((int) l5) - 60376, 0L);
+  Words.put64(b, ((int) l5) - 60368, 0L);
+  Words.put64(b, ((int) l5) - 60416, 0L);
+  Words.put64(b, ((int) l5) - 60408, 0L);
+  Words.put64(b, ((int) l5) - 60400, 0L);
+  Words.put64(b, ((int) l5) - 60448, 0L);
+  Words.put64(b, ((int) l5) - 60440, 0L);
+  Words.put64(b, ((int) l5) - 60432, 0L);
+  Words.put64(b, ((int) l5) - 60424, 0L);
+  Core4.f122(m, l5 + 56L, l3, l4);
+  Core4.f125(m, l5 + 32L, 3, Words.get64(b, ((int) l5) - 60376), Words.get64(b, ((int) l5) - 60368));
   L24: {
-   if ((b[((int) l5) - 60688] & 0xff) != 1) { break L24; }
-   Core4.f120(m, l5, Words.get64(b, ((int) l5) - 60680), Words.get64(b, ((int) l5) - 60672));
+   if ((b[((int) l5) - 60416] & 0xff) != 1) { break L24; }
+   Core4.f122(m, l5, Words.get64(b, ((int) l5) - 60408), Words.get64(b, ((int) l5) - 60400));
    if ((l11 & 255) != 0) { break L24; }
    if ((l10 & 255) != 15) { break L24; }
    if ((l12 & 65535) + Integer.MIN_VALUE > -2147483639) { break L24; }
-   l2 = Words.get64(b, ((int) l5) - 60712);
-   l6 = Words.get64(b, ((int) l5) - 60720);
+   l2 = Words.get64(b, ((int) l5) - 60440);
+   l6 = Words.get64(b, ((int) l5) - 60448);
    L25: {
     if (l1 == 0L) { break L25; }
-    if (((int) b[((int) ((l9 = l0 + l1) + -1L)) - 60720]) > -1) { break L25; }
+    if (((int) b[((int) ((l9 = l0 + l1) + -1L)) - 60448]) > -1) { break L25; }
     l7 = -2L;
     L26: {
-     if ((b[((int) (l9 + -2L)) - 60720] & 0xff) + Integer.MIN_VALUE > -2147483457) { break L26; }
-     l7 = ((b[((int) (l9 + -3L)) - 60720] & 0xff) + Integer.MIN_VALUE > -2147483457) ? -3L : -4L;
+     if ((b[((int) (l9 + -2L)) - 60448] & 0xff) + Integer.MIN_VALUE > -2147483457) { break L26; }
+     l7 = ((b[((int) (l9 + -3L)) - 60448] & 0xff) + Integer.MIN_VALUE > -2147483457) ? -3L : -4L;
     }
-    if ((l13 = (int) b[((int) (l9 = (l0 + l7) + l1)) - 60720]) > -1) { break L25; }
+    if ((l13 = (int) b[((int) (l9 = (l0 + l7) + l1)) - 60448]) > -1) { break L25; }
     if (l13 + Integer.MIN_VALUE < 2147483616) { break L25; }
     l14 = l13 & 255;
-    l10 = (b[((int) l9) - 60719] & 0xff) & 63;
-    l15 = (b[((int) l9) - 60718] & 0xff) & 63;
+    l10 = (b[((int) l9) - 60447] & 0xff) & 63;
+    l15 = (b[((int) l9) - 60446] & 0xff) & 63;
     L27: {
      L28: {
       if (l13 + Integer.MIN_VALUE > 2147483631) { break L28; }
       l13 = ((l10 << 6) | ((l14 << 12) & 61440)) | l15;
       break L27;
      }
-     l13 = ((l15 << 6) | ((l10 << 12) | ((l14 << 18) & 1835008))) | ((b[((int) l9) - 60717] & 0xff) & 63);
+     l13 = ((l15 << 6) | ((l10 << 12) | ((l14 << 18) & 1835008))) | ((b[((int) l9) - 60445] & 0xff) & 63);
     }
     if (l13 == 21495) { break L24; }
     if (l13 == 26085) { break L24; }
     if (l13 == 34399) { break L24; }
    }
-   Words.put32(b, ((int) l5) - 60628, 0);
+   Words.put32(b, ((int) l5) - 60356, 0);
    L29: {
     L30: {
      L31: {
@@ -7886,66 +8721,66 @@ static int f114(State m, long l0, long l1, long l2, long l3, long l4) {
         default: break L29;
         }
        }
-       if (Words.get32(b, State.far((int) (l9 = ((((l14 = (((b[((int) l6) - 60719] & 0xff) << 8) | (l13 = b[((int) l6) - 60720] & 0xff)) | ((b[((int) l6) - 60718] & 0xff) << 16)) & 0xffffffffL) * 953497L) >>> 22L) & 1016L), 66852)) != l14) { break L31; }
-       if (((b[((int) (l9 + 66856L)) - 60720] & 0xff) & 255) == 2) { break L31; }
+       if (Words.get32(b, State.far((int) (l9 = ((((l14 = (((b[((int) l6) - 60447] & 0xff) << 8) | (l13 = b[((int) l6) - 60448] & 0xff)) | ((b[((int) l6) - 60446] & 0xff) << 16)) & 0xffffffffL) * 953497L) >>> 22L) & 1016L), 66852)) != l14) { break L31; }
+       if (((b[((int) (l9 + 66856L)) - 60448] & 0xff) & 255) == 2) { break L31; }
        l13 = 1;
        break L1;
       }
       if (l2 + Long.MIN_VALUE > -9223372036854775804L) { break L24; }
       if (l2 == 0L) { break L30; }
-      l13 = b[((int) l6) - 60720] & 0xff;
+      l13 = b[((int) l6) - 60448] & 0xff;
      }
      if (((int) (byte) l13) > -1) { break L24; }
     }
     f106(m, l5 + 92L, l6, l2);
     l13 = 1;
-    if ((b[((int) l5) - 60628] & 0xff) != 1) { break L24; }
-    if (((b[((int) l5) - 60625] & 0xff) & 1) != 0) { break L1; }
+    if ((b[((int) l5) - 60356] & 0xff) != 1) { break L24; }
+    if (((b[((int) l5) - 60353] & 0xff) & 1) != 0) { break L1; }
     break L24;
    }
-   if ((((b[((int) l6) - 60720] & 0xff) + -58) & 255) + Integer.MIN_VALUE >= -2147483402) { break L24; }
+   if ((((b[((int) l6) - 60448] & 0xff) + -58) & 255) + Integer.MIN_VALUE >= -2147483402) { break L24; }
    l13 = 1;
    break L1;
   }
-  Words.put64(b, ((int) l5) - 60664, 0L);
-  Words.put64(b, ((int) l5) - 60656, 0L);
-  Words.put64(b, ((int) l5) - 60648, 0L);
-  Words.put64(b, ((int) l5) - 60720, 0L);
-  Words.put64(b, ((int) l5) - 60712, 0L);
-  Words.put64(b, ((int) l5) - 60704, 0L);
-  Core4.f133(m, l5 + 56L, 83924L, 1L, 83672L, 2L, l3, l4);
+  Words.put64(b, ((int) l5) - 60392, 0L);
+  Words.put64(b, ((int) l5) - 60384, 0L);
+  Words.put64(b, ((int) l5) - 60376, 0L);
+  Words.put64(b, ((int) l5) - 60448, 0L);
+  Words.put64(b, ((int) l5) - 60440, 0L);
+  Words.put64(b, ((int) l5) - 60432, 0L);
+  Core4.f130(m, l5 + 56L, 83924L, 1L, 83672L, 2L, l3, l4);
   l13 = 1;
   L34: {
-   if ((b[((int) l5) - 60664] & 0xff) != 1) { break L34; }
-   Core4.f133(m, l5, 83568L, 1L, 85168L, 3L, Words.get64(b, ((int) l5) - 60656), Words.get64(b, ((int) l5) - 60648));
-   if ((b[((int) l5) - 60720] & 0xff) == 1) { break L1; }
+   if ((b[((int) l5) - 60392] & 0xff) != 1) { break L34; }
+   Core4.f130(m, l5, 83568L, 1L, 86064L, 3L, Words.get64(b, ((int) l5) - 60384), Words.get64(b, ((int) l5) - 60376));
+   if ((b[((int) l5) - 60448] & 0xff) == 1) { break L1; }
   }
   L35: {
    if (l1 == 0L) { break L35; }
-   if (((int) b[((int) ((l2 = l0 + l1) + -1L)) - 60720]) > -1) { break L35; }
+   if (((int) b[((int) ((l2 = l0 + l1) + -1L)) - 60448]) > -1) { break L35; }
    l6 = -2L;
    L36: {
-    if ((b[((int) (l2 + -2L)) - 60720] & 0xff) + Integer.MIN_VALUE > -2147483457) { break L36; }
-    l6 = ((b[((int) (l2 + -3L)) - 60720] & 0xff) + Integer.MIN_VALUE > -2147483457) ? -3L : -4L;
+    if ((b[((int) (l2 + -2L)) - 60448] & 0xff) + Integer.MIN_VALUE > -2147483457) { break L36; }
+    l6 = ((b[((int) (l2 + -3L)) - 60448] & 0xff) + Integer.MIN_VALUE > -2147483457) ? -3L : -4L;
    }
-   if ((l13 = (int) b[((int) (l2 = (l0 + l6) + l1)) - 60720]) > -1) { break L35; }
+   if ((l13 = (int) b[((int) (l2 = (l0 + l6) + l1)) - 60448]) > -1) { break L35; }
    if (l13 + Integer.MIN_VALUE < 2147483616) { break L35; }
    l14 = l13 & 255;
-   l10 = (b[((int) l2) - 60719] & 0xff) & 63;
-   l15 = (b[((int) l2) - 60718] & 0xff) & 63;
+   l10 = (b[((int) l2) - 60447] & 0xff) & 63;
+   l15 = (b[((int) l2) - 60446] & 0xff) & 63;
    L37: {
     L38: {
      if (l13 + Integer.MIN_VALUE > 2147483631) { break L38; }
      l14 = ((l10 << 6) | ((l14 << 12) & 61440)) | l15;
      break L37;
     }
-    l14 = ((l15 << 6) | ((l10 << 12) | ((l14 << 18) & 1835008))) | ((b[((int) l2) - 60717] & 0xff) & 63);
+    l14 = ((l15 << 6) | ((l10 << 12) | ((l14 << 18) & 1835008))) | ((b[((int) l2) - 60445] & 0xff) & 63);
    }
    l13 = 1;
    if (l14 == 9675) { break L1; }
    if (l14 == 9711) { break L1; }
   }
-  l13 = Core5.f157(m, l0, l1);
+  l13 = Core5.f166(m, l0, l1);
  }
  m.g0 = l5 + 96L;
  return l13;
@@ -7968,53 +8803,53 @@ static void f115(State m, long l0, int l1, long l2, long l3, long l4) {
       L6: {
        L7: {
         if (m.g0 < 16L) { break L7; }
-        l5 = b[((int) l4) - 60718] & 0xff;
-        l6 = b[((int) l4) - 60719] & 0xff;
-        if ((((l7 = b[((int) l4) - 60720] & 0xff) + -13) & 255) + Integer.MIN_VALUE < -2147483404) { break L5; }
+        l5 = b[((int) l4) - 60446] & 0xff;
+        l6 = b[((int) l4) - 60447] & 0xff;
+        if ((((l7 = b[((int) l4) - 60448] & 0xff) + -13) & 255) + Integer.MIN_VALUE < -2147483404) { break L5; }
         L8: {
          if ((l1 & 255) == 1) { break L8; }
          l1 = 0;
          break L2;
         }
         if (l3 == 0L) { break L4; }
-        l1 = (l8 = (int) b[((int) l2) - 60720]) & 255;
+        l1 = (l8 = (int) b[((int) l2) - 60448]) & 255;
         l4 = 1L;
         L9: {
          if (l8 > -1) { break L9; }
-         l9 = (b[((int) l2) - 60719] & 0xff) & 63;
+         l9 = (b[((int) l2) - 60447] & 0xff) & 63;
          L10: {
           if (l8 + Integer.MIN_VALUE > 2147483615) { break L10; }
           l1 = ((l1 << 6) & 1984) | l9;
           l4 = 2L;
           break L9;
          }
-         l10 = (b[((int) l2) - 60718] & 0xff) & 63;
+         l10 = (b[((int) l2) - 60446] & 0xff) & 63;
          L11: {
           if (l8 + Integer.MIN_VALUE > 2147483631) { break L11; }
           l1 = ((l9 << 6) | ((l1 << 12) & 61440)) | l10;
           l4 = 3L;
           break L9;
          }
-         l1 = ((l10 << 6) | ((l9 << 12) | ((l1 << 18) & 1835008))) | ((b[((int) l2) - 60717] & 0xff) & 63);
+         l1 = ((l10 << 6) | ((l9 << 12) | ((l1 << 18) & 1835008))) | ((b[((int) l2) - 60445] & 0xff) & 63);
          l4 = 4L;
         }
         if (l3 == l4) { break L4; }
-        l9 = (l8 = (int) b[((int) (l4 = l2 + l4)) - 60720]) & 255;
+        l9 = (l8 = (int) b[((int) (l4 = l2 + l4)) - 60448]) & 255;
         L12: {
          if (l8 > -1) { break L12; }
-         l10 = (b[((int) l4) - 60719] & 0xff) & 63;
+         l10 = (b[((int) l4) - 60447] & 0xff) & 63;
          L13: {
           if (l8 + Integer.MIN_VALUE > 2147483615) { break L13; }
           l9 = ((l9 << 6) & 1984) | l10;
           break L12;
          }
-         l11 = (b[((int) l4) - 60718] & 0xff) & 63;
+         l11 = (b[((int) l4) - 60446] & 0xff) & 63;
          L14: {
           if (l8 + Integer.MIN_VALUE > 2147483631) { break L14; }
           l9 = ((l10 << 6) | ((l9 << 12) & 61440)) | l11;
           break L12;
          }
-         l9 = ((l11 << 6) | ((l10 << 12) | ((l9 << 18) & 1835008))) | ((b[((int) l4) - 60717] & 0xff) & 63);
+         l9 = ((l11 << 6) | ((l10 << 12) | ((l9 << 18) & 1835008))) | ((b[((int) l4) - 60445] & 0xff) & 63);
         }
         L15: {
          L16: {
@@ -8108,69 +8943,7 @@ static void f115(State m, long l0, int l1, long l2, long l3, long l4) {
   }
   l7 = 0;
  }
- b[((int) l0) - 60719] = (byte) l7;
- b[((int) l0) - 60720] = (byte) l1;
-}
-
-static int f116(State m, long l0) {
- final byte[] b = m.bytes;
- long l1 = 0;
- long l2 = 0;
- long l3 = 0;
- int l4 = 0;
- int l5 = 0;
- int l6 = 0;
- int l7 = 0;
- m.g0 = l1 = m.g0 - 160L;
- m.copy((int) ((l1 = l1) + 24L), (int) l0, (int) 88L);
- L1: {
-  if (l1 < 16L) { break L1; }
-  l2 = Words.get64(b, ((int) l0) - 60632);
-  L2: {
-   L3: {
-    if ((l3 = Words.get64(b, ((int) l0) - 60624)) == 0L) { break L3; }
-    if ((l4 = (int) b[((int) l2) - 60720]) > -1) { break L3; }
-    if (l4 + Integer.MIN_VALUE < 2147483616) { break L3; }
-    l5 = l4 & 255;
-    l6 = (b[((int) l2) - 60719] & 0xff) & 63;
-    l7 = (b[((int) l2) - 60718] & 0xff) & 63;
-    L4: {
-     L5: {
-      if (l4 + Integer.MIN_VALUE > 2147483631) { break L5; }
-      l5 = ((l6 << 6) | ((l5 << 12) & 61440)) | l7;
-      break L4;
-     }
-     l5 = ((l7 << 6) | ((l6 << 12) | ((l5 << 18) & 1835008))) | ((b[((int) l2) - 60717] & 0xff) & 63);
-    }
-    l4 = 1;
-    if (l5 == 25104) { break L2; }
-    if (l5 == 25240) { break L2; }
-   }
-   Words.put64(b, ((int) l1) - 60568, Words.get64(b, ((int) l0) - 60680));
-   Words.put64(b, ((int) l1) - 60576, Words.get64(b, ((int) l0) - 60688));
-   Words.put64(b, ((int) l1) - 60584, Words.get64(b, ((int) l0) - 60696));
-   Words.put64(b, ((int) l1) - 60592, Words.get64(b, ((int) l0) - 60704));
-   Words.put64(b, ((int) l1) - 60600, Words.get64(b, ((int) l0) - 60712));
-   Words.put64(b, ((int) l1) - 60608, Words.get64(b, ((int) l0) - 60720));
-   Core4.f117(m, l1 + 16L, l1 + 112L);
-   L6: {
-    if ((b[((int) l1) - 60704] & 0xff) != 1) { break L6; }
-    l4 = 1;
-    if (((1 << ((b[((int) l1) - 60703] & 0xff) & 255)) & 23) != 0) { break L2; }
-   }
-   Words.put64(b, ((int) l1) - 60584, Words.get64(b, ((int) l1) - 60616));
-   Words.put64(b, ((int) l1) - 60592, Words.get64(b, ((int) l1) - 60624));
-   Words.put64(b, ((int) l1) - 60600, Words.get64(b, ((int) l1) - 60632));
-   Words.put64(b, ((int) l1) - 60608, Words.get64(b, ((int) l1) - 60640));
-   Words.put64(b, ((int) l1) - 60568, l3);
-   Words.put64(b, ((int) l1) - 60576, l2);
-   Core4.f117(m, l1 + 8L, l1 + 112L);
-   l4 = (((b[((int) l1) - 60712] & 0xff) == 1) ? 1 : 0) & (23 >>> ((b[((int) l1) - 60711] & 0xff) & 63));
-  }
-  m.g0 = l1 + 160L;
-  final int t7 = l4;
-  return t7;
- }
- throw State.trap();
+ b[((int) l0) - 60447] = (byte) l7;
+ b[((int) l0) - 60448] = (byte) l1;
 }
 }

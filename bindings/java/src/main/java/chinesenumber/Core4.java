@@ -2,7 +2,387 @@
 package chinesenumber;
 
 final class Core4 {
-static int f117_1(State m, long l1, long l2, long l3, long l4, long l5, long l6, long l7, long l8, long l9, long l10, int l12, int l13, int l14, int l15, int l16, int l17, int l18) {
+static int f116(State m, long l0, long l1, long l2) {
+ final byte[] b = m.bytes;
+ long l3 = 0;
+ long l4 = 0;
+ long l5 = 0;
+ long l6 = 0;
+ long l7 = 0;
+ long l8 = 0;
+ long l9 = 0;
+ int l10 = 0;
+ int l11 = 0;
+ int l12 = 0;
+ int l13 = 0;
+ m.g0 = l3 = m.g0 - 64L;
+ L1: {
+  L2: {
+   L3: {
+    L4: {
+     L5: {
+      L6: {
+       L7: {
+        L8: {
+         if ((l3 = l3) < 16L) { break L8; }
+         L9: {
+          if ((l10 = (b[((int) l2) - 60448] & 0xff) & 255) != 2) { break L9; }
+          l10 = 1;
+          break L1;
+         }
+         l4 = Words.get64(b, ((int) l2) - 60368);
+         l5 = Words.get64(b, ((int) l2) - 60376);
+         l6 = Words.get64(b, ((int) l2) - 60400);
+         l7 = Words.get64(b, ((int) l2) - 60408);
+         L10: {
+          if (l10 != 1) { break L10; }
+          if (l6 == 0L) { break L10; }
+          l10 = (l11 = (int) b[((int) l7) - 60448]) & 255;
+          l8 = 1L;
+          L11: {
+           if (l11 > -1) { break L11; }
+           l12 = (b[((int) l7) - 60447] & 0xff) & 63;
+           L12: {
+            if (l11 + Integer.MIN_VALUE > 2147483615) { break L12; }
+            l10 = ((l10 << 6) & 1984) | l12;
+            l8 = 2L;
+            break L11;
+           }
+           l13 = (b[((int) l7) - 60446] & 0xff) & 63;
+           L13: {
+            if (l11 + Integer.MIN_VALUE > 2147483631) { break L13; }
+            l10 = ((l12 << 6) | ((l10 << 12) & 61440)) | l13;
+            l8 = 3L;
+            break L11;
+           }
+           l10 = ((l13 << 6) | ((l12 << 12) | ((l10 << 18) & 1835008))) | ((b[((int) l7) - 60445] & 0xff) & 63);
+           l8 = 4L;
+          }
+          if (l6 != l8) { break L3; }
+          L14: {
+           if (l10 > 20107) { break L14; }
+           if ((l11 = l10 + -19968) + Integer.MIN_VALUE <= -2147483612) { break L7; }
+           break L5;
+          }
+          L15: {
+           if (l10 > 22234) { break L15; }
+           if ((l11 = l10 + -20841) + Integer.MIN_VALUE > -2147483644) { break L6; }
+           if (((1 << l11) & 21) == 0) { break L6; }
+           break L4;
+          }
+          if (l10 == 38646) { break L4; }
+          if (l10 != 22235) { break L3; }
+          break L4;
+         }
+         if (l6 == 0L) { break L2; }
+         break L3;
+        }
+        throw State.trap();
+       }
+       if (((1L << (l11 & 0xffffffffL)) & 68719477257L) == 0L) { break L5; }
+       break L4;
+      }
+      switch (l10 + -20108) {
+      case 0: case 8: break L4;
+      default: break L3;
+      }
+     }
+     if (l10 == 12295) { break L4; }
+     if (l10 != 20061) { break L3; }
+    }
+    Core2.f63(m, l3 + 8L, l10);
+    if (((b[((int) l3) - 60439] & 0xff) & 255) == 0) { break L3; }
+    if (((b[((int) l3) - 60440] & 0xff) & 1) == 0) { break L3; }
+    l10 = 1;
+    break L1;
+   }
+   if ((l10 = (int) b[((int) l7) - 60448]) > -1) { break L2; }
+   if (l10 + Integer.MIN_VALUE < 2147483616) { break L2; }
+   l11 = l10 & 255;
+   l12 = (b[((int) l7) - 60447] & 0xff) & 63;
+   l13 = (b[((int) l7) - 60446] & 0xff) & 63;
+   L16: {
+    L17: {
+     if (l10 + Integer.MIN_VALUE > 2147483631) { break L17; }
+     l10 = ((l12 << 6) | ((l11 << 12) & 61440)) | l13;
+     l8 = 3L;
+     break L16;
+    }
+    l10 = ((l13 << 6) | ((l12 << 12) | ((l11 << 18) & 1835008))) | ((b[((int) l7) - 60445] & 0xff) & 63);
+    l8 = 4L;
+   }
+   if (l10 != 19968) { break L2; }
+   if (l6 != l8) { break L2; }
+   if (l4 == 0L) { break L2; }
+   L18: {
+    L19: {
+     if ((l10 = (int) b[((int) l5) - 60448]) <= -1) { break L19; }
+     l8 = 1L;
+     break L18;
+    }
+    L20: {
+     if (l10 + Integer.MIN_VALUE >= 2147483616) { break L20; }
+     l8 = 2L;
+     break L18;
+    }
+    l8 = (l10 + Integer.MIN_VALUE < 2147483632) ? 3L : 4L;
+   }
+   if (l4 == l8) { break L2; }
+   l11 = (l10 = (int) b[((int) (l9 = l5 + l8)) - 60448]) & 255;
+   l5 = 1L;
+   L21: {
+    if (l10 > -1) { break L21; }
+    l12 = (b[((int) l9) - 60447] & 0xff) & 63;
+    L22: {
+     if (l10 + Integer.MIN_VALUE > 2147483615) { break L22; }
+     l11 = ((l11 << 6) & 1984) | l12;
+     l5 = 2L;
+     break L21;
+    }
+    l13 = (b[((int) l9) - 60446] & 0xff) & 63;
+    L23: {
+     if (l10 + Integer.MIN_VALUE > 2147483631) { break L23; }
+     l11 = ((l12 << 6) | ((l11 << 12) & 61440)) | l13;
+     l5 = 3L;
+     break L21;
+    }
+    l11 = ((l13 << 6) | ((l12 << 12) | ((l11 << 18) & 1835008))) | ((b[((int) l9) - 60445] & 0xff) & 63);
+    l5 = 4L;
+   }
+   if (l4 != (l5 + l8)) { break L2; }
+   l10 = 1;
+   if (l11 == 37666) { break L1; }
+   if (l11 == 38065) { break L1; }
+  }
+  L24: {
+   if (l1 == 0L) { break L24; }
+   L25: {
+    if ((l11 = (int) b[((int) (l0 + (l8 = l1 + -1L))) - 60448]) >= 0) { break L25; }
+    l8 = -2L;
+    L26: {
+     if ((b[((int) ((l4 = l0 + l1) + -2L)) - 60448] & 0xff) + Integer.MIN_VALUE > -2147483457) { break L26; }
+     l8 = ((b[((int) (l4 + -3L)) - 60448] & 0xff) + Integer.MIN_VALUE > -2147483457) ? -3L : -4L;
+    }
+    l11 = (l10 = (int) b[((int) (l4 = l0 + (l8 = l8 + l1))) - 60448]) & 255;
+    if (l10 > -1) { break L25; }
+    l12 = (b[((int) l4) - 60447] & 0xff) & 63;
+    L27: {
+     if (l10 + Integer.MIN_VALUE > 2147483615) { break L27; }
+     l11 = ((l11 << 6) & 1984) | l12;
+     break L25;
+    }
+    l13 = (b[((int) l4) - 60446] & 0xff) & 63;
+    L28: {
+     if (l10 + Integer.MIN_VALUE > 2147483631) { break L28; }
+     l11 = ((l12 << 6) | ((l11 << 12) & 61440)) | l13;
+     break L25;
+    }
+    l11 = ((l13 << 6) | ((l12 << 12) | ((l11 << 18) & 1835008))) | ((b[((int) l4) - 60445] & 0xff) & 63);
+   }
+   l10 = 1;
+   L29: {
+    if (l11 > 24064) { break L29; }
+    if (l11 == 36) { break L1; }
+    if (l11 == 163) { break L1; }
+    if (l11 != 8364) { break L24; }
+    break L1;
+   }
+   L30: {
+    if (l11 == 24065) { break L30; }
+    if (l11 == 65284) { break L1; }
+    if (l11 != 24163) { break L24; }
+   }
+   if (Core5.f153(m, 85972L, 1L, 86076L, 1L, l0, l8) == 0) { break L1; }
+  }
+  Words.put64(b, ((int) l3) - 60408, l6);
+  Words.put64(b, ((int) l3) - 60416, l7);
+  Words.put64(b, ((int) l3) - 60424, Words.get64(b, ((int) l2) - 60416));
+  Words.put64(b, ((int) l3) - 60432, Words.get64(b, ((int) l2) - 60424));
+  Words.put64(b, ((int) l3) - 60400, Words.get64(b, ((int) (l2 = l2 + 56L)) - 60448));
+  Words.put64(b, ((int) l3) - 60392, Words.get64(b, ((int) l2) - 60440));
+  f119(m, l3, l3 + 16L);
+  L31: {
+   if ((b[((int) l3) - 60448] & 0xff) != 1) { break L31; }
+   l10 = 1;
+   if (((1 << ((b[((int) l3) - 60447] & 0xff) & 255)) & 23) != 0) { break L1; }
+  }
+  l10 = Core5.f166(m, l0, l1);
+ }
+ m.g0 = l3 + 64L;
+ return l10;
+}
+
+static void f117(State m, long l0, long l1) {
+ final byte[] b = m.bytes;
+ long l2 = 0;
+ long l3 = 0;
+ long l4 = 0;
+ long l5 = 0;
+ int l6 = 0;
+ int l7 = 0;
+ int l8 = 0;
+ m.g0 = l2 = m.g0 - 144L;
+ L1: {
+  L2: {
+   if ((l2 = l2) < 16L) { break L2; }
+   l6 = b[((int) l1) - 60359] & 0xff;
+   l7 = b[((int) l1) - 60360] & 0xff;
+   l3 = Words.get64(b, ((int) l1) - 60400);
+   l4 = Words.get64(b, ((int) l1) - 60408);
+   l8 = b[((int) l1) - 60448] & 0xff;
+   l5 = 0L;
+   Words.put64(b, ((int) l2) - 60392, 0L);
+   Words.put64(b, ((int) l2) - 60400, 0L);
+   Words.put64(b, ((int) l2) - 60408, 0L);
+   Words.put64(b, ((int) l2) - 60416, 0L);
+   Words.put64(b, ((int) l2) - 60424, 0L);
+   Words.put64(b, ((int) l2) - 60432, 0L);
+   Words.put64(b, ((int) l2) - 60440, 0L);
+   Words.put64(b, ((int) l2) - 60448, 0L);
+   L3: {
+    L4: {
+     if (((l7 | l6) & 255) == 0) { break L4; }
+     L5: {
+      L6: {
+       if ((l8 & 255) == 4) { break L6; }
+       Words.put64(b, ((int) l2) - 60312, 0L);
+       Words.put64(b, ((int) l2) - 60320, 0L);
+       Words.put64(b, ((int) l2) - 60328, 0L);
+       Words.put64(b, ((int) l2) - 60336, 0L);
+       Words.put64(b, ((int) l2) - 60344, 0L);
+       Words.put64(b, ((int) l2) - 60352, 0L);
+       Words.put64(b, ((int) l2) - 60360, 0L);
+       Words.put64(b, ((int) l2) - 60368, 0L);
+       Core2.f75(m, l2 + 80L, l4, l3, 1);
+       if ((b[((int) l2) - 60368] & 0xff) != 0) { break L5; }
+       if ((b[((int) l2) - 60320] & 0xff) != 0) { break L5; }
+       final int t7 = ((l3 = Words.get64(b, ((int) l2) - 60352)) + Long.MIN_VALUE > -9213372036854775809L) ? 1 : 0;
+       final int t8 = ((l1 = Words.get64(b, ((int) l2) - 60344)) != 0L) ? 1 : 0;
+       final int t9 = (l1 == 0L) ? 1 : 0;
+       if ((t9 != 0 ? t7 : t8) != 0) { break L5; }
+       l5 = l3 * 100L;
+      }
+      l1 = 0L;
+      Words.put64(b, ((int) l2) - 60377, 0L);
+      Words.put64(b, ((int) l2) - 60384, 0L);
+      l3 = ((((l7 & 0xffffffffL) & 255L) * 10L) + ((l6 & 0xffffffffL) & 255L)) + l5;
+      l4 = 100L;
+      l6 = 1;
+      l5 = 0L;
+      l7 = 1;
+      break L3;
+     }
+     Words.put64(b, ((int) l0) - 60392, 0L);
+     Words.put64(b, ((int) l0) - 60400, 0L);
+     Words.put64(b, ((int) l0) - 60408, 0L);
+     Words.put64(b, ((int) l0) - 60416, 0L);
+     Words.put64(b, ((int) l0) - 60424, 0L);
+     Words.put64(b, ((int) l0) - 60432, 0L);
+     Words.put64(b, ((int) l0) - 60440, 0L);
+     Words.put64(b, ((int) l0) - 60448, 0L);
+     break L1;
+    }
+    l6 = 1;
+    Core2.f75(m, l2, l4, l3, 1);
+    L10: {
+     if ((b[((int) l2) - 60448] & 0xff) != 0) { break L10; }
+     Words.put64(b, ((int) l2) - 60384, Words.get64(b, ((int) l2) - 60399));
+     Words.put64(b, ((int) l2) - 60377, Words.get64(b, ((int) l2) - 60392));
+     l5 = Words.get64(b, ((int) l2) - 60408);
+     l4 = Words.get64(b, ((int) l2) - 60416);
+     l7 = b[((int) l2) - 60400] & 0xff;
+     l1 = Words.get64(b, ((int) l2) - 60424);
+     l3 = Words.get64(b, ((int) l2) - 60432);
+     break L3;
+    }
+    l5 = 0L;
+    Words.put64(b, ((int) l2) - 60377, 0L);
+    Words.put64(b, ((int) l2) - 60384, 0L);
+    l6 = 0;
+    l3 = 0L;
+    l1 = 0L;
+    l4 = 0L;
+    l7 = 0;
+   }
+   Words.put64(b, ((int) l0) - 60440, 0L);
+   Words.put64(b, ((int) (l0 + 40L)) - 60448, l5);
+   Words.put64(b, ((int) (l0 + 32L)) - 60448, l4);
+   Words.put64(b, ((int) (l0 + 24L)) - 60448, l1);
+   Words.put64(b, ((int) (l0 + 16L)) - 60448, l3);
+   Words.put64(b, ((int) l0) - 60448, l6 & 0xffffffffL);
+   b[((int) (l0 + 48L)) - 60448] = (byte) l7;
+   Words.put64(b, ((int) (l0 + 49L)) - 60448, Words.get64(b, ((int) l2) - 60384));
+   Words.put64(b, ((int) (l0 + 56L)) - 60448, Words.get64(b, ((int) l2) - 60377));
+   break L1;
+  }
+  throw State.trap();
+ }
+ m.g0 = l2 + 144L;
+}
+
+static int f118(State m, long l0) {
+ final byte[] b = m.bytes;
+ long l1 = 0;
+ long l2 = 0;
+ long l3 = 0;
+ int l4 = 0;
+ int l5 = 0;
+ int l6 = 0;
+ int l7 = 0;
+ m.g0 = l1 = m.g0 - 160L;
+ m.copy((int) ((l1 = l1) + 24L), (int) l0, (int) 88L);
+ L1: {
+  if (l1 < 16L) { break L1; }
+  l2 = Words.get64(b, ((int) l0) - 60360);
+  L2: {
+   L3: {
+    if ((l3 = Words.get64(b, ((int) l0) - 60352)) == 0L) { break L3; }
+    if ((l4 = (int) b[((int) l2) - 60448]) > -1) { break L3; }
+    if (l4 + Integer.MIN_VALUE < 2147483616) { break L3; }
+    l5 = l4 & 255;
+    l6 = (b[((int) l2) - 60447] & 0xff) & 63;
+    l7 = (b[((int) l2) - 60446] & 0xff) & 63;
+    L4: {
+     L5: {
+      if (l4 + Integer.MIN_VALUE > 2147483631) { break L5; }
+      l5 = ((l6 << 6) | ((l5 << 12) & 61440)) | l7;
+      break L4;
+     }
+     l5 = ((l7 << 6) | ((l6 << 12) | ((l5 << 18) & 1835008))) | ((b[((int) l2) - 60445] & 0xff) & 63);
+    }
+    l4 = 1;
+    if (l5 == 25104) { break L2; }
+    if (l5 == 25240) { break L2; }
+   }
+   Words.put64(b, ((int) l1) - 60296, Words.get64(b, ((int) l0) - 60408));
+   Words.put64(b, ((int) l1) - 60304, Words.get64(b, ((int) l0) - 60416));
+   Words.put64(b, ((int) l1) - 60312, Words.get64(b, ((int) l0) - 60424));
+   Words.put64(b, ((int) l1) - 60320, Words.get64(b, ((int) l0) - 60432));
+   Words.put64(b, ((int) l1) - 60328, Words.get64(b, ((int) l0) - 60440));
+   Words.put64(b, ((int) l1) - 60336, Words.get64(b, ((int) l0) - 60448));
+   f119(m, l1 + 16L, l1 + 112L);
+   L6: {
+    if ((b[((int) l1) - 60432] & 0xff) != 1) { break L6; }
+    l4 = 1;
+    if (((1 << ((b[((int) l1) - 60431] & 0xff) & 255)) & 23) != 0) { break L2; }
+   }
+   Words.put64(b, ((int) l1) - 60312, Words.get64(b, ((int) l1) - 60344));
+   Words.put64(b, ((int) l1) - 60320, Words.get64(b, ((int) l1) - 60352));
+   Words.put64(b, ((int) l1) - 60328, Words.get64(b, ((int) l1) - 60360));
+   Words.put64(b, ((int) l1) - 60336, Words.get64(b, ((int) l1) - 60368));
+   Words.put64(b, ((int) l1) - 60296, l3);
+   Words.put64(b, ((int) l1) - 60304, l2);
+   f119(m, l1 + 8L, l1 + 112L);
+   l4 = (((b[((int) l1) - 60440] & 0xff) == 1) ? 1 : 0) & (23 >>> ((b[((int) l1) - 60439] & 0xff) & 63));
+  }
+  m.g0 = l1 + 160L;
+  final int t7 = l4;
+  return t7;
+ }
+ throw State.trap();
+}
+
+static int f119_1(State m, long l1, long l2, long l3, long l4, long l5, long l6, long l7, long l8, long l9, long l10, int l12, int l13, int l14, int l15, int l16, int l17, int l18) {
  final byte[] b = m.bytes;
  int exit = 0;
  PART: {
@@ -10,31 +390,31 @@ static int f117_1(State m, long l1, long l2, long l3, long l4, long l5, long l6,
    L4: {
     L5: {
      if ((l2 = l2) < 16L) { break L5; }
-     l3 = Words.get64(b, ((int) l1) - 60720);
-     l4 = Words.get64(b, ((int) l1) - 60712);
-     l5 = Words.get64(b, ((int) l1) - 60704);
-     l6 = Words.get64(b, ((int) l1) - 60696);
-     l7 = Words.get64(b, ((int) l1) - 60688);
-     if ((l12 = ((l8 = Words.get64(b, ((int) l1) - 60680)) == 0L) ? 1 : 0) != 0) { break L3; }
+     l3 = Words.get64(b, ((int) l1) - 60448);
+     l4 = Words.get64(b, ((int) l1) - 60440);
+     l5 = Words.get64(b, ((int) l1) - 60432);
+     l6 = Words.get64(b, ((int) l1) - 60424);
+     l7 = Words.get64(b, ((int) l1) - 60416);
+     if ((l12 = ((l8 = Words.get64(b, ((int) l1) - 60408)) == 0L) ? 1 : 0) != 0) { break L3; }
      l1 = 1L;
-     l15 = l14 = (l13 = (int) b[((int) l7) - 60720]) & 255;
+     l15 = l14 = (l13 = (int) b[((int) l7) - 60448]) & 255;
      L6: {
       if (l13 > -1) { break L6; }
-      l15 = (b[((int) l7) - 60719] & 0xff) & 63;
+      l15 = (b[((int) l7) - 60447] & 0xff) & 63;
       L7: {
        if (l13 + Integer.MIN_VALUE > 2147483615) { break L7; }
        l15 = ((l14 << 6) & 1984) | l15;
        l1 = 2L;
        break L6;
       }
-      l16 = (b[((int) l7) - 60718] & 0xff) & 63;
+      l16 = (b[((int) l7) - 60446] & 0xff) & 63;
       L8: {
        if (l13 + Integer.MIN_VALUE > 2147483631) { break L8; }
        l15 = ((l15 << 6) | ((l14 << 12) & 61440)) | l16;
        l1 = 3L;
        break L6;
       }
-      l15 = ((l16 << 6) | ((l15 << 12) | ((l14 << 18) & 1835008))) | ((b[((int) l7) - 60717] & 0xff) & 63);
+      l15 = ((l16 << 6) | ((l15 << 12) | ((l14 << 18) & 1835008))) | ((b[((int) l7) - 60445] & 0xff) & 63);
       l1 = 4L;
      }
      L9: {
@@ -46,12 +426,12 @@ static int f117_1(State m, long l1, long l2, long l3, long l4, long l5, long l6,
           l1 = l5;
           l9 = l6;
           if (l15 == 25104) { break L12; }
-          l15 = f131(m, 85180L, 31L, 83568L, 1L, l7, l8);
+          l15 = f140(m, 86080L, 31L, 83568L, 1L, l7, l8);
           if (l13 > -1) { break L9; }
           if (l15 != 0) { break L9; }
           if (l13 + Integer.MIN_VALUE < 2147483616) { break L3; }
-          l16 = (b[((int) l7) - 60719] & 0xff) & 63;
-          l17 = (b[((int) l7) - 60718] & 0xff) & 63;
+          l16 = (b[((int) l7) - 60447] & 0xff) & 63;
+          l17 = (b[((int) l7) - 60446] & 0xff) & 63;
           if (l13 + Integer.MIN_VALUE > 2147483631) { break L11; }
           l15 = ((l16 << 6) | ((l14 << 12) & 61440)) | l17;
           break L10;
@@ -59,18 +439,18 @@ static int f117_1(State m, long l1, long l2, long l3, long l4, long l5, long l6,
          l13 = 1;
          l15 = 3;
          if (l8 == l1) { exit = 1; break PART; }
-         if ((l14 = (int) b[((int) (l1 = l7 + l1)) - 60720]) > -1) { exit = 1; break PART; }
+         if ((l14 = (int) b[((int) (l1 = l7 + l1)) - 60448]) > -1) { exit = 1; break PART; }
          if (l14 + Integer.MIN_VALUE < 2147483616) { exit = 1; break PART; }
          l16 = l14 & 255;
-         l17 = (b[((int) l1) - 60719] & 0xff) & 63;
-         l18 = (b[((int) l1) - 60718] & 0xff) & 63;
+         l17 = (b[((int) l1) - 60447] & 0xff) & 63;
+         l18 = (b[((int) l1) - 60446] & 0xff) & 63;
          L14: {
           L15: {
            if (l14 + Integer.MIN_VALUE > 2147483631) { break L15; }
            l14 = ((l17 << 6) | ((l16 << 12) & 61440)) | l18;
            break L14;
           }
-          l14 = ((l18 << 6) | ((l17 << 12) | ((l16 << 18) & 1835008))) | ((b[((int) l1) - 60717] & 0xff) & 63);
+          l14 = ((l18 << 6) | ((l17 << 12) | ((l16 << 18) & 1835008))) | ((b[((int) l1) - 60445] & 0xff) & 63);
          }
          L16: {
           if (l14 > 30951) { break L16; }
@@ -97,32 +477,32 @@ static int f117_1(State m, long l1, long l2, long l3, long l4, long l5, long l6,
         L19: {
          L20: while (true) {
           if (l9 == 0L) { break L19; }
-          l13 = (l15 = (int) b[((int) l1) - 60720]) & 255;
+          l13 = (l15 = (int) b[((int) l1) - 60448]) & 255;
           l10 = 1L;
           L21: {
            if (l15 > -1) { break L21; }
-           l14 = (b[((int) l1) - 60719] & 0xff) & 63;
+           l14 = (b[((int) l1) - 60447] & 0xff) & 63;
            L22: {
             if (l15 + Integer.MIN_VALUE > 2147483615) { break L22; }
             l13 = ((l13 << 6) & 1984) | l14;
             l10 = 2L;
             break L21;
            }
-           l16 = (b[((int) l1) - 60718] & 0xff) & 63;
+           l16 = (b[((int) l1) - 60446] & 0xff) & 63;
            L23: {
             if (l15 + Integer.MIN_VALUE > 2147483631) { break L23; }
             l13 = ((l14 << 6) | ((l13 << 12) & 61440)) | l16;
             l10 = 3L;
             break L21;
            }
-           l13 = ((l16 << 6) | ((l14 << 12) | ((l13 << 18) & 1835008))) | ((b[((int) l1) - 60717] & 0xff) & 63);
+           l13 = ((l16 << 6) | ((l14 << 12) | ((l13 << 18) & 1835008))) | ((b[((int) l1) - 60445] & 0xff) & 63);
            l10 = 4L;
           }
           Core2.f63(m, l2 + 88L, l13);
           if ((l13 + -58) + Integer.MIN_VALUE > 2147483637) { break L3; }
           l9 = l9 - l10;
           l1 = l1 + l10;
-          if (((b[((int) l2) - 60632] & 0xff) & 255) == 1) { continue L20; }
+          if (((b[((int) l2) - 60360] & 0xff) & 255) == 1) { continue L20; }
           break L3;
          }
         }
@@ -131,7 +511,7 @@ static int f117_1(State m, long l1, long l2, long l3, long l4, long l5, long l6,
         if (l6 == 0L) { exit = 1; break PART; }
         L24: {
          L25: {
-          if ((l14 = (int) b[((int) l5) - 60720]) <= -1) { break L25; }
+          if ((l14 = (int) b[((int) l5) - 60448]) <= -1) { break L25; }
           l1 = 1L;
           break L24;
          }
@@ -145,7 +525,7 @@ static int f117_1(State m, long l1, long l2, long l3, long l4, long l5, long l6,
         if (l6 == l1) { exit = 1; break PART; }
         L27: {
          L28: {
-          if ((l14 = (int) b[((int) (l5 + l1)) - 60720]) <= -1) { break L28; }
+          if ((l14 = (int) b[((int) (l5 + l1)) - 60448]) <= -1) { break L28; }
           l10 = 1L;
           break L27;
          }
@@ -159,7 +539,7 @@ static int f117_1(State m, long l1, long l2, long l3, long l4, long l5, long l6,
         if (l6 != (l10 + l1)) { break L3; }
         exit = 1; break PART;
        }
-       l15 = ((l17 << 6) | ((l16 << 12) | ((l14 << 18) & 1835008))) | ((b[((int) l7) - 60717] & 0xff) & 63);
+       l15 = ((l17 << 6) | ((l16 << 12) | ((l14 << 18) & 1835008))) | ((b[((int) l7) - 60445] & 0xff) & 63);
       }
       L30: {
        L31: {
@@ -172,7 +552,7 @@ static int f117_1(State m, long l1, long l2, long l3, long l4, long l5, long l6,
        if (l15 == 37328) { break L30; }
        if (l15 != 31186) { break L4; }
       }
-      if (f131(m, 85304L, 1L, 83564L, 1L, l5, l6) == 0) { break L4; }
+      if (f140(m, 86204L, 1L, 83564L, 1L, l5, l6) == 0) { break L4; }
       exit = 2; break PART;
      }
      if (l15 != 0) { exit = 2; break PART; }
@@ -187,11 +567,11 @@ static int f117_1(State m, long l1, long l2, long l3, long l4, long l5, long l6,
      l1 = 3L;
      break L32;
     }
-    l13 = ((l17 << 6) | ((l16 << 12) | ((l14 << 18) & 1835008))) | ((b[((int) l7) - 60717] & 0xff) & 63);
+    l13 = ((l17 << 6) | ((l16 << 12) | ((l14 << 18) & 1835008))) | ((b[((int) l7) - 60445] & 0xff) & 63);
     l1 = 4L;
    }
    if (l13 != 20998) { break L3; }
-   if (f131(m, 84212L, 1L, 84696L, 2L, l7 + l1, l8 - l1) != 0) { exit = 2; break PART; }
+   if (f140(m, 84212L, 1L, 84696L, 2L, l7 + l1, l8 - l1) != 0) { exit = 2; break PART; }
   }
  }
  m.kept[0] = l1;
@@ -214,7 +594,7 @@ static int f117_1(State m, long l1, long l2, long l3, long l4, long l5, long l6,
  return exit;
 }
 
-static int f117_2(State m, long l1, long l2, long l3, long l4, long l5, long l6, long l7, long l8, long l9, long l10, int l12, int l13, int l14, int l15, int l16, int l17, int l18, int l19, int l20, int l21) {
+static int f119_2(State m, long l1, long l2, long l3, long l4, long l5, long l6, long l7, long l8, long l9, long l10, int l12, int l13, int l14, int l15, int l16, int l17, int l18, int l19, int l20, int l21) {
  final byte[] b = m.bytes;
  int exit = 0;
  PART: {
@@ -226,39 +606,39 @@ static int f117_2(State m, long l1, long l2, long l3, long l4, long l5, long l6,
        L57: {
         L58: while (true) {
          if (l9 == 0L) { break L57; }
-         l13 = (l15 = (int) b[((int) l1) - 60720]) & 255;
+         l13 = (l15 = (int) b[((int) l1) - 60448]) & 255;
          l10 = 1L;
          L59: {
           if (l15 > -1) { break L59; }
-          l14 = (b[((int) l1) - 60719] & 0xff) & 63;
+          l14 = (b[((int) l1) - 60447] & 0xff) & 63;
           L60: {
            if (l15 + Integer.MIN_VALUE > 2147483615) { break L60; }
            l13 = ((l13 << 6) & 1984) | l14;
            l10 = 2L;
            break L59;
           }
-          l16 = (b[((int) l1) - 60718] & 0xff) & 63;
+          l16 = (b[((int) l1) - 60446] & 0xff) & 63;
           L61: {
            if (l15 + Integer.MIN_VALUE > 2147483631) { break L61; }
            l13 = ((l14 << 6) | ((l13 << 12) & 61440)) | l16;
            l10 = 3L;
            break L59;
           }
-          l13 = ((l16 << 6) | ((l14 << 12) | ((l13 << 18) & 1835008))) | ((b[((int) l1) - 60717] & 0xff) & 63);
+          l13 = ((l16 << 6) | ((l14 << 12) | ((l13 << 18) & 1835008))) | ((b[((int) l1) - 60445] & 0xff) & 63);
           l10 = 4L;
          }
          Core2.f63(m, l2 + 72L, l13);
          if ((l13 + -58) + Integer.MIN_VALUE > 2147483637) { break L56; }
          l9 = l9 - l10;
          l1 = l1 + l10;
-         if (((b[((int) l2) - 60648] & 0xff) & 255) == 1) { continue L58; }
+         if (((b[((int) l2) - 60376] & 0xff) & 255) == 1) { continue L58; }
          break L56;
         }
        }
        if (l17 != 0) { break L56; }
        L62: {
         L63: {
-         if ((l18 = (int) b[((int) l5) - 60720]) > -1) { break L63; }
+         if ((l18 = (int) b[((int) l5) - 60448]) > -1) { break L63; }
          final long t64 = l6;
          final long t65 = (l18 + Integer.MIN_VALUE < 2147483632) ? 3L : 4L;
          final int t66 = (l18 + Integer.MIN_VALUE < 2147483616) ? 1 : 0;
@@ -270,7 +650,7 @@ static int f117_2(State m, long l1, long l2, long l3, long l4, long l5, long l6,
        }
        L67: {
         L68: {
-         if ((l13 = (int) b[((int) (l9 = l5 + l1)) - 60720]) <= -1) { break L68; }
+         if ((l13 = (int) b[((int) (l9 = l5 + l1)) - 60448]) <= -1) { break L68; }
          l10 = 1L;
          break L67;
         }
@@ -286,7 +666,7 @@ static int f117_2(State m, long l1, long l2, long l3, long l4, long l5, long l6,
         if (l6 == (l1 = l10 + l1)) { break L70; }
         L71: {
          L72: {
-          if ((l13 = (int) b[((int) (l9 + l10)) - 60720]) <= -1) { break L72; }
+          if ((l13 = (int) b[((int) (l9 + l10)) - 60448]) <= -1) { break L72; }
           l10 = 1L;
           break L71;
          }
@@ -306,86 +686,86 @@ static int f117_2(State m, long l1, long l2, long l3, long l4, long l5, long l6,
          l1 = 1L;
          L75: {
           if (((int) (byte) l13) > -1) { break L75; }
-          l14 = (b[((int) l10) - 60719] & 0xff) & 63;
+          l14 = (b[((int) l10) - 60447] & 0xff) & 63;
           L76: {
            if ((l13 & 255) + Integer.MIN_VALUE > -2147483425) { break L76; }
            l15 = ((l15 << 6) & 1984) | l14;
            l1 = 2L;
            break L75;
           }
-          l16 = (b[((int) l10) - 60718] & 0xff) & 63;
+          l16 = (b[((int) l10) - 60446] & 0xff) & 63;
           L77: {
            if ((l13 & 255) + Integer.MIN_VALUE > -2147483409) { break L77; }
            l15 = ((l14 << 6) | ((l15 << 12) & 61440)) | l16;
            l1 = 3L;
            break L75;
           }
-          l15 = ((l16 << 6) | ((l14 << 12) | ((l15 << 18) & 1835008))) | ((b[((int) l10) - 60717] & 0xff) & 63);
+          l15 = ((l16 << 6) | ((l14 << 12) | ((l15 << 18) & 1835008))) | ((b[((int) l10) - 60445] & 0xff) & 63);
           l1 = 4L;
          }
          Core2.f63(m, l2 + 64L, l15);
          L78: {
           if ((l9 = l9 - l1) == 0L) { break L78; }
-          l15 = (l13 = (int) b[((int) (l10 = l10 + l1)) - 60720]) & 255;
+          l15 = (l13 = (int) b[((int) (l10 = l10 + l1)) - 60448]) & 255;
           L79: {
            if (l13 > -1) { break L79; }
-           l14 = (b[((int) l10) - 60719] & 0xff) & 63;
+           l14 = (b[((int) l10) - 60447] & 0xff) & 63;
            L80: {
             if (l13 + Integer.MIN_VALUE > 2147483615) { break L80; }
             l15 = ((l15 << 6) & 1984) | l14;
             break L79;
            }
-           l16 = (b[((int) l10) - 60718] & 0xff) & 63;
+           l16 = (b[((int) l10) - 60446] & 0xff) & 63;
            L81: {
             if (l13 + Integer.MIN_VALUE > 2147483631) { break L81; }
             l15 = ((l14 << 6) | ((l15 << 12) & 61440)) | l16;
             break L79;
            }
-           l15 = ((l16 << 6) | ((l14 << 12) | ((l15 << 18) & 1835008))) | ((b[((int) l10) - 60717] & 0xff) & 63);
+           l15 = ((l16 << 6) | ((l14 << 12) | ((l15 << 18) & 1835008))) | ((b[((int) l10) - 60445] & 0xff) & 63);
           }
-          l16 = b[((int) l2) - 60655] & 0xff;
-          l14 = b[((int) l2) - 60656] & 0xff;
+          l16 = b[((int) l2) - 60383] & 0xff;
+          l14 = b[((int) l2) - 60384] & 0xff;
           Core2.f63(m, l2 + 56L, l15);
           if ((l14 & 1) == 0) { continue L74; }
-          if (((b[((int) l2) - 60664] & 0xff) & 255) != 1) { continue L74; }
-          if ((l16 & 255) + Integer.MIN_VALUE > ((b[((int) l2) - 60663] & 0xff) & 255) + Integer.MIN_VALUE) { break L56; }
+          if (((b[((int) l2) - 60392] & 0xff) & 255) != 1) { continue L74; }
+          if ((l16 & 255) + Integer.MIN_VALUE > ((b[((int) l2) - 60391] & 0xff) & 255) + Integer.MIN_VALUE) { break L56; }
           continue L74;
          }
          break L74;
         }
         if (l18 > -1) { break L70; }
         if (l18 + Integer.MIN_VALUE < 2147483616) { break L70; }
-        l13 = (b[((int) l5) - 60719] & 0xff) & 63;
-        l15 = (b[((int) l5) - 60718] & 0xff) & 63;
+        l13 = (b[((int) l5) - 60447] & 0xff) & 63;
+        l15 = (b[((int) l5) - 60446] & 0xff) & 63;
         L82: {
          L83: {
           if (l18 + Integer.MIN_VALUE > 2147483631) { break L83; }
           l13 = ((l13 << 6) | ((l19 << 12) & 61440)) | l15;
           break L82;
          }
-         l13 = ((l15 << 6) | ((l13 << 12) | ((l19 << 18) & 1835008))) | ((b[((int) l5) - 60717] & 0xff) & 63);
+         l13 = ((l15 << 6) | ((l13 << 12) | ((l19 << 18) & 1835008))) | ((b[((int) l5) - 60445] & 0xff) & 63);
         }
         if (l13 == 12295) { break L56; }
         if (l13 == 38646) { break L56; }
        }
        L84: {
         if (l12 != 0) { break L84; }
-        if ((l14 = (int) b[((int) l7) - 60720]) > -1) { break L84; }
+        if ((l14 = (int) b[((int) l7) - 60448]) > -1) { break L84; }
         if (l14 + Integer.MIN_VALUE < 2147483616) { break L84; }
         l16 = l14 & 255;
-        l20 = (b[((int) l7) - 60719] & 0xff) & 63;
-        l13 = (l21 = b[((int) l7) - 60718] & 0xff) & 63;
+        l20 = (b[((int) l7) - 60447] & 0xff) & 63;
+        l13 = (l21 = b[((int) l7) - 60446] & 0xff) & 63;
         L85: {
          L86: {
           if (l14 + Integer.MIN_VALUE > 2147483631) { break L86; }
           l15 = ((l20 << 6) | ((l16 << 12) & 61440)) | l13;
           break L85;
          }
-         l15 = ((l13 << 6) | ((l20 << 12) | ((l16 << 18) & 1835008))) | ((b[((int) l7) - 60717] & 0xff) & 63);
+         l15 = ((l13 << 6) | ((l20 << 12) | ((l16 << 18) & 1835008))) | ((b[((int) l7) - 60445] & 0xff) & 63);
         }
         L87: {
          if (l15 != 24180) { break L87; }
-         if (f131(m, 83548L, 1L, 85560L, 2L, l7, l8) == 0) { break L55; }
+         if (f140(m, 83548L, 1L, 86460L, 2L, l7, l8) == 0) { break L55; }
         }
         L88: {
          L89: {
@@ -393,7 +773,7 @@ static int f117_2(State m, long l1, long l2, long l3, long l4, long l5, long l6,
           l13 = ((l20 << 6) | ((l16 << 12) & 61440)) | l13;
           break L88;
          }
-         l13 = ((l13 << 6) | ((l20 << 12) | ((l16 << 18) & 1835008))) | ((b[((int) l7) - 60717] & 0xff) & 63);
+         l13 = ((l13 << 6) | ((l20 << 12) | ((l16 << 18) & 1835008))) | ((b[((int) l7) - 60445] & 0xff) & 63);
         }
         L90: {
          if (l13 > 25150) { break L90; }
@@ -408,24 +788,24 @@ static int f117_2(State m, long l1, long l2, long l3, long l4, long l5, long l6,
        }
        L91: {
         if ((l13 = (l4 == 0L) ? 1 : 0) != 0) { break L91; }
-        if (((int) b[((int) ((l1 = l3 + l4) + -1L)) - 60720]) > -1) { break L91; }
+        if (((int) b[((int) ((l1 = l3 + l4) + -1L)) - 60448]) > -1) { break L91; }
         l10 = -2L;
         L92: {
-         if ((b[((int) (l1 + -2L)) - 60720] & 0xff) + Integer.MIN_VALUE > -2147483457) { break L92; }
-         l10 = ((b[((int) (l1 + -3L)) - 60720] & 0xff) + Integer.MIN_VALUE > -2147483457) ? -3L : -4L;
+         if ((b[((int) (l1 + -2L)) - 60448] & 0xff) + Integer.MIN_VALUE > -2147483457) { break L92; }
+         l10 = ((b[((int) (l1 + -3L)) - 60448] & 0xff) + Integer.MIN_VALUE > -2147483457) ? -3L : -4L;
         }
-        if ((l15 = (int) b[((int) (l1 = (l3 + l10) + l4)) - 60720]) > -1) { break L91; }
+        if ((l15 = (int) b[((int) (l1 = (l3 + l10) + l4)) - 60448]) > -1) { break L91; }
         if (l15 + Integer.MIN_VALUE < 2147483616) { break L91; }
         l14 = l15 & 255;
-        l16 = (b[((int) l1) - 60719] & 0xff) & 63;
-        l20 = (b[((int) l1) - 60718] & 0xff) & 63;
+        l16 = (b[((int) l1) - 60447] & 0xff) & 63;
+        l20 = (b[((int) l1) - 60446] & 0xff) & 63;
         L93: {
          L94: {
           if (l15 + Integer.MIN_VALUE > 2147483631) { break L94; }
           l15 = ((l16 << 6) | ((l14 << 12) & 61440)) | l20;
           break L93;
          }
-         l15 = ((l20 << 6) | ((l16 << 12) | ((l14 << 18) & 1835008))) | ((b[((int) l1) - 60717] & 0xff) & 63);
+         l15 = ((l20 << 6) | ((l16 << 12) | ((l14 << 18) & 1835008))) | ((b[((int) l1) - 60445] & 0xff) & 63);
         }
         L95: {
          if (l15 > 27003) { break L95; }
@@ -453,39 +833,39 @@ static int f117_2(State m, long l1, long l2, long l3, long l4, long l5, long l6,
        l15 = 1;
        if (l18 > -1) { exit = 1; break PART; }
        if (l18 + Integer.MIN_VALUE < 2147483616) { exit = 1; break PART; }
-       l14 = (b[((int) l5) - 60719] & 0xff) & 63;
-       l16 = (b[((int) l5) - 60718] & 0xff) & 63;
+       l14 = (b[((int) l5) - 60447] & 0xff) & 63;
+       l16 = (b[((int) l5) - 60446] & 0xff) & 63;
        L98: {
         L99: {
          if (l18 + Integer.MIN_VALUE > 2147483631) { break L99; }
          l14 = ((l14 << 6) | ((l19 << 12) & 61440)) | l16;
          break L98;
         }
-        l14 = ((l16 << 6) | ((l14 << 12) | ((l19 << 18) & 1835008))) | ((b[((int) l5) - 60717] & 0xff) & 63);
+        l14 = ((l16 << 6) | ((l14 << 12) | ((l19 << 18) & 1835008))) | ((b[((int) l5) - 60445] & 0xff) & 63);
        }
        L100: {
         if (l14 == 38646) { break L100; }
         if (l14 != 12295) { exit = 1; break PART; }
        }
        if (l13 != 0) { exit = 1; break PART; }
-       if (((int) b[((int) ((l1 = l3 + l4) + -1L)) - 60720]) > -1) { exit = 1; break PART; }
+       if (((int) b[((int) ((l1 = l3 + l4) + -1L)) - 60448]) > -1) { exit = 1; break PART; }
        l10 = -2L;
        L101: {
-        if ((b[((int) (l1 + -2L)) - 60720] & 0xff) + Integer.MIN_VALUE > -2147483457) { break L101; }
-        l10 = ((b[((int) (l1 + -3L)) - 60720] & 0xff) + Integer.MIN_VALUE > -2147483457) ? -3L : -4L;
+        if ((b[((int) (l1 + -2L)) - 60448] & 0xff) + Integer.MIN_VALUE > -2147483457) { break L101; }
+        l10 = ((b[((int) (l1 + -3L)) - 60448] & 0xff) + Integer.MIN_VALUE > -2147483457) ? -3L : -4L;
        }
-       if ((l13 = (int) b[((int) (l1 = (l3 + l10) + l4)) - 60720]) > -1) { exit = 1; break PART; }
+       if ((l13 = (int) b[((int) (l1 = (l3 + l10) + l4)) - 60448]) > -1) { exit = 1; break PART; }
        if (l13 + Integer.MIN_VALUE < 2147483616) { exit = 1; break PART; }
        l14 = l13 & 255;
-       l16 = (b[((int) l1) - 60719] & 0xff) & 63;
-       l18 = (b[((int) l1) - 60718] & 0xff) & 63;
+       l16 = (b[((int) l1) - 60447] & 0xff) & 63;
+       l18 = (b[((int) l1) - 60446] & 0xff) & 63;
        L102: {
         L103: {
          if (l13 + Integer.MIN_VALUE > 2147483631) { break L103; }
          l13 = ((l16 << 6) | ((l14 << 12) & 61440)) | l18;
          break L102;
         }
-        l13 = ((l18 << 6) | ((l16 << 12) | ((l14 << 18) & 1835008))) | ((b[((int) l1) - 60717] & 0xff) & 63);
+        l13 = ((l18 << 6) | ((l16 << 12) | ((l14 << 18) & 1835008))) | ((b[((int) l1) - 60445] & 0xff) & 63);
        }
        L104: {
         L105: {
@@ -499,18 +879,18 @@ static int f117_2(State m, long l1, long l2, long l3, long l4, long l5, long l6,
         if (l13 != 28857) { exit = 1; break PART; }
        }
        if (l12 != 0) { exit = 1; break PART; }
-       if ((l14 = (int) b[((int) l7) - 60720]) > -1) { exit = 1; break PART; }
+       if ((l14 = (int) b[((int) l7) - 60448]) > -1) { exit = 1; break PART; }
        if (l14 + Integer.MIN_VALUE < 2147483616) { exit = 1; break PART; }
        l16 = l14 & 255;
-       l20 = (b[((int) l7) - 60719] & 0xff) & 63;
-       l13 = (l21 = b[((int) l7) - 60718] & 0xff) & 63;
+       l20 = (b[((int) l7) - 60447] & 0xff) & 63;
+       l13 = (l21 = b[((int) l7) - 60446] & 0xff) & 63;
        L106: {
         L107: {
          if (l14 + Integer.MIN_VALUE > 2147483631) { break L107; }
          l18 = ((l20 << 6) | ((l16 << 12) & 61440)) | l13;
          break L106;
         }
-        l18 = ((l13 << 6) | ((l20 << 12) | ((l16 << 18) & 1835008))) | ((b[((int) l7) - 60717] & 0xff) & 63);
+        l18 = ((l13 << 6) | ((l20 << 12) | ((l16 << 18) & 1835008))) | ((b[((int) l7) - 60445] & 0xff) & 63);
        }
        if (l18 == 20998) { break L55; }
        l13 = 1;
@@ -518,7 +898,7 @@ static int f117_2(State m, long l1, long l2, long l3, long l4, long l5, long l6,
        exit = 2; break PART;
       }
       if (l12 != 0) { exit = 3; break PART; }
-      l16 = (l14 = (int) b[((int) l7) - 60720]) & 255;
+      l16 = (l14 = (int) b[((int) l7) - 60448]) & 255;
       L108: {
        if (l14 <= -1) { break L108; }
        l1 = 1L;
@@ -526,9 +906,9 @@ static int f117_2(State m, long l1, long l2, long l3, long l4, long l5, long l6,
        l13 = l16;
        break L52;
       }
-      l20 = (b[((int) l7) - 60719] & 0xff) & 63;
+      l20 = (b[((int) l7) - 60447] & 0xff) & 63;
       if (l14 + Integer.MIN_VALUE < 2147483616) { break L54; }
-      l21 = b[((int) l7) - 60718] & 0xff;
+      l21 = b[((int) l7) - 60446] & 0xff;
      }
      l13 = l21 & 63;
      L109: {
@@ -537,7 +917,7 @@ static int f117_2(State m, long l1, long l2, long l3, long l4, long l5, long l6,
       l1 = 3L;
       break L53;
      }
-     l13 = ((l13 << 6) | (((l16 << 18) & 1835008) | (l20 << 12))) | ((b[((int) l7) - 60717] & 0xff) & 63);
+     l13 = ((l13 << 6) | (((l16 << 18) & 1835008) | (l20 << 12))) | ((b[((int) l7) - 60445] & 0xff) & 63);
      l1 = 4L;
      break L53;
     }
@@ -561,7 +941,7 @@ static int f117_2(State m, long l1, long l2, long l3, long l4, long l5, long l6,
  return exit;
 }
 
-static int f117_3(State m, long l1, long l2, long l5, long l6, long l7, long l8, long l9, long l10, int l13, int l14, int l15, int l16, int l17, int l18) {
+static int f119_3(State m, long l1, long l2, long l5, long l6, long l7, long l8, long l9, long l10, int l13, int l14, int l15, int l16, int l17, int l18) {
  final byte[] b = m.bytes;
  int exit = 0;
  PART: {
@@ -604,25 +984,25 @@ static int f117_3(State m, long l1, long l2, long l5, long l6, long l7, long l8,
           }
           L122: while (true) {
            if (l9 == 0L) { exit = 1; break PART; }
-           l13 = (l15 = (int) b[((int) l1) - 60720]) & 255;
+           l13 = (l15 = (int) b[((int) l1) - 60448]) & 255;
            l10 = 1L;
            L123: {
             if (l15 > -1) { break L123; }
-            l14 = (b[((int) l1) - 60719] & 0xff) & 63;
+            l14 = (b[((int) l1) - 60447] & 0xff) & 63;
             L124: {
              if (l15 + Integer.MIN_VALUE > 2147483615) { break L124; }
              l13 = ((l13 << 6) & 1984) | l14;
              l10 = 2L;
              break L123;
             }
-            l16 = (b[((int) l1) - 60718] & 0xff) & 63;
+            l16 = (b[((int) l1) - 60446] & 0xff) & 63;
             L125: {
              if (l15 + Integer.MIN_VALUE > 2147483631) { break L125; }
              l13 = ((l14 << 6) | ((l13 << 12) & 61440)) | l16;
              l10 = 3L;
              break L123;
             }
-            l13 = ((l16 << 6) | ((l14 << 12) | ((l13 << 18) & 1835008))) | ((b[((int) l1) - 60717] & 0xff) & 63);
+            l13 = ((l16 << 6) | ((l14 << 12) | ((l13 << 18) & 1835008))) | ((b[((int) l1) - 60445] & 0xff) & 63);
             l10 = 4L;
            }
            if (l13 == 28857) { exit = 2; break PART; }
@@ -635,62 +1015,62 @@ static int f117_3(State m, long l1, long l2, long l5, long l6, long l7, long l8,
          l1 = 1L;
          L126: {
           if (l15 != 0) { break L126; }
-          l13 = (b[((int) l7) - 60719] & 0xff) & 63;
+          l13 = (b[((int) l7) - 60447] & 0xff) & 63;
           L127: {
            if (l14 + Integer.MIN_VALUE > 2147483615) { break L127; }
            l16 = ((l16 << 6) & 1984) | l13;
            l1 = 2L;
            break L126;
           }
-          l15 = (b[((int) l7) - 60718] & 0xff) & 63;
+          l15 = (b[((int) l7) - 60446] & 0xff) & 63;
           L128: {
            if (l14 + Integer.MIN_VALUE > 2147483631) { break L128; }
            l16 = ((l13 << 6) | ((l16 << 12) & 61440)) | l15;
            l1 = 3L;
            break L126;
           }
-          l16 = ((l15 << 6) | ((l13 << 12) | ((l16 << 18) & 1835008))) | ((b[((int) l7) - 60717] & 0xff) & 63);
+          l16 = ((l15 << 6) | ((l13 << 12) | ((l16 << 18) & 1835008))) | ((b[((int) l7) - 60445] & 0xff) & 63);
           l1 = 4L;
          }
          if (l8 == l1) { exit = 1; break PART; }
-         l15 = (l13 = (int) b[((int) (l9 = l7 + l1)) - 60720]) & 255;
+         l15 = (l13 = (int) b[((int) (l9 = l7 + l1)) - 60448]) & 255;
          l10 = 1L;
          L129: {
           if (l13 > -1) { break L129; }
-          l14 = (b[((int) l9) - 60719] & 0xff) & 63;
+          l14 = (b[((int) l9) - 60447] & 0xff) & 63;
           L130: {
            if (l13 + Integer.MIN_VALUE > 2147483615) { break L130; }
            l15 = ((l15 << 6) & 1984) | l14;
            l10 = 2L;
            break L129;
           }
-          l18 = (b[((int) l9) - 60718] & 0xff) & 63;
+          l18 = (b[((int) l9) - 60446] & 0xff) & 63;
           L131: {
            if (l13 + Integer.MIN_VALUE > 2147483631) { break L131; }
            l15 = ((l14 << 6) | ((l15 << 12) & 61440)) | l18;
            l10 = 3L;
            break L129;
           }
-          l15 = ((l18 << 6) | ((l14 << 12) | ((l15 << 18) & 1835008))) | ((b[((int) l9) - 60717] & 0xff) & 63);
+          l15 = ((l18 << 6) | ((l14 << 12) | ((l15 << 18) & 1835008))) | ((b[((int) l9) - 60445] & 0xff) & 63);
           l10 = 4L;
          }
          if (((l16 + -23622) & -5) != 0) { exit = 1; break PART; }
          Core2.f63(m, l2 + 48L, l15);
          if (l8 == (l10 + l1)) { exit = 1; break PART; }
          if ((l15 + -48) + Integer.MIN_VALUE < -2147483638) { exit = 1; break PART; }
-         if (((b[((int) l2) - 60672] & 0xff) & 255) != 1) { exit = 1; break PART; }
-         if ((l13 = (int) b[((int) (l1 = l9 + l10)) - 60720]) > -1) { exit = 1; break PART; }
+         if (((b[((int) l2) - 60400] & 0xff) & 255) != 1) { exit = 1; break PART; }
+         if ((l13 = (int) b[((int) (l1 = l9 + l10)) - 60448]) > -1) { exit = 1; break PART; }
          if (l13 + Integer.MIN_VALUE < 2147483616) { exit = 1; break PART; }
          l15 = l13 & 255;
-         l14 = (b[((int) l1) - 60719] & 0xff) & 63;
-         l16 = (b[((int) l1) - 60718] & 0xff) & 63;
+         l14 = (b[((int) l1) - 60447] & 0xff) & 63;
+         l16 = (b[((int) l1) - 60446] & 0xff) & 63;
          L132: {
           L133: {
            if (l13 + Integer.MIN_VALUE > 2147483631) { break L133; }
            l13 = ((l14 << 6) | ((l15 << 12) & 61440)) | l16;
            break L132;
           }
-          l13 = ((l16 << 6) | ((l14 << 12) | ((l15 << 18) & 1835008))) | ((b[((int) l1) - 60717] & 0xff) & 63);
+          l13 = ((l16 << 6) | ((l14 << 12) | ((l15 << 18) & 1835008))) | ((b[((int) l1) - 60445] & 0xff) & 63);
          }
          if (l13 != 20013) { exit = 1; break PART; }
          l13 = 1;
@@ -707,11 +1087,11 @@ static int f117_3(State m, long l1, long l2, long l5, long l6, long l7, long l8,
          if (l13 != 36914) { exit = 1; break PART; }
         }
         if (l8 == l1) { exit = 1; break PART; }
-        if ((l13 = (int) b[((int) (l1 = l7 + l1)) - 60720]) > -1) { exit = 1; break PART; }
+        if ((l13 = (int) b[((int) (l1 = l7 + l1)) - 60448]) > -1) { exit = 1; break PART; }
         if (l13 + Integer.MIN_VALUE < 2147483616) { exit = 1; break PART; }
         l15 = l13 & 255;
-        l14 = (b[((int) l1) - 60719] & 0xff) & 63;
-        l16 = (b[((int) l1) - 60718] & 0xff) & 63;
+        l14 = (b[((int) l1) - 60447] & 0xff) & 63;
+        l16 = (b[((int) l1) - 60446] & 0xff) & 63;
         if (l13 + Integer.MIN_VALUE > 2147483631) { break L114; }
         l13 = ((l14 << 6) | ((l15 << 12) & 61440)) | l16;
         break L113;
@@ -720,23 +1100,23 @@ static int f117_3(State m, long l1, long l2, long l5, long l6, long l7, long l8,
        if (l13 != 39033) { exit = 1; break PART; }
       }
       if (l17 != 0) { exit = 1; break PART; }
-      if ((l13 = (int) b[((int) l5) - 60720]) > -1) { exit = 1; break PART; }
+      if ((l13 = (int) b[((int) l5) - 60448]) > -1) { exit = 1; break PART; }
       if (l13 + Integer.MIN_VALUE < 2147483616) { exit = 1; break PART; }
       l15 = l13 & 255;
-      l14 = (b[((int) l5) - 60719] & 0xff) & 63;
-      l16 = (b[((int) l5) - 60718] & 0xff) & 63;
+      l14 = (b[((int) l5) - 60447] & 0xff) & 63;
+      l16 = (b[((int) l5) - 60446] & 0xff) & 63;
       if (l13 + Integer.MIN_VALUE > 2147483631) { break L112; }
       l13 = ((l14 << 6) | ((l15 << 12) & 61440)) | l16;
       break L111;
      }
-     l13 = ((l16 << 6) | ((l14 << 12) | ((l15 << 18) & 1835008))) | ((b[((int) l1) - 60717] & 0xff) & 63);
+     l13 = ((l16 << 6) | ((l14 << 12) | ((l15 << 18) & 1835008))) | ((b[((int) l1) - 60445] & 0xff) & 63);
     }
     l15 = 2;
     if (l13 == 20301) { exit = 4; break PART; }
     if (l13 == 21046) { exit = 4; break PART; }
     exit = 1; break PART;
    }
-   l13 = ((l16 << 6) | ((l14 << 12) | ((l15 << 18) & 1835008))) | ((b[((int) l5) - 60717] & 0xff) & 63);
+   l13 = ((l16 << 6) | ((l14 << 12) | ((l15 << 18) & 1835008))) | ((b[((int) l5) - 60445] & 0xff) & 63);
   }
  }
  m.kept[0] = l1;
@@ -750,52 +1130,52 @@ static int f117_3(State m, long l1, long l2, long l5, long l6, long l7, long l8,
  return exit;
 }
 
-static int f117_4(State m, long l1, long l3, long l4, long l7, long l8, long l10, int l12, int l13, int l14, int l15, int l16, int l18, int l20) {
+static int f119_4(State m, long l1, long l3, long l4, long l7, long l8, long l10, int l12, int l13, int l14, int l15, int l16, int l18, int l20) {
  final byte[] b = m.bytes;
  int exit = 0;
  PART: {
   L137: {
    if ((l18 = (l4 == 0L) ? 1 : 0) != 0) { break L137; }
-   if (((int) b[((int) ((l1 = l3 + l4) + -1L)) - 60720]) > -1) { break L137; }
+   if (((int) b[((int) ((l1 = l3 + l4) + -1L)) - 60448]) > -1) { break L137; }
    l10 = -2L;
    L138: {
-    if ((b[((int) (l1 + -2L)) - 60720] & 0xff) + Integer.MIN_VALUE > -2147483457) { break L138; }
-    l10 = ((b[((int) (l1 + -3L)) - 60720] & 0xff) + Integer.MIN_VALUE > -2147483457) ? -3L : -4L;
+    if ((b[((int) (l1 + -2L)) - 60448] & 0xff) + Integer.MIN_VALUE > -2147483457) { break L138; }
+    l10 = ((b[((int) (l1 + -3L)) - 60448] & 0xff) + Integer.MIN_VALUE > -2147483457) ? -3L : -4L;
    }
-   if ((l13 = (int) b[((int) (l1 = (l3 + l10) + l4)) - 60720]) > -1) { break L137; }
+   if ((l13 = (int) b[((int) (l1 = (l3 + l10) + l4)) - 60448]) > -1) { break L137; }
    if (l13 + Integer.MIN_VALUE < 2147483616) { break L137; }
    l15 = l13 & 255;
-   l14 = (b[((int) l1) - 60719] & 0xff) & 63;
-   l16 = (b[((int) l1) - 60718] & 0xff) & 63;
+   l14 = (b[((int) l1) - 60447] & 0xff) & 63;
+   l16 = (b[((int) l1) - 60446] & 0xff) & 63;
    L139: {
     L140: {
      if (l13 + Integer.MIN_VALUE > 2147483631) { break L140; }
      l13 = ((l14 << 6) | ((l15 << 12) & 61440)) | l16;
      break L139;
     }
-    l13 = ((l16 << 6) | ((l14 << 12) | ((l15 << 18) & 1835008))) | ((b[((int) l1) - 60717] & 0xff) & 63);
+    l13 = ((l16 << 6) | ((l14 << 12) | ((l15 << 18) & 1835008))) | ((b[((int) l1) - 60445] & 0xff) & 63);
    }
    if (l12 != 0) { break L137; }
    if (l13 != 31532) { break L137; }
-   l13 = (l15 = (int) b[((int) l7) - 60720]) & 255;
+   l13 = (l15 = (int) b[((int) l7) - 60448]) & 255;
    l1 = 1L;
    L141: {
     if (l15 > -1) { break L141; }
-    l14 = (b[((int) l7) - 60719] & 0xff) & 63;
+    l14 = (b[((int) l7) - 60447] & 0xff) & 63;
     L142: {
      if (l15 + Integer.MIN_VALUE > 2147483615) { break L142; }
      l13 = ((l13 << 6) & 1984) | l14;
      l1 = 2L;
      break L141;
     }
-    l16 = (b[((int) l7) - 60718] & 0xff) & 63;
+    l16 = (b[((int) l7) - 60446] & 0xff) & 63;
     L143: {
      if (l15 + Integer.MIN_VALUE > 2147483631) { break L143; }
      l13 = ((l14 << 6) | ((l13 << 12) & 61440)) | l16;
      l1 = 3L;
      break L141;
     }
-    l13 = ((l16 << 6) | ((l14 << 12) | ((l13 << 18) & 1835008))) | ((b[((int) l7) - 60717] & 0xff) & 63);
+    l13 = ((l16 << 6) | ((l14 << 12) | ((l13 << 18) & 1835008))) | ((b[((int) l7) - 60445] & 0xff) & 63);
     l1 = 4L;
    }
    l10 = l7 + l1;
@@ -807,11 +1187,11 @@ static int f117_4(State m, long l1, long l3, long l4, long l7, long l8, long l10
     }
     l15 = 2;
     if (l8 == l1) { exit = 1; break PART; }
-    if ((l13 = (int) b[((int) l10) - 60720]) > -1) { exit = 1; break PART; }
+    if ((l13 = (int) b[((int) l10) - 60448]) > -1) { exit = 1; break PART; }
     if (l13 + Integer.MIN_VALUE < 2147483616) { exit = 1; break PART; }
     l14 = l13 & 255;
-    l16 = (b[((int) l10) - 60719] & 0xff) & 63;
-    l20 = (b[((int) l10) - 60718] & 0xff) & 63;
+    l16 = (b[((int) l10) - 60447] & 0xff) & 63;
+    l20 = (b[((int) l10) - 60446] & 0xff) & 63;
     L146: {
      L147: {
       if (l13 + Integer.MIN_VALUE > 2147483631) { break L147; }
@@ -820,7 +1200,7 @@ static int f117_4(State m, long l1, long l3, long l4, long l7, long l8, long l10
       break L146;
      }
      if (((l13 = (l20 << 6) | ((l16 << 12) | ((l14 << 18) & 1835008))) + -19968) + Integer.MIN_VALUE >= -2147462656) { exit = 1; break PART; }
-     l13 = l13 | ((b[((int) l10) - 60717] & 0xff) & 63);
+     l13 = l13 | ((b[((int) l10) - 60445] & 0xff) & 63);
     }
     L148: {
      if (l13 > 25109) { break L148; }
@@ -848,18 +1228,18 @@ static int f117_4(State m, long l1, long l3, long l4, long l7, long l8, long l10
     break L137;
    }
    if (l8 == l1) { break L137; }
-   if ((l13 = (int) b[((int) l10) - 60720]) > -1) { break L137; }
+   if ((l13 = (int) b[((int) l10) - 60448]) > -1) { break L137; }
    if (l13 + Integer.MIN_VALUE < 2147483616) { break L137; }
    l15 = l13 & 255;
-   l14 = (b[((int) l10) - 60719] & 0xff) & 63;
-   l16 = (b[((int) l10) - 60718] & 0xff) & 63;
+   l14 = (b[((int) l10) - 60447] & 0xff) & 63;
+   l16 = (b[((int) l10) - 60446] & 0xff) & 63;
    L151: {
     L152: {
      if (l13 + Integer.MIN_VALUE > 2147483631) { break L152; }
      l13 = ((l14 << 6) | ((l15 << 12) & 61440)) | l16;
      break L151;
     }
-    l13 = ((l16 << 6) | ((l14 << 12) | ((l15 << 18) & 1835008))) | ((b[((int) l10) - 60717] & 0xff) & 63);
+    l13 = ((l16 << 6) | ((l14 << 12) | ((l15 << 18) & 1835008))) | ((b[((int) l10) - 60445] & 0xff) & 63);
    }
    if (l13 == 20840) { exit = 2; break PART; }
   }
@@ -875,14 +1255,14 @@ static int f117_4(State m, long l1, long l3, long l4, long l7, long l8, long l10
  return exit;
 }
 
-static int f117_5(State m, long l1, long l2, long l3, long l4, long l5, long l6, long l9, long l10, int l13, int l14, int l15, int l16, int l17, int l18, int l20, int l21) {
+static int f119_5(State m, long l1, long l2, long l3, long l4, long l5, long l6, long l9, long l10, int l13, int l14, int l15, int l16, int l17, int l18, int l20, int l21) {
  final byte[] b = m.bytes;
  int exit = 0;
  PART: {
   L162: {
    if (l6 == l1) { break L162; }
    l9 = 1L;
-   l14 = l16 = (l15 = (int) b[((int) (l10 = l5 + l1)) - 60720]) & 255;
+   l14 = l16 = (l15 = (int) b[((int) (l10 = l5 + l1)) - 60448]) & 255;
    L163: {
     L164: {
      L165: {
@@ -891,18 +1271,18 @@ static int f117_5(State m, long l1, long l2, long l3, long l4, long l5, long l6,
         L168: {
          L169: {
           if (l15 > -1) { break L169; }
-          l14 = (b[((int) l10) - 60719] & 0xff) & 63;
+          l14 = (b[((int) l10) - 60447] & 0xff) & 63;
           L170: {
            L171: {
             if (l15 + Integer.MIN_VALUE < 2147483616) { break L171; }
-            l20 = (b[((int) l10) - 60718] & 0xff) & 63;
+            l20 = (b[((int) l10) - 60446] & 0xff) & 63;
             L172: {
              L173: {
               if (l15 + Integer.MIN_VALUE > 2147483631) { break L173; }
               l17 = ((l14 << 6) | ((l16 << 12) & 61440)) | l20;
               break L172;
              }
-             l17 = ((l20 << 6) | ((l14 << 12) | ((l16 << 18) & 1835008))) | ((b[((int) l10) - 60717] & 0xff) & 63);
+             l17 = ((l20 << 6) | ((l14 << 12) | ((l16 << 18) & 1835008))) | ((b[((int) l10) - 60445] & 0xff) & 63);
             }
             L174: {
              if (l17 == 40670) { break L174; }
@@ -910,7 +1290,7 @@ static int f117_5(State m, long l1, long l2, long l3, long l4, long l5, long l6,
             }
             Core2.f63(m, l2 + 40L, l13);
             if ((l13 + -58) + Integer.MIN_VALUE > 2147483637) { break L168; }
-            if (((b[((int) l2) - 60680] & 0xff) & 255) != 1) { break L168; }
+            if (((b[((int) l2) - 60408] & 0xff) & 255) != 1) { break L168; }
             if ((l13 != 12295) & (l13 != 38646)) { break L163; }
             if (l13 == 21313) { break L163; }
             break L162;
@@ -925,7 +1305,7 @@ static int f117_5(State m, long l1, long l2, long l3, long l4, long l5, long l6,
            l9 = 3L;
            break L169;
           }
-          l14 = ((l20 << 6) | ((l14 << 12) | ((l16 << 18) & 1835008))) | ((b[((int) l10) - 60717] & 0xff) & 63);
+          l14 = ((l20 << 6) | ((l14 << 12) | ((l16 << 18) & 1835008))) | ((b[((int) l10) - 60445] & 0xff) & 63);
           l9 = 4L;
          }
          l1 = l6 - l1;
@@ -939,7 +1319,7 @@ static int f117_5(State m, long l1, long l2, long l3, long l4, long l5, long l6,
          if (l13 != 21313) { break L162; }
          Core2.f63(m, l2 + 32L, l14);
          if ((l14 + -58) + Integer.MIN_VALUE > 2147483637) { break L162; }
-         if (((b[((int) l2) - 60688] & 0xff) & 255) != 1) { break L162; }
+         if (((b[((int) l2) - 60416] & 0xff) & 255) != 1) { break L162; }
          if (l14 == 12295) { break L162; }
          if (l14 == 38646) { break L162; }
          if (l1 == l9) { break L162; }
@@ -951,18 +1331,18 @@ static int f117_5(State m, long l1, long l2, long l3, long l4, long l5, long l6,
        if (l1 == l9) { break L165; }
        if (l14 != 21313) { break L165; }
       }
-      if ((l14 = (int) b[((int) (l9 = l10 + l9)) - 60720]) > -1) { break L165; }
+      if ((l14 = (int) b[((int) (l9 = l10 + l9)) - 60448]) > -1) { break L165; }
       if (l14 + Integer.MIN_VALUE < 2147483616) { break L165; }
       l17 = l14 & 255;
-      l20 = (b[((int) l9) - 60719] & 0xff) & 63;
-      l21 = (b[((int) l9) - 60718] & 0xff) & 63;
+      l20 = (b[((int) l9) - 60447] & 0xff) & 63;
+      l21 = (b[((int) l9) - 60446] & 0xff) & 63;
       L177: {
        L178: {
         if (l14 + Integer.MIN_VALUE > 2147483631) { break L178; }
         l14 = ((l20 << 6) | ((l17 << 12) & 61440)) | l21;
         break L177;
        }
-       l14 = ((l21 << 6) | ((l20 << 12) | ((l17 << 18) & 1835008))) | ((b[((int) l9) - 60717] & 0xff) & 63);
+       l14 = ((l21 << 6) | ((l20 << 12) | ((l17 << 18) & 1835008))) | ((b[((int) l9) - 60445] & 0xff) & 63);
       }
       if (l14 == 28857) { break L163; }
       if (l14 == 40670) { break L163; }
@@ -974,8 +1354,8 @@ static int f117_5(State m, long l1, long l2, long l3, long l4, long l5, long l6,
      if (l15 > -1) { break L162; }
     }
     if (l15 + Integer.MIN_VALUE < 2147483616) { break L162; }
-    l13 = (b[((int) l10) - 60719] & 0xff) & 63;
-    l14 = (b[((int) l10) - 60718] & 0xff) & 63;
+    l13 = (b[((int) l10) - 60447] & 0xff) & 63;
+    l14 = (b[((int) l10) - 60446] & 0xff) & 63;
     L179: {
      L180: {
       if (l15 + Integer.MIN_VALUE > 2147483631) { break L180; }
@@ -983,32 +1363,32 @@ static int f117_5(State m, long l1, long l2, long l3, long l4, long l5, long l6,
       l9 = 3L;
       break L179;
      }
-     l13 = ((l14 << 6) | ((l13 << 12) | ((l16 << 18) & 1835008))) | ((b[((int) l10) - 60717] & 0xff) & 63);
+     l13 = ((l14 << 6) | ((l13 << 12) | ((l16 << 18) & 1835008))) | ((b[((int) l10) - 60445] & 0xff) & 63);
      l9 = 4L;
     }
     if (l13 != 21313) { break L162; }
-    if (f131(m, 85568L, 4L, 83556L, 2L, l10 + l9, l1 - l9) == 0) { break L162; }
+    if (f140(m, 86468L, 4L, 83556L, 2L, l10 + l9, l1 - l9) == 0) { break L162; }
    }
    L181: {
     if (l18 != 0) { break L181; }
-    if (((int) b[((int) ((l1 = l3 + l4) + -1L)) - 60720]) > -1) { break L181; }
+    if (((int) b[((int) ((l1 = l3 + l4) + -1L)) - 60448]) > -1) { break L181; }
     l10 = -2L;
     L182: {
-     if ((b[((int) (l1 + -2L)) - 60720] & 0xff) + Integer.MIN_VALUE > -2147483457) { break L182; }
-     l10 = ((b[((int) (l1 + -3L)) - 60720] & 0xff) + Integer.MIN_VALUE > -2147483457) ? -3L : -4L;
+     if ((b[((int) (l1 + -2L)) - 60448] & 0xff) + Integer.MIN_VALUE > -2147483457) { break L182; }
+     l10 = ((b[((int) (l1 + -3L)) - 60448] & 0xff) + Integer.MIN_VALUE > -2147483457) ? -3L : -4L;
     }
-    if ((l13 = (int) b[((int) (l1 = (l3 + l10) + l4)) - 60720]) > -1) { break L181; }
+    if ((l13 = (int) b[((int) (l1 = (l3 + l10) + l4)) - 60448]) > -1) { break L181; }
     if (l13 + Integer.MIN_VALUE < 2147483616) { break L181; }
     l15 = l13 & 255;
-    l14 = (b[((int) l1) - 60719] & 0xff) & 63;
-    l16 = (b[((int) l1) - 60718] & 0xff) & 63;
+    l14 = (b[((int) l1) - 60447] & 0xff) & 63;
+    l16 = (b[((int) l1) - 60446] & 0xff) & 63;
     L183: {
      L184: {
       if (l13 + Integer.MIN_VALUE > 2147483631) { break L184; }
       l14 = ((l14 << 6) | ((l15 << 12) & 61440)) | l16;
       break L183;
      }
-     l14 = ((l16 << 6) | ((l14 << 12) | ((l15 << 18) & 1835008))) | ((b[((int) l1) - 60717] & 0xff) & 63);
+     l14 = ((l16 << 6) | ((l14 << 12) | ((l15 << 18) & 1835008))) | ((b[((int) l1) - 60445] & 0xff) & 63);
     }
     l15 = 4;
     L185: {
@@ -1024,7 +1404,7 @@ static int f117_5(State m, long l1, long l2, long l3, long l4, long l5, long l6,
     default: break L181;
     }
    }
-   if (f145(m, 83888L, 1L, 83880L, 2L, l3, l4) == 0) { break L162; }
+   if (Core5.f153(m, 83888L, 1L, 83880L, 2L, l3, l4) == 0) { break L162; }
    l15 = 4;
    l13 = 1;
    exit = 2; break PART;
@@ -1043,7 +1423,7 @@ static int f117_5(State m, long l1, long l2, long l3, long l4, long l5, long l6,
  return exit;
 }
 
-static int f117_6(State m, long l1, long l2, long l5, long l9, long l10, int l13, int l14, int l15, int l16, int l17, int l20) {
+static int f119_6(State m, long l1, long l2, long l5, long l9, long l10, int l13, int l14, int l15, int l16, int l17, int l20) {
  final byte[] b = m.bytes;
  int exit = 0;
  PART: {
@@ -1055,40 +1435,40 @@ static int f117_6(State m, long l1, long l2, long l5, long l9, long l10, int l13
        L210: {
         if (l10 == 0L) { break L210; }
         L211: {
-         if ((l15 = (int) b[((int) (l5 + (l1 = l10 + -1L))) - 60720]) >= 0) { break L211; }
+         if ((l15 = (int) b[((int) (l5 + (l1 = l10 + -1L))) - 60448]) >= 0) { break L211; }
          l1 = -2L;
          L212: {
-          if ((b[((int) ((l9 = l5 + l10) + -2L)) - 60720] & 0xff) + Integer.MIN_VALUE > -2147483457) { break L212; }
-          l1 = ((b[((int) (l9 + -3L)) - 60720] & 0xff) + Integer.MIN_VALUE > -2147483457) ? -3L : -4L;
+          if ((b[((int) ((l9 = l5 + l10) + -2L)) - 60448] & 0xff) + Integer.MIN_VALUE > -2147483457) { break L212; }
+          l1 = ((b[((int) (l9 + -3L)) - 60448] & 0xff) + Integer.MIN_VALUE > -2147483457) ? -3L : -4L;
          }
-         l15 = (l14 = (int) b[((int) (l10 = l5 + (l1 = l1 + l10))) - 60720]) & 255;
+         l15 = (l14 = (int) b[((int) (l10 = l5 + (l1 = l1 + l10))) - 60448]) & 255;
          if (l14 > -1) { break L211; }
-         l16 = (b[((int) l10) - 60719] & 0xff) & 63;
+         l16 = (b[((int) l10) - 60447] & 0xff) & 63;
          L213: {
           if (l14 + Integer.MIN_VALUE > 2147483615) { break L213; }
           l15 = ((l15 << 6) & 1984) | l16;
           break L211;
          }
-         l17 = (b[((int) l10) - 60718] & 0xff) & 63;
+         l17 = (b[((int) l10) - 60446] & 0xff) & 63;
          L214: {
           if (l14 + Integer.MIN_VALUE > 2147483631) { break L214; }
           l15 = ((l16 << 6) | ((l15 << 12) & 61440)) | l17;
           break L211;
          }
-         l15 = ((l17 << 6) | ((l16 << 12) | ((l15 << 18) & 1835008))) | ((b[((int) l10) - 60717] & 0xff) & 63);
+         l15 = ((l17 << 6) | ((l16 << 12) | ((l15 << 18) & 1835008))) | ((b[((int) l10) - 60445] & 0xff) & 63);
         }
         if (l1 == 0L) { break L207; }
-        if (((int) b[((int) ((l10 = l5 + l1) + -1L)) - 60720]) > -1) { exit = 1; break PART; }
+        if (((int) b[((int) ((l10 = l5 + l1) + -1L)) - 60448]) > -1) { exit = 1; break PART; }
         l9 = -2L;
         L215: {
-         if ((b[((int) (l10 + -2L)) - 60720] & 0xff) + Integer.MIN_VALUE > -2147483457) { break L215; }
-         l9 = ((b[((int) (l10 + -3L)) - 60720] & 0xff) + Integer.MIN_VALUE > -2147483457) ? -3L : -4L;
+         if ((b[((int) (l10 + -2L)) - 60448] & 0xff) + Integer.MIN_VALUE > -2147483457) { break L215; }
+         l9 = ((b[((int) (l10 + -3L)) - 60448] & 0xff) + Integer.MIN_VALUE > -2147483457) ? -3L : -4L;
         }
-        if ((l14 = (int) b[((int) (l1 = l5 + (l10 = l9 + l1))) - 60720]) > -1) { exit = 1; break PART; }
+        if ((l14 = (int) b[((int) (l1 = l5 + (l10 = l9 + l1))) - 60448]) > -1) { exit = 1; break PART; }
         if (l14 + Integer.MIN_VALUE < 2147483616) { exit = 1; break PART; }
         l16 = l14 & 255;
-        l17 = (b[((int) l1) - 60719] & 0xff) & 63;
-        l20 = (b[((int) l1) - 60718] & 0xff) & 63;
+        l17 = (b[((int) l1) - 60447] & 0xff) & 63;
+        l20 = (b[((int) l1) - 60446] & 0xff) & 63;
         if (l14 + Integer.MIN_VALUE > 2147483631) { break L209; }
         l14 = ((l17 << 6) | ((l16 << 12) & 61440)) | l20;
         break L208;
@@ -1097,7 +1477,7 @@ static int f117_6(State m, long l1, long l2, long l5, long l9, long l10, int l13
        L216: {
         L217: {
          if ((l13 + -58) + Integer.MIN_VALUE > 2147483637) { break L217; }
-         if (((b[((int) l2) - 60712] & 0xff) & 255) == 1) { break L216; }
+         if (((b[((int) l2) - 60440] & 0xff) & 255) == 1) { break L216; }
         }
         if (l13 != 21313) { exit = 1; break PART; }
         exit = 2; break PART;
@@ -1106,7 +1486,7 @@ static int f117_6(State m, long l1, long l2, long l5, long l9, long l10, int l13
        if (l13 != 21313) { exit = 1; break PART; }
        exit = 2; break PART;
       }
-      l14 = ((l20 << 6) | ((l17 << 12) | ((l16 << 18) & 1835008))) | ((b[((int) l1) - 60717] & 0xff) & 63);
+      l14 = ((l20 << 6) | ((l17 << 12) | ((l16 << 18) & 1835008))) | ((b[((int) l1) - 60445] & 0xff) & 63);
      }
      if (l10 != 0L) { exit = 1; break PART; }
      if (l14 != 20108) { exit = 1; break PART; }
@@ -1127,7 +1507,7 @@ static int f117_6(State m, long l1, long l2, long l5, long l9, long l10, int l13
     if (l15 != 21313) { exit = 1; break PART; }
     Core2.f63(m, l2 + 16L, l13);
     if ((l13 + -58) + Integer.MIN_VALUE > 2147483637) { exit = 1; break PART; }
-    if (((b[((int) l2) - 60704] & 0xff) & 255) != 1) { exit = 1; break PART; }
+    if (((b[((int) l2) - 60432] & 0xff) & 255) != 1) { exit = 1; break PART; }
     if (l13 == 12295) { exit = 1; break PART; }
     if (l13 == 38646) { exit = 1; break PART; }
     exit = 2; break PART;
@@ -1148,7 +1528,7 @@ static int f117_6(State m, long l1, long l2, long l5, long l9, long l10, int l13
  return exit;
 }
 
-static void f117(State m, long l0, long l1) {
+static void f119(State m, long l0, long l1) {
  final byte[] b = m.bytes;
  long l2 = 0;
  long l3 = 0;
@@ -1173,7 +1553,7 @@ static void f117(State m, long l0, long l1) {
  m.g0 = l2 = m.g0 - 96L;
  L1: {
   L2: {
-   final int x34 = f117_1(m, l1, l2, l3, l4, l5, l6, l7, l8, l9, l10, l12, l13, l14, l15, l16, l17, l18);
+   final int x34 = f119_1(m, l1, l2, l3, l4, l5, l6, l7, l8, l9, l10, l12, l13, l14, l15, l16, l17, l18);
    l1 = m.kept[0];
    l2 = m.kept[1];
    l3 = m.kept[2];
@@ -1196,7 +1576,7 @@ static void f117(State m, long l0, long l1) {
    case 2: break L2;
    }
    L35: {
-    if (Core5.f158(m, l3, l4, l5, l6, l7, l8) == 0) { break L35; }
+    if (Core5.f167(m, l3, l4, l5, l6, l7, l8) == 0) { break L35; }
     l15 = 0;
     l13 = 1;
     break L1;
@@ -1210,7 +1590,7 @@ static void f117(State m, long l0, long l1) {
       L39: {
        L40: {
         L41: {
-         if ((l13 = (int) b[((int) l1) - 60720]) <= -1) { break L41; }
+         if ((l13 = (int) b[((int) l1) - 60448]) <= -1) { break L41; }
          l9 = 1L;
          break L40;
         }
@@ -1222,8 +1602,8 @@ static void f117(State m, long l0, long l1) {
        break L38;
       }
       l15 = l13 & 255;
-      l14 = (b[((int) l1) - 60719] & 0xff) & 63;
-      l16 = (b[((int) l1) - 60718] & 0xff) & 63;
+      l14 = (b[((int) l1) - 60447] & 0xff) & 63;
+      l16 = (b[((int) l1) - 60446] & 0xff) & 63;
       L42: {
        L43: {
         if (l13 + Integer.MIN_VALUE > 2147483631) { break L43; }
@@ -1231,50 +1611,50 @@ static void f117(State m, long l0, long l1) {
         l9 = 3L;
         break L42;
        }
-       l13 = ((l16 << 6) | ((l14 << 12) | ((l15 << 18) & 1835008))) | ((b[((int) l1) - 60717] & 0xff) & 63);
+       l13 = ((l16 << 6) | ((l14 << 12) | ((l15 << 18) & 1835008))) | ((b[((int) l1) - 60445] & 0xff) & 63);
        l9 = 4L;
       }
       l10 = l10 - l9;
       l1 = l1 + l9;
       if (l13 != 21313) { break L38; }
       if (l10 == 0L) { break L36; }
-      l13 = (l15 = (int) b[((int) l1) - 60720]) & 255;
+      l13 = (l15 = (int) b[((int) l1) - 60448]) & 255;
       l9 = 1L;
       L44: {
        if (l15 > -1) { break L44; }
-       l14 = (b[((int) l1) - 60719] & 0xff) & 63;
+       l14 = (b[((int) l1) - 60447] & 0xff) & 63;
        L45: {
         if (l15 + Integer.MIN_VALUE > 2147483615) { break L45; }
         l13 = ((l13 << 6) & 1984) | l14;
         l9 = 2L;
         break L44;
        }
-       l16 = (b[((int) l1) - 60718] & 0xff) & 63;
+       l16 = (b[((int) l1) - 60446] & 0xff) & 63;
        L46: {
         if (l15 + Integer.MIN_VALUE > 2147483631) { break L46; }
         l13 = ((l14 << 6) | ((l13 << 12) & 61440)) | l16;
         l9 = 3L;
         break L44;
        }
-       l13 = ((l16 << 6) | ((l14 << 12) | ((l13 << 18) & 1835008))) | ((b[((int) l1) - 60717] & 0xff) & 63);
+       l13 = ((l16 << 6) | ((l14 << 12) | ((l13 << 18) & 1835008))) | ((b[((int) l1) - 60445] & 0xff) & 63);
        l9 = 4L;
       }
       Core2.f63(m, l2 + 80L, l13);
       if (l10 == l9) { break L38; }
       if ((l13 + -48) + Integer.MIN_VALUE < -2147483638) { break L38; }
-      if (((b[((int) l2) - 60640] & 0xff) & 255) != 1) { break L38; }
-      if ((l13 = (int) b[((int) (l9 = l1 + l9)) - 60720]) > -1) { break L38; }
+      if (((b[((int) l2) - 60368] & 0xff) & 255) != 1) { break L38; }
+      if ((l13 = (int) b[((int) (l9 = l1 + l9)) - 60448]) > -1) { break L38; }
       if (l13 + Integer.MIN_VALUE < 2147483616) { break L38; }
       l15 = l13 & 255;
-      l14 = (b[((int) l9) - 60719] & 0xff) & 63;
-      l16 = (b[((int) l9) - 60718] & 0xff) & 63;
+      l14 = (b[((int) l9) - 60447] & 0xff) & 63;
+      l16 = (b[((int) l9) - 60446] & 0xff) & 63;
       L47: {
        L48: {
         if (l13 + Integer.MIN_VALUE > 2147483631) { break L48; }
         l13 = ((l14 << 6) | ((l15 << 12) & 61440)) | l16;
         break L47;
        }
-       l13 = ((l16 << 6) | ((l14 << 12) | ((l15 << 18) & 1835008))) | ((b[((int) l9) - 60717] & 0xff) & 63);
+       l13 = ((l16 << 6) | ((l14 << 12) | ((l15 << 18) & 1835008))) | ((b[((int) l9) - 60445] & 0xff) & 63);
       }
       if (l13 != 21313) { break L38; }
       l15 = 1;
@@ -1290,7 +1670,7 @@ static void f117(State m, long l0, long l1) {
    L49: {
     L50: {
      L51: {
-      final int x110 = f117_2(m, l1, l2, l3, l4, l5, l6, l7, l8, l9, l10, l12, l13, l14, l15, l16, l17, l18, l19, l20, l21);
+      final int x110 = f119_2(m, l1, l2, l3, l4, l5, l6, l7, l8, l9, l10, l12, l13, l14, l15, l16, l17, l18, l19, l20, l21);
       l1 = m.kept[0];
       l9 = m.kept[1];
       l10 = m.kept[2];
@@ -1307,7 +1687,7 @@ static void f117(State m, long l0, long l1) {
       case 2: break L1;
       case 3: break L51;
       }
-      final int x136 = f117_3(m, l1, l2, l5, l6, l7, l8, l9, l10, l13, l14, l15, l16, l17, l18);
+      final int x136 = f119_3(m, l1, l2, l5, l6, l7, l8, l9, l10, l13, l14, l15, l16, l17, l18);
       l1 = m.kept[0];
       l9 = m.kept[1];
       l10 = m.kept[2];
@@ -1326,7 +1706,7 @@ static void f117(State m, long l0, long l1) {
       if (l13 == 36000) { break L49; }
       if (l13 == 36127) { break L49; }
      }
-     final int x153 = f117_4(m, l1, l3, l4, l7, l8, l10, l12, l13, l14, l15, l16, l18, l20);
+     final int x153 = f119_4(m, l1, l3, l4, l7, l8, l10, l12, l13, l14, l15, l16, l18, l20);
      l1 = m.kept[0];
      l10 = m.kept[1];
      l13 = (int) m.kept[2];
@@ -1345,28 +1725,28 @@ static void f117(State m, long l0, long l1) {
         L157: {
          L158: {
           if (l17 != 0) { break L158; }
-          l13 = (l15 = (int) b[((int) l5) - 60720]) & 255;
+          l13 = (l15 = (int) b[((int) l5) - 60448]) & 255;
           l1 = 1L;
           L159: {
            if (l15 > -1) { break L159; }
-           l14 = (b[((int) l5) - 60719] & 0xff) & 63;
+           l14 = (b[((int) l5) - 60447] & 0xff) & 63;
            L160: {
             if (l15 + Integer.MIN_VALUE > 2147483615) { break L160; }
             l13 = ((l13 << 6) & 1984) | l14;
             l1 = 2L;
             break L159;
            }
-           l16 = (b[((int) l5) - 60718] & 0xff) & 63;
+           l16 = (b[((int) l5) - 60446] & 0xff) & 63;
            L161: {
             if (l15 + Integer.MIN_VALUE > 2147483631) { break L161; }
             l13 = ((l14 << 6) | ((l13 << 12) & 61440)) | l16;
             l1 = 3L;
             break L159;
            }
-           l13 = ((l16 << 6) | ((l14 << 12) | ((l13 << 18) & 1835008))) | ((b[((int) l5) - 60717] & 0xff) & 63);
+           l13 = ((l16 << 6) | ((l14 << 12) | ((l13 << 18) & 1835008))) | ((b[((int) l5) - 60445] & 0xff) & 63);
            l1 = 4L;
           }
-          final int x186 = f117_5(m, l1, l2, l3, l4, l5, l6, l9, l10, l13, l14, l15, l16, l17, l18, l20, l21);
+          final int x186 = f119_5(m, l1, l2, l3, l4, l5, l6, l9, l10, l13, l14, l15, l16, l17, l18, l20, l21);
           l1 = m.kept[0];
           l9 = m.kept[1];
           l10 = m.kept[2];
@@ -1382,56 +1762,56 @@ static void f117(State m, long l0, long l1) {
           case 2: break L1;
           }
           L187: {
-           if ((l13 = (int) b[((int) (l5 + (l1 = l6 + -1L))) - 60720]) >= 0) { break L187; }
+           if ((l13 = (int) b[((int) (l5 + (l1 = l6 + -1L))) - 60448]) >= 0) { break L187; }
            l1 = -2L;
            L188: {
-            if ((b[((int) ((l10 = l5 + l6) + -2L)) - 60720] & 0xff) + Integer.MIN_VALUE > -2147483457) { break L188; }
-            l1 = ((b[((int) (l10 + -3L)) - 60720] & 0xff) + Integer.MIN_VALUE > -2147483457) ? -3L : -4L;
+            if ((b[((int) ((l10 = l5 + l6) + -2L)) - 60448] & 0xff) + Integer.MIN_VALUE > -2147483457) { break L188; }
+            l1 = ((b[((int) (l10 + -3L)) - 60448] & 0xff) + Integer.MIN_VALUE > -2147483457) ? -3L : -4L;
            }
-           l13 = (l15 = (int) b[((int) (l10 = l5 + (l1 = l1 + l6))) - 60720]) & 255;
+           l13 = (l15 = (int) b[((int) (l10 = l5 + (l1 = l1 + l6))) - 60448]) & 255;
            if (l15 > -1) { break L187; }
-           l14 = (b[((int) l10) - 60719] & 0xff) & 63;
+           l14 = (b[((int) l10) - 60447] & 0xff) & 63;
            L189: {
             if (l15 + Integer.MIN_VALUE > 2147483615) { break L189; }
             l13 = ((l13 << 6) & 1984) | l14;
             break L187;
            }
-           l16 = (b[((int) l10) - 60718] & 0xff) & 63;
+           l16 = (b[((int) l10) - 60446] & 0xff) & 63;
            L190: {
             if (l15 + Integer.MIN_VALUE > 2147483631) { break L190; }
             l13 = ((l14 << 6) | ((l13 << 12) & 61440)) | l16;
             break L187;
            }
-           l13 = ((l16 << 6) | ((l14 << 12) | ((l13 << 18) & 1835008))) | ((b[((int) l10) - 60717] & 0xff) & 63);
+           l13 = ((l16 << 6) | ((l14 << 12) | ((l13 << 18) & 1835008))) | ((b[((int) l10) - 60445] & 0xff) & 63);
           }
           Core2.f63(m, l2 + 24L, l13);
           if ((l13 + -58) + Integer.MIN_VALUE > 2147483637) { break L158; }
-          if (((b[((int) l2) - 60696] & 0xff) & 255) != 1) { break L158; }
+          if (((b[((int) l2) - 60424] & 0xff) & 255) != 1) { break L158; }
           if (l13 == 12295) { break L158; }
           if (l13 == 38646) { break L158; }
           if (l1 == 0L) { break L158; }
           L191: {
-           if ((l13 = (int) b[((int) (l5 + (l10 = l1 + -1L))) - 60720]) >= 0) { break L191; }
+           if ((l13 = (int) b[((int) (l5 + (l10 = l1 + -1L))) - 60448]) >= 0) { break L191; }
            l10 = -2L;
            L192: {
-            if ((b[((int) ((l9 = l5 + l1) + -2L)) - 60720] & 0xff) + Integer.MIN_VALUE > -2147483457) { break L192; }
-            l10 = ((b[((int) (l9 + -3L)) - 60720] & 0xff) + Integer.MIN_VALUE > -2147483457) ? -3L : -4L;
+            if ((b[((int) ((l9 = l5 + l1) + -2L)) - 60448] & 0xff) + Integer.MIN_VALUE > -2147483457) { break L192; }
+            l10 = ((b[((int) (l9 + -3L)) - 60448] & 0xff) + Integer.MIN_VALUE > -2147483457) ? -3L : -4L;
            }
-           l13 = (l15 = (int) b[((int) (l1 = l5 + (l10 = l10 + l1))) - 60720]) & 255;
+           l13 = (l15 = (int) b[((int) (l1 = l5 + (l10 = l10 + l1))) - 60448]) & 255;
            if (l15 > -1) { break L191; }
-           l14 = (b[((int) l1) - 60719] & 0xff) & 63;
+           l14 = (b[((int) l1) - 60447] & 0xff) & 63;
            L193: {
             if (l15 + Integer.MIN_VALUE > 2147483615) { break L193; }
             l13 = ((l13 << 6) & 1984) | l14;
             break L191;
            }
-           l16 = (b[((int) l1) - 60718] & 0xff) & 63;
+           l16 = (b[((int) l1) - 60446] & 0xff) & 63;
            L194: {
             if (l15 + Integer.MIN_VALUE > 2147483631) { break L194; }
             l13 = ((l14 << 6) | ((l13 << 12) & 61440)) | l16;
             break L191;
            }
-           l13 = ((l16 << 6) | ((l14 << 12) | ((l13 << 18) & 1835008))) | ((b[((int) l1) - 60717] & 0xff) & 63);
+           l13 = ((l16 << 6) | ((l14 << 12) | ((l13 << 18) & 1835008))) | ((b[((int) l1) - 60445] & 0xff) & 63);
           }
           L195: {
            if ((l15 = (l13 == 38646) ? 1 : 0) != 0) { break L195; }
@@ -1441,27 +1821,27 @@ static void f117(State m, long l0, long l1) {
           }
           if (l10 == 0L) { break L158; }
           L196: {
-           if ((l13 = (int) b[((int) (l5 + (l1 = l10 + -1L))) - 60720]) >= 0) { break L196; }
+           if ((l13 = (int) b[((int) (l5 + (l1 = l10 + -1L))) - 60448]) >= 0) { break L196; }
            l1 = -2L;
            L197: {
-            if ((b[((int) ((l9 = l5 + l10) + -2L)) - 60720] & 0xff) + Integer.MIN_VALUE > -2147483457) { break L197; }
-            l1 = ((b[((int) (l9 + -3L)) - 60720] & 0xff) + Integer.MIN_VALUE > -2147483457) ? -3L : -4L;
+            if ((b[((int) ((l9 = l5 + l10) + -2L)) - 60448] & 0xff) + Integer.MIN_VALUE > -2147483457) { break L197; }
+            l1 = ((b[((int) (l9 + -3L)) - 60448] & 0xff) + Integer.MIN_VALUE > -2147483457) ? -3L : -4L;
            }
-           l13 = (l15 = (int) b[((int) (l10 = l5 + (l1 = l1 + l10))) - 60720]) & 255;
+           l13 = (l15 = (int) b[((int) (l10 = l5 + (l1 = l1 + l10))) - 60448]) & 255;
            if (l15 > -1) { break L196; }
-           l14 = (b[((int) l10) - 60719] & 0xff) & 63;
+           l14 = (b[((int) l10) - 60447] & 0xff) & 63;
            L198: {
             if (l15 + Integer.MIN_VALUE > 2147483615) { break L198; }
             l13 = ((l13 << 6) & 1984) | l14;
             break L196;
            }
-           l16 = (b[((int) l10) - 60718] & 0xff) & 63;
+           l16 = (b[((int) l10) - 60446] & 0xff) & 63;
            L199: {
             if (l15 + Integer.MIN_VALUE > 2147483631) { break L199; }
             l13 = ((l14 << 6) | ((l13 << 12) & 61440)) | l16;
             break L196;
            }
-           l13 = ((l16 << 6) | ((l14 << 12) | ((l13 << 18) & 1835008))) | ((b[((int) l10) - 60717] & 0xff) & 63);
+           l13 = ((l16 << 6) | ((l14 << 12) | ((l13 << 18) & 1835008))) | ((b[((int) l10) - 60445] & 0xff) & 63);
           }
           L200: {
            if ((l15 = (l13 == 40670) ? 1 : 0) != 0) { break L200; }
@@ -1471,29 +1851,29 @@ static void f117(State m, long l0, long l1) {
           }
           if (l1 == 0L) { break L158; }
           L201: {
-           if ((l13 = (int) b[((int) (l5 + (l10 = l1 + -1L))) - 60720]) >= 0) { break L201; }
+           if ((l13 = (int) b[((int) (l5 + (l10 = l1 + -1L))) - 60448]) >= 0) { break L201; }
            l10 = -2L;
            L202: {
-            if ((b[((int) ((l9 = l5 + l1) + -2L)) - 60720] & 0xff) + Integer.MIN_VALUE > -2147483457) { break L202; }
-            l10 = ((b[((int) (l9 + -3L)) - 60720] & 0xff) + Integer.MIN_VALUE > -2147483457) ? -3L : -4L;
+            if ((b[((int) ((l9 = l5 + l1) + -2L)) - 60448] & 0xff) + Integer.MIN_VALUE > -2147483457) { break L202; }
+            l10 = ((b[((int) (l9 + -3L)) - 60448] & 0xff) + Integer.MIN_VALUE > -2147483457) ? -3L : -4L;
            }
-           l13 = (l15 = (int) b[((int) (l1 = l5 + (l10 = l10 + l1))) - 60720]) & 255;
+           l13 = (l15 = (int) b[((int) (l1 = l5 + (l10 = l10 + l1))) - 60448]) & 255;
            if (l15 > -1) { break L201; }
-           l14 = (b[((int) l1) - 60719] & 0xff) & 63;
+           l14 = (b[((int) l1) - 60447] & 0xff) & 63;
            L203: {
             if (l15 + Integer.MIN_VALUE > 2147483615) { break L203; }
             l13 = ((l13 << 6) & 1984) | l14;
             break L201;
            }
-           l16 = (b[((int) l1) - 60718] & 0xff) & 63;
+           l16 = (b[((int) l1) - 60446] & 0xff) & 63;
            L204: {
             if (l15 + Integer.MIN_VALUE > 2147483631) { break L204; }
             l13 = ((l14 << 6) | ((l13 << 12) & 61440)) | l16;
             break L201;
            }
-           l13 = ((l16 << 6) | ((l14 << 12) | ((l13 << 18) & 1835008))) | ((b[((int) l1) - 60717] & 0xff) & 63);
+           l13 = ((l16 << 6) | ((l14 << 12) | ((l13 << 18) & 1835008))) | ((b[((int) l1) - 60445] & 0xff) & 63);
           }
-          final int x219 = f117_6(m, l1, l2, l5, l9, l10, l13, l14, l15, l16, l17, l20);
+          final int x219 = f119_6(m, l1, l2, l5, l9, l10, l13, l14, l15, l16, l17, l20);
           l1 = m.kept[0];
           l9 = m.kept[1];
           l10 = m.kept[2];
@@ -1514,18 +1894,18 @@ static void f117(State m, long l0, long l1) {
         l13 = 1;
         l15 = 4;
         if (l12 != 0) { break L1; }
-        if ((l14 = (int) b[((int) l7) - 60720]) > -1) { break L1; }
+        if ((l14 = (int) b[((int) l7) - 60448]) > -1) { break L1; }
         if (l14 + Integer.MIN_VALUE < 2147483616) { break L1; }
         l16 = l14 & 255;
-        l12 = (b[((int) l7) - 60719] & 0xff) & 63;
-        l17 = (b[((int) l7) - 60718] & 0xff) & 63;
+        l12 = (b[((int) l7) - 60447] & 0xff) & 63;
+        l17 = (b[((int) l7) - 60446] & 0xff) & 63;
         L220: {
          L221: {
           if (l14 + Integer.MIN_VALUE > 2147483631) { break L221; }
           l14 = ((l12 << 6) | ((l16 << 12) & 61440)) | l17;
           break L220;
          }
-         l14 = ((l17 << 6) | ((l12 << 12) | ((l16 << 18) & 1835008))) | ((b[((int) l7) - 60717] & 0xff) & 63);
+         l14 = ((l17 << 6) | ((l12 << 12) | ((l16 << 18) & 1835008))) | ((b[((int) l7) - 60445] & 0xff) & 63);
         }
         L222: {
          if (l14 > 21543) { break L222; }
@@ -1549,25 +1929,25 @@ static void f117(State m, long l0, long l1) {
         if (l14 == 24230) { break L156; }
         if (l14 != 31859) { break L1; }
        }
-       l16 = (l13 = (int) b[((int) l7) - 60720]) & 255;
+       l16 = (l13 = (int) b[((int) l7) - 60448]) & 255;
        l10 = 1L;
        L225: {
         if (l13 > -1) { break L225; }
-        l15 = (b[((int) l7) - 60719] & 0xff) & 63;
+        l15 = (b[((int) l7) - 60447] & 0xff) & 63;
         L226: {
          if (l13 + Integer.MIN_VALUE > 2147483615) { break L226; }
          l16 = ((l16 << 6) & 1984) | l15;
          l10 = 2L;
          break L225;
         }
-        l14 = (b[((int) l7) - 60718] & 0xff) & 63;
+        l14 = (b[((int) l7) - 60446] & 0xff) & 63;
         L227: {
          if (l13 + Integer.MIN_VALUE > 2147483631) { break L227; }
          l16 = ((l15 << 6) | ((l16 << 12) & 61440)) | l14;
          l10 = 3L;
          break L225;
         }
-        l16 = ((l14 << 6) | ((l15 << 12) | ((l16 << 18) & 1835008))) | ((b[((int) l7) - 60717] & 0xff) & 63);
+        l16 = ((l14 << 6) | ((l15 << 12) | ((l16 << 18) & 1835008))) | ((b[((int) l7) - 60445] & 0xff) & 63);
         l10 = 4L;
        }
        L228: {
@@ -1598,34 +1978,34 @@ static void f117(State m, long l0, long l1) {
        L232: {
         L233: while (true) {
          if ((l7 = l9) == 0L) { break L232; }
-         l13 = (l15 = (int) b[((int) l1) - 60720]) & 255;
+         l13 = (l15 = (int) b[((int) l1) - 60448]) & 255;
          l10 = 1L;
          L234: {
           if (l15 > -1) { break L234; }
-          l14 = (b[((int) l1) - 60719] & 0xff) & 63;
+          l14 = (b[((int) l1) - 60447] & 0xff) & 63;
           L235: {
            if (l15 + Integer.MIN_VALUE > 2147483615) { break L235; }
            l13 = ((l13 << 6) & 1984) | l14;
            l10 = 2L;
            break L234;
           }
-          l12 = (b[((int) l1) - 60718] & 0xff) & 63;
+          l12 = (b[((int) l1) - 60446] & 0xff) & 63;
           L236: {
            if (l15 + Integer.MIN_VALUE > 2147483631) { break L236; }
            l13 = ((l14 << 6) | ((l13 << 12) & 61440)) | l12;
            l10 = 3L;
            break L234;
           }
-          l13 = ((l12 << 6) | ((l14 << 12) | ((l13 << 18) & 1835008))) | ((b[((int) l1) - 60717] & 0xff) & 63);
+          l13 = ((l12 << 6) | ((l14 << 12) | ((l13 << 18) & 1835008))) | ((b[((int) l1) - 60445] & 0xff) & 63);
           l10 = 4L;
          }
          l9 = l7 - l10;
          l1 = l1 + l10;
-         if (Core5.f159(m, l13) != 0) { continue L233; }
+         if (Core5.f168(m, l13) != 0) { continue L233; }
          break L233;
         }
        }
-       l15 = ((l13 = Core5.f160(m, l16, l5, l6, l11, l8 - l7)) != 0) ? 5 : 0;
+       l15 = ((l13 = Core5.f169(m, l16, l5, l6, l11, l8 - l7)) != 0) ? 5 : 0;
        if (l18 != 0) { break L1; }
        if (l13 != 0) { break L1; }
        break L154;
@@ -1637,27 +2017,27 @@ static void f117(State m, long l0, long l1) {
      }
      l13 = 0;
      L237: {
-      if ((l14 = (int) b[((int) (l3 + (l7 = l4 + -1L))) - 60720]) >= 0) { break L237; }
+      if ((l14 = (int) b[((int) (l3 + (l7 = l4 + -1L))) - 60448]) >= 0) { break L237; }
       l1 = -2L;
       L238: {
-       if ((b[((int) ((l10 = l3 + l4) + -2L)) - 60720] & 0xff) + Integer.MIN_VALUE > -2147483457) { break L238; }
-       l1 = ((b[((int) (l10 + -3L)) - 60720] & 0xff) + Integer.MIN_VALUE > -2147483457) ? -3L : -4L;
+       if ((b[((int) ((l10 = l3 + l4) + -2L)) - 60448] & 0xff) + Integer.MIN_VALUE > -2147483457) { break L238; }
+       l1 = ((b[((int) (l10 + -3L)) - 60448] & 0xff) + Integer.MIN_VALUE > -2147483457) ? -3L : -4L;
       }
-      l14 = (l15 = (int) b[((int) (l1 = l3 + (l7 = l1 + l4))) - 60720]) & 255;
+      l14 = (l15 = (int) b[((int) (l1 = l3 + (l7 = l1 + l4))) - 60448]) & 255;
       if (l15 > -1) { break L237; }
-      l16 = (b[((int) l1) - 60719] & 0xff) & 63;
+      l16 = (b[((int) l1) - 60447] & 0xff) & 63;
       L239: {
        if (l15 + Integer.MIN_VALUE > 2147483615) { break L239; }
        l14 = ((l14 << 6) & 1984) | l16;
        break L237;
       }
-      l12 = (b[((int) l1) - 60718] & 0xff) & 63;
+      l12 = (b[((int) l1) - 60446] & 0xff) & 63;
       L240: {
        if (l15 + Integer.MIN_VALUE > 2147483631) { break L240; }
        l14 = ((l16 << 6) | ((l14 << 12) & 61440)) | l12;
        break L237;
       }
-      l14 = ((l12 << 6) | ((l16 << 12) | ((l14 << 18) & 1835008))) | ((b[((int) l1) - 60717] & 0xff) & 63);
+      l14 = ((l12 << 6) | ((l16 << 12) | ((l14 << 18) & 1835008))) | ((b[((int) l1) - 60445] & 0xff) & 63);
      }
      L241: {
       L242: {
@@ -1691,33 +2071,33 @@ static void f117(State m, long l0, long l1) {
       L246: while (true) {
        if ((l1 = l10) == 0L) { break L245; }
        L247: {
-        if ((l13 = (int) b[((int) (l3 + (l10 = l1 + -1L))) - 60720]) >= 0) { break L247; }
+        if ((l13 = (int) b[((int) (l3 + (l10 = l1 + -1L))) - 60448]) >= 0) { break L247; }
         l10 = -2L;
         L248: {
-         if ((b[((int) ((l9 = l3 + l1) + -2L)) - 60720] & 0xff) + Integer.MIN_VALUE > -2147483457) { break L248; }
-         l10 = ((b[((int) (l9 + -3L)) - 60720] & 0xff) + Integer.MIN_VALUE > -2147483457) ? -3L : -4L;
+         if ((b[((int) ((l9 = l3 + l1) + -2L)) - 60448] & 0xff) + Integer.MIN_VALUE > -2147483457) { break L248; }
+         l10 = ((b[((int) (l9 + -3L)) - 60448] & 0xff) + Integer.MIN_VALUE > -2147483457) ? -3L : -4L;
         }
-        l13 = (l15 = (int) b[((int) (l9 = l3 + (l10 = l10 + l1))) - 60720]) & 255;
+        l13 = (l15 = (int) b[((int) (l9 = l3 + (l10 = l10 + l1))) - 60448]) & 255;
         if (l15 > -1) { break L247; }
-        l16 = (b[((int) l9) - 60719] & 0xff) & 63;
+        l16 = (b[((int) l9) - 60447] & 0xff) & 63;
         L249: {
          if (l15 + Integer.MIN_VALUE > 2147483615) { break L249; }
          l13 = ((l13 << 6) & 1984) | l16;
          break L247;
         }
-        l12 = (b[((int) l9) - 60718] & 0xff) & 63;
+        l12 = (b[((int) l9) - 60446] & 0xff) & 63;
         L250: {
          if (l15 + Integer.MIN_VALUE > 2147483631) { break L250; }
          l13 = ((l16 << 6) | ((l13 << 12) & 61440)) | l12;
          break L247;
         }
-        l13 = ((l12 << 6) | ((l16 << 12) | ((l13 << 18) & 1835008))) | ((b[((int) l9) - 60717] & 0xff) & 63);
+        l13 = ((l12 << 6) | ((l16 << 12) | ((l13 << 18) & 1835008))) | ((b[((int) l9) - 60445] & 0xff) & 63);
        }
-       if (Core5.f159(m, l13) != 0) { continue L246; }
+       if (Core5.f168(m, l13) != 0) { continue L246; }
        break L246;
       }
      }
-     l15 = ((l13 = Core5.f160(m, l14, l3 + l1, l7 - l1, l5, l6)) != 0) ? 5 : 0;
+     l15 = ((l13 = Core5.f169(m, l14, l3 + l1, l7 - l1, l5, l6)) != 0) ? 5 : 0;
      break L1;
     }
     l15 = 2;
@@ -1728,12 +2108,12 @@ static void f117(State m, long l0, long l1) {
   l13 = 1;
   l15 = 3;
  }
- b[((int) l0) - 60719] = (byte) l15;
- b[((int) l0) - 60720] = (byte) l13;
+ b[((int) l0) - 60447] = (byte) l15;
+ b[((int) l0) - 60448] = (byte) l13;
  m.g0 = l2 + 96L;
 }
 
-static int f118(State m, int l0) {
+static int f120(State m, int l0) {
  int l1 = 0;
  L1: {
   L2: {
@@ -1804,7 +2184,7 @@ static int f118(State m, int l0) {
  return l1;
 }
 
-static int f119(State m, long l0, long l1) {
+static int f121(State m, long l0, long l1) {
  final byte[] b = m.bytes;
  int l2 = 0;
  int l3 = 0;
@@ -1817,22 +2197,22 @@ static int f119(State m, long l0, long l1) {
      if (m.g0 < 16L) { break L4; }
      l2 = 0;
      if (l1 == 0L) { break L1; }
-     l3 = (l2 = (int) b[((int) l0) - 60720]) & 255;
+     l3 = (l2 = (int) b[((int) l0) - 60448]) & 255;
      L5: {
       if (l2 > -1) { break L5; }
-      l4 = (b[((int) l0) - 60719] & 0xff) & 63;
+      l4 = (b[((int) l0) - 60447] & 0xff) & 63;
       L6: {
        if (l2 + Integer.MIN_VALUE > 2147483615) { break L6; }
        l3 = ((l3 << 6) & 1984) | l4;
        break L5;
       }
-      l5 = (b[((int) l0) - 60718] & 0xff) & 63;
+      l5 = (b[((int) l0) - 60446] & 0xff) & 63;
       L7: {
        if (l2 + Integer.MIN_VALUE > 2147483631) { break L7; }
        l3 = ((l4 << 6) | ((l3 << 12) & 61440)) | l5;
        break L5;
       }
-      l3 = ((l5 << 6) | ((l4 << 12) | ((l3 << 18) & 1835008))) | ((b[((int) l0) - 60717] & 0xff) & 63);
+      l3 = ((l5 << 6) | ((l4 << 12) | ((l3 << 18) & 1835008))) | ((b[((int) l0) - 60445] & 0xff) & 63);
      }
      l2 = 1;
      if ((l3 + -48) + Integer.MIN_VALUE < -2147483638) { break L1; }
@@ -1880,7 +2260,7 @@ static int f119(State m, long l0, long l1) {
  return l2;
 }
 
-static void f120(State m, long l0, long l1, long l2) {
+static void f122(State m, long l0, long l1, long l2) {
  final byte[] b = m.bytes;
  long l3 = 0;
  long l4 = 0;
@@ -1902,25 +2282,25 @@ static void f120(State m, long l0, long l1, long l2) {
    l5 = l2;
    l4 = l1;
    L4: while (true) {
-    l8 = (l7 = (int) b[((int) l4) - 60720]) & 255;
+    l8 = (l7 = (int) b[((int) l4) - 60448]) & 255;
     l6 = 1L;
     L5: {
      if (l7 > -1) { break L5; }
-     l9 = (b[((int) l4) - 60719] & 0xff) & 63;
+     l9 = (b[((int) l4) - 60447] & 0xff) & 63;
      L6: {
       if (l7 + Integer.MIN_VALUE > 2147483615) { break L6; }
       l8 = ((l8 << 6) & 1984) | l9;
       l6 = 2L;
       break L5;
      }
-     l10 = (b[((int) l4) - 60718] & 0xff) & 63;
+     l10 = (b[((int) l4) - 60446] & 0xff) & 63;
      L7: {
       if (l7 + Integer.MIN_VALUE > 2147483631) { break L7; }
       l8 = ((l9 << 6) | ((l8 << 12) & 61440)) | l10;
       l6 = 3L;
       break L5;
      }
-     l8 = ((l10 << 6) | ((l9 << 12) | ((l8 << 18) & 1835008))) | ((b[((int) l4) - 60717] & 0xff) & 63);
+     l8 = ((l10 << 6) | ((l9 << 12) | ((l8 << 18) & 1835008))) | ((b[((int) l4) - 60445] & 0xff) & 63);
      l6 = 4L;
     }
     L8: {
@@ -1982,16 +2362,16 @@ static void f120(State m, long l0, long l1, long l2) {
     break L4;
    }
   }
-  Words.put64(b, ((int) l0) - 60696, l3);
-  Words.put64(b, ((int) l0) - 60704, l4);
-  Words.put64(b, ((int) l0) - 60720, l1);
-  Words.put64(b, ((int) l0) - 60712, l2 - l3);
+  Words.put64(b, ((int) l0) - 60424, l3);
+  Words.put64(b, ((int) l0) - 60432, l4);
+  Words.put64(b, ((int) l0) - 60448, l1);
+  Words.put64(b, ((int) l0) - 60440, l2 - l3);
   return;
  }
  throw State.trap();
 }
 
-static void f121(State m, long l0, int l1, long l2, long l3) {
+static void f123(State m, long l0, int l1, long l2, long l3) {
  final byte[] b = m.bytes;
  long l4 = 0;
  long l5 = 0;
@@ -2009,45 +2389,45 @@ static void f121(State m, long l0, int l1, long l2, long l3) {
      l4 = 0L;
      break L3;
     }
-    l7 = (l6 = (int) b[((int) l2) - 60720]) & 255;
+    l7 = (l6 = (int) b[((int) l2) - 60448]) & 255;
     l5 = 1L;
     L5: {
      if (l6 > -1) { break L5; }
-     l8 = (b[((int) l2) - 60719] & 0xff) & 63;
+     l8 = (b[((int) l2) - 60447] & 0xff) & 63;
      L6: {
       if (l6 + Integer.MIN_VALUE > 2147483615) { break L6; }
       l7 = ((l7 << 6) & 1984) | l8;
       l5 = 2L;
       break L5;
      }
-     l9 = (b[((int) l2) - 60718] & 0xff) & 63;
+     l9 = (b[((int) l2) - 60446] & 0xff) & 63;
      L7: {
       if (l6 + Integer.MIN_VALUE > 2147483631) { break L7; }
       l7 = ((l8 << 6) | ((l7 << 12) & 61440)) | l9;
       l5 = 3L;
       break L5;
      }
-     l7 = ((l9 << 6) | ((l8 << 12) | ((l7 << 18) & 1835008))) | ((b[((int) l2) - 60717] & 0xff) & 63);
+     l7 = ((l9 << 6) | ((l8 << 12) | ((l7 << 18) & 1835008))) | ((b[((int) l2) - 60445] & 0xff) & 63);
      l5 = 4L;
     }
     L8: {
      if ((l4 = l3 - l5) == 0L) { break L8; }
-     l8 = (l6 = (int) b[((int) (l5 = l2 + l5)) - 60720]) & 255;
+     l8 = (l6 = (int) b[((int) (l5 = l2 + l5)) - 60448]) & 255;
      L9: {
       if (l6 > -1) { break L9; }
-      l9 = (b[((int) l5) - 60719] & 0xff) & 63;
+      l9 = (b[((int) l5) - 60447] & 0xff) & 63;
       L10: {
        if (l6 + Integer.MIN_VALUE > 2147483615) { break L10; }
        l8 = ((l8 << 6) & 1984) | l9;
        break L9;
       }
-      l10 = (b[((int) l5) - 60718] & 0xff) & 63;
+      l10 = (b[((int) l5) - 60446] & 0xff) & 63;
       L11: {
        if (l6 + Integer.MIN_VALUE > 2147483631) { break L11; }
        l8 = ((l9 << 6) | ((l8 << 12) & 61440)) | l10;
        break L9;
       }
-      l8 = ((l10 << 6) | ((l9 << 12) | ((l8 << 18) & 1835008))) | ((b[((int) l5) - 60717] & 0xff) & 63);
+      l8 = ((l10 << 6) | ((l9 << 12) | ((l8 << 18) & 1835008))) | ((b[((int) l5) - 60445] & 0xff) & 63);
      }
      if (l7 != 32) { break L8; }
      if (l1 != 0) { break L2; }
@@ -2058,14 +2438,14 @@ static void f121(State m, long l0, int l1, long l2, long l3) {
    }
    l5 = l2;
   }
-  Words.put64(b, ((int) l0) - 60712, l4);
-  Words.put64(b, ((int) l0) - 60720, l5);
+  Words.put64(b, ((int) l0) - 60440, l4);
+  Words.put64(b, ((int) l0) - 60448, l5);
   return;
  }
  throw State.trap();
 }
 
-static int f122_1(State m, long l1, long l2, long l8, long l9, long l13, long l14, long l15, long l16, long l18, long l20, long l21, long l22, long l23, long l24, long l25, int l27, int l28, int l29, int l30, int l31, int l32) {
+static int f124_1(State m, long l1, long l2, long l8, long l9, long l13, long l14, long l15, long l16, long l18, long l20, long l21, long l22, long l23, long l24, long l25, int l27, int l28, int l29, int l30, int l31, int l32) {
  final byte[] b = m.bytes;
  int exit = 0;
  PART: {
@@ -2080,49 +2460,49 @@ static int f122_1(State m, long l1, long l2, long l8, long l9, long l13, long l1
    }
    L50: {
     if ((l27 = (l9 == 0L) ? 1 : 0) != 0) { break L50; }
-    if ((l30 = (int) b[((int) l20) - 60720]) > -1) { break L50; }
+    if ((l30 = (int) b[((int) l20) - 60448]) > -1) { break L50; }
     if (l30 + Integer.MIN_VALUE < 2147483616) { break L50; }
     l29 = l30 & 255;
-    l32 = (b[((int) l20) - 60719] & 0xff) & 63;
-    l31 = (b[((int) l20) - 60718] & 0xff) & 63;
+    l32 = (b[((int) l20) - 60447] & 0xff) & 63;
+    l31 = (b[((int) l20) - 60446] & 0xff) & 63;
     L51: {
      L52: {
       if (l30 + Integer.MIN_VALUE > 2147483631) { break L52; }
       l30 = ((l32 << 6) | ((l29 << 12) & 61440)) | l31;
       break L51;
      }
-     l30 = ((l31 << 6) | ((l32 << 12) | ((l29 << 18) & 1835008))) | ((b[((int) l20) - 60717] & 0xff) & 63);
+     l30 = ((l31 << 6) | ((l32 << 12) | ((l29 << 18) & 1835008))) | ((b[((int) l20) - 60445] & 0xff) & 63);
     }
     L53: {
      if (l30 == 38047) { break L53; }
      if (l30 != 37912) { break L50; }
     }
-    if (f131(m, 83680L, 2L, 84880L, 1L, l20, l9) == 0) { exit = 2; break PART; }
+    if (f140(m, 83680L, 2L, 84880L, 1L, l20, l9) == 0) { exit = 2; break PART; }
    }
    L54: {
     L55: {
      L56: {
       if (l28 != 0) { break L56; }
-      if (((int) b[((int) l16) - 60720]) > -1) { break L56; }
+      if (((int) b[((int) l16) - 60448]) > -1) { break L56; }
       l22 = l14;
-      l29 = l30 = b[((int) l14) - 60720] & 0xff;
+      l29 = l30 = b[((int) l14) - 60448] & 0xff;
       L57: {
        L58: {
         L59: {
          if (l30 + Integer.MIN_VALUE > -2147483457) { break L59; }
-         if ((l29 = (int) b[((int) (l22 = l13 + (((b[((int) l15) - 60720] & 0xff) + Integer.MIN_VALUE > -2147483457) ? -3L : -4L))) - 60720]) > -1) { break L58; }
+         if ((l29 = (int) b[((int) (l22 = l13 + (((b[((int) l15) - 60448] & 0xff) + Integer.MIN_VALUE > -2147483457) ? -3L : -4L))) - 60448]) > -1) { break L58; }
         }
         L60: {
          if ((l29 = l29 & 255) + Integer.MIN_VALUE < -2147483424) { break L60; }
-         l32 = (b[((int) l22) - 60719] & 0xff) & 63;
-         l31 = (b[((int) l22) - 60718] & 0xff) & 63;
+         l32 = (b[((int) l22) - 60447] & 0xff) & 63;
+         l31 = (b[((int) l22) - 60446] & 0xff) & 63;
          L61: {
           L62: {
            if (l29 + Integer.MIN_VALUE > -2147483409) { break L62; }
            l29 = ((l32 << 6) | ((l29 << 12) & 61440)) | l31;
            break L61;
           }
-          l29 = ((l31 << 6) | ((l32 << 12) | ((l29 << 18) & 1835008))) | ((b[((int) l22) - 60717] & 0xff) & 63);
+          l29 = ((l31 << 6) | ((l32 << 12) | ((l29 << 18) & 1835008))) | ((b[((int) l22) - 60445] & 0xff) & 63);
          }
          if (l29 == 21495) { exit = 2; break PART; }
          if (l29 == 26085) { exit = 2; break PART; }
@@ -2131,41 +2511,41 @@ static int f122_1(State m, long l1, long l2, long l8, long l9, long l13, long l1
         l22 = -2L;
         if (l30 + Integer.MIN_VALUE > -2147483457) { break L57; }
        }
-       l22 = ((b[((int) l15) - 60720] & 0xff) + Integer.MIN_VALUE > -2147483457) ? -3L : -4L;
+       l22 = ((b[((int) l15) - 60448] & 0xff) + Integer.MIN_VALUE > -2147483457) ? -3L : -4L;
       }
-      if ((l30 = (int) b[((int) (l22 = l1 + (l23 = l22 + l2))) - 60720]) > -1) { break L56; }
+      if ((l30 = (int) b[((int) (l22 = l1 + (l23 = l22 + l2))) - 60448]) > -1) { break L56; }
       if (l30 + Integer.MIN_VALUE < 2147483616) { break L56; }
       l29 = l30 & 255;
-      l32 = (b[((int) l22) - 60719] & 0xff) & 63;
-      l31 = (b[((int) l22) - 60718] & 0xff) & 63;
+      l32 = (b[((int) l22) - 60447] & 0xff) & 63;
+      l31 = (b[((int) l22) - 60446] & 0xff) & 63;
       L63: {
        L64: {
         if (l30 + Integer.MIN_VALUE > 2147483631) { break L64; }
         l30 = ((l32 << 6) | ((l29 << 12) & 61440)) | l31;
         break L63;
        }
-       l30 = ((l31 << 6) | ((l32 << 12) | ((l29 << 18) & 1835008))) | ((b[((int) l22) - 60717] & 0xff) & 63);
+       l30 = ((l31 << 6) | ((l32 << 12) | ((l29 << 18) & 1835008))) | ((b[((int) l22) - 60445] & 0xff) & 63);
       }
       if (l23 == 0L) { break L56; }
       if (l30 != 22825) { break L56; }
-      if (((int) b[((int) (l22 + -1L)) - 60720]) > -1) { break L56; }
+      if (((int) b[((int) (l22 + -1L)) - 60448]) > -1) { break L56; }
       l24 = -2L;
       L65: {
-       if ((b[((int) (l22 + -2L)) - 60720] & 0xff) + Integer.MIN_VALUE > -2147483457) { break L65; }
-       l24 = ((b[((int) (l22 + -3L)) - 60720] & 0xff) + Integer.MIN_VALUE > -2147483457) ? -3L : -4L;
+       if ((b[((int) (l22 + -2L)) - 60448] & 0xff) + Integer.MIN_VALUE > -2147483457) { break L65; }
+       l24 = ((b[((int) (l22 + -3L)) - 60448] & 0xff) + Integer.MIN_VALUE > -2147483457) ? -3L : -4L;
       }
-      if ((l30 = (int) b[((int) (l22 = (l1 + l24) + l23)) - 60720]) > -1) { break L56; }
+      if ((l30 = (int) b[((int) (l22 = (l1 + l24) + l23)) - 60448]) > -1) { break L56; }
       if (l30 + Integer.MIN_VALUE < 2147483616) { break L56; }
       l29 = l30 & 255;
-      l32 = (b[((int) l22) - 60719] & 0xff) & 63;
-      l31 = (b[((int) l22) - 60718] & 0xff) & 63;
+      l32 = (b[((int) l22) - 60447] & 0xff) & 63;
+      l31 = (b[((int) l22) - 60446] & 0xff) & 63;
       L66: {
        L67: {
         if (l30 + Integer.MIN_VALUE > 2147483631) { break L67; }
         l30 = ((l32 << 6) | ((l29 << 12) & 61440)) | l31;
         break L66;
        }
-       l30 = ((l31 << 6) | ((l32 << 12) | ((l29 << 18) & 1835008))) | ((b[((int) l22) - 60717] & 0xff) & 63);
+       l30 = ((l31 << 6) | ((l32 << 12) | ((l29 << 18) & 1835008))) | ((b[((int) l22) - 60445] & 0xff) & 63);
       }
       L68: {
        if (l30 > 24459) { break L68; }
@@ -2190,42 +2570,42 @@ static int f122_1(State m, long l1, long l2, long l8, long l9, long l13, long l1
       if (l30 == 30070) { break L55; }
      }
      L71: {
-      if (f131(m, 84884L, 1L, 84888L, 1L, l20, l9) != 0) { break L71; }
-      if (f131(m, 84892L, 4L, 84908L, 7L, l20, l9) != 0) { break L71; }
+      if (f140(m, 84884L, 1L, 84888L, 1L, l20, l9) != 0) { break L71; }
+      if (f140(m, 84892L, 4L, 84908L, 7L, l20, l9) != 0) { break L71; }
       if (l27 != 0) { break L54; }
-      if ((l27 = (int) b[((int) l20) - 60720]) > -1) { break L54; }
+      if ((l27 = (int) b[((int) l20) - 60448]) > -1) { break L54; }
       if (l27 + Integer.MIN_VALUE < 2147483616) { break L54; }
       l30 = l27 & 255;
-      l29 = (b[((int) l20) - 60719] & 0xff) & 63;
-      l32 = (b[((int) l20) - 60718] & 0xff) & 63;
+      l29 = (b[((int) l20) - 60447] & 0xff) & 63;
+      l32 = (b[((int) l20) - 60446] & 0xff) & 63;
       L72: {
        L73: {
         if (l27 + Integer.MIN_VALUE > 2147483631) { break L73; }
         l27 = ((l29 << 6) | ((l30 << 12) & 61440)) | l32;
         break L72;
        }
-       l27 = ((l32 << 6) | ((l29 << 12) | ((l30 << 18) & 1835008))) | ((b[((int) l20) - 60717] & 0xff) & 63);
+       l27 = ((l32 << 6) | ((l29 << 12) | ((l30 << 18) & 1835008))) | ((b[((int) l20) - 60445] & 0xff) & 63);
       }
       if (l27 != 21069) { break L54; }
-      if (f131(m, 84936L, 1L, 84940L, 30L, l20, l9) != 0) { break L54; }
+      if (f140(m, 84936L, 1L, 84940L, 30L, l20, l9) != 0) { break L54; }
      }
      if (l28 != 0) { break L55; }
-     if (((int) b[((int) l16) - 60720]) > -1) { break L55; }
+     if (((int) b[((int) l16) - 60448]) > -1) { break L55; }
      l22 = l14;
      L74: {
-      if ((l27 = b[((int) l14) - 60720] & 0xff) + Integer.MIN_VALUE > -2147483457) { break L74; }
-      if ((l27 = (int) b[((int) (l22 = l13 + (((b[((int) l15) - 60720] & 0xff) + Integer.MIN_VALUE > -2147483457) ? -3L : -4L))) - 60720]) > -1) { break L55; }
+      if ((l27 = b[((int) l14) - 60448] & 0xff) + Integer.MIN_VALUE > -2147483457) { break L74; }
+      if ((l27 = (int) b[((int) (l22 = l13 + (((b[((int) l15) - 60448] & 0xff) + Integer.MIN_VALUE > -2147483457) ? -3L : -4L))) - 60448]) > -1) { break L55; }
      }
      if ((l27 = l27 & 255) + Integer.MIN_VALUE < -2147483424) { break L55; }
-     l30 = (b[((int) l22) - 60719] & 0xff) & 63;
-     l29 = (b[((int) l22) - 60718] & 0xff) & 63;
+     l30 = (b[((int) l22) - 60447] & 0xff) & 63;
+     l29 = (b[((int) l22) - 60446] & 0xff) & 63;
      L75: {
       L76: {
        if (l27 + Integer.MIN_VALUE > -2147483409) { break L76; }
        l27 = ((l30 << 6) | ((l27 << 12) & 61440)) | l29;
        break L75;
       }
-      l27 = ((l29 << 6) | ((l30 << 12) | ((l27 << 18) & 1835008))) | ((b[((int) l22) - 60717] & 0xff) & 63);
+      l27 = ((l29 << 6) | ((l30 << 12) | ((l27 << 18) & 1835008))) | ((b[((int) l22) - 60445] & 0xff) & 63);
      }
      L77: {
       if (l27 > 26367) { break L77; }
@@ -2260,104 +2640,104 @@ static int f122_1(State m, long l1, long l2, long l8, long l9, long l13, long l1
     }
     if ((l21 & 281470681743360L) != 4294967296L) { exit = 2; break PART; }
    }
-   if (f132(m, 84852L, 7L, l1, l2) != 0) { exit = 2; break PART; }
-   Words.put64(b, ((int) l8) - 60648, 0L);
-   Words.put64(b, ((int) l8) - 60656, 0L);
-   Words.put64(b, ((int) l8) - 60664, 0L);
-   f123(m, l8 + 56L, 14, l20, l9);
-   if ((b[((int) l8) - 60664] & 0xff) != 1) { exit = 1; break PART; }
-   l22 = Words.get64(b, ((int) l8) - 60656);
+   if (f141(m, 84852L, 7L, l1, l2) != 0) { exit = 2; break PART; }
+   Words.put64(b, ((int) l8) - 60376, 0L);
+   Words.put64(b, ((int) l8) - 60384, 0L);
+   Words.put64(b, ((int) l8) - 60392, 0L);
+   f125(m, l8 + 56L, 14, l20, l9);
+   if ((b[((int) l8) - 60392] & 0xff) != 1) { exit = 1; break PART; }
+   l22 = Words.get64(b, ((int) l8) - 60384);
    L81: {
     L82: {
-     if ((l23 = Words.get64(b, ((int) l8) - 60648)) == 0L) { break L82; }
-     l27 = (l30 = (int) b[((int) l22) - 60720]) & 255;
+     if ((l23 = Words.get64(b, ((int) l8) - 60376)) == 0L) { break L82; }
+     l27 = (l30 = (int) b[((int) l22) - 60448]) & 255;
      L83: {
       if (l30 > -1) { break L83; }
-      l29 = (b[((int) l22) - 60719] & 0xff) & 63;
+      l29 = (b[((int) l22) - 60447] & 0xff) & 63;
       L84: {
        if (l30 + Integer.MIN_VALUE > 2147483615) { break L84; }
        l27 = ((l27 << 6) & 1984) | l29;
        break L83;
       }
-      l28 = (b[((int) l22) - 60718] & 0xff) & 63;
+      l28 = (b[((int) l22) - 60446] & 0xff) & 63;
       L85: {
        if (l30 + Integer.MIN_VALUE > 2147483631) { break L85; }
        l27 = ((l29 << 6) | ((l27 << 12) & 61440)) | l28;
        break L83;
       }
-      l27 = ((l28 << 6) | ((l29 << 12) | ((l27 << 18) & 1835008))) | ((b[((int) l22) - 60717] & 0xff) & 63);
+      l27 = ((l28 << 6) | ((l29 << 12) | ((l27 << 18) & 1835008))) | ((b[((int) l22) - 60445] & 0xff) & 63);
      }
      if (l27 == 32) { break L81; }
     }
-    Words.put64(b, ((int) l8) - 60592, l23);
-    Words.put64(b, ((int) l8) - 60600, l22);
-    Words.put64(b, ((int) l8) - 60608, 0L);
-    Words.put64(b, ((int) l8) - 60616, 0L);
-    Words.put64(b, ((int) l8) - 60624, 0L);
-    Words.put64(b, ((int) l8) - 60632, 0L);
-    Words.put64(b, ((int) l8) - 60640, 0L);
-    f130(m, l8 + 80L, 0, 4, l8 + 112L);
-    if ((b[((int) l8) - 60640] & 0xff) != 1) { break L81; }
-    Words.put64(b, ((int) l8) - 60592, l24 = Words.get64(b, ((int) l18) - 60704));
-    Words.put64(b, ((int) l8) - 60600, l25 = Words.get64(b, ((int) l18) - 60712));
-    Words.put64(b, ((int) l8) - 60608, Words.get64(b, ((int) l18) - 60720));
-    Words.put64(b, ((int) l8) - 60584, 0L);
-    Words.put64(b, ((int) l8) - 60576, 0L);
-    Words.put64(b, ((int) l8) - 60568, 0L);
-    f121(m, l8 + 40L, (b[((int) l8) - 60602] & 0xff) & 1, l25, l24);
-    f123(m, l8 + 136L, 4, Words.get64(b, ((int) l8) - 60680), Words.get64(b, ((int) l8) - 60672));
-    if ((b[((int) l8) - 60584] & 0xff) == 1) { exit = 2; break PART; }
+    Words.put64(b, ((int) l8) - 60320, l23);
+    Words.put64(b, ((int) l8) - 60328, l22);
+    Words.put64(b, ((int) l8) - 60336, 0L);
+    Words.put64(b, ((int) l8) - 60344, 0L);
+    Words.put64(b, ((int) l8) - 60352, 0L);
+    Words.put64(b, ((int) l8) - 60360, 0L);
+    Words.put64(b, ((int) l8) - 60368, 0L);
+    f139(m, l8 + 80L, 0, 4, l8 + 112L);
+    if ((b[((int) l8) - 60368] & 0xff) != 1) { break L81; }
+    Words.put64(b, ((int) l8) - 60320, l24 = Words.get64(b, ((int) l18) - 60432));
+    Words.put64(b, ((int) l8) - 60328, l25 = Words.get64(b, ((int) l18) - 60440));
+    Words.put64(b, ((int) l8) - 60336, Words.get64(b, ((int) l18) - 60448));
+    Words.put64(b, ((int) l8) - 60312, 0L);
+    Words.put64(b, ((int) l8) - 60304, 0L);
+    Words.put64(b, ((int) l8) - 60296, 0L);
+    f123(m, l8 + 40L, (b[((int) l8) - 60330] & 0xff) & 1, l25, l24);
+    f125(m, l8 + 136L, 4, Words.get64(b, ((int) l8) - 60408), Words.get64(b, ((int) l8) - 60400));
+    if ((b[((int) l8) - 60312] & 0xff) == 1) { exit = 2; break PART; }
    }
-   Words.put64(b, ((int) l8) - 60624, 0L);
-   Words.put64(b, ((int) l8) - 60632, 0L);
-   Words.put64(b, ((int) l8) - 60640, 0L);
-   f123(m, l8 + 80L, 21, l22, l23);
+   Words.put64(b, ((int) l8) - 60352, 0L);
+   Words.put64(b, ((int) l8) - 60360, 0L);
+   Words.put64(b, ((int) l8) - 60368, 0L);
+   f125(m, l8 + 80L, 21, l22, l23);
    L86: {
-    if ((b[((int) l8) - 60640] & 0xff) != 1) { break L86; }
-    l24 = Words.get64(b, ((int) l8) - 60632);
-    Words.put64(b, ((int) l8) - 60592, Words.get64(b, ((int) l8) - 60624));
-    Words.put64(b, ((int) l8) - 60600, l24);
-    Words.put64(b, ((int) l8) - 60608, 0L);
-    Words.put64(b, ((int) l8) - 60616, 0L);
-    Words.put64(b, ((int) l8) - 60624, 0L);
-    Words.put64(b, ((int) l8) - 60632, 0L);
-    Words.put64(b, ((int) l8) - 60640, 0L);
-    f130(m, l8 + 80L, 0, 4, l8 + 112L);
-    if ((b[((int) l8) - 60640] & 0xff) != 1) { break L86; }
-    Words.put64(b, ((int) l8) - 60592, l24 = Words.get64(b, ((int) l18) - 60704));
-    Words.put64(b, ((int) l8) - 60600, l25 = Words.get64(b, ((int) l18) - 60712));
-    Words.put64(b, ((int) l8) - 60608, Words.get64(b, ((int) l18) - 60720));
-    Words.put64(b, ((int) l8) - 60584, 0L);
-    Words.put64(b, ((int) l8) - 60576, 0L);
-    Words.put64(b, ((int) l8) - 60568, 0L);
-    f121(m, l8 + 24L, (b[((int) l8) - 60602] & 0xff) & 1, l25, l24);
-    f123(m, l8 + 136L, 4, Words.get64(b, ((int) l8) - 60696), Words.get64(b, ((int) l8) - 60688));
-    if ((b[((int) l8) - 60584] & 0xff) == 1) { exit = 2; break PART; }
+    if ((b[((int) l8) - 60368] & 0xff) != 1) { break L86; }
+    l24 = Words.get64(b, ((int) l8) - 60360);
+    Words.put64(b, ((int) l8) - 60320, Words.get64(b, ((int) l8) - 60352));
+    Words.put64(b, ((int) l8) - 60328, l24);
+    Words.put64(b, ((int) l8) - 60336, 0L);
+    Words.put64(b, ((int) l8) - 60344, 0L);
+    Words.put64(b, ((int) l8) - 60352, 0L);
+    Words.put64(b, ((int) l8) - 60360, 0L);
+    Words.put64(b, ((int) l8) - 60368, 0L);
+    f139(m, l8 + 80L, 0, 4, l8 + 112L);
+    if ((b[((int) l8) - 60368] & 0xff) != 1) { break L86; }
+    Words.put64(b, ((int) l8) - 60320, l24 = Words.get64(b, ((int) l18) - 60432));
+    Words.put64(b, ((int) l8) - 60328, l25 = Words.get64(b, ((int) l18) - 60440));
+    Words.put64(b, ((int) l8) - 60336, Words.get64(b, ((int) l18) - 60448));
+    Words.put64(b, ((int) l8) - 60312, 0L);
+    Words.put64(b, ((int) l8) - 60304, 0L);
+    Words.put64(b, ((int) l8) - 60296, 0L);
+    f123(m, l8 + 24L, (b[((int) l8) - 60330] & 0xff) & 1, l25, l24);
+    f125(m, l8 + 136L, 4, Words.get64(b, ((int) l8) - 60424), Words.get64(b, ((int) l8) - 60416));
+    if ((b[((int) l8) - 60312] & 0xff) == 1) { exit = 2; break PART; }
    }
-   Words.put64(b, ((int) l8) - 60624, 0L);
-   Words.put64(b, ((int) l8) - 60632, 0L);
-   Words.put64(b, ((int) l8) - 60640, 0L);
-   f123(m, l8 + 80L, 22, l22, l23);
-   if ((b[((int) l8) - 60640] & 0xff) != 1) { exit = 1; break PART; }
-   l22 = Words.get64(b, ((int) l8) - 60632);
-   Words.put64(b, ((int) l8) - 60592, Words.get64(b, ((int) l8) - 60624));
-   Words.put64(b, ((int) l8) - 60600, l22);
-   Words.put64(b, ((int) l8) - 60608, 0L);
-   Words.put64(b, ((int) l8) - 60616, 0L);
-   Words.put64(b, ((int) l8) - 60624, 0L);
-   Words.put64(b, ((int) l8) - 60632, 0L);
-   Words.put64(b, ((int) l8) - 60640, 0L);
-   f130(m, l8 + 80L, 0, 4, l8 + 112L);
-   if ((b[((int) l8) - 60640] & 0xff) != 1) { exit = 1; break PART; }
-   Words.put64(b, ((int) l8) - 60592, l22 = Words.get64(b, ((int) l18) - 60704));
-   Words.put64(b, ((int) l8) - 60600, l23 = Words.get64(b, ((int) l18) - 60712));
-   Words.put64(b, ((int) l8) - 60608, Words.get64(b, ((int) l18) - 60720));
-   Words.put64(b, ((int) l8) - 60584, 0L);
-   Words.put64(b, ((int) l8) - 60576, 0L);
-   Words.put64(b, ((int) l8) - 60568, 0L);
-   f121(m, l8 + 8L, (b[((int) l8) - 60602] & 0xff) & 1, l23, l22);
-   f123(m, l8 + 136L, 4, Words.get64(b, ((int) l8) - 60712), Words.get64(b, ((int) l8) - 60704));
-   if ((b[((int) l8) - 60584] & 0xff) == 1) { exit = 2; break PART; }
+   Words.put64(b, ((int) l8) - 60352, 0L);
+   Words.put64(b, ((int) l8) - 60360, 0L);
+   Words.put64(b, ((int) l8) - 60368, 0L);
+   f125(m, l8 + 80L, 22, l22, l23);
+   if ((b[((int) l8) - 60368] & 0xff) != 1) { exit = 1; break PART; }
+   l22 = Words.get64(b, ((int) l8) - 60360);
+   Words.put64(b, ((int) l8) - 60320, Words.get64(b, ((int) l8) - 60352));
+   Words.put64(b, ((int) l8) - 60328, l22);
+   Words.put64(b, ((int) l8) - 60336, 0L);
+   Words.put64(b, ((int) l8) - 60344, 0L);
+   Words.put64(b, ((int) l8) - 60352, 0L);
+   Words.put64(b, ((int) l8) - 60360, 0L);
+   Words.put64(b, ((int) l8) - 60368, 0L);
+   f139(m, l8 + 80L, 0, 4, l8 + 112L);
+   if ((b[((int) l8) - 60368] & 0xff) != 1) { exit = 1; break PART; }
+   Words.put64(b, ((int) l8) - 60320, l22 = Words.get64(b, ((int) l18) - 60432));
+   Words.put64(b, ((int) l8) - 60328, l23 = Words.get64(b, ((int) l18) - 60440));
+   Words.put64(b, ((int) l8) - 60336, Words.get64(b, ((int) l18) - 60448));
+   Words.put64(b, ((int) l8) - 60312, 0L);
+   Words.put64(b, ((int) l8) - 60304, 0L);
+   Words.put64(b, ((int) l8) - 60296, 0L);
+   f123(m, l8 + 8L, (b[((int) l8) - 60330] & 0xff) & 1, l23, l22);
+   f125(m, l8 + 136L, 4, Words.get64(b, ((int) l8) - 60440), Words.get64(b, ((int) l8) - 60432));
+   if ((b[((int) l8) - 60312] & 0xff) == 1) { exit = 2; break PART; }
    exit = 1; break PART;
   }
  }
@@ -2374,7 +2754,7 @@ static int f122_1(State m, long l1, long l2, long l8, long l9, long l13, long l1
  return exit;
 }
 
-static void f122(State m, long l0, long l1, long l2, long l3, long l4, int l5, long l6, long l7) {
+static void f124(State m, long l0, long l1, long l2, long l3, long l4, int l5, long l6, long l7) {
  final byte[] b = m.bytes;
  long l8 = 0;
  long l9 = 0;
@@ -2425,36 +2805,36 @@ static void f122(State m, long l0, long l1, long l2, long l3, long l4, int l5, l
    l11 = 0L;
    l10 = 0L;
    L4: while (true) {
-    l27 = b[((int) (l6 + (l7 = l7 + -1L))) - 60720] & 0xff;
-    Words.put64(b, ((int) l8) - 60592, 0L);
-    Words.put64(b, ((int) l8) - 60600, 0L);
-    Words.put64(b, ((int) l8) - 60608, 0L);
-    f129(m, l8 + 112L, l5, l3, l4);
+    l27 = b[((int) (l6 + (l7 = l7 + -1L))) - 60448] & 0xff;
+    Words.put64(b, ((int) l8) - 60320, 0L);
+    Words.put64(b, ((int) l8) - 60328, 0L);
+    Words.put64(b, ((int) l8) - 60336, 0L);
+    f138(m, l8 + 112L, l5, l3, l4);
     L5: {
-     if ((b[((int) l8) - 60608] & 0xff) != 1) { break L5; }
-     l9 = Words.get64(b, ((int) l8) - 60600);
-     Words.put64(b, ((int) l8) - 60568, Words.get64(b, ((int) l8) - 60592));
-     Words.put64(b, ((int) l8) - 60576, l9);
-     Words.put64(b, ((int) l8) - 60584, 0L);
-     Words.put64(b, ((int) l8) - 60616, 0L);
-     Words.put64(b, ((int) l8) - 60624, 0L);
-     Words.put64(b, ((int) l8) - 60632, 0L);
-     Words.put64(b, ((int) l8) - 60640, 0L);
-     l9 = Words.get64(b, State.far((int) (l20 = (l19 = l27 & 0xffffffffL) << 3L), 88568));
-     l20 = Words.get64(b, State.far((int) l20, 88312));
+     if ((b[((int) l8) - 60336] & 0xff) != 1) { break L5; }
+     l9 = Words.get64(b, ((int) l8) - 60328);
+     Words.put64(b, ((int) l8) - 60296, Words.get64(b, ((int) l8) - 60320));
+     Words.put64(b, ((int) l8) - 60304, l9);
+     Words.put64(b, ((int) l8) - 60312, 0L);
+     Words.put64(b, ((int) l8) - 60344, 0L);
+     Words.put64(b, ((int) l8) - 60352, 0L);
+     Words.put64(b, ((int) l8) - 60360, 0L);
+     Words.put64(b, ((int) l8) - 60368, 0L);
+     l9 = Words.get64(b, State.far((int) (l20 = (l19 = l27 & 0xffffffffL) << 3L), 89472));
+     l20 = Words.get64(b, State.far((int) l20, 89216));
      L6: while (true) {
-      f130(m, l8 + 80L, b[((int) l9) - 60720] & 0xff, b[((int) (l9 + 1L)) - 60720] & 0xff, l8 + 136L);
-      if ((b[((int) l8) - 60640] & 0xff) != 1) { break L5; }
-      Words.put64(b, ((int) l8) - 60568, Words.get64(b, ((int) l18) - 60704));
-      Words.put64(b, ((int) l8) - 60576, Words.get64(b, ((int) l18) - 60712));
-      Words.put64(b, ((int) l8) - 60584, Words.get64(b, ((int) l18) - 60720));
+      f139(m, l8 + 80L, b[((int) l9) - 60448] & 0xff, b[((int) (l9 + 1L)) - 60448] & 0xff, l8 + 136L);
+      if ((b[((int) l8) - 60368] & 0xff) != 1) { break L5; }
+      Words.put64(b, ((int) l8) - 60296, Words.get64(b, ((int) l18) - 60432));
+      Words.put64(b, ((int) l8) - 60304, Words.get64(b, ((int) l18) - 60440));
+      Words.put64(b, ((int) l8) - 60312, Words.get64(b, ((int) l18) - 60448));
       l9 = l9 + 2L;
       if (!((l20 = l20 + -1L) == 0L)) { continue L6; }
       break L6;
      }
-     l9 = Words.get64(b, ((int) l8) - 60616);
-     l20 = Words.get64(b, ((int) l8) - 60624);
-     l21 = Words.get64(b, ((int) l8) - 60632);
+     l9 = Words.get64(b, ((int) l8) - 60344);
+     l20 = Words.get64(b, ((int) l8) - 60352);
+     l21 = Words.get64(b, ((int) l8) - 60360);
      L7: {
       if ((l5 & 255) != 0) { break L7; }
       L8: {
@@ -2462,8 +2842,8 @@ static void f122(State m, long l0, long l1, long l2, long l3, long l4, int l5, l
        L9: {
         L10: {
          L11: {
-          if ((l29 = (int) b[((int) l16) - 60720]) > -1) { break L11; }
-          l31 = l30 = b[((int) l14) - 60720] & 0xff;
+          if ((l29 = (int) b[((int) l16) - 60448]) > -1) { break L11; }
+          l31 = l30 = b[((int) l14) - 60448] & 0xff;
           l22 = l14;
           l32 = l30;
           L12: {
@@ -2471,22 +2851,22 @@ static void f122(State m, long l0, long l1, long l2, long l3, long l4, int l5, l
             L14: {
              L15: {
               if (l30 + Integer.MIN_VALUE >= -2147483456) { break L15; }
-              if ((l32 = (int) (byte) (l31 = b[((int) (l22 = l13 + (((b[((int) l15) - 60720] & 0xff) + Integer.MIN_VALUE > -2147483457) ? -3L : -4L))) - 60720] & 0xff)) > -1) { break L14; }
+              if ((l32 = (int) (byte) (l31 = b[((int) (l22 = l13 + (((b[((int) l15) - 60448] & 0xff) + Integer.MIN_VALUE > -2147483457) ? -3L : -4L))) - 60448] & 0xff)) > -1) { break L14; }
              }
-             l33 = (b[((int) l22) - 60719] & 0xff) & 63;
+             l33 = (b[((int) l22) - 60447] & 0xff) & 63;
              L16: {
               L17: {
                if ((l32 = l32 & 255) + Integer.MIN_VALUE > -2147483425) { break L17; }
                l32 = ((l31 << 6) & 1984) | l33;
                break L16;
               }
-              l34 = (b[((int) l22) - 60718] & 0xff) & 63;
+              l34 = (b[((int) l22) - 60446] & 0xff) & 63;
               L18: {
                if (l32 + Integer.MIN_VALUE > -2147483409) { break L18; }
                l32 = ((l33 << 6) | ((l31 << 12) & 61440)) | l34;
                break L16;
               }
-              l32 = ((l34 << 6) | ((l33 << 12) | ((l31 << 18) & 1835008))) | ((b[((int) l22) - 60717] & 0xff) & 63);
+              l32 = ((l34 << 6) | ((l33 << 12) | ((l31 << 18) & 1835008))) | ((b[((int) l22) - 60445] & 0xff) & 63);
              }
              if (l32 == 95) { break L5; }
              if (((l32 & 2097119) + -65) + Integer.MIN_VALUE < -2147483622) { break L5; }
@@ -2498,9 +2878,9 @@ static void f122(State m, long l0, long l1, long l2, long l3, long l4, int l5, l
             if (l32 == 95) { break L5; }
             if (((l31 & 95) + -65) + Integer.MIN_VALUE < -2147483622) { break L5; }
            }
-           if ((l32 = (int) (byte) (l30 = b[((int) (l22 = l13 + (((b[((int) l15) - 60720] & 0xff) + Integer.MIN_VALUE > -2147483457) ? -3L : -4L))) - 60720] & 0xff)) > -1) { break L9; }
+           if ((l32 = (int) (byte) (l30 = b[((int) (l22 = l13 + (((b[((int) l15) - 60448] & 0xff) + Integer.MIN_VALUE > -2147483457) ? -3L : -4L))) - 60448] & 0xff)) > -1) { break L9; }
           }
-          l31 = (b[((int) l22) - 60719] & 0xff) & 63;
+          l31 = (b[((int) l22) - 60447] & 0xff) & 63;
           if ((l32 = l32 & 255) + Integer.MIN_VALUE > -2147483425) { break L10; }
           l30 = ((l30 << 6) & 1984) | l31;
           break L9;
@@ -2510,13 +2890,13 @@ static void f122(State m, long l0, long l1, long l2, long l3, long l4, int l5, l
          if ((((l29 & 95) + -65) & 255) + Integer.MIN_VALUE >= -2147483622) { break L9; }
          break L5;
         }
-        l33 = (b[((int) l22) - 60718] & 0xff) & 63;
+        l33 = (b[((int) l22) - 60446] & 0xff) & 63;
         L19: {
          if (l32 + Integer.MIN_VALUE > -2147483409) { break L19; }
          l30 = ((l31 << 6) | ((l30 << 12) & 61440)) | l33;
          break L9;
         }
-        l30 = ((l33 << 6) | ((l31 << 12) | ((l30 << 18) & 1835008))) | ((b[((int) l22) - 60717] & 0xff) & 63);
+        l30 = ((l33 << 6) | ((l31 << 12) | ((l30 << 18) & 1835008))) | ((b[((int) l22) - 60445] & 0xff) & 63);
        }
        L20: {
         if ((l30 + -48) + Integer.MIN_VALUE < -2147483638) { break L20; }
@@ -2576,21 +2956,21 @@ static void f122(State m, long l0, long l1, long l2, long l3, long l4, int l5, l
        if (l29 > -1) { break L5; }
        l22 = -2L;
        L30: {
-        if ((b[((int) l14) - 60720] & 0xff) + Integer.MIN_VALUE > -2147483457) { break L30; }
-        l22 = ((b[((int) l15) - 60720] & 0xff) + Integer.MIN_VALUE > -2147483457) ? -3L : -4L;
+        if ((b[((int) l14) - 60448] & 0xff) + Integer.MIN_VALUE > -2147483457) { break L30; }
+        l22 = ((b[((int) l15) - 60448] & 0xff) + Integer.MIN_VALUE > -2147483457) ? -3L : -4L;
        }
-       if ((l30 = (int) b[((int) (l22 = l1 + (l23 = l22 + l2))) - 60720]) > -1) { break L5; }
+       if ((l30 = (int) b[((int) (l22 = l1 + (l23 = l22 + l2))) - 60448]) > -1) { break L5; }
        if (l30 + Integer.MIN_VALUE < 2147483616) { break L5; }
        l29 = l30 & 255;
-       l32 = (b[((int) l22) - 60719] & 0xff) & 63;
-       l31 = (b[((int) l22) - 60718] & 0xff) & 63;
+       l32 = (b[((int) l22) - 60447] & 0xff) & 63;
+       l31 = (b[((int) l22) - 60446] & 0xff) & 63;
        L31: {
         L32: {
          if (l30 + Integer.MIN_VALUE > 2147483631) { break L32; }
          l30 = ((l32 << 6) | ((l29 << 12) & 61440)) | l31;
          break L31;
         }
-        l30 = ((l31 << 6) | ((l32 << 12) | ((l29 << 18) & 1835008))) | ((b[((int) l22) - 60717] & 0xff) & 63);
+        l30 = ((l31 << 6) | ((l32 << 12) | ((l29 << 18) & 1835008))) | ((b[((int) l22) - 60445] & 0xff) & 63);
        }
        L33: {
         L34: {
@@ -2610,9 +2990,9 @@ static void f122(State m, long l0, long l1, long l2, long l3, long l4, int l5, l
         if (l30 == 22235) { break L33; }
         if (l30 != 20845) { break L5; }
        }
-       if (f127(m, l1, l23) == 0) { break L5; }
+       if (f136(m, l1, l23) == 0) { break L5; }
       }
-      if (f127(m, l1, l2) != 0) { break L5; }
+      if (f136(m, l1, l2) != 0) { break L5; }
       l22 = 84704L;
       l23 = 4L;
       l29 = 0;
@@ -2654,36 +3034,36 @@ static void f122(State m, long l0, long l1, long l2, long l3, long l4, int l5, l
       L42: {
        if (l28 != 0) { break L42; }
        L43: {
-        if ((l30 = (int) b[((int) l16) - 60720]) >= 0) { break L43; }
+        if ((l30 = (int) b[((int) l16) - 60448]) >= 0) { break L43; }
         l24 = l14;
-        l32 = l30 = b[((int) l14) - 60720] & 0xff;
+        l32 = l30 = b[((int) l14) - 60448] & 0xff;
         L44: {
          if (l30 + Integer.MIN_VALUE >= -2147483456) { break L44; }
-         if ((l32 = (int) (byte) (l30 = b[((int) (l24 = l13 + (((b[((int) l15) - 60720] & 0xff) + Integer.MIN_VALUE > -2147483457) ? -3L : -4L))) - 60720] & 0xff)) > -1) { break L43; }
+         if ((l32 = (int) (byte) (l30 = b[((int) (l24 = l13 + (((b[((int) l15) - 60448] & 0xff) + Integer.MIN_VALUE > -2147483457) ? -3L : -4L))) - 60448] & 0xff)) > -1) { break L43; }
         }
-        l31 = (b[((int) l24) - 60719] & 0xff) & 63;
+        l31 = (b[((int) l24) - 60447] & 0xff) & 63;
         L45: {
          if ((l32 = l32 & 255) + Integer.MIN_VALUE > -2147483425) { break L45; }
          l30 = ((l30 << 6) & 1984) | l31;
          break L43;
         }
-        l33 = (b[((int) l24) - 60718] & 0xff) & 63;
+        l33 = (b[((int) l24) - 60446] & 0xff) & 63;
         L46: {
          if (l32 + Integer.MIN_VALUE > -2147483409) { break L46; }
          l30 = ((l31 << 6) | ((l30 << 12) & 61440)) | l33;
          break L43;
         }
-        l30 = ((l33 << 6) | ((l31 << 12) | ((l30 << 18) & 1835008))) | ((b[((int) l24) - 60717] & 0xff) & 63);
+        l30 = ((l33 << 6) | ((l31 << 12) | ((l30 << 18) & 1835008))) | ((b[((int) l24) - 60445] & 0xff) & 63);
        }
        if (l29 != 0) { break L42; }
        L47: while (true) {
-        if (Words.get32(b, ((int) l22) - 60720) == l30) { break L5; }
+        if (Words.get32(b, ((int) l22) - 60448) == l30) { break L5; }
         l22 = l22 + 4L;
         if ((l23 = l23 + -1L) != 0L) { continue L47; }
         break L47;
        }
       }
-      final int x87 = f122_1(m, l1, l2, l8, l9, l13, l14, l15, l16, l18, l20, l21, l22, l23, l24, l25, l27, l28, l29, l30, l31, l32);
+      final int x87 = f124_1(m, l1, l2, l8, l9, l13, l14, l15, l16, l18, l20, l21, l22, l23, l24, l25, l27, l28, l29, l30, l31, l32);
       l22 = m.kept[0];
       l23 = m.kept[1];
       l24 = m.kept[2];
@@ -2698,7 +3078,7 @@ static void f122(State m, long l0, long l1, long l2, long l3, long l4, int l5, l
       case 1: break L5;
       case 2: break L7;
       }
-      if (f132(m, 84836L, 4L, l1, l2) == 0) { break L5; }
+      if (f141(m, 84836L, 4L, l1, l2) == 0) { break L5; }
      }
      l19 = ((l21 << 16L) | (l19 << 8L)) | l17;
      l27 = l26 & 255;
@@ -2719,17 +3099,17 @@ static void f122(State m, long l0, long l1, long l2, long l3, long l4, int l5, l
    }
    l9 = (l26 & 0xffffffffL) & 255L;
   }
-  Words.put64(b, ((int) l0) - 60720, l9);
-  Words.put64(b, ((int) (l0 + 24L)) - 60720, l12);
-  Words.put64(b, ((int) (l0 + 16L)) - 60720, l11);
-  Words.put64(b, ((int) (l0 + 8L)) - 60720, l10);
+  Words.put64(b, ((int) l0) - 60448, l9);
+  Words.put64(b, ((int) (l0 + 24L)) - 60448, l12);
+  Words.put64(b, ((int) (l0 + 16L)) - 60448, l11);
+  Words.put64(b, ((int) (l0 + 8L)) - 60448, l10);
   m.g0 = l8 + 160L;
   return;
  }
  throw State.trap();
 }
 
-static int f123_1(State m, int l1, long l2, long l3, long l4, long l5, long l6, int l9, int l10, int l11) {
+static int f125_1(State m, int l1, long l2, long l3, long l4, long l5, long l6, int l9, int l10, int l11) {
  final byte[] b = m.bytes;
  int exit = 0;
  PART: {
@@ -2776,11 +3156,11 @@ static int f123_1(State m, int l1, long l2, long l3, long l4, long l5, long l6, 
                if (l3 == 0L) { exit = 10; break PART; }
                L28: {
                 L29: {
-                 if ((l1 = (int) b[((int) l2) - 60720]) > -1) { break L29; }
+                 if ((l1 = (int) b[((int) l2) - 60448]) > -1) { break L29; }
                  if (l1 + Integer.MIN_VALUE < 2147483616) { break L29; }
                  l9 = l1 & 255;
-                 l10 = (b[((int) l2) - 60719] & 0xff) & 63;
-                 l11 = (b[((int) l2) - 60718] & 0xff) & 63;
+                 l10 = (b[((int) l2) - 60447] & 0xff) & 63;
+                 l11 = (b[((int) l2) - 60446] & 0xff) & 63;
                  L30: {
                   L31: {
                    if (l1 + Integer.MIN_VALUE > 2147483631) { break L31; }
@@ -2788,7 +3168,7 @@ static int f123_1(State m, int l1, long l2, long l3, long l4, long l5, long l6, 
                    l5 = 3L;
                    break L30;
                   }
-                  l1 = ((l11 << 6) | ((l10 << 12) | ((l9 << 18) & 1835008))) | ((b[((int) l2) - 60717] & 0xff) & 63);
+                  l1 = ((l11 << 6) | ((l10 << 12) | ((l9 << 18) & 1835008))) | ((b[((int) l2) - 60445] & 0xff) & 63);
                   l5 = 4L;
                  }
                  if (l1 != 24180) { break L29; }
@@ -2801,19 +3181,19 @@ static int f123_1(State m, int l1, long l2, long l3, long l4, long l5, long l6, 
                 l3 = 0L;
                 l5 = 0L;
                }
-               Words.put64(b, ((int) l4) - 60672, l3);
-               Words.put64(b, ((int) l4) - 60680, l2);
-               Words.put64(b, ((int) l4) - 60688, l5);
+               Words.put64(b, ((int) l4) - 60400, l3);
+               Words.put64(b, ((int) l4) - 60408, l2);
+               Words.put64(b, ((int) l4) - 60416, l5);
                exit = 10; break PART;
               }
               if (l3 == 0L) { exit = 10; break PART; }
               L32: {
                L33: {
-                if ((l1 = (int) b[((int) l2) - 60720]) > -1) { break L33; }
+                if ((l1 = (int) b[((int) l2) - 60448]) > -1) { break L33; }
                 if (l1 + Integer.MIN_VALUE < 2147483616) { break L33; }
                 l9 = l1 & 255;
-                l10 = (b[((int) l2) - 60719] & 0xff) & 63;
-                l11 = (b[((int) l2) - 60718] & 0xff) & 63;
+                l10 = (b[((int) l2) - 60447] & 0xff) & 63;
+                l11 = (b[((int) l2) - 60446] & 0xff) & 63;
                 L34: {
                  L35: {
                   if (l1 + Integer.MIN_VALUE > 2147483631) { break L35; }
@@ -2821,7 +3201,7 @@ static int f123_1(State m, int l1, long l2, long l3, long l4, long l5, long l6, 
                   l5 = 3L;
                   break L34;
                  }
-                 l1 = ((l11 << 6) | ((l10 << 12) | ((l9 << 18) & 1835008))) | ((b[((int) l2) - 60717] & 0xff) & 63);
+                 l1 = ((l11 << 6) | ((l10 << 12) | ((l9 << 18) & 1835008))) | ((b[((int) l2) - 60445] & 0xff) & 63);
                  l5 = 4L;
                 }
                 if (l1 != 26376) { break L33; }
@@ -2834,19 +3214,19 @@ static int f123_1(State m, int l1, long l2, long l3, long l4, long l5, long l6, 
                l3 = 0L;
                l5 = 0L;
               }
-              Words.put64(b, ((int) l4) - 60672, l3);
-              Words.put64(b, ((int) l4) - 60680, l2);
-              Words.put64(b, ((int) l4) - 60688, l5);
+              Words.put64(b, ((int) l4) - 60400, l3);
+              Words.put64(b, ((int) l4) - 60408, l2);
+              Words.put64(b, ((int) l4) - 60416, l5);
               exit = 10; break PART;
              }
              if (l3 == 0L) { exit = 10; break PART; }
              L36: {
               L37: {
-               if ((l1 = (int) b[((int) l2) - 60720]) > -1) { break L37; }
+               if ((l1 = (int) b[((int) l2) - 60448]) > -1) { break L37; }
                if (l1 + Integer.MIN_VALUE < 2147483616) { break L37; }
                l9 = l1 & 255;
-               l10 = (b[((int) l2) - 60719] & 0xff) & 63;
-               l11 = (b[((int) l2) - 60718] & 0xff) & 63;
+               l10 = (b[((int) l2) - 60447] & 0xff) & 63;
+               l11 = (b[((int) l2) - 60446] & 0xff) & 63;
                L38: {
                 L39: {
                  if (l1 + Integer.MIN_VALUE > 2147483631) { break L39; }
@@ -2854,7 +3234,7 @@ static int f123_1(State m, int l1, long l2, long l3, long l4, long l5, long l6, 
                  l5 = 3L;
                  break L38;
                 }
-                l1 = ((l11 << 6) | ((l10 << 12) | ((l9 << 18) & 1835008))) | ((b[((int) l2) - 60717] & 0xff) & 63);
+                l1 = ((l11 << 6) | ((l10 << 12) | ((l9 << 18) & 1835008))) | ((b[((int) l2) - 60445] & 0xff) & 63);
                 l5 = 4L;
                }
                l3 = l3 - l5;
@@ -2868,19 +3248,19 @@ static int f123_1(State m, int l1, long l2, long l3, long l4, long l5, long l6, 
               l3 = 0L;
               l5 = 0L;
              }
-             Words.put64(b, ((int) l4) - 60672, l3);
-             Words.put64(b, ((int) l4) - 60680, l2);
-             Words.put64(b, ((int) l4) - 60688, l5);
+             Words.put64(b, ((int) l4) - 60400, l3);
+             Words.put64(b, ((int) l4) - 60408, l2);
+             Words.put64(b, ((int) l4) - 60416, l5);
              exit = 10; break PART;
             }
             if (l3 == 0L) { exit = 10; break PART; }
             L40: {
              L41: {
-              if ((l1 = (int) b[((int) l2) - 60720]) > -1) { break L41; }
+              if ((l1 = (int) b[((int) l2) - 60448]) > -1) { break L41; }
               if (l1 + Integer.MIN_VALUE < 2147483616) { break L41; }
               l9 = l1 & 255;
-              l10 = (b[((int) l2) - 60719] & 0xff) & 63;
-              l11 = (b[((int) l2) - 60718] & 0xff) & 63;
+              l10 = (b[((int) l2) - 60447] & 0xff) & 63;
+              l11 = (b[((int) l2) - 60446] & 0xff) & 63;
               L42: {
                L43: {
                 if (l1 + Integer.MIN_VALUE > 2147483631) { break L43; }
@@ -2888,7 +3268,7 @@ static int f123_1(State m, int l1, long l2, long l3, long l4, long l5, long l6, 
                 l5 = 3L;
                 break L42;
                }
-               l1 = ((l11 << 6) | ((l10 << 12) | ((l9 << 18) & 1835008))) | ((b[((int) l2) - 60717] & 0xff) & 63);
+               l1 = ((l11 << 6) | ((l10 << 12) | ((l9 << 18) & 1835008))) | ((b[((int) l2) - 60445] & 0xff) & 63);
                l5 = 4L;
               }
               l3 = l3 - l5;
@@ -2901,19 +3281,19 @@ static int f123_1(State m, int l1, long l2, long l3, long l4, long l5, long l6, 
              l3 = 0L;
              l5 = 0L;
             }
-            Words.put64(b, ((int) l4) - 60672, l3);
-            Words.put64(b, ((int) l4) - 60680, l2);
-            Words.put64(b, ((int) l4) - 60688, l5);
+            Words.put64(b, ((int) l4) - 60400, l3);
+            Words.put64(b, ((int) l4) - 60408, l2);
+            Words.put64(b, ((int) l4) - 60416, l5);
             exit = 10; break PART;
            }
            if (l3 == 0L) { exit = 10; break PART; }
            L44: {
             L45: {
-             if ((l1 = (int) b[((int) l2) - 60720]) > -1) { break L45; }
+             if ((l1 = (int) b[((int) l2) - 60448]) > -1) { break L45; }
              if (l1 + Integer.MIN_VALUE < 2147483616) { break L45; }
              l9 = l1 & 255;
-             l10 = (b[((int) l2) - 60719] & 0xff) & 63;
-             l11 = (b[((int) l2) - 60718] & 0xff) & 63;
+             l10 = (b[((int) l2) - 60447] & 0xff) & 63;
+             l11 = (b[((int) l2) - 60446] & 0xff) & 63;
              L46: {
               L47: {
                if (l1 + Integer.MIN_VALUE > 2147483631) { break L47; }
@@ -2921,7 +3301,7 @@ static int f123_1(State m, int l1, long l2, long l3, long l4, long l5, long l6, 
                l5 = 3L;
                break L46;
               }
-              l1 = ((l11 << 6) | ((l10 << 12) | ((l9 << 18) & 1835008))) | ((b[((int) l2) - 60717] & 0xff) & 63);
+              l1 = ((l11 << 6) | ((l10 << 12) | ((l9 << 18) & 1835008))) | ((b[((int) l2) - 60445] & 0xff) & 63);
               l5 = 4L;
              }
              l3 = l3 - l5;
@@ -2940,19 +3320,19 @@ static int f123_1(State m, int l1, long l2, long l3, long l4, long l5, long l6, 
             l3 = 0L;
             l5 = 0L;
            }
-           Words.put64(b, ((int) l4) - 60672, l3);
-           Words.put64(b, ((int) l4) - 60680, l2);
-           Words.put64(b, ((int) l4) - 60688, l5);
+           Words.put64(b, ((int) l4) - 60400, l3);
+           Words.put64(b, ((int) l4) - 60408, l2);
+           Words.put64(b, ((int) l4) - 60416, l5);
            exit = 10; break PART;
           }
           if (l3 == 0L) { exit = 10; break PART; }
           L49: {
            L50: {
-            if ((l1 = (int) b[((int) l2) - 60720]) > -1) { break L50; }
+            if ((l1 = (int) b[((int) l2) - 60448]) > -1) { break L50; }
             if (l1 + Integer.MIN_VALUE < 2147483616) { break L50; }
             l9 = l1 & 255;
-            l10 = (b[((int) l2) - 60719] & 0xff) & 63;
-            l11 = (b[((int) l2) - 60718] & 0xff) & 63;
+            l10 = (b[((int) l2) - 60447] & 0xff) & 63;
+            l11 = (b[((int) l2) - 60446] & 0xff) & 63;
             L51: {
              L52: {
               if (l1 + Integer.MIN_VALUE > 2147483631) { break L52; }
@@ -2960,7 +3340,7 @@ static int f123_1(State m, int l1, long l2, long l3, long l4, long l5, long l6, 
               l5 = 3L;
               break L51;
              }
-             l1 = ((l11 << 6) | ((l10 << 12) | ((l9 << 18) & 1835008))) | ((b[((int) l2) - 60717] & 0xff) & 63);
+             l1 = ((l11 << 6) | ((l10 << 12) | ((l9 << 18) & 1835008))) | ((b[((int) l2) - 60445] & 0xff) & 63);
              l5 = 4L;
             }
             if (l1 != 20998) { break L50; }
@@ -2973,19 +3353,19 @@ static int f123_1(State m, int l1, long l2, long l3, long l4, long l5, long l6, 
            l3 = 0L;
            l5 = 0L;
           }
-          Words.put64(b, ((int) l4) - 60672, l3);
-          Words.put64(b, ((int) l4) - 60680, l2);
-          Words.put64(b, ((int) l4) - 60688, l5);
+          Words.put64(b, ((int) l4) - 60400, l3);
+          Words.put64(b, ((int) l4) - 60408, l2);
+          Words.put64(b, ((int) l4) - 60416, l5);
           exit = 10; break PART;
          }
          if (l3 == 0L) { exit = 10; break PART; }
          L53: {
           L54: {
-           if ((l1 = (int) b[((int) l2) - 60720]) > -1) { break L54; }
+           if ((l1 = (int) b[((int) l2) - 60448]) > -1) { break L54; }
            if (l1 + Integer.MIN_VALUE < 2147483616) { break L54; }
            l9 = l1 & 255;
-           l10 = (b[((int) l2) - 60719] & 0xff) & 63;
-           l11 = (b[((int) l2) - 60718] & 0xff) & 63;
+           l10 = (b[((int) l2) - 60447] & 0xff) & 63;
+           l11 = (b[((int) l2) - 60446] & 0xff) & 63;
            L55: {
             L56: {
              if (l1 + Integer.MIN_VALUE > 2147483631) { break L56; }
@@ -2993,7 +3373,7 @@ static int f123_1(State m, int l1, long l2, long l3, long l4, long l5, long l6, 
              l5 = 3L;
              break L55;
             }
-            l1 = ((l11 << 6) | ((l10 << 12) | ((l9 << 18) & 1835008))) | ((b[((int) l2) - 60717] & 0xff) & 63);
+            l1 = ((l11 << 6) | ((l10 << 12) | ((l9 << 18) & 1835008))) | ((b[((int) l2) - 60445] & 0xff) & 63);
             l5 = 4L;
            }
            if (l1 != 31186) { break L54; }
@@ -3006,19 +3386,19 @@ static int f123_1(State m, int l1, long l2, long l3, long l4, long l5, long l6, 
           l3 = 0L;
           l5 = 0L;
          }
-         Words.put64(b, ((int) l4) - 60672, l3);
-         Words.put64(b, ((int) l4) - 60680, l2);
-         Words.put64(b, ((int) l4) - 60688, l5);
+         Words.put64(b, ((int) l4) - 60400, l3);
+         Words.put64(b, ((int) l4) - 60408, l2);
+         Words.put64(b, ((int) l4) - 60416, l5);
          exit = 10; break PART;
         }
         if (l3 == 0L) { exit = 10; break PART; }
         L57: {
          L58: {
-          if ((l1 = (int) b[((int) l2) - 60720]) > -1) { break L58; }
+          if ((l1 = (int) b[((int) l2) - 60448]) > -1) { break L58; }
           if (l1 + Integer.MIN_VALUE < 2147483616) { break L58; }
           l9 = l1 & 255;
-          l10 = (b[((int) l2) - 60719] & 0xff) & 63;
-          l11 = (b[((int) l2) - 60718] & 0xff) & 63;
+          l10 = (b[((int) l2) - 60447] & 0xff) & 63;
+          l11 = (b[((int) l2) - 60446] & 0xff) & 63;
           L59: {
            L60: {
             if (l1 + Integer.MIN_VALUE > 2147483631) { break L60; }
@@ -3026,7 +3406,7 @@ static int f123_1(State m, int l1, long l2, long l3, long l4, long l5, long l6, 
             l5 = 3L;
             break L59;
            }
-           l1 = ((l11 << 6) | ((l10 << 12) | ((l9 << 18) & 1835008))) | ((b[((int) l2) - 60717] & 0xff) & 63);
+           l1 = ((l11 << 6) | ((l10 << 12) | ((l9 << 18) & 1835008))) | ((b[((int) l2) - 60445] & 0xff) & 63);
            l5 = 4L;
           }
           if (l1 != 21322) { break L58; }
@@ -3039,19 +3419,19 @@ static int f123_1(State m, int l1, long l2, long l3, long l4, long l5, long l6, 
          l3 = 0L;
          l5 = 0L;
         }
-        Words.put64(b, ((int) l4) - 60672, l3);
-        Words.put64(b, ((int) l4) - 60680, l2);
-        Words.put64(b, ((int) l4) - 60688, l5);
+        Words.put64(b, ((int) l4) - 60400, l3);
+        Words.put64(b, ((int) l4) - 60408, l2);
+        Words.put64(b, ((int) l4) - 60416, l5);
         exit = 10; break PART;
        }
        if (l3 == 0L) { exit = 10; break PART; }
        L61: {
         L62: {
-         if ((l1 = (int) b[((int) l2) - 60720]) > -1) { break L62; }
+         if ((l1 = (int) b[((int) l2) - 60448]) > -1) { break L62; }
          if (l1 + Integer.MIN_VALUE < 2147483616) { break L62; }
          l9 = l1 & 255;
-         l10 = (b[((int) l2) - 60719] & 0xff) & 63;
-         l11 = (b[((int) l2) - 60718] & 0xff) & 63;
+         l10 = (b[((int) l2) - 60447] & 0xff) & 63;
+         l11 = (b[((int) l2) - 60446] & 0xff) & 63;
          L63: {
           L64: {
            if (l1 + Integer.MIN_VALUE > 2147483631) { break L64; }
@@ -3059,7 +3439,7 @@ static int f123_1(State m, int l1, long l2, long l3, long l4, long l5, long l6, 
            l5 = 3L;
            break L63;
           }
-          l1 = ((l11 << 6) | ((l10 << 12) | ((l9 << 18) & 1835008))) | ((b[((int) l2) - 60717] & 0xff) & 63);
+          l1 = ((l11 << 6) | ((l10 << 12) | ((l9 << 18) & 1835008))) | ((b[((int) l2) - 60445] & 0xff) & 63);
           l5 = 4L;
          }
          if (l1 != 21051) { break L62; }
@@ -3072,13 +3452,13 @@ static int f123_1(State m, int l1, long l2, long l3, long l4, long l5, long l6, 
         l3 = 0L;
         l5 = 0L;
        }
-       Words.put64(b, ((int) l4) - 60672, l3);
-       Words.put64(b, ((int) l4) - 60680, l2);
-       Words.put64(b, ((int) l4) - 60688, l5);
+       Words.put64(b, ((int) l4) - 60400, l3);
+       Words.put64(b, ((int) l4) - 60408, l2);
+       Words.put64(b, ((int) l4) - 60416, l5);
        exit = 10; break PART;
       }
       if (l3 == 0L) { exit = 10; break PART; }
-      l1 = (l9 = (int) b[((int) l2) - 60720]) & 255;
+      l1 = (l9 = (int) b[((int) l2) - 60448]) & 255;
       l6 = 1L;
       L65: {
        L66: {
@@ -3086,21 +3466,21 @@ static int f123_1(State m, int l1, long l2, long l3, long l4, long l5, long l6, 
         l5 = 1L;
         break L65;
        }
-       l10 = (b[((int) l2) - 60719] & 0xff) & 63;
+       l10 = (b[((int) l2) - 60447] & 0xff) & 63;
        L67: {
         if (l9 + Integer.MIN_VALUE > 2147483615) { break L67; }
         l1 = ((l1 << 6) & 1984) | l10;
         l5 = 2L;
         break L65;
        }
-       l11 = (b[((int) l2) - 60718] & 0xff) & 63;
+       l11 = (b[((int) l2) - 60446] & 0xff) & 63;
        L68: {
         if (l9 + Integer.MIN_VALUE > 2147483631) { break L68; }
         l1 = ((l10 << 6) | ((l1 << 12) & 61440)) | l11;
         l5 = 3L;
         break L65;
        }
-       l1 = ((l11 << 6) | ((l10 << 12) | ((l1 << 18) & 1835008))) | ((b[((int) l2) - 60717] & 0xff) & 63);
+       l1 = ((l11 << 6) | ((l10 << 12) | ((l1 << 18) & 1835008))) | ((b[((int) l2) - 60445] & 0xff) & 63);
        l5 = 4L;
       }
       l3 = l3 - l5;
@@ -3112,85 +3492,85 @@ static int f123_1(State m, int l1, long l2, long l3, long l4, long l5, long l6, 
        l2 = 0L;
        l3 = 0L;
       }
-      Words.put64(b, ((int) l4) - 60672, l3);
-      Words.put64(b, ((int) l4) - 60680, l2);
-      Words.put64(b, ((int) l4) - 60688, l6);
+      Words.put64(b, ((int) l4) - 60400, l3);
+      Words.put64(b, ((int) l4) - 60408, l2);
+      Words.put64(b, ((int) l4) - 60416, l6);
       exit = 10; break PART;
      }
      if (l3 == 0L) { exit = 10; break PART; }
-     l1 = (l9 = (int) b[((int) l2) - 60720]) & 255;
+     l1 = (l9 = (int) b[((int) l2) - 60448]) & 255;
      l5 = 1L;
      L70: {
       if (l9 > -1) { break L70; }
-      l10 = (b[((int) l2) - 60719] & 0xff) & 63;
+      l10 = (b[((int) l2) - 60447] & 0xff) & 63;
       L71: {
        if (l9 + Integer.MIN_VALUE > 2147483615) { break L71; }
        l1 = ((l1 << 6) & 1984) | l10;
        l5 = 2L;
        break L70;
       }
-      l11 = (b[((int) l2) - 60718] & 0xff) & 63;
+      l11 = (b[((int) l2) - 60446] & 0xff) & 63;
       L72: {
        if (l9 + Integer.MIN_VALUE > 2147483631) { break L72; }
        l1 = ((l10 << 6) | ((l1 << 12) & 61440)) | l11;
        l5 = 3L;
        break L70;
       }
-      l1 = ((l11 << 6) | ((l10 << 12) | ((l1 << 18) & 1835008))) | ((b[((int) l2) - 60717] & 0xff) & 63);
+      l1 = ((l11 << 6) | ((l10 << 12) | ((l1 << 18) & 1835008))) | ((b[((int) l2) - 60445] & 0xff) & 63);
       l5 = 4L;
      }
      final int t73 = (int) l4;
      final long t74 = l3 - l5;
      final int t75 = l1 = (l1 == 45) ? 1 : 0;
-     Words.put64(b, t73 - 60672, t75 != 0 ? t74 : 0L);
+     Words.put64(b, t73 - 60400, t75 != 0 ? t74 : 0L);
      final int t76 = (int) l4;
      final long t77 = l2 + l5;
      final int t78 = l1;
-     Words.put64(b, t76 - 60680, t78 != 0 ? t77 : 0L);
-     Words.put64(b, ((int) l4) - 60688, l1 & 0xffffffffL);
+     Words.put64(b, t76 - 60408, t78 != 0 ? t77 : 0L);
+     Words.put64(b, ((int) l4) - 60416, l1 & 0xffffffffL);
      exit = 10; break PART;
     }
     if (l3 == 0L) { exit = 10; break PART; }
-    l1 = (l9 = (int) b[((int) l2) - 60720]) & 255;
+    l1 = (l9 = (int) b[((int) l2) - 60448]) & 255;
     l5 = 1L;
     L79: {
      if (l9 > -1) { break L79; }
-     l10 = (b[((int) l2) - 60719] & 0xff) & 63;
+     l10 = (b[((int) l2) - 60447] & 0xff) & 63;
      L80: {
       if (l9 + Integer.MIN_VALUE > 2147483615) { break L80; }
       l1 = ((l1 << 6) & 1984) | l10;
       l5 = 2L;
       break L79;
      }
-     l11 = (b[((int) l2) - 60718] & 0xff) & 63;
+     l11 = (b[((int) l2) - 60446] & 0xff) & 63;
      L81: {
       if (l9 + Integer.MIN_VALUE > 2147483631) { break L81; }
       l1 = ((l10 << 6) | ((l1 << 12) & 61440)) | l11;
       l5 = 3L;
       break L79;
      }
-     l1 = ((l11 << 6) | ((l10 << 12) | ((l1 << 18) & 1835008))) | ((b[((int) l2) - 60717] & 0xff) & 63);
+     l1 = ((l11 << 6) | ((l10 << 12) | ((l1 << 18) & 1835008))) | ((b[((int) l2) - 60445] & 0xff) & 63);
      l5 = 4L;
     }
     final int t82 = (int) l4;
     final long t83 = l3 - l5;
     final int t84 = l1 = (l1 == 47) ? 1 : 0;
-    Words.put64(b, t82 - 60672, t84 != 0 ? t83 : 0L);
+    Words.put64(b, t82 - 60400, t84 != 0 ? t83 : 0L);
     final int t85 = (int) l4;
     final long t86 = l2 + l5;
     final int t87 = l1;
-    Words.put64(b, t85 - 60680, t87 != 0 ? t86 : 0L);
-    Words.put64(b, ((int) l4) - 60688, l1 & 0xffffffffL);
+    Words.put64(b, t85 - 60408, t87 != 0 ? t86 : 0L);
+    Words.put64(b, ((int) l4) - 60416, l1 & 0xffffffffL);
     exit = 10; break PART;
    }
    if (l3 == 0L) { exit = 10; break PART; }
    L88: {
     L89: {
-     if ((l1 = (int) b[((int) l2) - 60720]) > -1) { break L89; }
+     if ((l1 = (int) b[((int) l2) - 60448]) > -1) { break L89; }
      if (l1 + Integer.MIN_VALUE < 2147483616) { break L89; }
      l9 = l1 & 255;
-     l10 = (b[((int) l2) - 60719] & 0xff) & 63;
-     l11 = (b[((int) l2) - 60718] & 0xff) & 63;
+     l10 = (b[((int) l2) - 60447] & 0xff) & 63;
+     l11 = (b[((int) l2) - 60446] & 0xff) & 63;
      L90: {
       L91: {
        if (l1 + Integer.MIN_VALUE > 2147483631) { break L91; }
@@ -3198,7 +3578,7 @@ static int f123_1(State m, int l1, long l2, long l3, long l4, long l5, long l6, 
        l5 = 3L;
        break L90;
       }
-      l1 = ((l11 << 6) | ((l10 << 12) | ((l9 << 18) & 1835008))) | ((b[((int) l2) - 60717] & 0xff) & 63);
+      l1 = ((l11 << 6) | ((l10 << 12) | ((l9 << 18) & 1835008))) | ((b[((int) l2) - 60445] & 0xff) & 63);
       l5 = 4L;
      }
      if (l1 != 27604) { break L89; }
@@ -3211,9 +3591,9 @@ static int f123_1(State m, int l1, long l2, long l3, long l4, long l5, long l6, 
     l3 = 0L;
     l5 = 0L;
    }
-   Words.put64(b, ((int) l4) - 60672, l3);
-   Words.put64(b, ((int) l4) - 60680, l2);
-   Words.put64(b, ((int) l4) - 60688, l5);
+   Words.put64(b, ((int) l4) - 60400, l3);
+   Words.put64(b, ((int) l4) - 60408, l2);
+   Words.put64(b, ((int) l4) - 60416, l5);
    exit = 10; break PART;
   }
  }
@@ -3228,7 +3608,7 @@ static int f123_1(State m, int l1, long l2, long l3, long l4, long l5, long l6, 
  return exit;
 }
 
-static void f123(State m, long l0, int l1, long l2, long l3) {
+static void f125(State m, long l0, int l1, long l2, long l3) {
  final byte[] b = m.bytes;
  long l4 = 0;
  long l5 = 0;
@@ -3245,12 +3625,12 @@ static void f123(State m, long l0, int l1, long l2, long l3) {
     L4: {
      if ((l4 = l4) < 16L) { break L4; }
      l5 = 0L;
-     Words.put64(b, ((int) l4) - 60672, 0L);
-     Words.put64(b, ((int) l4) - 60680, 0L);
-     Words.put64(b, ((int) l4) - 60688, 0L);
-     Words.put64(b, ((int) l4) - 60712, 0L);
-     Words.put64(b, ((int) l4) - 60704, 0L);
-     Words.put64(b, ((int) l4) - 60696, 0L);
+     Words.put64(b, ((int) l4) - 60400, 0L);
+     Words.put64(b, ((int) l4) - 60408, 0L);
+     Words.put64(b, ((int) l4) - 60416, 0L);
+     Words.put64(b, ((int) l4) - 60440, 0L);
+     Words.put64(b, ((int) l4) - 60432, 0L);
+     Words.put64(b, ((int) l4) - 60424, 0L);
      L5: {
       L6: {
        L7: {
@@ -3260,7 +3640,7 @@ static void f123(State m, long l0, int l1, long l2, long l3) {
            L11: {
             L12: {
              L13: {
-              final int x92 = f123_1(m, l1, l2, l3, l4, l5, l6, l9, l10, l11);
+              final int x92 = f125_1(m, l1, l2, l3, l4, l5, l6, l9, l10, l11);
               l1 = (int) m.kept[0];
               l2 = m.kept[1];
               l3 = m.kept[2];
@@ -3284,11 +3664,11 @@ static void f123(State m, long l0, int l1, long l2, long l3) {
               if (l3 == 0L) { break L2; }
               L93: {
                L94: {
-                if ((l1 = (int) b[((int) l2) - 60720]) > -1) { break L94; }
+                if ((l1 = (int) b[((int) l2) - 60448]) > -1) { break L94; }
                 if (l1 + Integer.MIN_VALUE < 2147483616) { break L94; }
                 l9 = l1 & 255;
-                l10 = (b[((int) l2) - 60719] & 0xff) & 63;
-                l11 = (b[((int) l2) - 60718] & 0xff) & 63;
+                l10 = (b[((int) l2) - 60447] & 0xff) & 63;
+                l11 = (b[((int) l2) - 60446] & 0xff) & 63;
                 L95: {
                  L96: {
                   if (l1 + Integer.MIN_VALUE > 2147483631) { break L96; }
@@ -3296,7 +3676,7 @@ static void f123(State m, long l0, int l1, long l2, long l3) {
                   l5 = 3L;
                   break L95;
                  }
-                 l1 = ((l11 << 6) | ((l10 << 12) | ((l9 << 18) & 1835008))) | ((b[((int) l2) - 60717] & 0xff) & 63);
+                 l1 = ((l11 << 6) | ((l10 << 12) | ((l9 << 18) & 1835008))) | ((b[((int) l2) - 60445] & 0xff) & 63);
                  l5 = 4L;
                 }
                 l3 = l3 - l5;
@@ -3310,20 +3690,20 @@ static void f123(State m, long l0, int l1, long l2, long l3) {
                l3 = 0L;
                l5 = 0L;
               }
-              Words.put64(b, ((int) l4) - 60672, l3);
-              Words.put64(b, ((int) l4) - 60680, l2);
-              Words.put64(b, ((int) l4) - 60688, l5);
+              Words.put64(b, ((int) l4) - 60400, l3);
+              Words.put64(b, ((int) l4) - 60408, l2);
+              Words.put64(b, ((int) l4) - 60416, l5);
               break L2;
              }
              if (l3 == 0L) { break L2; }
-             l1 = (l9 = (int) b[((int) l2) - 60720]) & 255;
+             l1 = (l9 = (int) b[((int) l2) - 60448]) & 255;
              l5 = 1L;
              L97: {
               L98: {
                L99: {
                 L100: {
                  if (l9 > -1) { break L100; }
-                 l10 = (b[((int) l2) - 60719] & 0xff) & 63;
+                 l10 = (b[((int) l2) - 60447] & 0xff) & 63;
                  if (l9 + Integer.MIN_VALUE > 2147483615) { break L99; }
                  l1 = ((l1 << 6) & 1984) | l10;
                  l5 = 2L;
@@ -3332,7 +3712,7 @@ static void f123(State m, long l0, int l1, long l2, long l3) {
                 l2 = l2 + l5;
                 break L98;
                }
-               l11 = (b[((int) l2) - 60718] & 0xff) & 63;
+               l11 = (b[((int) l2) - 60446] & 0xff) & 63;
                L101: {
                 L102: {
                  if (l9 + Integer.MIN_VALUE > 2147483631) { break L102; }
@@ -3340,7 +3720,7 @@ static void f123(State m, long l0, int l1, long l2, long l3) {
                  l5 = 3L;
                  break L101;
                 }
-                l1 = ((l11 << 6) | ((l10 << 12) | ((l1 << 18) & 1835008))) | ((b[((int) l2) - 60717] & 0xff) & 63);
+                l1 = ((l11 << 6) | ((l10 << 12) | ((l1 << 18) & 1835008))) | ((b[((int) l2) - 60445] & 0xff) & 63);
                 l5 = 4L;
                }
                l6 = l3 - l5;
@@ -3366,9 +3746,9 @@ static void f123(State m, long l0, int l1, long l2, long l3) {
               l2 = 0L;
               l3 = 0L;
              }
-             Words.put64(b, ((int) l4) - 60672, l6);
-             Words.put64(b, ((int) l4) - 60680, l2);
-             Words.put64(b, ((int) l4) - 60688, l3);
+             Words.put64(b, ((int) l4) - 60400, l6);
+             Words.put64(b, ((int) l4) - 60408, l2);
+             Words.put64(b, ((int) l4) - 60416, l3);
              break L2;
             }
             L105: {
@@ -3378,399 +3758,408 @@ static void f123(State m, long l0, int l1, long l2, long l3) {
               l6 = 0L;
               break L105;
              }
+             l1 = (l9 = (int) b[((int) l2) - 60448]) & 255;
+             l5 = 1L;
              L107: {
-              if ((l1 = (int) b[((int) l2) - 60720]) > -1) { break L107; }
-              if (l1 + Integer.MIN_VALUE < 2147483616) { break L107; }
-              l9 = l1 & 255;
-              l10 = (b[((int) l2) - 60719] & 0xff) & 63;
-              l11 = (b[((int) l2) - 60718] & 0xff) & 63;
               L108: {
                L109: {
-                if (l1 + Integer.MIN_VALUE > 2147483631) { break L109; }
-                l1 = ((l10 << 6) | ((l9 << 12) & 61440)) | l11;
-                l5 = 3L;
-                break L108;
+                if (l9 > -1) { break L109; }
+                l10 = (b[((int) l2) - 60447] & 0xff) & 63;
+                if (l9 + Integer.MIN_VALUE > 2147483615) { break L108; }
+                l1 = ((l1 << 6) & 1984) | l10;
+                l5 = 2L;
                }
-               l1 = ((l11 << 6) | ((l10 << 12) | ((l9 << 18) & 1835008))) | ((b[((int) l2) - 60717] & 0xff) & 63);
+               l6 = l3 - l5;
+               l5 = l2 + l5;
+               break L107;
+              }
+              l11 = (b[((int) l2) - 60446] & 0xff) & 63;
+              L110: {
+               L111: {
+                if (l9 + Integer.MIN_VALUE > 2147483631) { break L111; }
+                l1 = ((l10 << 6) | ((l1 << 12) & 61440)) | l11;
+                l5 = 3L;
+                break L110;
+               }
+               l1 = ((l11 << 6) | ((l10 << 12) | ((l1 << 18) & 1835008))) | ((b[((int) l2) - 60445] & 0xff) & 63);
                l5 = 4L;
               }
               l6 = l3 - l5;
               l5 = l2 + l5;
               if (l1 == 20010) { break L105; }
-              if (l1 == 20491) { break L105; }
              }
-             l5 = l2;
-             l6 = l3;
+             l6 = ((l1 = (l1 == 20491) ? 1 : 0) != 0) ? l6 : l3;
+             l5 = l1 != 0 ? l5 : l2;
             }
-            Words.put64(b, ((int) l4) - 60472, 0L);
-            Words.put64(b, ((int) l4) - 60464, 0L);
-            Words.put64(b, ((int) l4) - 60456, 0L);
-            Words.put64(b, ((int) l4) - 60496, 0L);
-            Words.put64(b, ((int) l4) - 60488, 0L);
-            Words.put64(b, ((int) l4) - 60480, 0L);
+            Words.put64(b, ((int) l4) - 60200, 0L);
+            Words.put64(b, ((int) l4) - 60192, 0L);
+            Words.put64(b, ((int) l4) - 60184, 0L);
+            Words.put64(b, ((int) l4) - 60224, 0L);
+            Words.put64(b, ((int) l4) - 60216, 0L);
+            Words.put64(b, ((int) l4) - 60208, 0L);
             l3 = 1L;
-            f133(m, l4 + 248L, 83668L, 1L, 83672L, 2L, l5, l6);
-            L110: {
-             L111: {
-              if ((b[((int) l4) - 60472] & 0xff) != 1) { break L111; }
-              Words.put64(b, ((int) l4) - 60480, Words.get64(b, ((int) l4) - 60456));
-              Words.put64(b, ((int) l4) - 60488, Words.get64(b, ((int) l4) - 60464));
-              break L110;
+            f130(m, l4 + 248L, 83668L, 1L, 83672L, 2L, l5, l6);
+            L112: {
+             L113: {
+              if ((b[((int) l4) - 60200] & 0xff) != 1) { break L113; }
+              Words.put64(b, ((int) l4) - 60208, Words.get64(b, ((int) l4) - 60184));
+              Words.put64(b, ((int) l4) - 60216, Words.get64(b, ((int) l4) - 60192));
+              break L112;
              }
-             f133(m, l4 + 224L, 83680L, 2L, 83688L, 2L, l5, l6);
-             l3 = b[((int) l4) - 60496] & 0xffL;
+             f130(m, l4 + 224L, 83680L, 2L, 83688L, 2L, l5, l6);
+             l3 = b[((int) l4) - 60224] & 0xffL;
             }
-            Words.put64(b, ((int) l4) - 60688, l3);
-            Words.put64(b, ((int) l4) - 60680, Words.get64(b, ((int) l4) - 60488));
-            Words.put64(b, ((int) l4) - 60672, Words.get64(b, ((int) l4) - 60480));
+            Words.put64(b, ((int) l4) - 60416, l3);
+            Words.put64(b, ((int) l4) - 60408, Words.get64(b, ((int) l4) - 60216));
+            Words.put64(b, ((int) l4) - 60400, Words.get64(b, ((int) l4) - 60208));
             break L2;
            }
-           f134(m, l4 + 32L, 20998, l2, l3);
+           f142(m, l4 + 32L, 20998, l2, l3);
            break L2;
           }
-          f134(m, l4 + 32L, 31186, l2, l3);
+          f142(m, l4 + 32L, 31186, l2, l3);
           break L2;
          }
-         f133(m, l4 + 8L, 83608L, 2L, 83568L, 1L, l2, l3);
-         L112: {
-          if ((b[((int) l4) - 60712] & 0xff) != 1) { break L112; }
-          f135(m, l4 + 32L, Words.get64(b, ((int) l4) - 60704), Words.get64(b, ((int) l4) - 60696));
+         f130(m, l4 + 8L, 83608L, 2L, 83568L, 1L, l2, l3);
+         L114: {
+          if ((b[((int) l4) - 60440] & 0xff) != 1) { break L114; }
+          f143(m, l4 + 32L, Words.get64(b, ((int) l4) - 60432), Words.get64(b, ((int) l4) - 60424));
           break L2;
          }
-         Words.put64(b, ((int) l0) - 60704, 0L);
-         Words.put64(b, ((int) l0) - 60712, 0L);
-         Words.put64(b, ((int) l0) - 60720, 0L);
+         Words.put64(b, ((int) l0) - 60432, 0L);
+         Words.put64(b, ((int) l0) - 60440, 0L);
+         Words.put64(b, ((int) l0) - 60448, 0L);
          break L1;
         }
-        f133(m, l4 + 32L, 83616L, 13L, 83568L, 1L, l2, l3);
+        f130(m, l4 + 32L, 83616L, 13L, 83568L, 1L, l2, l3);
         break L2;
        }
-       Words.put64(b, ((int) l4) - 60456, 0L);
-       Words.put64(b, ((int) l4) - 60464, 0L);
-       Words.put64(b, ((int) l4) - 60472, 0L);
-       L113: {
-        L114: {
-         if (!(l3 == 0L)) { break L114; }
+       Words.put64(b, ((int) l4) - 60184, 0L);
+       Words.put64(b, ((int) l4) - 60192, 0L);
+       Words.put64(b, ((int) l4) - 60200, 0L);
+       L115: {
+        L116: {
+         if (!(l3 == 0L)) { break L116; }
          l7 = 0L;
          l6 = 0L;
-         break L113;
+         break L115;
         }
-        L115: {
-         if ((l1 = (int) b[((int) l2) - 60720]) > -1) { break L115; }
-         if (l1 + Integer.MIN_VALUE < 2147483616) { break L115; }
+        L117: {
+         if ((l1 = (int) b[((int) l2) - 60448]) > -1) { break L117; }
+         if (l1 + Integer.MIN_VALUE < 2147483616) { break L117; }
          l9 = l1 & 255;
-         l10 = (b[((int) l2) - 60719] & 0xff) & 63;
-         l11 = (b[((int) l2) - 60718] & 0xff) & 63;
-         L116: {
-          L117: {
-           if (l1 + Integer.MIN_VALUE > 2147483631) { break L117; }
+         l10 = (b[((int) l2) - 60447] & 0xff) & 63;
+         l11 = (b[((int) l2) - 60446] & 0xff) & 63;
+         L118: {
+          L119: {
+           if (l1 + Integer.MIN_VALUE > 2147483631) { break L119; }
            l1 = ((l10 << 6) | ((l9 << 12) & 61440)) | l11;
            l5 = 3L;
-           break L116;
+           break L118;
           }
-          l1 = ((l11 << 6) | ((l10 << 12) | ((l9 << 18) & 1835008))) | ((b[((int) l2) - 60717] & 0xff) & 63);
+          l1 = ((l11 << 6) | ((l10 << 12) | ((l9 << 18) & 1835008))) | ((b[((int) l2) - 60445] & 0xff) & 63);
           l5 = 4L;
          }
          if (l1 == 20221) { break L3; }
          if (l1 == 24213) { break L3; }
          if (l1 == 26411) { break L3; }
         }
-        f133(m, l4 + 248L, 83728L, 3L, 83740L, 1L, l2, l3);
-        L118: {
-         if ((b[((int) l4) - 60472] & 0xff) != 1) { break L118; }
-         Words.put64(b, ((int) l4) - 60672, Words.get64(b, ((int) l4) - 60456));
-         Words.put64(b, ((int) l4) - 60680, Words.get64(b, ((int) l4) - 60464));
-         Words.put64(b, ((int) l4) - 60688, 1L);
+        f130(m, l4 + 248L, 83728L, 3L, 83740L, 1L, l2, l3);
+        L120: {
+         if ((b[((int) l4) - 60200] & 0xff) != 1) { break L120; }
+         Words.put64(b, ((int) l4) - 60400, Words.get64(b, ((int) l4) - 60184));
+         Words.put64(b, ((int) l4) - 60408, Words.get64(b, ((int) l4) - 60192));
+         Words.put64(b, ((int) l4) - 60416, 1L);
          break L2;
         }
         l5 = 0L;
         l7 = 0L;
         l6 = 0L;
-        if ((l1 = (int) b[((int) l2) - 60720]) > -1) { break L113; }
+        if ((l1 = (int) b[((int) l2) - 60448]) > -1) { break L115; }
         l5 = 0L;
         l7 = 0L;
         l6 = 0L;
-        if (l1 + Integer.MIN_VALUE < 2147483616) { break L113; }
+        if (l1 + Integer.MIN_VALUE < 2147483616) { break L115; }
         l9 = l1 & 255;
-        l10 = (b[((int) l2) - 60719] & 0xff) & 63;
-        l11 = (b[((int) l2) - 60718] & 0xff) & 63;
-        L119: {
-         L120: {
-          if (l1 + Integer.MIN_VALUE > 2147483631) { break L120; }
+        l10 = (b[((int) l2) - 60447] & 0xff) & 63;
+        l11 = (b[((int) l2) - 60446] & 0xff) & 63;
+        L121: {
+         L122: {
+          if (l1 + Integer.MIN_VALUE > 2147483631) { break L122; }
           l1 = ((l10 << 6) | ((l9 << 12) & 61440)) | l11;
           l8 = 3L;
-          break L119;
+          break L121;
          }
-         l1 = ((l11 << 6) | ((l10 << 12) | ((l9 << 18) & 1835008))) | ((b[((int) l2) - 60717] & 0xff) & 63);
+         l1 = ((l11 << 6) | ((l10 << 12) | ((l9 << 18) & 1835008))) | ((b[((int) l2) - 60445] & 0xff) & 63);
          l8 = 4L;
         }
         l5 = 0L;
         l7 = 0L;
         l6 = 0L;
-        if (l1 != 21021) { break L113; }
+        if (l1 != 21021) { break L115; }
         l2 = l2 + l8;
         l6 = 0L;
         l5 = 1L;
-        L121: {
-         if (l3 != l8) { break L121; }
+        L123: {
+         if (l3 != l8) { break L123; }
          l7 = l2;
-         break L113;
+         break L115;
         }
-        l9 = (l1 = (int) b[((int) l2) - 60720]) & 255;
-        L122: {
-         if (l1 > -1) { break L122; }
-         l10 = (b[((int) l2) - 60719] & 0xff) & 63;
-         L123: {
-          if (l1 + Integer.MIN_VALUE > 2147483615) { break L123; }
+        l9 = (l1 = (int) b[((int) l2) - 60448]) & 255;
+        L124: {
+         if (l1 > -1) { break L124; }
+         l10 = (b[((int) l2) - 60447] & 0xff) & 63;
+         L125: {
+          if (l1 + Integer.MIN_VALUE > 2147483615) { break L125; }
           l9 = ((l9 << 6) & 1984) | l10;
-          break L122;
+          break L124;
          }
-         l11 = (b[((int) l2) - 60718] & 0xff) & 63;
-         L124: {
-          if (l1 + Integer.MIN_VALUE > 2147483631) { break L124; }
+         l11 = (b[((int) l2) - 60446] & 0xff) & 63;
+         L126: {
+          if (l1 + Integer.MIN_VALUE > 2147483631) { break L126; }
           l9 = ((l10 << 6) | ((l9 << 12) & 61440)) | l11;
-          break L122;
+          break L124;
          }
-         l9 = ((l11 << 6) | ((l10 << 12) | ((l9 << 18) & 1835008))) | ((b[((int) l2) - 60717] & 0xff) & 63);
+         l9 = ((l11 << 6) | ((l10 << 12) | ((l9 << 18) & 1835008))) | ((b[((int) l2) - 60445] & 0xff) & 63);
         }
         l8 = l3 - l8;
         l3 = -36L;
-        L125: {
-         L126: while (true) {
-          if ((l10 = (Words.get32(b, ((int) (l3 + 83784L)) - 60720) == l9) ? 1 : 0) != 0) { break L125; }
+        L127: {
+         L128: while (true) {
+          if ((l10 = (Words.get32(b, ((int) (l3 + 83784L)) - 60448) == l9) ? 1 : 0) != 0) { break L127; }
           l1 = (l3 != 0L) ? 1 : 0;
           l3 = l3 + 4L;
-          if (l1 != 0) { continue L126; }
-          break L126;
+          if (l1 != 0) { continue L128; }
+          break L128;
          }
         }
         l5 = 0L;
         l7 = 0L;
         l6 = 0L;
-        if (l10 != 0) { break L113; }
+        if (l10 != 0) { break L115; }
         l5 = 1L;
         l7 = l2;
         l6 = l8;
        }
-       Words.put64(b, ((int) l4) - 60672, l6);
-       Words.put64(b, ((int) l4) - 60680, l7);
-       Words.put64(b, ((int) l4) - 60688, l5);
+       Words.put64(b, ((int) l4) - 60400, l6);
+       Words.put64(b, ((int) l4) - 60408, l7);
+       Words.put64(b, ((int) l4) - 60416, l5);
        break L2;
       }
-      Words.put64(b, ((int) l4) - 60472, 0L);
-      Words.put64(b, ((int) l4) - 60464, 0L);
-      Words.put64(b, ((int) l4) - 60456, 0L);
-      Words.put64(b, ((int) l4) - 60496, 0L);
-      Words.put64(b, ((int) l4) - 60488, 0L);
-      Words.put64(b, ((int) l4) - 60480, 0L);
-      Words.put64(b, ((int) l4) - 60520, 0L);
-      Words.put64(b, ((int) l4) - 60512, 0L);
-      Words.put64(b, ((int) l4) - 60504, 0L);
-      Words.put64(b, ((int) l4) - 60544, 0L);
-      Words.put64(b, ((int) l4) - 60536, 0L);
-      Words.put64(b, ((int) l4) - 60528, 0L);
-      Words.put64(b, ((int) l4) - 60552, 0L);
-      Words.put64(b, ((int) l4) - 60560, 0L);
-      Words.put64(b, ((int) l4) - 60568, 0L);
-      Words.put64(b, ((int) l4) - 60576, 0L);
-      Words.put64(b, ((int) l4) - 60584, 0L);
-      Words.put64(b, ((int) l4) - 60592, 0L);
-      Words.put64(b, ((int) l4) - 60600, 0L);
-      Words.put64(b, ((int) l4) - 60608, 0L);
-      Words.put64(b, ((int) l4) - 60616, 0L);
-      Words.put64(b, ((int) l4) - 60624, 0L);
-      Words.put64(b, ((int) l4) - 60632, 0L);
-      Words.put64(b, ((int) l4) - 60640, 0L);
-      Words.put64(b, ((int) l4) - 60648, 0L);
-      Words.put64(b, ((int) l4) - 60656, 0L);
-      Words.put64(b, ((int) l4) - 60664, 0L);
-      f133(m, l4 + 224L, 83788L, 3L, 83800L, 1L, l2, l3);
-      L127: {
-       if ((b[((int) l4) - 60496] & 0xff) != 1) { break L127; }
-       Words.put64(b, ((int) l4) - 60688, 1L);
-       Words.put64(b, ((int) l4) - 60680, Words.get64(b, ((int) l4) - 60488));
-       Words.put64(b, ((int) l4) - 60672, Words.get64(b, ((int) l4) - 60480));
-       break L2;
-      }
-      f133(m, l4 + 200L, 83804L, 4L, 83820L, 1L, l2, l3);
-      L128: {
-       if ((b[((int) l4) - 60520] & 0xff) != 1) { break L128; }
-       Words.put64(b, ((int) l4) - 60688, 1L);
-       Words.put64(b, ((int) l4) - 60680, Words.get64(b, ((int) l4) - 60512));
-       Words.put64(b, ((int) l4) - 60672, Words.get64(b, ((int) l4) - 60504));
-       break L2;
-      }
-      f133(m, l4 + 176L, 83824L, 1L, 83828L, 1L, l2, l3);
+      Words.put64(b, ((int) l4) - 60200, 0L);
+      Words.put64(b, ((int) l4) - 60192, 0L);
+      Words.put64(b, ((int) l4) - 60184, 0L);
+      Words.put64(b, ((int) l4) - 60224, 0L);
+      Words.put64(b, ((int) l4) - 60216, 0L);
+      Words.put64(b, ((int) l4) - 60208, 0L);
+      Words.put64(b, ((int) l4) - 60248, 0L);
+      Words.put64(b, ((int) l4) - 60240, 0L);
+      Words.put64(b, ((int) l4) - 60232, 0L);
+      Words.put64(b, ((int) l4) - 60272, 0L);
+      Words.put64(b, ((int) l4) - 60264, 0L);
+      Words.put64(b, ((int) l4) - 60256, 0L);
+      Words.put64(b, ((int) l4) - 60280, 0L);
+      Words.put64(b, ((int) l4) - 60288, 0L);
+      Words.put64(b, ((int) l4) - 60296, 0L);
+      Words.put64(b, ((int) l4) - 60304, 0L);
+      Words.put64(b, ((int) l4) - 60312, 0L);
+      Words.put64(b, ((int) l4) - 60320, 0L);
+      Words.put64(b, ((int) l4) - 60328, 0L);
+      Words.put64(b, ((int) l4) - 60336, 0L);
+      Words.put64(b, ((int) l4) - 60344, 0L);
+      Words.put64(b, ((int) l4) - 60352, 0L);
+      Words.put64(b, ((int) l4) - 60360, 0L);
+      Words.put64(b, ((int) l4) - 60368, 0L);
+      Words.put64(b, ((int) l4) - 60376, 0L);
+      Words.put64(b, ((int) l4) - 60384, 0L);
+      Words.put64(b, ((int) l4) - 60392, 0L);
+      f130(m, l4 + 224L, 83788L, 3L, 83800L, 1L, l2, l3);
       L129: {
-       if ((b[((int) l4) - 60544] & 0xff) != 1) { break L129; }
-       Words.put64(b, ((int) l4) - 60688, 1L);
-       Words.put64(b, ((int) l4) - 60680, Words.get64(b, ((int) l4) - 60536));
-       Words.put64(b, ((int) l4) - 60672, Words.get64(b, ((int) l4) - 60528));
+       if ((b[((int) l4) - 60224] & 0xff) != 1) { break L129; }
+       Words.put64(b, ((int) l4) - 60416, 1L);
+       Words.put64(b, ((int) l4) - 60408, Words.get64(b, ((int) l4) - 60216));
+       Words.put64(b, ((int) l4) - 60400, Words.get64(b, ((int) l4) - 60208));
        break L2;
       }
-      f133(m, l4 + 152L, 83832L, 5L, 83852L, 3L, l2, l3);
+      f130(m, l4 + 200L, 83804L, 4L, 83820L, 1L, l2, l3);
       L130: {
-       if ((b[((int) l4) - 60568] & 0xff) != 1) { break L130; }
-       Words.put64(b, ((int) l4) - 60688, 1L);
-       Words.put64(b, ((int) l4) - 60680, Words.get64(b, ((int) l4) - 60560));
-       Words.put64(b, ((int) l4) - 60672, Words.get64(b, ((int) l4) - 60552));
+       if ((b[((int) l4) - 60248] & 0xff) != 1) { break L130; }
+       Words.put64(b, ((int) l4) - 60416, 1L);
+       Words.put64(b, ((int) l4) - 60408, Words.get64(b, ((int) l4) - 60240));
+       Words.put64(b, ((int) l4) - 60400, Words.get64(b, ((int) l4) - 60232));
        break L2;
       }
-      f133(m, l4 + 128L, 83864L, 3L, 83876L, 1L, l2, l3);
+      f130(m, l4 + 176L, 83824L, 1L, 83828L, 1L, l2, l3);
       L131: {
-       if ((b[((int) l4) - 60592] & 0xff) != 1) { break L131; }
-       Words.put64(b, ((int) l4) - 60688, 1L);
-       Words.put64(b, ((int) l4) - 60680, Words.get64(b, ((int) l4) - 60584));
-       Words.put64(b, ((int) l4) - 60672, Words.get64(b, ((int) l4) - 60576));
+       if ((b[((int) l4) - 60272] & 0xff) != 1) { break L131; }
+       Words.put64(b, ((int) l4) - 60416, 1L);
+       Words.put64(b, ((int) l4) - 60408, Words.get64(b, ((int) l4) - 60264));
+       Words.put64(b, ((int) l4) - 60400, Words.get64(b, ((int) l4) - 60256));
        break L2;
       }
-      f133(m, l4 + 104L, 83880L, 2L, 83888L, 1L, l2, l3);
+      f130(m, l4 + 152L, 83832L, 5L, 83852L, 3L, l2, l3);
       L132: {
-       if ((b[((int) l4) - 60616] & 0xff) != 1) { break L132; }
-       Words.put64(b, ((int) l4) - 60688, 1L);
-       Words.put64(b, ((int) l4) - 60680, Words.get64(b, ((int) l4) - 60608));
-       Words.put64(b, ((int) l4) - 60672, Words.get64(b, ((int) l4) - 60600));
+       if ((b[((int) l4) - 60296] & 0xff) != 1) { break L132; }
+       Words.put64(b, ((int) l4) - 60416, 1L);
+       Words.put64(b, ((int) l4) - 60408, Words.get64(b, ((int) l4) - 60288));
+       Words.put64(b, ((int) l4) - 60400, Words.get64(b, ((int) l4) - 60280));
        break L2;
       }
-      f133(m, l4 + 80L, 83892L, 2L, 83900L, 4L, l2, l3);
+      f130(m, l4 + 128L, 83864L, 3L, 83876L, 1L, l2, l3);
       L133: {
-       if ((b[((int) l4) - 60640] & 0xff) != 1) { break L133; }
-       Words.put64(b, ((int) l4) - 60688, 1L);
-       Words.put64(b, ((int) l4) - 60680, Words.get64(b, ((int) l4) - 60632));
-       Words.put64(b, ((int) l4) - 60672, Words.get64(b, ((int) l4) - 60624));
+       if ((b[((int) l4) - 60320] & 0xff) != 1) { break L133; }
+       Words.put64(b, ((int) l4) - 60416, 1L);
+       Words.put64(b, ((int) l4) - 60408, Words.get64(b, ((int) l4) - 60312));
+       Words.put64(b, ((int) l4) - 60400, Words.get64(b, ((int) l4) - 60304));
        break L2;
       }
-      f133(m, l4 + 56L, 83820L, 1L, 83916L, 2L, l2, l3);
+      f130(m, l4 + 104L, 83880L, 2L, 83888L, 1L, l2, l3);
       L134: {
-       if ((b[((int) l4) - 60664] & 0xff) != 1) { break L134; }
-       Words.put64(b, ((int) l4) - 60688, 1L);
-       Words.put64(b, ((int) l4) - 60680, Words.get64(b, ((int) l4) - 60656));
-       Words.put64(b, ((int) l4) - 60672, Words.get64(b, ((int) l4) - 60648));
+       if ((b[((int) l4) - 60344] & 0xff) != 1) { break L134; }
+       Words.put64(b, ((int) l4) - 60416, 1L);
+       Words.put64(b, ((int) l4) - 60408, Words.get64(b, ((int) l4) - 60336));
+       Words.put64(b, ((int) l4) - 60400, Words.get64(b, ((int) l4) - 60328));
        break L2;
       }
-      f136(m, l4 + 248L, l2, l3);
-      Words.put64(b, ((int) l4) - 60688, b[((int) l4) - 60472] & 0xffL);
-      Words.put64(b, ((int) l4) - 60680, Words.get64(b, ((int) l4) - 60464));
-      Words.put64(b, ((int) l4) - 60672, Words.get64(b, ((int) l4) - 60456));
+      f130(m, l4 + 80L, 83892L, 2L, 83900L, 4L, l2, l3);
+      L135: {
+       if ((b[((int) l4) - 60368] & 0xff) != 1) { break L135; }
+       Words.put64(b, ((int) l4) - 60416, 1L);
+       Words.put64(b, ((int) l4) - 60408, Words.get64(b, ((int) l4) - 60360));
+       Words.put64(b, ((int) l4) - 60400, Words.get64(b, ((int) l4) - 60352));
+       break L2;
+      }
+      f130(m, l4 + 56L, 83820L, 1L, 83916L, 2L, l2, l3);
+      L136: {
+       if ((b[((int) l4) - 60392] & 0xff) != 1) { break L136; }
+       Words.put64(b, ((int) l4) - 60416, 1L);
+       Words.put64(b, ((int) l4) - 60408, Words.get64(b, ((int) l4) - 60384));
+       Words.put64(b, ((int) l4) - 60400, Words.get64(b, ((int) l4) - 60376));
+       break L2;
+      }
+      f144(m, l4 + 248L, l2, l3);
+      Words.put64(b, ((int) l4) - 60416, b[((int) l4) - 60200] & 0xffL);
+      Words.put64(b, ((int) l4) - 60408, Words.get64(b, ((int) l4) - 60192));
+      Words.put64(b, ((int) l4) - 60400, Words.get64(b, ((int) l4) - 60184));
       break L2;
      }
-     Words.put64(b, ((int) l4) - 60472, 0L);
-     Words.put64(b, ((int) l4) - 60464, 0L);
-     Words.put64(b, ((int) l4) - 60456, 0L);
-     Words.put64(b, ((int) l4) - 60496, 0L);
-     Words.put64(b, ((int) l4) - 60488, 0L);
-     Words.put64(b, ((int) l4) - 60480, 0L);
-     L135: {
-      L136: {
-       L137: {
-        if (l3 == 0L) { break L137; }
-        if ((l1 = (int) b[((int) l2) - 60720]) > -1) { break L137; }
-        if (l1 + Integer.MIN_VALUE < 2147483616) { break L137; }
+     Words.put64(b, ((int) l4) - 60200, 0L);
+     Words.put64(b, ((int) l4) - 60192, 0L);
+     Words.put64(b, ((int) l4) - 60184, 0L);
+     Words.put64(b, ((int) l4) - 60224, 0L);
+     Words.put64(b, ((int) l4) - 60216, 0L);
+     Words.put64(b, ((int) l4) - 60208, 0L);
+     L137: {
+      L138: {
+       L139: {
+        if (l3 == 0L) { break L139; }
+        if ((l1 = (int) b[((int) l2) - 60448]) > -1) { break L139; }
+        if (l1 + Integer.MIN_VALUE < 2147483616) { break L139; }
         l9 = l1 & 255;
-        l10 = (b[((int) l2) - 60719] & 0xff) & 63;
-        l11 = (b[((int) l2) - 60718] & 0xff) & 63;
-        L138: {
-         L139: {
-          if (l1 + Integer.MIN_VALUE > 2147483631) { break L139; }
+        l10 = (b[((int) l2) - 60447] & 0xff) & 63;
+        l11 = (b[((int) l2) - 60446] & 0xff) & 63;
+        L140: {
+         L141: {
+          if (l1 + Integer.MIN_VALUE > 2147483631) { break L141; }
           l1 = ((l10 << 6) | ((l9 << 12) & 61440)) | l11;
           l5 = 3L;
-          break L138;
+          break L140;
          }
-         l1 = ((l11 << 6) | ((l10 << 12) | ((l9 << 18) & 1835008))) | ((b[((int) l2) - 60717] & 0xff) & 63);
+         l1 = ((l11 << 6) | ((l10 << 12) | ((l9 << 18) & 1835008))) | ((b[((int) l2) - 60445] & 0xff) & 63);
          l5 = 4L;
         }
-        L140: {
-         if (l1 == 36913) { break L140; }
-         if (l1 != 21608) { break L137; }
+        L142: {
+         if (l1 == 36913) { break L142; }
+         if (l1 != 21608) { break L139; }
         }
         l2 = l2 + l5;
         l3 = l3 - l5;
-        break L136;
+        break L138;
        }
-       f133(m, l4 + 224L, 83696L, 1L, 83700L, 1L, l2, l3);
-       L141: {
-        if ((b[((int) l4) - 60496] & 0xff) != 1) { break L141; }
-        l3 = Words.get64(b, ((int) l4) - 60480);
-        l2 = Words.get64(b, ((int) l4) - 60488);
-        break L136;
-       }
-       f133(m, l4 + 248L, 83704L, 2L, 83712L, 1L, l2, l3);
-       if ((b[((int) l4) - 60472] & 0xff) != 1) { break L135; }
-       l3 = Words.get64(b, ((int) l4) - 60456);
-       l2 = Words.get64(b, ((int) l4) - 60464);
-      }
-      L142: {
+       f130(m, l4 + 224L, 83696L, 1L, 83700L, 1L, l2, l3);
        L143: {
-        if (!(l3 == 0L)) { break L143; }
+        if ((b[((int) l4) - 60224] & 0xff) != 1) { break L143; }
+        l3 = Words.get64(b, ((int) l4) - 60208);
+        l2 = Words.get64(b, ((int) l4) - 60216);
+        break L138;
+       }
+       f130(m, l4 + 248L, 83704L, 2L, 83712L, 1L, l2, l3);
+       if ((b[((int) l4) - 60200] & 0xff) != 1) { break L137; }
+       l3 = Words.get64(b, ((int) l4) - 60184);
+       l2 = Words.get64(b, ((int) l4) - 60192);
+      }
+      L144: {
+       L145: {
+        if (!(l3 == 0L)) { break L145; }
         l3 = 0L;
         l2 = 0L;
         l5 = 0L;
-        break L142;
+        break L144;
        }
-       L144: {
-        if ((l1 = (int) b[((int) l2) - 60720]) > -1) { break L144; }
-        if (l1 + Integer.MIN_VALUE < 2147483616) { break L144; }
+       L146: {
+        if ((l1 = (int) b[((int) l2) - 60448]) > -1) { break L146; }
+        if (l1 + Integer.MIN_VALUE < 2147483616) { break L146; }
         l9 = l1 & 255;
-        l10 = (b[((int) l2) - 60719] & 0xff) & 63;
-        l11 = (b[((int) l2) - 60718] & 0xff) & 63;
-        L145: {
-         L146: {
-          if (l1 + Integer.MIN_VALUE > 2147483631) { break L146; }
+        l10 = (b[((int) l2) - 60447] & 0xff) & 63;
+        l11 = (b[((int) l2) - 60446] & 0xff) & 63;
+        L147: {
+         L148: {
+          if (l1 + Integer.MIN_VALUE > 2147483631) { break L148; }
           l1 = ((l10 << 6) | ((l9 << 12) & 61440)) | l11;
           l5 = 3L;
-          break L145;
+          break L147;
          }
-         l1 = ((l11 << 6) | ((l10 << 12) | ((l9 << 18) & 1835008))) | ((b[((int) l2) - 60717] & 0xff) & 63);
+         l1 = ((l11 << 6) | ((l10 << 12) | ((l9 << 18) & 1835008))) | ((b[((int) l2) - 60445] & 0xff) & 63);
          l5 = 4L;
         }
         l3 = l3 - l5;
         l5 = l2 + l5;
         l2 = 1L;
-        L147: {
-         if (l1 > 20844) { break L147; }
-         L148: {
+        L149: {
+         if (l1 > 20844) { break L149; }
+         L150: {
           switch (l1 + -19968) {
-          case 0: case 9: break L142;
-          case 1: case 2: case 3: case 4: case 5: case 6: case 7: case 8: break L144;
-          default: break L148;
+          case 0: case 9: break L144;
+          case 1: case 2: case 3: case 4: case 5: case 6: case 7: case 8: break L146;
+          default: break L150;
           }
          }
          switch (l1 + -20108) {
-         case 0: case 8: break L142;
-         default: break L144;
+         case 0: case 8: break L144;
+         default: break L146;
          }
         }
-        if (l1 == 20845) { break L142; }
-        if (l1 == 22235) { break L142; }
+        if (l1 == 20845) { break L144; }
+        if (l1 == 22235) { break L144; }
        }
        l2 = 0L;
        l5 = 0L;
        l3 = 0L;
       }
-      Words.put64(b, ((int) l4) - 60672, l3);
-      Words.put64(b, ((int) l4) - 60680, l5);
-      Words.put64(b, ((int) l4) - 60688, l2);
+      Words.put64(b, ((int) l4) - 60400, l3);
+      Words.put64(b, ((int) l4) - 60408, l5);
+      Words.put64(b, ((int) l4) - 60416, l2);
       break L2;
      }
-     Words.put64(b, ((int) l4) - 60672, 0L);
-     Words.put64(b, ((int) l4) - 60680, 0L);
-     Words.put64(b, ((int) l4) - 60688, 0L);
+     Words.put64(b, ((int) l4) - 60400, 0L);
+     Words.put64(b, ((int) l4) - 60408, 0L);
+     Words.put64(b, ((int) l4) - 60416, 0L);
      break L2;
     }
     throw State.trap();
    }
-   Words.put64(b, ((int) l4) - 60688, 1L);
-   Words.put64(b, ((int) l4) - 60672, l3 - l5);
-   Words.put64(b, ((int) l4) - 60680, l2 + l5);
+   Words.put64(b, ((int) l4) - 60416, 1L);
+   Words.put64(b, ((int) l4) - 60400, l3 - l5);
+   Words.put64(b, ((int) l4) - 60408, l2 + l5);
   }
-  Words.put64(b, ((int) l0) - 60720, b[((int) l4) - 60688] & 0xffL);
-  Words.put64(b, ((int) (l0 + 8L)) - 60720, Words.get64(b, ((int) l4) - 60680));
-  Words.put64(b, ((int) (l0 + 16L)) - 60720, Words.get64(b, ((int) l4) - 60672));
+  Words.put64(b, ((int) l0) - 60448, b[((int) l4) - 60416] & 0xffL);
+  Words.put64(b, ((int) (l0 + 8L)) - 60448, Words.get64(b, ((int) l4) - 60408));
+  Words.put64(b, ((int) (l0 + 16L)) - 60448, Words.get64(b, ((int) l4) - 60400));
  }
  m.g0 = l4 + 272L;
 }
 
-static void f124(State m, long l0, long l1, long l2, long l3, long l4, int l5, int l6) {
+static void f126(State m, long l0, long l1, long l2, long l3, long l4, int l5, int l6) {
  final byte[] b = m.bytes;
  long l7 = 0;
  long l8 = 0;
@@ -3791,11 +4180,11 @@ static void f124(State m, long l0, long l1, long l2, long l3, long l4, int l5, i
     L4: {
      L5: {
       if (l4 + Long.MIN_VALUE < -9223372036854775805L) { break L5; }
-      if (((l12 = b[((int) l3) - 60720] & 0xff) & 240) != 224) { break L4; }
-      final int t6 = b[((int) ((l9 = ((((l15 = (((l13 = b[((int) l3) - 60719] & 0xff) << 8) | ((l14 = b[((int) l3) - 60718] & 0xff) << 16)) | l12) & 0xffffffffL) * 953497L) >>> 22L) & 1016L) + 66857L)) - 60720] & 0xff;
+      if (((l12 = b[((int) l3) - 60448] & 0xff) & 240) != 224) { break L4; }
+      final int t6 = b[((int) ((l9 = ((((l15 = (((l13 = b[((int) l3) - 60447] & 0xff) << 8) | ((l14 = b[((int) l3) - 60446] & 0xff) << 16)) | l12) & 0xffffffffL) * 953497L) >>> 22L) & 1016L) + 66857L)) - 60448] & 0xff;
       final int t7 = l15 = (Words.get32(b, State.far((int) l9, 66852)) == l15) ? 1 : 0;
       l16 = t7 != 0 ? t6 : 0;
-      final int t8 = b[((int) (l9 + 66856L)) - 60720] & 0xff;
+      final int t8 = b[((int) (l9 + 66856L)) - 60448] & 0xff;
       final int t9 = l15;
       l15 = t9 != 0 ? t8 : 2;
       l12 = (l13 = ((l12 << 12) | l14) + (l13 << 6)) + -925824;
@@ -3879,13 +4268,13 @@ static void f124(State m, long l0, long l1, long l2, long l3, long l4, int l5, i
          if ((l13 + -991120) + Integer.MIN_VALUE >= -2147483638) { break L22; }
          break L3;
         }
-        if (f147(m, l5, l6, l12, l15, l16, l3, l4) == 0) { break L22; }
-        if (f148(m, l5, l6, l1, l8, l12, l3, l4) == 0) { break L3; }
+        if (Core5.f155(m, l5, l6, l12, l15, l16, l3, l4) == 0) { break L22; }
+        if (Core5.f156(m, l5, l6, l1, l8, l12, l3, l4) == 0) { break L3; }
        }
        l10 = 0L;
        l11 = 0L;
        l9 = 0L;
-       if (Core5.f149(m, l5, l6, l1, l8, l12, l3, l4) != 0) { break L3; }
+       if (Core5.f157(m, l5, l6, l1, l8, l12, l3, l4) != 0) { break L3; }
        break L2;
       }
       l10 = 0L;
@@ -4007,35 +4396,35 @@ static void f124(State m, long l0, long l1, long l2, long l3, long l4, int l5, i
       l9 = 0L;
       break L2;
      }
-     l12 = b[((int) l3) - 60720] & 0xff;
+     l12 = b[((int) l3) - 60448] & 0xff;
     }
     l9 = 1L;
     L42: {
      if (((int) (byte) l12) > -1) { break L42; }
-     l13 = (b[((int) l3) - 60719] & 0xff) & 63;
+     l13 = (b[((int) l3) - 60447] & 0xff) & 63;
      L43: {
       if (l12 + Integer.MIN_VALUE > -2147483425) { break L43; }
       l12 = ((l12 << 6) & 1984) | l13;
       l9 = 2L;
       break L42;
      }
-     l15 = (b[((int) l3) - 60718] & 0xff) & 63;
+     l15 = (b[((int) l3) - 60446] & 0xff) & 63;
      L44: {
       if (l12 + Integer.MIN_VALUE > -2147483409) { break L44; }
       l12 = ((l13 << 6) | ((l12 << 12) & 61440)) | l15;
       l9 = 3L;
       break L42;
      }
-     l12 = ((l15 << 6) | ((l13 << 12) | ((l12 << 18) & 1835008))) | ((b[((int) l3) - 60717] & 0xff) & 63);
+     l12 = ((l15 << 6) | ((l13 << 12) | ((l12 << 18) & 1835008))) | ((b[((int) l3) - 60445] & 0xff) & 63);
      l9 = 4L;
     }
     L45: {
      L46: {
       if ((l12 + -2048) + Integer.MIN_VALUE > -2147420161) { break L46; }
-      final int t47 = b[((int) ((l10 = ((((l13 = (((l12 >>> 12) | ((l12 << 2) & 16128)) | ((l12 << 16) & 4128768)) | 8421600) & 0xffffffffL) * 953497L) >>> 22L) & 1016L) + 66857L)) - 60720] & 0xff;
+      final int t47 = b[((int) ((l10 = ((((l13 = (((l12 >>> 12) | ((l12 << 2) & 16128)) | ((l12 << 16) & 4128768)) | 8421600) & 0xffffffffL) * 953497L) >>> 22L) & 1016L) + 66857L)) - 60448] & 0xff;
       final int t48 = l13 = (Words.get32(b, State.far((int) l10, 66852)) == l13) ? 1 : 0;
       l15 = t48 != 0 ? t47 : 0;
-      final int t49 = b[((int) (l10 + 66856L)) - 60720] & 0xff;
+      final int t49 = b[((int) (l10 + 66856L)) - 60448] & 0xff;
       final int t50 = l13;
       l13 = t50 != 0 ? t49 : 2;
       break L45;
@@ -4125,13 +4514,13 @@ static void f124(State m, long l0, long l1, long l2, long l3, long l4, int l5, i
        if ((l12 + -65296) + Integer.MIN_VALUE >= -2147483638) { break L65; }
        break L3;
       }
-      if (f147(m, l5, l6, l12, l13, l15, l3, l4) == 0) { break L65; }
-      if (f148(m, l5, l6, l1, l8, l12, l3, l4) == 0) { break L3; }
+      if (Core5.f155(m, l5, l6, l12, l13, l15, l3, l4) == 0) { break L65; }
+      if (Core5.f156(m, l5, l6, l1, l8, l12, l3, l4) == 0) { break L3; }
      }
      l10 = 0L;
      l11 = 0L;
      l9 = 0L;
-     if (Core5.f149(m, l5, l6, l1, l8, l12, l3, l4) != 0) { break L3; }
+     if (Core5.f157(m, l5, l6, l1, l8, l12, l3, l4) != 0) { break L3; }
      break L2;
     }
     l10 = 0L;
@@ -4245,21 +4634,1124 @@ static void f124(State m, long l0, long l1, long l2, long l3, long l4, int l5, i
     l9 = 0L;
     if (Core3.f101(m, l3, l4) != 0) { break L2; }
    }
-   Core5.f150(m, l7, l5, l6, l1, l2, l12, l3, l4);
+   Core5.f158(m, l7, l5, l6, l1, l2, l12, l3, l4);
    l10 = 1L;
-   l9 = Words.get64(b, ((int) l7) - 60712);
-   l11 = Words.get64(b, ((int) l7) - 60720);
+   l9 = Words.get64(b, ((int) l7) - 60440);
+   l11 = Words.get64(b, ((int) l7) - 60448);
   }
-  Words.put64(b, ((int) l0) - 60720, l10);
-  Words.put64(b, ((int) (l0 + 16L)) - 60720, l9);
-  Words.put64(b, ((int) (l0 + 8L)) - 60720, l11);
+  Words.put64(b, ((int) l0) - 60448, l10);
+  Words.put64(b, ((int) (l0 + 16L)) - 60448, l9);
+  Words.put64(b, ((int) (l0 + 8L)) - 60448, l11);
   m.g0 = l7 + 16L;
   return;
  }
  throw State.trap();
 }
 
-static int f125(State m, long l0) {
+static int f127(State m, long l0) {
+ final byte[] b = m.bytes;
+ long l1 = 0;
+ long l2 = 0;
+ long l3 = 0;
+ long l4 = 0;
+ long l5 = 0;
+ int l6 = 0;
+ m.g0 = l1 = m.g0 - 128L;
+ L1: {
+  if ((l1 = l1) < 16L) { break L1; }
+  l2 = Words.get64(b, ((int) l0) - 60424);
+  l3 = Words.get64(b, ((int) l0) - 60432);
+  l4 = Words.get64(b, ((int) l0) - 60440);
+  l5 = Words.get64(b, ((int) l0) - 60448);
+  Words.put64(b, ((int) l1) - 60392, Words.get64(b, ((int) l0) - 60408));
+  Words.put64(b, ((int) l1) - 60400, Words.get64(b, ((int) l0) - 60416));
+  Words.put64(b, ((int) l1) - 60328, 0L);
+  Words.put64(b, ((int) l1) - 60336, 0L);
+  Words.put64(b, ((int) l1) - 60344, 0L);
+  Words.put64(b, ((int) l1) - 60352, 0L);
+  Words.put64(b, ((int) l1) - 60360, 0L);
+  Words.put64(b, ((int) l1) - 60368, 0L);
+  Words.put64(b, ((int) l1) - 60376, 0L);
+  Words.put64(b, ((int) l1) - 60384, 0L);
+  Core2.f75(m, l1 + 64L, l3, l2, 1);
+  L2: {
+   L3: {
+    L4: {
+     if ((b[((int) l1) - 60384] & 0xff) != 0) { break L4; }
+     if (((b[((int) l1) - 60336] & 0xff) & 255) == 3) { break L4; }
+     if (Words.get64(b, ((int) l1) - 60360) > -1L) { break L3; }
+    }
+    l6 = 0;
+    break L2;
+   }
+   Words.put64(b, ((int) l1) - 60424, l2);
+   Words.put64(b, ((int) l1) - 60432, l3);
+   Words.put64(b, ((int) l1) - 60440, l4);
+   Words.put64(b, ((int) l1) - 60448, l5);
+   Words.put64(b, ((int) l1) - 60416, Words.get64(b, ((int) l1) - 60400));
+   Words.put64(b, ((int) l1) - 60408, Words.get64(b, ((int) l1) - 60392));
+   l6 = 0;
+   if (f134(m, l1) != 0) { break L2; }
+   Words.put64(b, ((int) l1) - 60328, 0L);
+   Words.put64(b, ((int) l1) - 60336, 0L);
+   Words.put64(b, ((int) l1) - 60344, 0L);
+   Words.put64(b, ((int) l1) - 60352, 0L);
+   Words.put64(b, ((int) l1) - 60360, 0L);
+   Words.put64(b, ((int) l1) - 60368, 0L);
+   Words.put64(b, ((int) l1) - 60376, 0L);
+   Words.put64(b, ((int) l1) - 60384, 0L);
+   Core2.f75(m, l1 + 64L, l3, l2, 1);
+   L5: {
+    if ((b[((int) l1) - 60384] & 0xff) != 0) { break L5; }
+    if (((b[((int) l1) - 60336] & 0xff) & 255) == 2) { break L2; }
+   }
+   l6 = f135(m, l5, l4, 83372L, 0L) ^ 1;
+  }
+  m.g0 = l1 + 128L;
+  final int t6 = l6;
+  return t6;
+ }
+ throw State.trap();
+}
+
+static void f128(State m, long l0, long l1, long l2) {
+ final byte[] b = m.bytes;
+ long l3 = 0;
+ long l4 = 0;
+ long l5 = 0;
+ long l6 = 0;
+ int l7 = 0;
+ int l8 = 0;
+ int l9 = 0;
+ int l10 = 0;
+ m.g0 = l3 = m.g0 - 240L;
+ L1: {
+  L2: {
+   L3: {
+    L4: {
+     L5: {
+      L6: {
+       if ((l3 = l3) < 16L) { break L6; }
+       Words.put64(b, ((int) l3) - 60395, 0L);
+       Words.put64(b, ((int) l3) - 60400, 0L);
+       Words.put64(b, ((int) l3) - 60408, 0L);
+       Words.put64(b, ((int) l3) - 60432, 0L);
+       Words.put64(b, ((int) l3) - 60424, 0L);
+       Words.put64(b, ((int) l3) - 60419, 0L);
+       if (l2 == 0L) { break L4; }
+       l8 = (l7 = (int) b[((int) l1) - 60448]) & 255;
+       L7: {
+        if (l7 > -1) { break L7; }
+        if (l7 + Integer.MIN_VALUE < 2147483616) { break L7; }
+        l9 = (b[((int) l1) - 60447] & 0xff) & 63;
+        l10 = (b[((int) l1) - 60446] & 0xff) & 63;
+        L8: {
+         L9: {
+          if (l7 + Integer.MIN_VALUE > 2147483631) { break L9; }
+          l9 = ((l9 << 6) | ((l8 << 12) & 61440)) | l10;
+          l4 = 3L;
+          break L8;
+         }
+         l9 = ((l10 << 6) | ((l9 << 12) | ((l8 << 18) & 1835008))) | ((b[((int) l1) - 60445] & 0xff) & 63);
+         l4 = 4L;
+        }
+        L10: {
+         if (l9 == 12295) { break L10; }
+         if (l9 != 38646) { break L7; }
+        }
+        l1 = l1 + l4;
+        if ((l2 = l2 - l4) == 0L) { break L4; }
+        l7 = l8 = b[((int) l1) - 60448] & 0xff;
+       }
+       l4 = 1L;
+       L11: {
+        if (((int) (byte) l7) > -1) { break L11; }
+        l9 = (b[((int) l1) - 60447] & 0xff) & 63;
+        L12: {
+         if ((l7 = l7 & 255) + Integer.MIN_VALUE > -2147483425) { break L12; }
+         l8 = ((l8 << 6) & 1984) | l9;
+         l4 = 2L;
+         break L11;
+        }
+        l10 = (b[((int) l1) - 60446] & 0xff) & 63;
+        L13: {
+         if (l7 + Integer.MIN_VALUE > -2147483409) { break L13; }
+         l8 = ((l9 << 6) | ((l8 << 12) & 61440)) | l10;
+         l4 = 3L;
+         break L11;
+        }
+        l8 = ((l10 << 6) | ((l9 << 12) | ((l8 << 18) & 1835008))) | ((b[((int) l1) - 60445] & 0xff) & 63);
+        l4 = 4L;
+       }
+       f131(m, l3 + 8L, l8);
+       if (((b[((int) l3) - 60440] & 0xff) & 1) == 0) { break L3; }
+       L14: {
+        if (l2 == l4) { break L14; }
+        if ((l7 = (int) b[((int) (l5 = l1 + l4)) - 60448]) > -1) { break L14; }
+        if (l7 + Integer.MIN_VALUE < 2147483616) { break L14; }
+        l8 = l7 & 255;
+        l9 = (b[((int) l5) - 60447] & 0xff) & 63;
+        l10 = (b[((int) l5) - 60446] & 0xff) & 63;
+        L15: {
+         L16: {
+          if (l7 + Integer.MIN_VALUE > 2147483631) { break L16; }
+          l7 = ((l9 << 6) | ((l8 << 12) & 61440)) | l10;
+          l6 = 3L;
+          break L15;
+         }
+         l7 = ((l10 << 6) | ((l9 << 12) | ((l8 << 18) & 1835008))) | ((b[((int) l5) - 60445] & 0xff) & 63);
+         l6 = 4L;
+        }
+        l8 = b[((int) l3) - 60439] & 0xff;
+        L17: {
+         if (l7 == 27611) { break L17; }
+         if (l7 != 35282) { break L14; }
+        }
+        Words.put64(b, ((int) l3) - 60347, 0L);
+        Words.put64(b, ((int) l3) - 60352, 0L);
+        Words.put64(b, ((int) l3) - 60360, 0L);
+        Words.put64(b, ((int) l3) - 60240, 0L);
+        Words.put64(b, ((int) l3) - 60232, 0L);
+        Words.put64(b, ((int) l3) - 60224, 0L);
+        Words.put64(b, ((int) l3) - 60216, 0L);
+        Words.put64(b, ((int) l3) - 60296, 0L);
+        Words.put64(b, ((int) l3) - 60288, 0L);
+        Words.put64(b, ((int) l3) - 60280, 0L);
+        Words.put64(b, ((int) l3) - 60272, 0L);
+        Words.put32(b, ((int) l3) - 60320, 0);
+        b[((int) l3) - 60316] = (byte) 0;
+        f132(m, l3 + 208L, l5 = l5 + l6, l4 = l2 - (l4 + l6));
+        L18: {
+         L19: {
+          L20: {
+           L21: {
+            if ((b[((int) l3) - 60240] & 0xff) != 1) { break L21; }
+            Words.put64(b, ((int) l3) - 60264, Words.get64(b, ((int) l3) - 60231));
+            Words.put64(b, ((int) l3) - 60256, Words.get64(b, ((int) l3) - 60223));
+            Words.put64(b, ((int) l3) - 60249, Words.get64(b, ((int) l3) - 60216));
+            l9 = b[((int) l3) - 60232] & 0xff;
+            break L20;
+           }
+           f129(m, l3 + 152L, l5, l4);
+           if ((b[((int) l3) - 60296] & 0xff) != 1) { break L19; }
+           Words.put64(b, ((int) l3) - 60264, Words.get64(b, ((int) l3) - 60287));
+           Words.put64(b, ((int) l3) - 60256, Words.get64(b, ((int) l3) - 60279));
+           Words.put64(b, ((int) l3) - 60249, Words.get64(b, ((int) l3) - 60272));
+           l9 = b[((int) l3) - 60288] & 0xff;
+          }
+          Words.put64(b, ((int) l3) - 60315, Words.get64(b, ((int) l3) - 60257));
+          Words.put64(b, ((int) l3) - 60307, l2 = Words.get64(b, ((int) l3) - 60249));
+          Words.put64(b, ((int) l3) - 60371, l2);
+          Words.put64(b, ((int) l3) - 60384, Words.get64(b, ((int) l3) - 60320));
+          Words.put64(b, ((int) l3) - 60376, Words.get64(b, ((int) l3) - 60312));
+          break L18;
+         }
+         Words.put64(b, ((int) l3) - 60224, 0L);
+         Words.put64(b, ((int) l3) - 60232, 0L);
+         Words.put64(b, ((int) l3) - 60240, 0L);
+         Core5.f164(m, l3 + 208L, 85680L, 49L, l5, l4);
+         Words.put64(b, ((int) l3) - 60336, Words.get64(b, ((int) l3) - 60232));
+         Words.put64(b, ((int) l3) - 60328, Words.get64(b, ((int) l3) - 60224));
+         if ((b[((int) l3) - 60240] & 0xff) != 1) { break L5; }
+         Words.put64(b, ((int) l3) - 60355, Words.get64(b, ((int) l3) - 60336));
+         Words.put64(b, ((int) l3) - 60347, l2 = Words.get64(b, ((int) l3) - 60328));
+         Words.put64(b, ((int) l3) - 60371, l2);
+         Words.put64(b, ((int) l3) - 60384, Words.get64(b, ((int) l3) - 60360));
+         Words.put64(b, ((int) l3) - 60376, Words.get64(b, ((int) l3) - 60352));
+         l9 = 0;
+        }
+        Words.put64(b, ((int) l3) - 60395, Words.get64(b, ((int) l3) - 60371));
+        Words.put64(b, ((int) l3) - 60400, Words.get64(b, ((int) l3) - 60376));
+        Words.put64(b, ((int) l3) - 60408, l2 = Words.get64(b, ((int) l3) - 60384));
+        Words.put64(b, ((int) l3) - 60432, l2);
+        Words.put64(b, ((int) l3) - 60424, Words.get64(b, ((int) l3) - 60400));
+        Words.put64(b, ((int) l3) - 60419, Words.get64(b, ((int) l3) - 60395));
+        l7 = 3;
+        l4 = 1L;
+        break L1;
+       }
+       Words.put64(b, ((int) l3) - 60395, 0L);
+       Words.put64(b, ((int) l3) - 60400, 0L);
+       Words.put64(b, ((int) l3) - 60408, 0L);
+       break L2;
+      }
+      throw State.trap();
+     }
+     Words.put64(b, ((int) l3) - 60408, 0L);
+     Words.put64(b, ((int) l3) - 60400, 0L);
+     Words.put64(b, ((int) l3) - 60395, 0L);
+     break L2;
+    }
+    l2 = 0L;
+   }
+   Words.put64(b, ((int) l3) - 60395, 0L);
+   Words.put64(b, ((int) l3) - 60400, 0L);
+   Words.put64(b, ((int) l3) - 60408, 0L);
+  }
+  l4 = 0L;
+  Words.put64(b, ((int) l3) - 60240, 0L);
+  Words.put64(b, ((int) l3) - 60232, 0L);
+  Words.put64(b, ((int) l3) - 60224, 0L);
+  Words.put64(b, ((int) l3) - 60216, 0L);
+  l7 = 0;
+  Words.put32(b, ((int) l3) - 60296, 0);
+  b[((int) l3) - 60292] = (byte) 0;
+  f132(m, l3 + 208L, l1, l2);
+  L22: {
+   L23: {
+    if ((b[((int) l3) - 60240] & 0xff) != 1) { break L23; }
+    Words.put64(b, ((int) l3) - 60291, Words.get64(b, ((int) l3) - 60224));
+    Words.put64(b, ((int) l3) - 60283, l2 = Words.get64(b, ((int) l3) - 60216));
+    Words.put64(b, ((int) l3) - 60419, l2);
+    Words.put64(b, ((int) l3) - 60432, Words.get64(b, ((int) l3) - 60296));
+    Words.put64(b, ((int) l3) - 60424, Words.get64(b, ((int) l3) - 60288));
+    l7 = 3;
+    l4 = 1L;
+    l9 = b[((int) l3) - 60232] & 0xff;
+    break L22;
+   }
+   Words.put64(b, ((int) l3) - 60419, 0L);
+   Words.put64(b, ((int) l3) - 60424, 0L);
+   Words.put64(b, ((int) l3) - 60432, 0L);
+   l9 = 0;
+  }
+  l8 = 0;
+ }
+ Words.put64(b, ((int) l0) - 60448, l4);
+ b[((int) (l0 + 10L)) - 60448] = (byte) l9;
+ b[((int) (l0 + 9L)) - 60448] = (byte) l8;
+ b[((int) (l0 + 8L)) - 60448] = (byte) l7;
+ Words.put64(b, ((int) (l0 + 11L)) - 60448, Words.get64(b, ((int) l3) - 60432));
+ Words.put64(b, ((int) (l0 + 19L)) - 60448, Words.get64(b, ((int) l3) - 60424));
+ Words.put64(b, ((int) (l0 + 24L)) - 60448, Words.get64(b, ((int) l3) - 60419));
+ m.g0 = l3 + 240L;
+}
+
+static void f129(State m, long l0, long l1, long l2) {
+ final byte[] b = m.bytes;
+ long l3 = 0;
+ long l4 = 0;
+ long l5 = 0;
+ long l6 = 0;
+ long l7 = 0;
+ long l8 = 0;
+ long l9 = 0;
+ long l10 = 0;
+ int l11 = 0;
+ int l12 = 0;
+ int l13 = 0;
+ int l14 = 0;
+ int l15 = 0;
+ int l16 = 0;
+ int l17 = 0;
+ int l18 = 0;
+ int l19 = 0;
+ m.g0 = l3 = m.g0 - 16L;
+ L1: {
+  L2: {
+   L3: {
+    L4: {
+     L5: {
+      L6: {
+       L7: {
+        L8: {
+         L9: {
+          if ((l4 = l3) < 16L) { break L9; }
+          Words.put32(b, ((int) l4) - 60437, 0);
+          Words.put32(b, ((int) l4) - 60440, 0);
+          if (l2 == 0L) { break L7; }
+          l3 = 1L;
+          l13 = l12 = (l11 = (int) b[((int) l1) - 60448]) & 255;
+          L10: {
+           if (l11 > -1) { break L10; }
+           l14 = (b[((int) l1) - 60447] & 0xff) & 63;
+           L11: {
+            if (l11 + Integer.MIN_VALUE > 2147483615) { break L11; }
+            l13 = ((l12 << 6) & 1984) | l14;
+            l3 = 2L;
+            break L10;
+           }
+           l15 = (b[((int) l1) - 60446] & 0xff) & 63;
+           L12: {
+            if (l11 + Integer.MIN_VALUE > 2147483631) { break L12; }
+            l13 = ((l14 << 6) | ((l12 << 12) & 61440)) | l15;
+            l3 = 3L;
+            break L10;
+           }
+           l13 = ((l15 << 6) | ((l14 << 12) | ((l12 << 18) & 1835008))) | ((b[((int) l1) - 60445] & 0xff) & 63);
+           l3 = 4L;
+          }
+          if (l2 == l3) { break L5; }
+          l5 = l2 - l3;
+          l7 = (l6 = l1 + l3) + 1L;
+          l17 = (l16 = (int) b[((int) l6) - 60448]) & 255;
+          L13: {
+           if (l16 < 0) { break L13; }
+           l8 = l5 + -1L;
+           l15 = l17;
+           l9 = l7;
+           break L6;
+          }
+          l14 = (b[((int) l7) - 60448] & 0xff) & 63;
+          if (l16 + Integer.MIN_VALUE < 2147483616) { break L8; }
+          l15 = (b[((int) l6) - 60446] & 0xff) & 63;
+          L14: {
+           L15: {
+            if (l16 + Integer.MIN_VALUE >= 2147483632) { break L15; }
+            l15 = ((l14 << 6) | ((l17 << 12) & 61440)) | l15;
+            l8 = l5 + -3L;
+            l3 = 3L;
+            break L14;
+           }
+           l15 = ((l15 << 6) | ((l14 << 12) | ((l17 << 18) & 1835008))) | ((b[((int) l6) - 60445] & 0xff) & 63);
+           l8 = l5 + -4L;
+           l3 = 4L;
+          }
+          l9 = l6 + l3;
+          if (l15 != 19968) { break L6; }
+          if (l5 == l3) { break L6; }
+          l15 = (l14 = (int) b[((int) (l3 = l6 + l3)) - 60448]) & 255;
+          L16: {
+           if (l14 > -1) { break L16; }
+           l18 = (b[((int) l3) - 60447] & 0xff) & 63;
+           L17: {
+            if (l14 + Integer.MIN_VALUE > 2147483615) { break L17; }
+            l15 = ((l15 << 6) & 1984) | l18;
+            break L16;
+           }
+           l19 = (b[((int) l3) - 60446] & 0xff) & 63;
+           L18: {
+            if (l14 + Integer.MIN_VALUE > 2147483631) { break L18; }
+            l15 = ((l18 << 6) | ((l15 << 12) & 61440)) | l19;
+            break L16;
+           }
+           l15 = ((l19 << 6) | ((l18 << 12) | ((l15 << 18) & 1835008))) | ((b[((int) l3) - 60445] & 0xff) & 63);
+          }
+          l3 = -268L;
+          L19: {
+           L20: while (true) {
+            if ((l18 = (Words.get32(b, ((int) (l3 + 85400L)) - 60448) == l15) ? 1 : 0) != 0) { break L19; }
+            l14 = (l3 != 0L) ? 1 : 0;
+            l3 = l3 + 4L;
+            if (l14 != 0) { continue L20; }
+            break L20;
+           }
+          }
+          l15 = 19968;
+          if (l18 != 0) { break L5; }
+          break L6;
+         }
+         throw State.trap();
+        }
+        l8 = l5 + -2L;
+        l9 = l6 + 2L;
+        l15 = ((l17 << 6) & 1984) | l14;
+        break L6;
+       }
+       Words.put64(b, ((int) l0) - 60424, 0L);
+       Words.put64(b, ((int) l0) - 60432, 0L);
+       Words.put64(b, ((int) l0) - 60440, 0L);
+       Words.put64(b, ((int) l0) - 60448, 0L);
+       break L1;
+      }
+      l3 = -48L;
+      L21: {
+       L22: while (true) {
+        if ((l18 = (Words.get32(b, ((int) (l3 + 85452L)) - 60448) == l15) ? 1 : 0) != 0) { break L21; }
+        l14 = (l3 != 0L) ? 1 : 0;
+        l3 = l3 + 4L;
+        if (l14 != 0) { continue L22; }
+        break L22;
+       }
+      }
+      if (l18 != 0) { break L5; }
+      L23: {
+       if ((l15 + -19968) + Integer.MIN_VALUE > -2147462657) { break L23; }
+       l3 = 0L;
+       l18 = 0;
+       if (l13 == 19968) { break L4; }
+       L24: {
+        if (l16 > -1) { break L24; }
+        l14 = (b[((int) l7) - 60448] & 0xff) & 63;
+        L25: {
+         if (l16 + Integer.MIN_VALUE > 2147483615) { break L25; }
+         l17 = ((l17 << 6) & 1984) | l14;
+         break L24;
+        }
+        l15 = (b[((int) l6) - 60446] & 0xff) & 63;
+        L26: {
+         if (l16 + Integer.MIN_VALUE > 2147483631) { break L26; }
+         l17 = ((l14 << 6) | ((l17 << 12) & 61440)) | l15;
+         break L24;
+        }
+        l17 = ((l15 << 6) | ((l14 << 12) | ((l17 << 18) & 1835008))) | ((b[((int) l6) - 60445] & 0xff) & 63);
+       }
+       l3 = -208L;
+       L27: {
+        L28: while (true) {
+         if ((l15 = (Words.get32(b, ((int) (l3 + 85676L)) - 60448) == l17) ? 1 : 0) != 0) { break L27; }
+         l14 = (l3 != 0L) ? 1 : 0;
+         l3 = l3 + 4L;
+         if (l14 != 0) { continue L28; }
+         break L28;
+        }
+       }
+       if (l15 != 0) { break L5; }
+       l3 = 0L;
+       l7 = 0L;
+       l10 = 0L;
+       if (f140(m, 85456L, 1L, 85460L, 2L, l6, l5) != 0) { break L5; }
+       break L2;
+      }
+      l3 = 0L;
+      l18 = 0;
+      if ((l15 + -48) + Integer.MIN_VALUE < -2147483638) { break L4; }
+      if ((l15 + -65296) + Integer.MIN_VALUE < -2147483638) { break L4; }
+      l7 = 0L;
+      l3 = 0L;
+      L29: {
+       L30: {
+        L31: {
+         if (l15 > 20840) { break L31; }
+         L32: {
+          if (l15 > 19967) { break L32; }
+          if (l15 == 37) { break L3; }
+          if (l15 == 8240) { break L3; }
+          if (l15 != 12295) { break L29; }
+          break L3;
+         }
+         if ((l14 = l15 + -19968) + Integer.MIN_VALUE > -2147483612) { break L30; }
+         if (((1L << (l14 & 0xffffffffL)) & 68719477257L) == 0L) { break L30; }
+         break L3;
+        }
+        L33: {
+         L34: {
+          if (l15 > 22234) { break L34; }
+          if ((l14 = l15 + -20841) + Integer.MIN_VALUE > -2147483644) { break L33; }
+          if (((1 << l14) & 21) == 0) { break L33; }
+          break L3;
+         }
+         L35: {
+          if (l15 > 38645) { break L35; }
+          if (l15 == 22235) { break L3; }
+          if (l15 != 30334) { break L29; }
+          break L3;
+         }
+         if (l15 == 38646) { break L3; }
+         if (l15 == 65285) { break L3; }
+         break L29;
+        }
+        if (l15 != 21313) { break L29; }
+        break L3;
+       }
+       l10 = 0L;
+       L36: {
+        switch (l15 + -20108) {
+        case 0: case 8: break L2;
+        case 1: case 2: case 3: case 4: case 5: case 6: case 7: break L29;
+        default: break L36;
+        }
+       }
+       if (l15 == 20061) { break L3; }
+      }
+      l3 = 0L;
+      if (l15 == 95) { break L4; }
+      if (((l15 & 2097119) + -65) + Integer.MIN_VALUE < -2147483622) { break L4; }
+      L37: {
+       L38: {
+        switch (l15 + -44) {
+        case 0: case 2: break L37;
+        case 1: break L5;
+        default: break L38;
+        }
+       }
+       if (l15 != 65294) { break L5; }
+      }
+      if (((l13 + -58) + Integer.MIN_VALUE < 2147483638) & ((l13 + -65306) + Integer.MIN_VALUE < 2147483638)) { break L5; }
+      if (l8 == 0L) { break L5; }
+      l14 = (l15 = (int) b[((int) l9) - 60448]) & 255;
+      L39: {
+       if (l15 > -1) { break L39; }
+       l17 = (b[((int) l9) - 60447] & 0xff) & 63;
+       L40: {
+        if (l15 + Integer.MIN_VALUE > 2147483615) { break L40; }
+        l14 = ((l14 << 6) & 1984) | l17;
+        break L39;
+       }
+       l13 = (b[((int) l9) - 60446] & 0xff) & 63;
+       L41: {
+        if (l15 + Integer.MIN_VALUE > 2147483631) { break L41; }
+        l14 = ((l17 << 6) | ((l14 << 12) & 61440)) | l13;
+        break L39;
+       }
+       l14 = ((l13 << 6) | ((l17 << 12) | ((l14 << 18) & 1835008))) | ((b[((int) l9) - 60445] & 0xff) & 63);
+      }
+      l3 = 0L;
+      if ((l14 + -58) + Integer.MIN_VALUE > 2147483637) { break L4; }
+      l7 = 0L;
+      l10 = 0L;
+      if ((l14 + -65306) + Integer.MIN_VALUE >= 2147483638) { break L2; }
+     }
+     l3 = 1L;
+     L42: {
+      if (l11 > -1) { break L42; }
+      l14 = (b[((int) l1) - 60447] & 0xff) & 63;
+      L43: {
+       if (l11 + Integer.MIN_VALUE > 2147483615) { break L43; }
+       l12 = ((l12 << 6) & 1984) | l14;
+       l3 = 2L;
+       break L42;
+      }
+      l15 = (b[((int) l1) - 60446] & 0xff) & 63;
+      L44: {
+       if (l11 + Integer.MIN_VALUE > 2147483631) { break L44; }
+       l12 = ((l14 << 6) | ((l12 << 12) & 61440)) | l15;
+       l3 = 3L;
+       break L42;
+      }
+      l12 = ((l15 << 6) | ((l14 << 12) | ((l12 << 18) & 1835008))) | ((b[((int) l1) - 60445] & 0xff) & 63);
+      l3 = 4L;
+     }
+     f131(m, l4, l12);
+     L45: {
+      if (((b[((int) l4) - 60448] & 0xff) & 1) == 0) { break L45; }
+      l18 = b[((int) l4) - 60447] & 0xff;
+      Words.put32(b, ((int) l4) - 60437, 0);
+      Words.put32(b, ((int) l4) - 60440, 0);
+      l7 = l1 + l3;
+      l10 = l2 - l3;
+      l3 = 1L;
+      break L2;
+     }
+     l18 = 0;
+     Words.put32(b, ((int) l4) - 60437, 0);
+     Words.put32(b, ((int) l4) - 60440, 0);
+     l3 = 0L;
+    }
+    l7 = 0L;
+   }
+   l10 = 0L;
+  }
+  Words.put64(b, ((int) l0) - 60448, l3);
+  b[((int) (l0 + 8L)) - 60448] = (byte) l18;
+  Words.put32(b, ((int) (l0 + 9L)) - 60448, Words.get32(b, ((int) l4) - 60440));
+  Words.put32(b, ((int) (l0 + 12L)) - 60448, Words.get32(b, ((int) l4) - 60437));
+  Words.put64(b, ((int) (l0 + 24L)) - 60448, l10);
+  Words.put64(b, ((int) (l0 + 16L)) - 60448, l7);
+ }
+ m.g0 = l4 + 16L;
+}
+
+static void f130(State m, long l0, long l1, long l2, long l3, long l4, long l5, long l6) {
+ final byte[] b = m.bytes;
+ int l7 = 0;
+ int l8 = 0;
+ int l9 = 0;
+ int l10 = 0;
+ long l11 = 0;
+ long l12 = 0;
+ L1: {
+  L2: {
+   L3: {
+    L4: {
+     if (m.g0 < 16L) { break L4; }
+     L5: {
+      L6: {
+       if (l6 == 0L) { break L6; }
+       l8 = (l7 = (int) b[((int) l5) - 60448]) & 255;
+       l11 = 1L;
+       L7: {
+        if (l7 > -1) { break L7; }
+        l9 = (b[((int) l5) - 60447] & 0xff) & 63;
+        L8: {
+         if (l7 + Integer.MIN_VALUE > 2147483615) { break L8; }
+         l8 = ((l8 << 6) & 1984) | l9;
+         l11 = 2L;
+         break L7;
+        }
+        l10 = (b[((int) l5) - 60446] & 0xff) & 63;
+        L9: {
+         if (l7 + Integer.MIN_VALUE > 2147483631) { break L9; }
+         l8 = ((l9 << 6) | ((l8 << 12) & 61440)) | l10;
+         l11 = 3L;
+         break L7;
+        }
+        l8 = ((l10 << 6) | ((l9 << 12) | ((l8 << 18) & 1835008))) | ((b[((int) l5) - 60445] & 0xff) & 63);
+        l11 = 4L;
+       }
+       l5 = l5 + l11;
+       L10: while (true) {
+        if (Words.get32(b, ((int) l1) - 60448) == l8) { break L5; }
+        l1 = l1 + 4L;
+        if (!((l2 = l2 + -1L) == 0L)) { continue L10; }
+        break L10;
+       }
+      }
+      Words.put64(b, ((int) l0) - 60432, 0L);
+      Words.put64(b, ((int) l0) - 60440, 0L);
+      Words.put64(b, ((int) l0) - 60448, 0L);
+      return;
+     }
+     l1 = 0L;
+     l2 = 0L;
+     l12 = 0L;
+     if (l6 == l11) { break L1; }
+     l8 = (l7 = (int) b[((int) l5) - 60448]) & 255;
+     l1 = 1L;
+     L11: {
+      L12: {
+       if (l7 <= -1) { break L12; }
+       l2 = 1L;
+       break L11;
+      }
+      l9 = (b[((int) l5) - 60447] & 0xff) & 63;
+      L13: {
+       if (l7 + Integer.MIN_VALUE > 2147483615) { break L13; }
+       l8 = ((l8 << 6) & 1984) | l9;
+       l2 = 2L;
+       break L11;
+      }
+      l10 = (b[((int) l5) - 60446] & 0xff) & 63;
+      L14: {
+       if (l7 + Integer.MIN_VALUE > 2147483631) { break L14; }
+       l8 = ((l9 << 6) | ((l8 << 12) & 61440)) | l10;
+       l2 = 3L;
+       break L11;
+      }
+      l8 = ((l10 << 6) | ((l9 << 12) | ((l8 << 18) & 1835008))) | ((b[((int) l5) - 60445] & 0xff) & 63);
+      l2 = 4L;
+     }
+     l5 = l5 + l2;
+     l6 = l6 - (l11 + l2);
+     if (Words.get32(b, ((int) l3) - 60448) == l8) { break L2; }
+     l1 = 0L;
+     l2 = 0L;
+     l12 = 0L;
+     if (l4 == 1L) { break L1; }
+     if (Words.get32(b, ((int) (l3 + 4L)) - 60448) == l8) { break L3; }
+     l1 = 0L;
+     l2 = 0L;
+     l12 = 0L;
+     if (l4 == 2L) { break L1; }
+     if (Words.get32(b, ((int) (l3 + 8L)) - 60448) == l8) { break L3; }
+     l1 = 0L;
+     l2 = 0L;
+     l12 = 0L;
+     if (l4 == 3L) { break L1; }
+     l1 = 1L;
+     l2 = l5;
+     l12 = l6;
+     if (Words.get32(b, ((int) (l3 + 12L)) - 60448) == l8) { break L1; }
+     l1 = 0L;
+     l2 = 0L;
+     l12 = 0L;
+     break L1;
+    }
+    throw State.trap();
+   }
+   l1 = 1L;
+  }
+  l2 = l5;
+  l12 = l6;
+ }
+ Words.put64(b, ((int) l0) - 60448, l1);
+ Words.put64(b, ((int) (l0 + 16L)) - 60448, l12);
+ Words.put64(b, ((int) (l0 + 8L)) - 60448, l2);
+}
+
+static void f131(State m, long l0, int l1) {
+ final byte[] b = m.bytes;
+ long l2 = 0;
+ int l3 = 0;
+ int l4 = 0;
+ int l5 = 0;
+ m.g0 = l2 = m.g0 - 16L;
+ L1: {
+  L2: {
+   L3: {
+    L4: {
+     L5: {
+      L6: {
+       if ((l2 = l2) < 16L) { break L6; }
+       Core1.f24(m, l2 + 8L, l1);
+       l3 = 1;
+       L7: {
+        if ((b[((int) l2) - 60440] & 0xff) != 1) { break L7; }
+        l4 = b[((int) l2) - 60439] & 0xff;
+        break L1;
+       }
+       l3 = 0;
+       l4 = 0;
+       L8: {
+        if (l1 > 20107) { break L8; }
+        if ((l5 = l1 + -19968) + Integer.MIN_VALUE <= -2147483612) { break L5; }
+        break L3;
+       }
+       L9: {
+        if (l1 > 22234) { break L9; }
+        if ((l5 = l1 + -20841) + Integer.MIN_VALUE > -2147483644) { break L4; }
+        if (((1 << l5) & 21) == 0) { break L4; }
+        break L2;
+       }
+       if (l1 == 38646) { break L2; }
+       if (l1 != 22235) { break L1; }
+       break L2;
+      }
+      throw State.trap();
+     }
+     if (((1L << (l5 & 0xffffffffL)) & 68719477257L) == 0L) { break L3; }
+     break L2;
+    }
+    switch (l1 + -20108) {
+    case 0: case 8: break L2;
+    default: break L1;
+    }
+   }
+   if (l1 == 12295) { break L2; }
+   if (l1 != 20061) { break L1; }
+  }
+  Core2.f63(m, l2, l1);
+  final int t10 = l1 = b[((int) l2) - 60447] & 0xff;
+  final int t11 = (l3 = b[((int) l2) - 60448] & 0xff) & 1;
+  l4 = t11 != 0 ? t10 : 0;
+  l3 = (((l1 & 255) != 0) ? 1 : 0) & l3;
+ }
+ b[((int) l0) - 60447] = (byte) l4;
+ b[((int) l0) - 60448] = (byte) l3;
+ m.g0 = l2 + 16L;
+}
+
+static void f132(State m, long l0, long l1, long l2) {
+ final byte[] b = m.bytes;
+ long l3 = 0;
+ long l4 = 0;
+ long l5 = 0;
+ int l6 = 0;
+ int l7 = 0;
+ int l8 = 0;
+ int l9 = 0;
+ int l10 = 0;
+ m.g0 = l3 = m.g0 - 80L;
+ L1: {
+  L2: {
+   L3: {
+    if ((l3 = l3) < 16L) { break L3; }
+    Words.put32(b, ((int) l3) - 60429, 0);
+    Words.put32(b, ((int) l3) - 60432, 0);
+    if (l2 == 0L) { break L2; }
+    l7 = (l6 = (int) b[((int) l1) - 60448]) & 255;
+    l4 = 1L;
+    L4: {
+     if (l6 > -1) { break L4; }
+     l8 = (b[((int) l1) - 60447] & 0xff) & 63;
+     L5: {
+      if (l6 + Integer.MIN_VALUE > 2147483615) { break L5; }
+      l7 = ((l7 << 6) & 1984) | l8;
+      l4 = 2L;
+      break L4;
+     }
+     l9 = (b[((int) l1) - 60446] & 0xff) & 63;
+     L6: {
+      if (l6 + Integer.MIN_VALUE > 2147483631) { break L6; }
+      l7 = ((l8 << 6) | ((l7 << 12) & 61440)) | l9;
+      l4 = 3L;
+      break L4;
+     }
+     l7 = ((l9 << 6) | ((l8 << 12) | ((l7 << 18) & 1835008))) | ((b[((int) l1) - 60445] & 0xff) & 63);
+     l4 = 4L;
+    }
+    f131(m, l3 + 8L, l7);
+    if (((b[((int) l3) - 60440] & 0xff) & 1) == 0) { break L2; }
+    l7 = b[((int) l3) - 60439] & 0xff;
+    Words.put64(b, ((int) l3) - 60376, 0L);
+    Words.put64(b, ((int) l3) - 60384, 0L);
+    Words.put64(b, ((int) l3) - 60392, 0L);
+    L7: {
+     if (l2 == l4) { break L7; }
+     if ((l6 = (int) b[((int) (l1 = l1 + l4)) - 60448]) > -1) { break L7; }
+     if (l6 + Integer.MIN_VALUE < 2147483616) { break L7; }
+     l8 = l6 & 255;
+     l9 = (b[((int) l1) - 60447] & 0xff) & 63;
+     l10 = (b[((int) l1) - 60446] & 0xff) & 63;
+     L8: {
+      L9: {
+       if (l6 + Integer.MIN_VALUE > 2147483631) { break L9; }
+       l6 = ((l9 << 6) | ((l8 << 12) & 61440)) | l10;
+       l5 = 3L;
+       break L8;
+      }
+      l6 = ((l10 << 6) | ((l9 << 12) | ((l8 << 18) & 1835008))) | ((b[((int) l1) - 60445] & 0xff) & 63);
+      l5 = 4L;
+     }
+     if (l6 != 20998) { break L7; }
+     Core5.f164(m, l3 + 56L, 85100L, 8L, l1 + l5, l2 - (l4 + l5));
+     Words.put64(b, ((int) l3) - 60408, Words.get64(b, ((int) l3) - 60384));
+     Words.put64(b, ((int) l3) - 60400, Words.get64(b, ((int) l3) - 60376));
+     if ((b[((int) l3) - 60392] & 0xff) != 1) { break L7; }
+     Words.put64(b, ((int) l0) - 60448, 1L);
+     b[((int) (l0 + 8L)) - 60448] = (byte) l7;
+     Words.put64(b, ((int) (l0 + 24L)) - 60448, l2 = Words.get64(b, ((int) l3) - 60400));
+     Words.put64(b, ((int) l3) - 60425, Words.get64(b, ((int) l3) - 60408));
+     Words.put64(b, ((int) (l0 + 9L)) - 60448, Words.get64(b, ((int) l3) - 60432));
+     Words.put64(b, ((int) l3) - 60417, l2);
+     Words.put64(b, ((int) (l0 + 17L)) - 60448, Words.get64(b, ((int) l3) - 60424));
+     break L1;
+    }
+    Words.put64(b, ((int) l0) - 60424, 0L);
+    Words.put64(b, ((int) l0) - 60432, 0L);
+    Words.put64(b, ((int) l0) - 60440, 0L);
+    Words.put64(b, ((int) l0) - 60448, 0L);
+    break L1;
+   }
+   throw State.trap();
+  }
+  Words.put64(b, ((int) l0) - 60424, 0L);
+  Words.put64(b, ((int) l0) - 60432, 0L);
+  Words.put64(b, ((int) l0) - 60440, 0L);
+  Words.put64(b, ((int) l0) - 60448, 0L);
+ }
+ m.g0 = l3 + 80L;
+}
+
+static void f133(State m, long l0, int l1, long l2, long l3) {
+ final byte[] b = m.bytes;
+ long l4 = 0;
+ long l5 = 0;
+ long l6 = 0;
+ long l7 = 0;
+ int l8 = 0;
+ int l9 = 0;
+ int l10 = 0;
+ int l11 = 0;
+ int l12 = 0;
+ int l13 = 0;
+ int l14 = 0;
+ m.g0 = l4 = m.g0 - 16L;
+ L1: {
+  L2: {
+   L3: {
+    L4: {
+     L5: {
+      L6: {
+       L7: {
+        L8: {
+         L9: {
+          L10: {
+           L11: {
+            if ((l5 = l4) < 16L) { break L11; }
+            b[((int) l5) - 60436] = (byte) 0;
+            Words.put32(b, ((int) l5) - 60440, 0);
+            if (l3 == 0L) { break L3; }
+            l10 = l9 = (l8 = (int) b[((int) l2) - 60448]) & 255;
+            L12: {
+             if (l8 > -1) { break L12; }
+             l11 = (b[((int) l2) - 60447] & 0xff) & 63;
+             L13: {
+              if (l8 + Integer.MIN_VALUE > 2147483615) { break L13; }
+              l10 = ((l9 << 6) & 1984) | l11;
+              break L12;
+             }
+             l10 = (b[((int) l2) - 60446] & 0xff) & 63;
+             L14: {
+              if (l8 + Integer.MIN_VALUE > 2147483631) { break L14; }
+              l10 = ((l11 << 6) | ((l9 << 12) & 61440)) | l10;
+              break L12;
+             }
+             l10 = ((l10 << 6) | ((l11 << 12) | ((l9 << 18) & 1835008))) | ((b[((int) l2) - 60445] & 0xff) & 63);
+            }
+            l4 = -88L;
+            L15: {
+             L16: while (true) {
+              if ((l12 = (Words.get32(b, ((int) (l4 + 85964L)) - 60448) == l10) ? 1 : 0) != 0) { break L15; }
+              l11 = (l4 != 0L) ? 1 : 0;
+              l4 = l4 + 4L;
+              if (l11 != 0) { continue L16; }
+              break L16;
+             }
+            }
+            l4 = 1L;
+            l11 = l9;
+            L17: {
+             if (l8 > -1) { break L17; }
+             l11 = (b[((int) l2) - 60447] & 0xff) & 63;
+             L18: {
+              if (l8 + Integer.MIN_VALUE > 2147483615) { break L18; }
+              l11 = ((l9 << 6) & 1984) | l11;
+              l4 = 2L;
+              break L17;
+             }
+             l10 = (b[((int) l2) - 60446] & 0xff) & 63;
+             L19: {
+              if (l8 + Integer.MIN_VALUE > 2147483631) { break L19; }
+              l11 = ((l11 << 6) | ((l9 << 12) & 61440)) | l10;
+              l4 = 3L;
+              break L17;
+             }
+             l11 = ((l10 << 6) | ((l11 << 12) | ((l9 << 18) & 1835008))) | ((b[((int) l2) - 60445] & 0xff) & 63);
+             l4 = 4L;
+            }
+            L20: {
+             if (l11 > 20107) { break L20; }
+             if ((l10 = l11 + -19968) + Integer.MIN_VALUE <= -2147483612) { break L10; }
+             break L8;
+            }
+            L21: {
+             if (l11 > 22234) { break L21; }
+             if ((l10 = l11 + -20841) + Integer.MIN_VALUE > -2147483644) { break L9; }
+             if (((1 << l10) & 21) == 0) { break L9; }
+             break L7;
+            }
+            if (l11 == 38646) { break L7; }
+            if (l11 != 22235) { break L6; }
+            break L7;
+           }
+           throw State.trap();
+          }
+          if (((1L << (l10 & 0xffffffffL)) & 68719477257L) == 0L) { break L8; }
+          break L7;
+         }
+         switch (l11 + -20108) {
+         case 0: case 8: break L7;
+         default: break L6;
+         }
+        }
+        if (l11 == 12295) { break L7; }
+        if (l11 != 20061) { break L6; }
+       }
+       Core2.f63(m, l5, l11);
+       if (l3 == l4) { break L6; }
+       if (((b[((int) l5) - 60447] & 0xff) & 255) == 0) { break L6; }
+       if (((b[((int) l5) - 60448] & 0xff) & 1) == 0) { break L6; }
+       l10 = (l11 = (int) b[((int) (l4 = l2 + l4)) - 60448]) & 255;
+       L22: {
+        if (l11 > -1) { break L22; }
+        l13 = (b[((int) l4) - 60447] & 0xff) & 63;
+        L23: {
+         if (l11 + Integer.MIN_VALUE > 2147483615) { break L23; }
+         l10 = ((l10 << 6) & 1984) | l13;
+         break L22;
+        }
+        l14 = (b[((int) l4) - 60446] & 0xff) & 63;
+        L24: {
+         if (l11 + Integer.MIN_VALUE > 2147483631) { break L24; }
+         l10 = ((l13 << 6) | ((l10 << 12) & 61440)) | l14;
+         break L22;
+        }
+        l10 = ((l14 << 6) | ((l13 << 12) | ((l10 << 18) & 1835008))) | ((b[((int) l4) - 60445] & 0xff) & 63);
+       }
+       l4 = -268L;
+       L25: {
+        L26: while (true) {
+         if ((l13 = (Words.get32(b, ((int) (l4 + 85400L)) - 60448) == l10) ? 1 : 0) != 0) { break L25; }
+         l11 = (l4 != 0L) ? 1 : 0;
+         l4 = l4 + 4L;
+         if (l11 != 0) { continue L26; }
+         break L26;
+        }
+       }
+       if (l13 != 0) { break L3; }
+       l11 = l12 | f121(m, l2, l3);
+       if (l8 > -1) { break L5; }
+       if (l11 != 0) { break L5; }
+       break L4;
+      }
+      l11 = l12 | f121(m, l2, l3);
+      if (l8 > -1) { break L5; }
+      if (l11 == 0) { break L4; }
+     }
+     if (l11 == 0) { break L3; }
+     l11 = 0;
+     l4 = 0L;
+     break L2;
+    }
+    if (l8 + Integer.MIN_VALUE < 2147483616) { break L3; }
+    l11 = (b[((int) l2) - 60447] & 0xff) & 63;
+    l10 = (b[((int) l2) - 60446] & 0xff) & 63;
+    L27: {
+     L28: {
+      if (l8 + Integer.MIN_VALUE > 2147483631) { break L28; }
+      l11 = ((l11 << 6) | ((l9 << 12) & 61440)) | l10;
+      l6 = 3L;
+      break L27;
+     }
+     l11 = ((l10 << 6) | ((l11 << 12) | ((l9 << 18) & 1835008))) | ((b[((int) l2) - 60445] & 0xff) & 63);
+     l6 = 4L;
+    }
+    if (l11 != 26376) { break L3; }
+    l11 = 0;
+    l4 = 0L;
+    if (l3 == l6) { break L2; }
+    l4 = 0L;
+    if ((l10 = (int) b[((int) (l6 = l2 + l6)) - 60448]) > -1) { break L2; }
+    l4 = 0L;
+    if (l10 + Integer.MIN_VALUE < 2147483616) { break L2; }
+    l12 = l10 & 255;
+    l13 = (b[((int) l6) - 60447] & 0xff) & 63;
+    l8 = (b[((int) l6) - 60446] & 0xff) & 63;
+    L29: {
+     L30: {
+      if (l10 + Integer.MIN_VALUE > 2147483631) { break L30; }
+      l10 = ((l13 << 6) | ((l12 << 12) & 61440)) | l8;
+      break L29;
+     }
+     l10 = ((l8 << 6) | ((l13 << 12) | ((l12 << 18) & 1835008))) | ((b[((int) l6) - 60445] & 0xff) & 63);
+    }
+    l4 = 0L;
+    L31: {
+     if (l10 > 31198) { break L31; }
+     L32: {
+      if (l10 > 22342) { break L32; }
+      if (l10 == 20184) { break L3; }
+      if (l10 == 20379) { break L3; }
+      l6 = 0L;
+      l7 = 0L;
+      if (l10 == 21345) { break L3; }
+      break L1;
+     }
+     if (l10 == 22343) { break L3; }
+     if (l10 == 25910) { break L3; }
+     l6 = 0L;
+     l7 = 0L;
+     if (l10 == 31080) { break L3; }
+     break L1;
+    }
+    L33: {
+     if (l10 > 34217) { break L33; }
+     if (l10 == 31199) { break L3; }
+     if (l10 == 32371) { break L3; }
+     l6 = 0L;
+     l7 = 0L;
+     if (l10 == 32564) { break L3; }
+     break L1;
+    }
+    if (l10 == 34218) { break L3; }
+    if (l10 == 36027) { break L3; }
+    l6 = 0L;
+    l7 = 0L;
+    if (l10 != 36153) { break L1; }
+   }
+   b[((int) l5) - 60436] = (byte) 0;
+   Words.put32(b, ((int) l5) - 60440, 0);
+   l7 = 1L;
+   l4 = l2;
+   l6 = l3;
+   l11 = l1;
+   break L1;
+  }
+  l6 = 0L;
+  l7 = 0L;
+ }
+ Words.put64(b, ((int) l0) - 60448, l7);
+ Words.put16(b, ((int) (l0 + 9L)) - 60448, (short) 0);
+ b[((int) (l0 + 8L)) - 60448] = (byte) l11;
+ Words.put32(b, ((int) (l0 + 11L)) - 60448, Words.get32(b, ((int) l5) - 60440));
+ b[((int) (l0 + 15L)) - 60448] = (byte) (b[((int) l5) - 60436] & 0xff);
+ Words.put64(b, ((int) (l0 + 24L)) - 60448, l6);
+ Words.put64(b, ((int) (l0 + 16L)) - 60448, l4);
+ m.g0 = l5 + 16L;
+}
+
+static int f134(State m, long l0) {
  final byte[] b = m.bytes;
  long l1 = 0;
  long l2 = 0;
@@ -4283,51 +5775,51 @@ static int f125(State m, long l0) {
       L6: {
        L7: {
         if ((l1 = l1) < 16L) { break L7; }
-        l2 = Words.get64(b, ((int) l0) - 60720);
-        l3 = Words.get64(b, ((int) l0) - 60704);
-        l4 = Words.get64(b, ((int) l0) - 60696);
-        l5 = Words.get64(b, ((int) l0) - 60688);
-        l6 = Words.get64(b, ((int) l0) - 60680);
+        l2 = Words.get64(b, ((int) l0) - 60448);
+        l3 = Words.get64(b, ((int) l0) - 60432);
+        l4 = Words.get64(b, ((int) l0) - 60424);
+        l5 = Words.get64(b, ((int) l0) - 60416);
+        l6 = Words.get64(b, ((int) l0) - 60408);
         L8: {
          L9: {
           L10: {
-           if ((l0 = Words.get64(b, ((int) l0) - 60712)) + Long.MIN_VALUE < -9223372036854775805L) { break L10; }
-           if (((l9 = b[((int) ((l7 = l2 + l0) + -3L)) - 60720] & 0xff) & 240) != 224) { break L9; }
-           l12 = (((l9 << 12) | (l10 = b[((int) (l7 + -1L)) - 60720] & 0xff)) + ((l11 = b[((int) (l7 + -2L)) - 60720] & 0xff) << 6)) + -925824;
+           if ((l0 = Words.get64(b, ((int) l0) - 60440)) + Long.MIN_VALUE < -9223372036854775805L) { break L10; }
+           if (((l9 = b[((int) ((l7 = l2 + l0) + -3L)) - 60448] & 0xff) & 240) != 224) { break L9; }
+           l12 = (((l9 << 12) | (l10 = b[((int) (l7 + -1L)) - 60448] & 0xff)) + ((l11 = b[((int) (l7 + -2L)) - 60448] & 0xff) << 6)) + -925824;
            l7 = l0 + -3L;
-           if (Words.get32(b, ((int) ((l0 = ((((l9 = ((l11 << 8) | (l10 << 16)) | l9) & 0xffffffffL) * 953497L) >>> 22L) & 1016L) + 66852L)) - 60720) == l9) { break L8; }
+           if (Words.get32(b, ((int) ((l0 = ((((l9 = ((l11 << 8) | (l10 << 16)) | l9) & 0xffffffffL) * 953497L) >>> 22L) & 1016L) + 66852L)) - 60448) == l9) { break L8; }
            break L5;
           }
           if (l0 == 0L) { break L2; }
          }
          l9 = 0;
-         if ((l12 = (int) b[((int) (l2 + (l7 = l0 + -1L))) - 60720]) >= 0) { break L6; }
+         if ((l12 = (int) b[((int) (l2 + (l7 = l0 + -1L))) - 60448]) >= 0) { break L6; }
          l7 = -2L;
          L11: {
-          if ((b[((int) ((l8 = l2 + l0) + -2L)) - 60720] & 0xff) + Integer.MIN_VALUE > -2147483457) { break L11; }
-          l7 = ((b[((int) (l8 + -3L)) - 60720] & 0xff) + Integer.MIN_VALUE > -2147483457) ? -3L : -4L;
+          if ((b[((int) ((l8 = l2 + l0) + -2L)) - 60448] & 0xff) + Integer.MIN_VALUE > -2147483457) { break L11; }
+          l7 = ((b[((int) (l8 + -3L)) - 60448] & 0xff) + Integer.MIN_VALUE > -2147483457) ? -3L : -4L;
          }
-         l12 = (l10 = (int) b[((int) (l0 = l2 + (l7 = l7 + l0))) - 60720]) & 255;
+         l12 = (l10 = (int) b[((int) (l0 = l2 + (l7 = l7 + l0))) - 60448]) & 255;
          if (l10 > -1) { break L6; }
-         l11 = (b[((int) l0) - 60719] & 0xff) & 63;
+         l11 = (b[((int) l0) - 60447] & 0xff) & 63;
          L12: {
           if (l10 + Integer.MIN_VALUE > 2147483615) { break L12; }
           l12 = ((l12 << 6) & 1984) | l11;
           break L6;
          }
-         l13 = (b[((int) l0) - 60718] & 0xff) & 63;
+         l13 = (b[((int) l0) - 60446] & 0xff) & 63;
          L13: {
           L14: {
            if (l10 + Integer.MIN_VALUE > 2147483631) { break L14; }
            l12 = ((l11 << 6) | ((l12 << 12) & 61440)) | l13;
            break L13;
           }
-          l12 = ((l13 << 6) | ((l11 << 12) | ((l12 << 18) & 1835008))) | ((b[((int) l0) - 60717] & 0xff) & 63);
+          l12 = ((l13 << 6) | ((l11 << 12) | ((l12 << 18) & 1835008))) | ((b[((int) l0) - 60445] & 0xff) & 63);
          }
          if ((l12 + -2048) + Integer.MIN_VALUE > -2147420161) { break L6; }
-         if (Words.get32(b, ((int) ((l0 = ((((l9 = (((l12 >>> 12) | ((l12 << 2) & 16128)) | ((l12 << 16) & 4128768)) | 8421600) & 0xffffffffL) * 953497L) >>> 22L) & 1016L) + 66852L)) - 60720) != l9) { break L4; }
+         if (Words.get32(b, ((int) ((l0 = ((((l9 = (((l12 >>> 12) | ((l12 << 2) & 16128)) | ((l12 << 16) & 4128768)) | 8421600) & 0xffffffffL) * 953497L) >>> 22L) & 1016L) + 66852L)) - 60448) != l9) { break L4; }
         }
-        if ((b[((int) (l0 + 66856L)) - 60720] & 0xff) == 0) { break L2; }
+        if ((b[((int) (l0 + 66856L)) - 60448] & 0xff) == 0) { break L2; }
         break L5;
        }
        throw State.trap();
@@ -4401,10 +5893,10 @@ static int f125(State m, long l0) {
     final int t24 = ((l12 + -65296) + Integer.MIN_VALUE > -2147483639) ? 1 : 0;
     break L2;
    }
-   Words.put64(b, ((int) l1) - 60696, 0L);
-   Words.put64(b, ((int) l1) - 60704, 0L);
-   Words.put64(b, ((int) l1) - 60712, 0L);
-   Words.put64(b, ((int) l1) - 60720, 0L);
+   Words.put64(b, ((int) l1) - 60424, 0L);
+   Words.put64(b, ((int) l1) - 60432, 0L);
+   Words.put64(b, ((int) l1) - 60440, 0L);
+   Words.put64(b, ((int) l1) - 60448, 0L);
    L25: {
     L26: {
      L27: {
@@ -4412,59 +5904,59 @@ static int f125(State m, long l0) {
        L29: {
         L30: {
          if (l7 + Long.MIN_VALUE < -9223372036854775805L) { break L30; }
-         if (((l12 = b[((int) ((l0 = l2 + l7) + -3L)) - 60720] & 0xff) & 240) != 224) { break L29; }
-         Words.put64(b, ((int) l1) - 60704, l2);
-         Words.put64(b, ((int) l1) - 60720, 1L);
-         Words.put64(b, ((int) l1) - 60696, l7 + -3L);
-         Words.put32(b, ((int) l1) - 60712, (((l12 << 12) | (l9 = b[((int) (l0 + -1L)) - 60720] & 0xff)) + ((l10 = b[((int) (l0 + -2L)) - 60720] & 0xff) << 6)) + -925824);
+         if (((l12 = b[((int) ((l0 = l2 + l7) + -3L)) - 60448] & 0xff) & 240) != 224) { break L29; }
+         Words.put64(b, ((int) l1) - 60432, l2);
+         Words.put64(b, ((int) l1) - 60448, 1L);
+         Words.put64(b, ((int) l1) - 60424, l7 + -3L);
+         Words.put32(b, ((int) l1) - 60440, (((l12 << 12) | (l9 = b[((int) (l0 + -1L)) - 60448] & 0xff)) + ((l10 = b[((int) (l0 + -2L)) - 60448] & 0xff) << 6)) + -925824);
          final int t31 = (int) l1;
-         final int t32 = b[((int) ((l0 = ((((l12 = ((l10 << 8) | (l9 << 16)) | l12) & 0xffffffffL) * 953497L) >>> 22L) & 1016L) + 66857L)) - 60720] & 0xff;
+         final int t32 = b[((int) ((l0 = ((((l12 = ((l10 << 8) | (l9 << 16)) | l12) & 0xffffffffL) * 953497L) >>> 22L) & 1016L) + 66857L)) - 60448] & 0xff;
          final int t33 = l12 = (Words.get32(b, State.far((int) l0, 66852)) == l12) ? 1 : 0;
-         b[t31 - 60707] = (byte) (t33 != 0 ? t32 : 0);
+         b[t31 - 60435] = (byte) (t33 != 0 ? t32 : 0);
          final int t34 = (int) l1;
-         final int t35 = b[((int) (l0 + 66856L)) - 60720] & 0xff;
+         final int t35 = b[((int) (l0 + 66856L)) - 60448] & 0xff;
          final int t36 = l12;
-         b[t34 - 60708] = (byte) (t36 != 0 ? t35 : 2);
+         b[t34 - 60436] = (byte) (t36 != 0 ? t35 : 2);
          break L25;
         }
         if (l7 == 0L) { break L28; }
        }
-       if ((l12 = (int) b[((int) (l2 + (l0 = l7 + -1L))) - 60720]) >= 0) { break L27; }
+       if ((l12 = (int) b[((int) (l2 + (l0 = l7 + -1L))) - 60448]) >= 0) { break L27; }
        l0 = -2L;
        L37: {
-        if ((b[((int) ((l8 = l2 + l7) + -2L)) - 60720] & 0xff) + Integer.MIN_VALUE > -2147483457) { break L37; }
-        l0 = ((b[((int) (l8 + -3L)) - 60720] & 0xff) + Integer.MIN_VALUE > -2147483457) ? -3L : -4L;
+        if ((b[((int) ((l8 = l2 + l7) + -2L)) - 60448] & 0xff) + Integer.MIN_VALUE > -2147483457) { break L37; }
+        l0 = ((b[((int) (l8 + -3L)) - 60448] & 0xff) + Integer.MIN_VALUE > -2147483457) ? -3L : -4L;
        }
-       l12 = (l9 = (int) b[((int) (l7 = l2 + (l0 = l0 + l7))) - 60720]) & 255;
+       l12 = (l9 = (int) b[((int) (l7 = l2 + (l0 = l0 + l7))) - 60448]) & 255;
        if (l9 > -1) { break L27; }
-       l10 = (b[((int) l7) - 60719] & 0xff) & 63;
+       l10 = (b[((int) l7) - 60447] & 0xff) & 63;
        L38: {
         if (l9 + Integer.MIN_VALUE > 2147483615) { break L38; }
         l12 = ((l12 << 6) & 1984) | l10;
         break L27;
        }
-       l11 = (b[((int) l7) - 60718] & 0xff) & 63;
+       l11 = (b[((int) l7) - 60446] & 0xff) & 63;
        L39: {
         L40: {
          if (l9 + Integer.MIN_VALUE > 2147483631) { break L40; }
          l12 = ((l10 << 6) | ((l12 << 12) & 61440)) | l11;
          break L39;
         }
-        l12 = ((l11 << 6) | ((l10 << 12) | ((l12 << 18) & 1835008))) | ((b[((int) l7) - 60717] & 0xff) & 63);
+        l12 = ((l11 << 6) | ((l10 << 12) | ((l12 << 18) & 1835008))) | ((b[((int) l7) - 60445] & 0xff) & 63);
        }
        if ((l12 + -2048) + Integer.MIN_VALUE > -2147420161) { break L27; }
-       final int t41 = b[((int) ((l7 = ((((l9 = (((l12 >>> 12) | ((l12 << 2) & 16128)) | ((l12 << 16) & 4128768)) | 8421600) & 0xffffffffL) * 953497L) >>> 22L) & 1016L) + 66857L)) - 60720] & 0xff;
+       final int t41 = b[((int) ((l7 = ((((l9 = (((l12 >>> 12) | ((l12 << 2) & 16128)) | ((l12 << 16) & 4128768)) | 8421600) & 0xffffffffL) * 953497L) >>> 22L) & 1016L) + 66857L)) - 60448] & 0xff;
        final int t42 = l10 = (Words.get32(b, State.far((int) l7, 66852)) == l9) ? 1 : 0;
        l9 = t42 != 0 ? t41 : 0;
-       final int t43 = b[((int) (l7 + 66856L)) - 60720] & 0xff;
+       final int t43 = b[((int) (l7 + 66856L)) - 60448] & 0xff;
        final int t44 = l10;
        l10 = t44 != 0 ? t43 : 2;
        break L26;
       }
-      Words.put64(b, ((int) l1) - 60714, 0L);
-      Words.put64(b, ((int) l1) - 60720, 0L);
-      Words.put64(b, ((int) l1) - 60704, 0L);
-      Words.put64(b, ((int) l1) - 60696, 0L);
+      Words.put64(b, ((int) l1) - 60442, 0L);
+      Words.put64(b, ((int) l1) - 60448, 0L);
+      Words.put64(b, ((int) l1) - 60432, 0L);
+      Words.put64(b, ((int) l1) - 60424, 0L);
       break L25;
      }
      final int t45 = l9 = l12 + -48;
@@ -4472,12 +5964,12 @@ static int f125(State m, long l0) {
      l9 = t46 != 0 ? t45 : 0;
      l10 = l10 != 0 ? 0 : 2;
     }
-    Words.put64(b, ((int) l1) - 60696, l0);
-    Words.put64(b, ((int) l1) - 60704, l2);
-    b[((int) l1) - 60707] = (byte) l9;
-    b[((int) l1) - 60708] = (byte) l10;
-    Words.put32(b, ((int) l1) - 60712, l12);
-    Words.put64(b, ((int) l1) - 60720, 1L);
+    Words.put64(b, ((int) l1) - 60424, l0);
+    Words.put64(b, ((int) l1) - 60432, l2);
+    b[((int) l1) - 60435] = (byte) l9;
+    b[((int) l1) - 60436] = (byte) l10;
+    Words.put32(b, ((int) l1) - 60440, l12);
+    Words.put64(b, ((int) l1) - 60448, 1L);
    }
    final int t47 = Core3.f103(m, l1);
   }
@@ -4492,48 +5984,48 @@ static int f125(State m, long l0) {
        L54: {
         L55: {
          if (l6 + Long.MIN_VALUE < -9223372036854775805L) { break L55; }
-         if (((l12 = b[((int) l5) - 60720] & 0xff) & 240) != 224) { break L54; }
-         l10 = (((l11 = b[((int) l5) - 60719] & 0xff) << 8) | ((l13 = b[((int) l5) - 60718] & 0xff) << 16)) | l12;
+         if (((l12 = b[((int) l5) - 60448] & 0xff) & 240) != 224) { break L54; }
+         l10 = (((l11 = b[((int) l5) - 60447] & 0xff) << 8) | ((l13 = b[((int) l5) - 60446] & 0xff) << 16)) | l12;
          l12 = (((l12 << 12) | l13) + (l11 << 6)) + -925824;
          l6 = l6 + -3L;
          l0 = l5 + 3L;
-         if (l10 != Words.get32(b, ((int) ((l5 = (((l10 & 0xffffffffL) * 953497L) >>> 22L) & 1016L) + 66852L)) - 60720)) { break L52; }
+         if (l10 != Words.get32(b, ((int) ((l5 = (((l10 & 0xffffffffL) * 953497L) >>> 22L) & 1016L) + 66852L)) - 60448)) { break L52; }
          break L53;
         }
         if (l6 == 0L) { break L49; }
-        l12 = b[((int) l5) - 60720] & 0xff;
+        l12 = b[((int) l5) - 60448] & 0xff;
        }
        l0 = 1L;
        L56: {
         if (((int) (byte) l12) > -1) { break L56; }
-        l10 = (b[((int) l5) - 60719] & 0xff) & 63;
+        l10 = (b[((int) l5) - 60447] & 0xff) & 63;
         L57: {
          if (l12 + Integer.MIN_VALUE > -2147483425) { break L57; }
          l12 = ((l12 << 6) & 1984) | l10;
          l0 = 2L;
          break L56;
         }
-        l11 = (b[((int) l5) - 60718] & 0xff) & 63;
+        l11 = (b[((int) l5) - 60446] & 0xff) & 63;
         L58: {
          if (l12 + Integer.MIN_VALUE > -2147483409) { break L58; }
          l12 = ((l10 << 6) | ((l12 << 12) & 61440)) | l11;
          l0 = 3L;
          break L56;
         }
-        l12 = ((l11 << 6) | ((l10 << 12) | ((l12 << 18) & 1835008))) | ((b[((int) l5) - 60717] & 0xff) & 63);
+        l12 = ((l11 << 6) | ((l10 << 12) | ((l12 << 18) & 1835008))) | ((b[((int) l5) - 60445] & 0xff) & 63);
         l0 = 4L;
        }
        l6 = l6 - l0;
        l0 = l5 + l0;
        L59: {
         if ((l12 + -2048) + Integer.MIN_VALUE > -2147420161) { break L59; }
-        if (Words.get32(b, ((int) ((l5 = ((((l10 = (((l12 >>> 12) | ((l12 << 2) & 16128)) | ((l12 << 16) & 4128768)) | 8421600) & 0xffffffffL) * 953497L) >>> 22L) & 1016L) + 66852L)) - 60720) == l10) { break L53; }
+        if (Words.get32(b, ((int) ((l5 = ((((l10 = (((l12 >>> 12) | ((l12 << 2) & 16128)) | ((l12 << 16) & 4128768)) | 8421600) & 0xffffffffL) * 953497L) >>> 22L) & 1016L) + 66852L)) - 60448) == l10) { break L53; }
         break L51;
        }
        if ((l12 + -48) + Integer.MIN_VALUE < -2147483638) { break L49; }
        break L52;
       }
-      if ((b[((int) (l5 + 66856L)) - 60720] & 0xff) == 0) { break L49; }
+      if ((b[((int) (l5 + 66856L)) - 60448] & 0xff) == 0) { break L49; }
      }
      if (l12 + Integer.MIN_VALUE > -2147483521) { break L51; }
      l10 = 0;
@@ -4605,53 +6097,53 @@ static int f125(State m, long l0) {
     final int t70 = ((l12 + -65296) + Integer.MIN_VALUE > -2147483639) ? 1 : 0;
     break L49;
    }
-   Words.put64(b, ((int) l1) - 60696, 0L);
-   Words.put64(b, ((int) l1) - 60704, 0L);
-   Words.put64(b, ((int) l1) - 60712, 0L);
-   Words.put64(b, ((int) l1) - 60720, 0L);
+   Words.put64(b, ((int) l1) - 60424, 0L);
+   Words.put64(b, ((int) l1) - 60432, 0L);
+   Words.put64(b, ((int) l1) - 60440, 0L);
+   Words.put64(b, ((int) l1) - 60448, 0L);
    L71: {
     L72: {
      L73: {
       L74: {
        if (l6 + Long.MIN_VALUE < -9223372036854775805L) { break L74; }
-       if (((l12 = b[((int) l0) - 60720] & 0xff) & 240) != 224) { break L73; }
-       l10 = b[((int) l0) - 60718] & 0xff;
-       l11 = b[((int) l0) - 60719] & 0xff;
-       Words.put64(b, ((int) l1) - 60696, l6 + -3L);
-       Words.put64(b, ((int) l1) - 60704, l0 + 3L);
-       Words.put64(b, ((int) l1) - 60720, 1L);
-       Words.put32(b, ((int) l1) - 60712, ((l10 | (l12 << 12)) + (l11 << 6)) + -925824);
+       if (((l12 = b[((int) l0) - 60448] & 0xff) & 240) != 224) { break L73; }
+       l10 = b[((int) l0) - 60446] & 0xff;
+       l11 = b[((int) l0) - 60447] & 0xff;
+       Words.put64(b, ((int) l1) - 60424, l6 + -3L);
+       Words.put64(b, ((int) l1) - 60432, l0 + 3L);
+       Words.put64(b, ((int) l1) - 60448, 1L);
+       Words.put32(b, ((int) l1) - 60440, ((l10 | (l12 << 12)) + (l11 << 6)) + -925824);
        final int t75 = (int) l1;
-       final int t76 = b[((int) ((l0 = ((((l12 = ((l11 << 8) | (l10 << 16)) | l12) & 0xffffffffL) * 953497L) >>> 22L) & 1016L) + 66857L)) - 60720] & 0xff;
+       final int t76 = b[((int) ((l0 = ((((l12 = ((l11 << 8) | (l10 << 16)) | l12) & 0xffffffffL) * 953497L) >>> 22L) & 1016L) + 66857L)) - 60448] & 0xff;
        final int t77 = l12 = (Words.get32(b, State.far((int) l0, 66852)) == l12) ? 1 : 0;
-       b[t75 - 60707] = (byte) (t77 != 0 ? t76 : 0);
+       b[t75 - 60435] = (byte) (t77 != 0 ? t76 : 0);
        final int t78 = (int) l1;
-       final int t79 = b[((int) (l0 + 66856L)) - 60720] & 0xff;
+       final int t79 = b[((int) (l0 + 66856L)) - 60448] & 0xff;
        final int t80 = l12;
-       b[t78 - 60708] = (byte) (t80 != 0 ? t79 : 2);
+       b[t78 - 60436] = (byte) (t80 != 0 ? t79 : 2);
        break L71;
       }
       if (l6 == 0L) { break L72; }
-      l12 = b[((int) l0) - 60720] & 0xff;
+      l12 = b[((int) l0) - 60448] & 0xff;
      }
      l5 = 1L;
      L81: {
       if (((int) (byte) l12) > -1) { break L81; }
-      l10 = (b[((int) l0) - 60719] & 0xff) & 63;
+      l10 = (b[((int) l0) - 60447] & 0xff) & 63;
       L82: {
        if (l12 + Integer.MIN_VALUE > -2147483425) { break L82; }
        l12 = ((l12 << 6) & 1984) | l10;
        l5 = 2L;
        break L81;
       }
-      l11 = (b[((int) l0) - 60718] & 0xff) & 63;
+      l11 = (b[((int) l0) - 60446] & 0xff) & 63;
       L83: {
        if (l12 + Integer.MIN_VALUE > -2147483409) { break L83; }
        l12 = ((l10 << 6) | ((l12 << 12) & 61440)) | l11;
        l5 = 3L;
        break L81;
       }
-      l12 = ((l11 << 6) | ((l10 << 12) | ((l12 << 18) & 1835008))) | ((b[((int) l0) - 60717] & 0xff) & 63);
+      l12 = ((l11 << 6) | ((l10 << 12) | ((l12 << 18) & 1835008))) | ((b[((int) l0) - 60445] & 0xff) & 63);
       l5 = 4L;
      }
      l6 = l6 - l5;
@@ -4659,10 +6151,10 @@ static int f125(State m, long l0) {
      L84: {
       L85: {
        if ((l12 + -2048) + Integer.MIN_VALUE > -2147420161) { break L85; }
-       final int t86 = b[((int) ((l5 = ((((l10 = (((l12 >>> 12) | ((l12 << 2) & 16128)) | ((l12 << 16) & 4128768)) | 8421600) & 0xffffffffL) * 953497L) >>> 22L) & 1016L) + 66857L)) - 60720] & 0xff;
+       final int t86 = b[((int) ((l5 = ((((l10 = (((l12 >>> 12) | ((l12 << 2) & 16128)) | ((l12 << 16) & 4128768)) | 8421600) & 0xffffffffL) * 953497L) >>> 22L) & 1016L) + 66857L)) - 60448] & 0xff;
        final int t87 = l11 = (Words.get32(b, State.far((int) l5, 66852)) == l10) ? 1 : 0;
        l10 = t87 != 0 ? t86 : 0;
-       final int t88 = b[((int) (l5 + 66856L)) - 60720] & 0xff;
+       final int t88 = b[((int) (l5 + 66856L)) - 60448] & 0xff;
        final int t89 = l11;
        l11 = t89 != 0 ? t88 : 2;
        break L84;
@@ -4672,18 +6164,18 @@ static int f125(State m, long l0) {
       l10 = t91 != 0 ? t90 : 0;
       l11 = l11 != 0 ? 0 : 2;
      }
-     Words.put64(b, ((int) l1) - 60696, l6);
-     Words.put64(b, ((int) l1) - 60704, l0);
-     b[((int) l1) - 60707] = (byte) l10;
-     b[((int) l1) - 60708] = (byte) l11;
-     Words.put32(b, ((int) l1) - 60712, l12);
-     Words.put64(b, ((int) l1) - 60720, 1L);
+     Words.put64(b, ((int) l1) - 60424, l6);
+     Words.put64(b, ((int) l1) - 60432, l0);
+     b[((int) l1) - 60435] = (byte) l10;
+     b[((int) l1) - 60436] = (byte) l11;
+     Words.put32(b, ((int) l1) - 60440, l12);
+     Words.put64(b, ((int) l1) - 60448, 1L);
      break L71;
     }
-    Words.put64(b, ((int) l1) - 60714, 0L);
-    Words.put64(b, ((int) l1) - 60720, 0L);
-    Words.put64(b, ((int) l1) - 60704, 0L);
-    Words.put64(b, ((int) l1) - 60696, 0L);
+    Words.put64(b, ((int) l1) - 60442, 0L);
+    Words.put64(b, ((int) l1) - 60448, 0L);
+    Words.put64(b, ((int) l1) - 60432, 0L);
+    Words.put64(b, ((int) l1) - 60424, 0L);
    }
    final int t92 = Core3.f105(m, l1);
   }
@@ -4707,7 +6199,7 @@ static int f125(State m, long l0) {
  return l12;
 }
 
-static int f126(State m, long l0, long l1, long l2, long l3) {
+static int f135(State m, long l0, long l1, long l2, long l3) {
  final byte[] b = m.bytes;
  long l4 = 0;
  long l5 = 0;
@@ -4725,27 +6217,27 @@ static int f126(State m, long l0, long l1, long l2, long l3) {
      L5: {
       if (l1 == 0L) { break L5; }
       L6: {
-       if ((l6 = (int) b[((int) (l0 + (l4 = l1 + -1L))) - 60720]) >= 0) { break L6; }
+       if ((l6 = (int) b[((int) (l0 + (l4 = l1 + -1L))) - 60448]) >= 0) { break L6; }
        l4 = -2L;
        L7: {
-        if ((b[((int) ((l5 = l0 + l1) + -2L)) - 60720] & 0xff) + Integer.MIN_VALUE > -2147483457) { break L7; }
-        l4 = ((b[((int) (l5 + -3L)) - 60720] & 0xff) + Integer.MIN_VALUE > -2147483457) ? -3L : -4L;
+        if ((b[((int) ((l5 = l0 + l1) + -2L)) - 60448] & 0xff) + Integer.MIN_VALUE > -2147483457) { break L7; }
+        l4 = ((b[((int) (l5 + -3L)) - 60448] & 0xff) + Integer.MIN_VALUE > -2147483457) ? -3L : -4L;
        }
-       l6 = (l7 = (int) b[((int) (l1 = l0 + (l4 = l4 + l1))) - 60720]) & 255;
+       l6 = (l7 = (int) b[((int) (l1 = l0 + (l4 = l4 + l1))) - 60448]) & 255;
        if (l7 > -1) { break L6; }
-       l8 = (b[((int) l1) - 60719] & 0xff) & 63;
+       l8 = (b[((int) l1) - 60447] & 0xff) & 63;
        L8: {
         if (l7 + Integer.MIN_VALUE > 2147483615) { break L8; }
         l6 = ((l6 << 6) & 1984) | l8;
         break L6;
        }
-       l9 = (b[((int) l1) - 60718] & 0xff) & 63;
+       l9 = (b[((int) l1) - 60446] & 0xff) & 63;
        L9: {
         if (l7 + Integer.MIN_VALUE > 2147483631) { break L9; }
         l6 = ((l8 << 6) | ((l6 << 12) & 61440)) | l9;
         break L6;
        }
-       l6 = ((l9 << 6) | ((l8 << 12) | ((l6 << 18) & 1835008))) | ((b[((int) l1) - 60717] & 0xff) & 63);
+       l6 = ((l9 << 6) | ((l8 << 12) | ((l6 << 18) & 1835008))) | ((b[((int) l1) - 60445] & 0xff) & 63);
       }
       l7 = 1;
       if (((l6 & -33) + -65) + Integer.MIN_VALUE < -2147483622) { break L1; }
@@ -4772,27 +6264,27 @@ static int f126(State m, long l0, long l1, long l2, long l3) {
       }
       if (l4 == 0L) { break L5; }
       L13: {
-       if ((l6 = (int) b[((int) ((l1 = l0 + l4) + -1L)) - 60720]) >= 0) { break L13; }
+       if ((l6 = (int) b[((int) ((l1 = l0 + l4) + -1L)) - 60448]) >= 0) { break L13; }
        l5 = -2L;
        L14: {
-        if ((b[((int) (l1 + -2L)) - 60720] & 0xff) + Integer.MIN_VALUE > -2147483457) { break L14; }
-        l5 = ((b[((int) (l1 + -3L)) - 60720] & 0xff) + Integer.MIN_VALUE > -2147483457) ? -3L : -4L;
+        if ((b[((int) (l1 + -2L)) - 60448] & 0xff) + Integer.MIN_VALUE > -2147483457) { break L14; }
+        l5 = ((b[((int) (l1 + -3L)) - 60448] & 0xff) + Integer.MIN_VALUE > -2147483457) ? -3L : -4L;
        }
-       l6 = (l8 = (int) b[((int) (l1 = (l0 + l5) + l4)) - 60720]) & 255;
+       l6 = (l8 = (int) b[((int) (l1 = (l0 + l5) + l4)) - 60448]) & 255;
        if (l8 > -1) { break L13; }
-       l9 = (b[((int) l1) - 60719] & 0xff) & 63;
+       l9 = (b[((int) l1) - 60447] & 0xff) & 63;
        L15: {
         if (l8 + Integer.MIN_VALUE > 2147483615) { break L15; }
         l6 = ((l6 << 6) & 1984) | l9;
         break L13;
        }
-       l10 = (b[((int) l1) - 60718] & 0xff) & 63;
+       l10 = (b[((int) l1) - 60446] & 0xff) & 63;
        L16: {
         if (l8 + Integer.MIN_VALUE > 2147483631) { break L16; }
         l6 = ((l9 << 6) | ((l6 << 12) & 61440)) | l10;
         break L13;
        }
-       l6 = ((l10 << 6) | ((l9 << 12) | ((l6 << 18) & 1835008))) | ((b[((int) l1) - 60717] & 0xff) & 63);
+       l6 = ((l10 << 6) | ((l9 << 12) | ((l6 << 18) & 1835008))) | ((b[((int) l1) - 60445] & 0xff) & 63);
       }
       if (((l6 & -33) + -65) + Integer.MIN_VALUE < -2147483622) { break L1; }
       if ((l6 + -48) + Integer.MIN_VALUE < -2147483638) { break L1; }
@@ -4800,7 +6292,7 @@ static int f126(State m, long l0, long l1, long l2, long l3) {
      }
      l7 = 0;
      if (l3 == 0L) { break L1; }
-     l11 = (l6 = (int) b[((int) l2) - 60720]) & 255;
+     l11 = (l6 = (int) b[((int) l2) - 60448]) & 255;
      L17: {
       L18: {
        if (l6 <= -1) { break L18; }
@@ -4808,21 +6300,21 @@ static int f126(State m, long l0, long l1, long l2, long l3) {
        l6 = l11;
        break L17;
       }
-      l8 = (b[((int) l2) - 60719] & 0xff) & 63;
+      l8 = (b[((int) l2) - 60447] & 0xff) & 63;
       L19: {
        if (l6 + Integer.MIN_VALUE > 2147483615) { break L19; }
        l6 = ((l11 << 6) & 1984) | l8;
        l1 = 2L;
        break L17;
       }
-      l9 = (b[((int) l2) - 60718] & 0xff) & 63;
+      l9 = (b[((int) l2) - 60446] & 0xff) & 63;
       L20: {
        if (l6 + Integer.MIN_VALUE > 2147483631) { break L20; }
        l6 = ((l8 << 6) | ((l11 << 12) & 61440)) | l9;
        l1 = 3L;
        break L17;
       }
-      l6 = ((l9 << 6) | ((l8 << 12) | ((l11 << 18) & 1835008))) | ((b[((int) l2) - 60717] & 0xff) & 63);
+      l6 = ((l9 << 6) | ((l8 << 12) | ((l11 << 18) & 1835008))) | ((b[((int) l2) - 60445] & 0xff) & 63);
       l1 = 4L;
      }
      L21: {
@@ -4849,22 +6341,22 @@ static int f126(State m, long l0, long l1, long l2, long l3) {
        break L1;
       }
       if (l3 == l1) { break L1; }
-      l6 = (l8 = (int) b[((int) (l1 = l2 + l1)) - 60720]) & 255;
+      l6 = (l8 = (int) b[((int) (l1 = l2 + l1)) - 60448]) & 255;
       L25: {
        if (l8 > -1) { break L25; }
-       l9 = (b[((int) l1) - 60719] & 0xff) & 63;
+       l9 = (b[((int) l1) - 60447] & 0xff) & 63;
        L26: {
         if (l8 + Integer.MIN_VALUE > 2147483615) { break L26; }
         l6 = ((l6 << 6) & 1984) | l9;
         break L25;
        }
-       l10 = (b[((int) l1) - 60718] & 0xff) & 63;
+       l10 = (b[((int) l1) - 60446] & 0xff) & 63;
        L27: {
         if (l8 + Integer.MIN_VALUE > 2147483631) { break L27; }
         l6 = ((l9 << 6) | ((l6 << 12) & 61440)) | l10;
         break L25;
        }
-       l6 = ((l10 << 6) | ((l9 << 12) | ((l6 << 18) & 1835008))) | ((b[((int) l1) - 60717] & 0xff) & 63);
+       l6 = ((l10 << 6) | ((l9 << 12) | ((l6 << 18) & 1835008))) | ((b[((int) l1) - 60445] & 0xff) & 63);
       }
       if (((l6 & 2097119) + -65) + Integer.MIN_VALUE < -2147483622) { break L21; }
       if ((l6 + -48) + Integer.MIN_VALUE < -2147483638) { break L21; }
@@ -4876,25 +6368,25 @@ static int f126(State m, long l0, long l1, long l2, long l3) {
       L29: while (true) {
        l1 = l0;
        if ((l8 = ((l5 = l4) == 0L) ? 1 : 0) != 0) { break L28; }
-       l6 = (l7 = (int) b[((int) l1) - 60720]) & 255;
+       l6 = (l7 = (int) b[((int) l1) - 60448]) & 255;
        l0 = 1L;
        L30: {
         if (l7 > -1) { break L30; }
-        l9 = (b[((int) l1) - 60719] & 0xff) & 63;
+        l9 = (b[((int) l1) - 60447] & 0xff) & 63;
         L31: {
          if (l7 + Integer.MIN_VALUE > 2147483615) { break L31; }
          l6 = ((l6 << 6) & 1984) | l9;
          l0 = 2L;
          break L30;
         }
-        l10 = (b[((int) l1) - 60718] & 0xff) & 63;
+        l10 = (b[((int) l1) - 60446] & 0xff) & 63;
         L32: {
          if (l7 + Integer.MIN_VALUE > 2147483631) { break L32; }
          l6 = ((l9 << 6) | ((l6 << 12) & 61440)) | l10;
          l0 = 3L;
          break L30;
         }
-        l6 = ((l10 << 6) | ((l9 << 12) | ((l6 << 18) & 1835008))) | ((b[((int) l1) - 60717] & 0xff) & 63);
+        l6 = ((l10 << 6) | ((l9 << 12) | ((l6 << 18) & 1835008))) | ((b[((int) l1) - 60445] & 0xff) & 63);
         l0 = 4L;
        }
        l4 = l5 - l0;
@@ -4944,48 +6436,48 @@ static int f126(State m, long l0, long l1, long l2, long l3) {
                  default: break L1;
                  }
                 }
-                if ((l6 = (b[((int) l2) - 60719] & 0xff) + -66) + Integer.MIN_VALUE > -2147483605) { break L1; }
+                if ((l6 = (b[((int) l2) - 60447] & 0xff) + -66) + Integer.MIN_VALUE > -2147483605) { break L1; }
                 if (((1L << (l6 & 0xffffffffL)) & 8933534072833L) != 0L) { break L3; }
                 break L1;
                }
-               switch ((b[((int) l2) - 60719] & 0xff) + -99) {
+               switch ((b[((int) l2) - 60447] & 0xff) + -99) {
                case 0: case 10: break L3;
                default: break L1;
                }
               }
-              if ((l6 = (b[((int) l2) - 60719] & 0xff) + -65) + Integer.MIN_VALUE > -2147483598) { break L1; }
+              if ((l6 = (b[((int) l2) - 60447] & 0xff) + -65) + Integer.MIN_VALUE > -2147483598) { break L1; }
               if (((1L << (l6 & 0xffffffffL)) & 1152563063818241L) != 0L) { break L3; }
               break L1;
              }
-             l7 = ((l6 = b[((int) l2) - 60719] & 0xff) != 109) ? 1 : 0;
+             l7 = ((l6 = b[((int) l2) - 60447] & 0xff) != 109) ? 1 : 0;
              if (l8 != 0) { break L1; }
              if (l6 == 109) { break L2; }
              break L1;
             }
-            if ((l6 = b[((int) l2) - 60719] & 0xff) == 66) { break L3; }
+            if ((l6 = b[((int) l2) - 60447] & 0xff) == 66) { break L3; }
             if (l6 == 87) { break L3; }
             break L1;
            }
-           if ((l6 = b[((int) l2) - 60719] & 0xff) == 66) { break L3; }
+           if ((l6 = b[((int) l2) - 60447] & 0xff) == 66) { break L3; }
            if (l6 == 87) { break L3; }
            break L1;
           }
-          l7 = ((l6 = b[((int) l2) - 60719] & 0xff) != 122) ? 1 : 0;
+          l7 = ((l6 = b[((int) l2) - 60447] & 0xff) != 122) ? 1 : 0;
           if (l8 != 0) { break L1; }
           if (l6 == 122) { break L2; }
           break L1;
          }
-         l7 = ((l6 = b[((int) l2) - 60719] & 0xff) != 66) ? 1 : 0;
+         l7 = ((l6 = b[((int) l2) - 60447] & 0xff) != 66) ? 1 : 0;
          if (l8 != 0) { break L1; }
          if (l6 == 66) { break L2; }
          break L1;
         }
-        l7 = ((l6 = b[((int) l2) - 60719] & 0xff) != 66) ? 1 : 0;
+        l7 = ((l6 = b[((int) l2) - 60447] & 0xff) != 66) ? 1 : 0;
         if (l8 != 0) { break L1; }
         if (l6 == 66) { break L2; }
         break L1;
        }
-       l7 = ((l6 = b[((int) l2) - 60719] & 0xff) != 66) ? 1 : 0;
+       l7 = ((l6 = b[((int) l2) - 60447] & 0xff) != 66) ? 1 : 0;
        if (l8 != 0) { break L1; }
        if (l6 == 66) { break L2; }
        break L1;
@@ -5007,61 +6499,61 @@ static int f126(State m, long l0, long l1, long l2, long l3) {
           L52: {
            L53: {
             L54: {
-             switch ((b[((int) l2) - 60719] & 0xff) + -72) {
+             switch ((b[((int) l2) - 60447] & 0xff) + -72) {
              case 0: break L52;
              case 8: break L53;
              case 15: break L54;
              default: break L1;
              }
             }
-            l7 = ((l6 = b[((int) l2) - 60718] & 0xff) != 104) ? 1 : 0;
+            l7 = ((l6 = b[((int) l2) - 60446] & 0xff) != 104) ? 1 : 0;
             if (l8 != 0) { break L1; }
             if (l6 == 104) { break L2; }
             break L1;
            }
-           l7 = ((l6 = b[((int) l2) - 60718] & 0xff) != 97) ? 1 : 0;
+           l7 = ((l6 = b[((int) l2) - 60446] & 0xff) != 97) ? 1 : 0;
            if (l8 != 0) { break L1; }
            if (l6 == 97) { break L2; }
            break L1;
           }
-          l7 = ((l6 = b[((int) l2) - 60718] & 0xff) != 122) ? 1 : 0;
+          l7 = ((l6 = b[((int) l2) - 60446] & 0xff) != 122) ? 1 : 0;
           if (l8 != 0) { break L1; }
           if (l6 == 122) { break L2; }
           break L1;
          }
          L55: {
           L56: {
-           switch ((b[((int) l2) - 60719] & 0xff) + -72) {
+           switch ((b[((int) l2) - 60447] & 0xff) + -72) {
            case 0: break L55;
            case 8: break L56;
            default: break L1;
            }
           }
-          l7 = ((l6 = b[((int) l2) - 60718] & 0xff) != 97) ? 1 : 0;
+          l7 = ((l6 = b[((int) l2) - 60446] & 0xff) != 97) ? 1 : 0;
           if (l8 != 0) { break L1; }
           if (l6 == 97) { break L2; }
           break L1;
          }
-         l7 = ((l6 = b[((int) l2) - 60718] & 0xff) != 122) ? 1 : 0;
+         l7 = ((l6 = b[((int) l2) - 60446] & 0xff) != 122) ? 1 : 0;
          if (l8 != 0) { break L1; }
          if (l6 == 122) { break L2; }
          break L1;
         }
-        if ((b[((int) l2) - 60719] & 0xff) != 72) { break L1; }
-        l7 = ((l6 = b[((int) l2) - 60718] & 0xff) != 122) ? 1 : 0;
+        if ((b[((int) l2) - 60447] & 0xff) != 72) { break L1; }
+        l7 = ((l6 = b[((int) l2) - 60446] & 0xff) != 122) ? 1 : 0;
         if (l8 != 0) { break L1; }
         if (l6 == 122) { break L2; }
         break L1;
        }
        L57: {
-        if ((l6 = b[((int) l2) - 60719] & 0xff) == 105) { break L57; }
+        if ((l6 = b[((int) l2) - 60447] & 0xff) == 105) { break L57; }
         if (l6 != 65) { break L1; }
-        l7 = ((l6 = b[((int) l2) - 60718] & 0xff) != 104) ? 1 : 0;
+        l7 = ((l6 = b[((int) l2) - 60446] & 0xff) != 104) ? 1 : 0;
         if (l8 != 0) { break L1; }
         if (l6 == 104) { break L2; }
         break L1;
        }
-       l7 = ((l6 = b[((int) l2) - 60718] & 0xff) != 110) ? 1 : 0;
+       l7 = ((l6 = b[((int) l2) - 60446] & 0xff) != 110) ? 1 : 0;
        if (l8 != 0) { break L1; }
        if (l6 == 110) { break L2; }
        break L1;
@@ -5078,28 +6570,28 @@ static int f126(State m, long l0, long l1, long l2, long l3) {
          }
         }
         if (l11 != 107) { break L1; }
-        if ((b[((int) l2) - 60719] & 0xff) != 99) { break L1; }
-        if ((b[((int) l2) - 60718] & 0xff) != 97) { break L1; }
-        l7 = ((l6 = b[((int) l2) - 60717] & 0xff) != 108) ? 1 : 0;
+        if ((b[((int) l2) - 60447] & 0xff) != 99) { break L1; }
+        if ((b[((int) l2) - 60446] & 0xff) != 97) { break L1; }
+        l7 = ((l6 = b[((int) l2) - 60445] & 0xff) != 108) ? 1 : 0;
         if (l8 != 0) { break L1; }
         if (l6 == 108) { break L2; }
         break L1;
        }
-       if ((b[((int) l2) - 60719] & 0xff) != 98) { break L1; }
-       if ((b[((int) l2) - 60718] & 0xff) != 112) { break L1; }
-       l7 = ((l6 = b[((int) l2) - 60717] & 0xff) != 115) ? 1 : 0;
+       if ((b[((int) l2) - 60447] & 0xff) != 98) { break L1; }
+       if ((b[((int) l2) - 60446] & 0xff) != 112) { break L1; }
+       l7 = ((l6 = b[((int) l2) - 60445] & 0xff) != 115) ? 1 : 0;
        if (l8 != 0) { break L1; }
        if (l6 == 115) { break L2; }
        break L1;
       }
-      if ((b[((int) l2) - 60719] & 0xff) != 98) { break L1; }
-      if ((b[((int) l2) - 60718] & 0xff) != 112) { break L1; }
-      l7 = ((l6 = b[((int) l2) - 60717] & 0xff) != 115) ? 1 : 0;
+      if ((b[((int) l2) - 60447] & 0xff) != 98) { break L1; }
+      if ((b[((int) l2) - 60446] & 0xff) != 112) { break L1; }
+      l7 = ((l6 = b[((int) l2) - 60445] & 0xff) != 115) ? 1 : 0;
       if (l8 != 0) { break L1; }
       if (l6 == 115) { break L2; }
       break L1;
      }
-     l7 = (((l6 = (b[((int) l2) - 60719] & 0xff) + -116) & 251) != 0) ? 1 : 0;
+     l7 = (((l6 = (b[((int) l2) - 60447] & 0xff) + -116) & 251) != 0) ? 1 : 0;
      if (l8 != 0) { break L1; }
      if (((l6 & -5) & 255) != 0) { break L1; }
      break L2;
@@ -5109,29 +6601,29 @@ static int f126(State m, long l0, long l1, long l2, long l3) {
    l7 = 0;
    if (l8 != 0) { break L1; }
   }
-  l6 = (l7 = (int) b[((int) l1) - 60720]) & 255;
+  l6 = (l7 = (int) b[((int) l1) - 60448]) & 255;
   L61: {
    if (l7 > -1) { break L61; }
-   l8 = (b[((int) l1) - 60719] & 0xff) & 63;
+   l8 = (b[((int) l1) - 60447] & 0xff) & 63;
    L62: {
     if (l7 + Integer.MIN_VALUE > 2147483615) { break L62; }
     l6 = ((l6 << 6) & 1984) | l8;
     break L61;
    }
-   l9 = (b[((int) l1) - 60718] & 0xff) & 63;
+   l9 = (b[((int) l1) - 60446] & 0xff) & 63;
    L63: {
     if (l7 + Integer.MIN_VALUE > 2147483631) { break L63; }
     l6 = ((l8 << 6) | ((l6 << 12) & 61440)) | l9;
     break L61;
    }
-   l6 = ((l9 << 6) | ((l8 << 12) | ((l6 << 18) & 1835008))) | ((b[((int) l1) - 60717] & 0xff) & 63);
+   l6 = ((l9 << 6) | ((l8 << 12) | ((l6 << 18) & 1835008))) | ((b[((int) l1) - 60445] & 0xff) & 63);
   }
   l7 = (((l6 + -48) + Integer.MIN_VALUE < -2147483638) | ((l6 + -65296) + Integer.MIN_VALUE < -2147483638)) ? 1 : 0;
  }
  return l7;
 }
 
-static int f127(State m, long l0, long l1) {
+static int f136(State m, long l0, long l1) {
  final byte[] b = m.bytes;
  long l2 = 0;
  long l3 = 0;
@@ -5145,32 +6637,32 @@ static int f127(State m, long l0, long l1) {
   L2: {
    L3: {
     if (l1 == 0L) { break L3; }
-    if (((int) b[((int) ((l3 = l0 + l1) + -1L)) - 60720]) > -1) { break L3; }
+    if (((int) b[((int) ((l3 = l0 + l1) + -1L)) - 60448]) > -1) { break L3; }
     l4 = -2L;
     L4: {
-     if ((b[((int) (l3 + -2L)) - 60720] & 0xff) + Integer.MIN_VALUE > -2147483457) { break L4; }
-     l4 = ((b[((int) (l3 + -3L)) - 60720] & 0xff) + Integer.MIN_VALUE > -2147483457) ? -3L : -4L;
+     if ((b[((int) (l3 + -2L)) - 60448] & 0xff) + Integer.MIN_VALUE > -2147483457) { break L4; }
+     l4 = ((b[((int) (l3 + -3L)) - 60448] & 0xff) + Integer.MIN_VALUE > -2147483457) ? -3L : -4L;
     }
-    if ((l5 = (int) b[((int) (l3 = (l0 + l4) + l1)) - 60720]) > -1) { break L3; }
+    if ((l5 = (int) b[((int) (l3 = (l0 + l4) + l1)) - 60448]) > -1) { break L3; }
     if (l5 + Integer.MIN_VALUE < 2147483616) { break L3; }
     l6 = l5 & 255;
-    l7 = (b[((int) l3) - 60719] & 0xff) & 63;
-    l8 = (b[((int) l3) - 60718] & 0xff) & 63;
+    l7 = (b[((int) l3) - 60447] & 0xff) & 63;
+    l8 = (b[((int) l3) - 60446] & 0xff) & 63;
     L5: {
      L6: {
       if (l5 + Integer.MIN_VALUE > 2147483631) { break L6; }
       l6 = ((l7 << 6) | ((l6 << 12) & 61440)) | l8;
       break L5;
      }
-     l6 = ((l8 << 6) | ((l7 << 12) | ((l6 << 18) & 1835008))) | ((b[((int) l3) - 60717] & 0xff) & 63);
+     l6 = ((l8 << 6) | ((l7 << 12) | ((l6 << 18) & 1835008))) | ((b[((int) l3) - 60445] & 0xff) & 63);
     }
     l5 = 1;
     if (l6 == 21608) { break L2; }
     if (l6 == 36913) { break L2; }
    }
    l5 = 1;
-   if (f145(m, 83700L, 1L, 83696L, 1L, l0, l1) != 0) { break L2; }
-   l5 = f145(m, 83712L, 1L, 83704L, 2L, l0, l1);
+   if (Core5.f153(m, 83700L, 1L, 83696L, 1L, l0, l1) != 0) { break L2; }
+   l5 = Core5.f153(m, 83712L, 1L, 83704L, 2L, l0, l1);
   }
   m.g0 = l2;
   final int t7 = l5;
@@ -5179,7 +6671,7 @@ static int f127(State m, long l0, long l1) {
  throw State.trap();
 }
 
-static int f128(State m, long l0, long l1) {
+static int f137(State m, long l0, long l1) {
  final byte[] b = m.bytes;
  int l2 = 0;
  int l3 = 0;
@@ -5192,25 +6684,25 @@ static int f128(State m, long l0, long l1) {
   l2 = 0;
   L2: {
    if (l1 == 0L) { break L2; }
-   l4 = (l3 = (int) b[((int) l0) - 60720]) & 255;
+   l4 = (l3 = (int) b[((int) l0) - 60448]) & 255;
    l7 = 1L;
    L3: {
     if (l3 > -1) { break L3; }
-    l5 = (b[((int) l0) - 60719] & 0xff) & 63;
+    l5 = (b[((int) l0) - 60447] & 0xff) & 63;
     L4: {
      if (l3 + Integer.MIN_VALUE > 2147483615) { break L4; }
      l4 = ((l4 << 6) & 1984) | l5;
      l7 = 2L;
      break L3;
     }
-    l6 = (b[((int) l0) - 60718] & 0xff) & 63;
+    l6 = (b[((int) l0) - 60446] & 0xff) & 63;
     L5: {
      if (l3 + Integer.MIN_VALUE > 2147483631) { break L5; }
      l4 = ((l5 << 6) | ((l4 << 12) & 61440)) | l6;
      l7 = 3L;
      break L3;
     }
-    l4 = ((l6 << 6) | ((l5 << 12) | ((l4 << 18) & 1835008))) | ((b[((int) l0) - 60717] & 0xff) & 63);
+    l4 = ((l6 << 6) | ((l5 << 12) | ((l4 << 18) & 1835008))) | ((b[((int) l0) - 60445] & 0xff) & 63);
     l7 = 4L;
    }
    L6: {
@@ -5218,22 +6710,22 @@ static int f128(State m, long l0, long l1) {
     if (l4 != 48) { break L2; }
    }
    if (l1 == l7) { break L2; }
-   l2 = (l4 = (int) b[((int) (l1 = l0 + l7)) - 60720]) & 255;
+   l2 = (l4 = (int) b[((int) (l1 = l0 + l7)) - 60448]) & 255;
    L7: {
     if (l4 > -1) { break L7; }
-    l3 = (b[((int) l1) - 60719] & 0xff) & 63;
+    l3 = (b[((int) l1) - 60447] & 0xff) & 63;
     L8: {
      if (l4 + Integer.MIN_VALUE > 2147483615) { break L8; }
      l2 = ((l2 << 6) & 1984) | l3;
      break L7;
     }
-    l5 = (b[((int) l1) - 60718] & 0xff) & 63;
+    l5 = (b[((int) l1) - 60446] & 0xff) & 63;
     L9: {
      if (l4 + Integer.MIN_VALUE > 2147483631) { break L9; }
      l2 = ((l3 << 6) | ((l2 << 12) & 61440)) | l5;
      break L7;
     }
-    l2 = ((l5 << 6) | ((l3 << 12) | ((l2 << 18) & 1835008))) | ((b[((int) l1) - 60717] & 0xff) & 63);
+    l2 = ((l5 << 6) | ((l3 << 12) | ((l2 << 18) & 1835008))) | ((b[((int) l1) - 60445] & 0xff) & 63);
    }
    l2 = (((l2 + -48) + Integer.MIN_VALUE < -2147483638) | ((l2 + -65296) + Integer.MIN_VALUE < -2147483638)) ? 1 : 0;
   }
@@ -5243,7 +6735,7 @@ static int f128(State m, long l0, long l1) {
  throw State.trap();
 }
 
-static void f129(State m, long l0, int l1, long l2, long l3) {
+static void f138(State m, long l0, int l1, long l2, long l3) {
  final byte[] b = m.bytes;
  long l4 = 0;
  long l5 = 0;
@@ -5254,9 +6746,9 @@ static void f129(State m, long l0, int l1, long l2, long l3) {
  L1: {
   if ((l4 = l4) < 16L) { break L1; }
   l5 = 0L;
-  Words.put64(b, ((int) l4) - 60696, 0L);
-  Words.put64(b, ((int) l4) - 60704, 0L);
-  Words.put64(b, ((int) l4) - 60712, 0L);
+  Words.put64(b, ((int) l4) - 60424, 0L);
+  Words.put64(b, ((int) l4) - 60432, 0L);
+  Words.put64(b, ((int) l4) - 60440, 0L);
   L2: {
    L3: {
     L4: {
@@ -5273,47 +6765,47 @@ static void f129(State m, long l0, int l1, long l2, long l3) {
        l3 = 1L;
        break L6;
       }
-      l1 = (l6 = (int) b[((int) l2) - 60720]) & 255;
+      l1 = (l6 = (int) b[((int) l2) - 60448]) & 255;
       L8: {
        if (l6 > -1) { break L8; }
-       l7 = (b[((int) l2) - 60719] & 0xff) & 63;
+       l7 = (b[((int) l2) - 60447] & 0xff) & 63;
        L9: {
         if (l6 + Integer.MIN_VALUE > 2147483615) { break L9; }
         l1 = ((l1 << 6) & 1984) | l7;
         break L8;
        }
-       l8 = (b[((int) l2) - 60718] & 0xff) & 63;
+       l8 = (b[((int) l2) - 60446] & 0xff) & 63;
        L10: {
         if (l6 + Integer.MIN_VALUE > 2147483631) { break L10; }
         l1 = ((l7 << 6) | ((l1 << 12) & 61440)) | l8;
         break L8;
        }
-       l1 = ((l8 << 6) | ((l7 << 12) | ((l1 << 18) & 1835008))) | ((b[((int) l2) - 60717] & 0xff) & 63);
+       l1 = ((l8 << 6) | ((l7 << 12) | ((l1 << 18) & 1835008))) | ((b[((int) l2) - 60445] & 0xff) & 63);
       }
       l2 = ((l1 = (l1 != 32) ? 1 : 0) != 0) ? l2 : 0L;
       l5 = l1 != 0 ? l3 : 0L;
       l3 = l1 & 0xffffffffL;
      }
-     Words.put64(b, ((int) l4) - 60696, l5);
-     Words.put64(b, ((int) l4) - 60704, l2);
-     Words.put64(b, ((int) l4) - 60712, l3);
+     Words.put64(b, ((int) l4) - 60424, l5);
+     Words.put64(b, ((int) l4) - 60432, l2);
+     Words.put64(b, ((int) l4) - 60440, l3);
      break L2;
     }
-    f123(m, l4 + 8L, 21, l2, l3);
+    f125(m, l4 + 8L, 21, l2, l3);
     break L2;
    }
-   f123(m, l4 + 8L, 22, l2, l3);
+   f125(m, l4 + 8L, 22, l2, l3);
   }
-  Words.put64(b, ((int) l0) - 60720, b[((int) l4) - 60712] & 0xffL);
-  Words.put64(b, ((int) (l0 + 8L)) - 60720, Words.get64(b, ((int) l4) - 60704));
-  Words.put64(b, ((int) (l0 + 16L)) - 60720, Words.get64(b, ((int) l4) - 60696));
+  Words.put64(b, ((int) l0) - 60448, b[((int) l4) - 60440] & 0xffL);
+  Words.put64(b, ((int) (l0 + 8L)) - 60448, Words.get64(b, ((int) l4) - 60432));
+  Words.put64(b, ((int) (l0 + 16L)) - 60448, Words.get64(b, ((int) l4) - 60424));
   m.g0 = l4 + 32L;
   return;
  }
  throw State.trap();
 }
 
-static int f130_1(State m, long l0, int l1, int l2, long l3, long l4, long l5, long l6, long l7, long l8, long l9, long l10, int l12, int l13, int l14, int l15, int l16, int l17, int l18, int l19, int l20) {
+static int f139_1(State m, long l0, int l1, int l2, long l3, long l4, long l5, long l6, long l7, long l8, long l9, long l10, int l12, int l13, int l14, int l15, int l16, int l17, int l18, int l19, int l20) {
  final byte[] b = m.bytes;
  int exit = 0;
  PART: {
@@ -5327,20 +6819,20 @@ static int f130_1(State m, long l0, int l1, int l2, long l3, long l4, long l5, l
      default: break L25;
      }
     }
-    f121(m, l4 + 152L, l12 & 1, l6, l5);
-    l9 = Words.get64(b, ((int) l4) - 60560);
-    l7 = Words.get64(b, ((int) l4) - 60568);
-    Words.put64(b, ((int) l4) - 60488, 0L);
-    Words.put64(b, ((int) l4) - 60496, 0L);
-    Words.put64(b, ((int) l4) - 60504, 0L);
-    Words.put64(b, ((int) l4) - 60512, 0L);
-    f120(m, l4 + 208L, l7, l9);
-    l5 = Words.get64(b, ((int) l4) - 60512);
+    f123(m, l4 + 152L, l12 & 1, l6, l5);
+    l9 = Words.get64(b, ((int) l4) - 60288);
+    l7 = Words.get64(b, ((int) l4) - 60296);
+    Words.put64(b, ((int) l4) - 60216, 0L);
+    Words.put64(b, ((int) l4) - 60224, 0L);
+    Words.put64(b, ((int) l4) - 60232, 0L);
+    Words.put64(b, ((int) l4) - 60240, 0L);
+    f122(m, l4 + 208L, l7, l9);
+    l5 = Words.get64(b, ((int) l4) - 60240);
     L26: {
-     if ((l19 = ((l10 = Words.get64(b, ((int) l4) - 60504)) == 0L) ? 1 : 0) != 0) { break L26; }
+     if ((l19 = ((l10 = Words.get64(b, ((int) l4) - 60232)) == 0L) ? 1 : 0) != 0) { break L26; }
      L27: {
       L28: {
-       if ((l18 = (int) b[((int) l5) - 60720]) <= -1) { break L28; }
+       if ((l18 = (int) b[((int) l5) - 60448]) <= -1) { break L28; }
        l3 = 1L;
        break L27;
       }
@@ -5355,25 +6847,25 @@ static int f130_1(State m, long l0, int l1, int l2, long l3, long l4, long l5, l
      l3 = l5 + l3;
      L30: while (true) {
       if (l6 == 0L) { break L26; }
-      l18 = (l12 = (int) b[((int) l3) - 60720]) & 255;
+      l18 = (l12 = (int) b[((int) l3) - 60448]) & 255;
       l8 = 1L;
       L31: {
        if (l12 > -1) { break L31; }
-       l20 = (b[((int) l3) - 60719] & 0xff) & 63;
+       l20 = (b[((int) l3) - 60447] & 0xff) & 63;
        L32: {
         if (l12 + Integer.MIN_VALUE > 2147483615) { break L32; }
         l18 = ((l18 << 6) & 1984) | l20;
         l8 = 2L;
         break L31;
        }
-       l17 = (b[((int) l3) - 60718] & 0xff) & 63;
+       l17 = (b[((int) l3) - 60446] & 0xff) & 63;
        L33: {
         if (l12 + Integer.MIN_VALUE > 2147483631) { break L33; }
         l18 = ((l20 << 6) | ((l18 << 12) & 61440)) | l17;
         l8 = 3L;
         break L31;
        }
-       l18 = ((l17 << 6) | ((l20 << 12) | ((l18 << 18) & 1835008))) | ((b[((int) l3) - 60717] & 0xff) & 63);
+       l18 = ((l17 << 6) | ((l20 << 12) | ((l18 << 18) & 1835008))) | ((b[((int) l3) - 60445] & 0xff) & 63);
        l8 = 4L;
       }
       if (l18 == 20004) { exit = 2; break PART; }
@@ -5410,45 +6902,45 @@ static int f130_1(State m, long l0, int l1, int l2, long l3, long l4, long l5, l
                 default: break L45;
                 }
                }
-               f137(m, l4 + 8L, l5, l10);
-               l18 = Words.get16(b, ((int) l4) - 60710) & 0xffff;
-               l12 = b[((int) l4) - 60712] & 0xff;
+               f145(m, l4 + 8L, l5, l10);
+               l18 = Words.get16(b, ((int) l4) - 60438) & 0xffff;
+               l12 = b[((int) l4) - 60440] & 0xff;
                exit = 3; break PART;
               }
-              f138(m, l4 + 16L, l5, l10);
-              l18 = Words.get16(b, ((int) l4) - 60702) & 0xffff;
-              l12 = b[((int) l4) - 60704] & 0xff;
+              f146(m, l4 + 16L, l5, l10);
+              l18 = Words.get16(b, ((int) l4) - 60430) & 0xffff;
+              l12 = b[((int) l4) - 60432] & 0xff;
               exit = 3; break PART;
              }
-             f138(m, l4 + 32L, l5, l10);
+             f146(m, l4 + 32L, l5, l10);
              l12 = 1;
              L46: {
-              if ((b[((int) l4) - 60688] & 0xff) != 1) { break L46; }
-              l18 = Words.get16(b, ((int) l4) - 60686) & 0xffff;
+              if ((b[((int) l4) - 60416] & 0xff) != 1) { break L46; }
+              l18 = Words.get16(b, ((int) l4) - 60414) & 0xffff;
               exit = 3; break PART;
              }
-             f139(m, l4 + 24L, l5, l10);
-             l18 = Words.get16(b, ((int) l4) - 60694) & 0xffff;
-             l12 = b[((int) l4) - 60696] & 0xff;
+             f147(m, l4 + 24L, l5, l10);
+             l18 = Words.get16(b, ((int) l4) - 60422) & 0xffff;
+             l12 = b[((int) l4) - 60424] & 0xff;
              exit = 3; break PART;
             }
-            f140(m, l4 + 40L, l5, l10);
-            final int t47 = b[((int) l4) - 60679] & 0xff;
-            final int t48 = l12 = (b[((int) l4) - 60680] & 0xff) & 1;
+            f148(m, l4 + 40L, l5, l10);
+            final int t47 = b[((int) l4) - 60407] & 0xff;
+            final int t48 = l12 = (b[((int) l4) - 60408] & 0xff) & 1;
             l18 = t48 != 0 ? t47 : 0;
             exit = 3; break PART;
            }
-           f140(m, l4 + 56L, l5, l10);
+           f148(m, l4 + 56L, l5, l10);
            l12 = 1;
            L49: {
             L50: {
-             if ((b[((int) l4) - 60664] & 0xff) != 1) { break L50; }
-             l18 = (b[((int) l4) - 60663] & 0xff) & 255;
+             if ((b[((int) l4) - 60392] & 0xff) != 1) { break L50; }
+             l18 = (b[((int) l4) - 60391] & 0xff) & 255;
              break L49;
             }
-            f141(m, l4 + 48L, l5, l10);
-            final int t51 = (b[((int) l4) - 60671] & 0xff) & 255;
-            final int t52 = (l12 = b[((int) l4) - 60672] & 0xff) & 1;
+            f149(m, l4 + 48L, l5, l10);
+            final int t51 = (b[((int) l4) - 60399] & 0xff) & 255;
+            final int t52 = (l12 = b[((int) l4) - 60400] & 0xff) & 1;
             l18 = t52 != 0 ? t51 : 0;
             l12 = l12;
            }
@@ -5464,7 +6956,7 @@ static int f130_1(State m, long l0, int l1, int l2, long l3, long l4, long l5, l
            }
            L55: {
             L56: {
-             if ((l18 = (int) b[((int) l5) - 60720]) <= -1) { break L56; }
+             if ((l18 = (int) b[((int) l5) - 60448]) <= -1) { break L56; }
              l3 = 1L;
              break L55;
             }
@@ -5478,23 +6970,23 @@ static int f130_1(State m, long l0, int l1, int l2, long l3, long l4, long l5, l
            l12 = 0;
            l18 = 0;
            if (l10 == l3) { break L53; }
-           f140(m, l4 + 64L, l5, l10);
-           final int t58 = (b[((int) l4) - 60655] & 0xff) & 255;
-           final int t59 = (l12 = b[((int) l4) - 60656] & 0xff) & 1;
+           f148(m, l4 + 64L, l5, l10);
+           final int t58 = (b[((int) l4) - 60383] & 0xff) & 255;
+           final int t59 = (l12 = b[((int) l4) - 60384] & 0xff) & 1;
            l18 = t59 != 0 ? t58 : 0;
           }
           l12 = l12 & 1;
           exit = 3; break PART;
          }
-         f141(m, l4 + 72L, l5, l10);
-         final int t60 = b[((int) l4) - 60647] & 0xff;
-         final int t61 = l12 = (b[((int) l4) - 60648] & 0xff) & 1;
+         f149(m, l4 + 72L, l5, l10);
+         final int t60 = b[((int) l4) - 60375] & 0xff;
+         final int t61 = l12 = (b[((int) l4) - 60376] & 0xff) & 1;
          l18 = t61 != 0 ? t60 : 0;
          exit = 3; break PART;
         }
-        f139(m, l4 + 80L, l5, l10);
-        l18 = Words.get16(b, ((int) l4) - 60638) & 0xffff;
-        l12 = b[((int) l4) - 60640] & 0xff;
+        f147(m, l4 + 80L, l5, l10);
+        l18 = Words.get16(b, ((int) l4) - 60366) & 0xffff;
+        l12 = b[((int) l4) - 60368] & 0xff;
         exit = 3; break PART;
        }
        L62: {
@@ -5503,25 +6995,25 @@ static int f130_1(State m, long l0, int l1, int l2, long l3, long l4, long l5, l
         l18 = 0;
         exit = 4; break PART;
        }
-       l20 = (l18 = (int) b[((int) l5) - 60720]) & 255;
+       l20 = (l18 = (int) b[((int) l5) - 60448]) & 255;
        l3 = 1L;
        L63: {
         if (l18 > -1) { break L63; }
-        l12 = (b[((int) l5) - 60719] & 0xff) & 63;
+        l12 = (b[((int) l5) - 60447] & 0xff) & 63;
         L64: {
          if (l18 + Integer.MIN_VALUE > 2147483615) { break L64; }
          l20 = ((l20 << 6) & 1984) | l12;
          l3 = 2L;
          break L63;
         }
-        l17 = (b[((int) l5) - 60718] & 0xff) & 63;
+        l17 = (b[((int) l5) - 60446] & 0xff) & 63;
         L65: {
          if (l18 + Integer.MIN_VALUE > 2147483631) { break L65; }
          l20 = ((l12 << 6) | ((l20 << 12) & 61440)) | l17;
          l3 = 3L;
          break L63;
         }
-        l20 = ((l17 << 6) | ((l12 << 12) | ((l20 << 18) & 1835008))) | ((b[((int) l5) - 60717] & 0xff) & 63);
+        l20 = ((l17 << 6) | ((l12 << 12) | ((l20 << 18) & 1835008))) | ((b[((int) l5) - 60445] & 0xff) & 63);
         l3 = 4L;
        }
        l12 = 0;
@@ -5530,8 +7022,8 @@ static int f130_1(State m, long l0, int l1, int l2, long l3, long l4, long l5, l
        Core1.f24(m, l4 + 96L, l20);
        l12 = 1;
        L66: {
-        if ((b[((int) l4) - 60624] & 0xff) != 1) { break L66; }
-        l18 = (b[((int) l4) - 60623] & 0xff) & 255;
+        if ((b[((int) l4) - 60352] & 0xff) != 1) { break L66; }
+        l18 = (b[((int) l4) - 60351] & 0xff) & 255;
         exit = 4; break PART;
        }
        l18 = 0;
@@ -5551,11 +7043,11 @@ static int f130_1(State m, long l0, int l1, int l2, long l3, long l4, long l5, l
        if (l20 != 22235) { exit = 4; break PART; }
        exit = 8; break PART;
       }
-      f142(m, l4 + 120L, l5, l10);
+      f150(m, l4 + 120L, l5, l10);
       l12 = 1;
       L69: {
-       if ((b[((int) l4) - 60600] & 0xff) != 1) { break L69; }
-       l18 = (b[((int) l4) - 60599] & 0xff) & 255;
+       if ((b[((int) l4) - 60328] & 0xff) != 1) { break L69; }
+       l18 = (b[((int) l4) - 60327] & 0xff) & 255;
        exit = 9; break PART;
       }
       L70: {
@@ -5564,49 +7056,49 @@ static int f130_1(State m, long l0, int l1, int l2, long l3, long l4, long l5, l
        l12 = 0;
        exit = 9; break PART;
       }
-      l20 = (l18 = (int) b[((int) l5) - 60720]) & 255;
+      l20 = (l18 = (int) b[((int) l5) - 60448]) & 255;
       l3 = 1L;
       L71: {
        if (l18 > -1) { break L71; }
-       l12 = (b[((int) l5) - 60719] & 0xff) & 63;
+       l12 = (b[((int) l5) - 60447] & 0xff) & 63;
        L72: {
         if (l18 + Integer.MIN_VALUE > 2147483615) { break L72; }
         l20 = ((l20 << 6) & 1984) | l12;
         l3 = 2L;
         break L71;
        }
-       l17 = (b[((int) l5) - 60718] & 0xff) & 63;
+       l17 = (b[((int) l5) - 60446] & 0xff) & 63;
        L73: {
         if (l18 + Integer.MIN_VALUE > 2147483631) { break L73; }
         l20 = ((l12 << 6) | ((l20 << 12) & 61440)) | l17;
         l3 = 3L;
         break L71;
        }
-       l20 = ((l17 << 6) | ((l12 << 12) | ((l20 << 18) & 1835008))) | ((b[((int) l5) - 60717] & 0xff) & 63);
+       l20 = ((l17 << 6) | ((l12 << 12) | ((l20 << 18) & 1835008))) | ((b[((int) l5) - 60445] & 0xff) & 63);
        l3 = 4L;
       }
       l12 = 0;
       l18 = 0;
       if (l10 == l3) { exit = 9; break PART; }
-      l17 = (l18 = (int) b[((int) (l6 = l5 + l3)) - 60720]) & 255;
+      l17 = (l18 = (int) b[((int) (l6 = l5 + l3)) - 60448]) & 255;
       l8 = 1L;
       L74: {
        if (l18 > -1) { break L74; }
-       l12 = (b[((int) l6) - 60719] & 0xff) & 63;
+       l12 = (b[((int) l6) - 60447] & 0xff) & 63;
        L75: {
         if (l18 + Integer.MIN_VALUE > 2147483615) { break L75; }
         l17 = ((l17 << 6) & 1984) | l12;
         l8 = 2L;
         break L74;
        }
-       l19 = (b[((int) l6) - 60718] & 0xff) & 63;
+       l19 = (b[((int) l6) - 60446] & 0xff) & 63;
        L76: {
         if (l18 + Integer.MIN_VALUE > 2147483631) { break L76; }
         l17 = ((l12 << 6) | ((l17 << 12) & 61440)) | l19;
         l8 = 3L;
         break L74;
        }
-       l17 = ((l19 << 6) | ((l12 << 12) | ((l17 << 18) & 1835008))) | ((b[((int) l6) - 60717] & 0xff) & 63);
+       l17 = ((l19 << 6) | ((l12 << 12) | ((l17 << 18) & 1835008))) | ((b[((int) l6) - 60445] & 0xff) & 63);
        l8 = 4L;
       }
       l12 = 0;
@@ -5629,9 +7121,9 @@ static int f130_1(State m, long l0, int l1, int l2, long l3, long l4, long l5, l
       if (l20 != 22235) { exit = 14; break PART; }
       exit = 13; break PART;
      }
-     f142(m, l4 + 128L, l5, l10);
-     final int t79 = b[((int) l4) - 60591] & 0xff;
-     final int t80 = l12 = (b[((int) l4) - 60592] & 0xff) & 1;
+     f150(m, l4 + 128L, l5, l10);
+     final int t79 = b[((int) l4) - 60319] & 0xff;
+     final int t80 = l12 = (b[((int) l4) - 60320] & 0xff) & 1;
      l18 = t80 != 0 ? t79 : 0;
      exit = 3; break PART;
     }
@@ -5642,38 +7134,38 @@ static int f130_1(State m, long l0, int l1, int l2, long l3, long l4, long l5, l
       l18 = 0;
       break L81;
      }
-     l12 = (l18 = (int) b[((int) l5) - 60720]) & 255;
+     l12 = (l18 = (int) b[((int) l5) - 60448]) & 255;
      l3 = 1L;
      L83: {
       if (l18 > -1) { break L83; }
-      l20 = (b[((int) l5) - 60719] & 0xff) & 63;
+      l20 = (b[((int) l5) - 60447] & 0xff) & 63;
       L84: {
        if (l18 + Integer.MIN_VALUE > 2147483615) { break L84; }
        l12 = ((l12 << 6) & 1984) | l20;
        l3 = 2L;
        break L83;
       }
-      l17 = (b[((int) l5) - 60718] & 0xff) & 63;
+      l17 = (b[((int) l5) - 60446] & 0xff) & 63;
       L85: {
        if (l18 + Integer.MIN_VALUE > 2147483631) { break L85; }
        l12 = ((l20 << 6) | ((l12 << 12) & 61440)) | l17;
        l3 = 3L;
        break L83;
       }
-      l12 = ((l17 << 6) | ((l20 << 12) | ((l12 << 18) & 1835008))) | ((b[((int) l5) - 60717] & 0xff) & 63);
+      l12 = ((l17 << 6) | ((l20 << 12) | ((l12 << 18) & 1835008))) | ((b[((int) l5) - 60445] & 0xff) & 63);
       l3 = 4L;
      }
      L86: {
       L87: {
        if (l10 == l3) { break L87; }
-       f142(m, l4 + 144L, l5, l10);
-       l18 = b[((int) l4) - 60575] & 0xff;
-       l12 = b[((int) l4) - 60576] & 0xff;
+       f150(m, l4 + 144L, l5, l10);
+       l18 = b[((int) l4) - 60303] & 0xff;
+       l12 = b[((int) l4) - 60304] & 0xff;
        break L86;
       }
       Core1.f24(m, l4 + 136L, l12);
-      l18 = b[((int) l4) - 60583] & 0xff;
-      l12 = b[((int) l4) - 60584] & 0xff;
+      l18 = b[((int) l4) - 60311] & 0xff;
+      l12 = b[((int) l4) - 60312] & 0xff;
      }
      final int t88 = l18 & 255;
      final int t89 = l12 & 1;
@@ -5682,23 +7174,23 @@ static int f130_1(State m, long l0, int l1, int l2, long l3, long l4, long l5, l
     l12 = l12 & 1;
     exit = 3; break PART;
    }
-   f121(m, l4 + 168L, l12 & 1, l6, l5);
-   f123(m, l4 + 184L, l2, Words.get64(b, ((int) l4) - 60552), Words.get64(b, ((int) l4) - 60544));
+   f123(m, l4 + 168L, l12 & 1, l6, l5);
+   f125(m, l4 + 184L, l2, Words.get64(b, ((int) l4) - 60280), Words.get64(b, ((int) l4) - 60272));
    L90: {
-    if ((b[((int) l4) - 60536] & 0xff) != 1) { break L90; }
+    if ((b[((int) l4) - 60264] & 0xff) != 1) { break L90; }
     l19 = 0;
-    l3 = Words.get64(b, ((int) l4) - 60520);
-    l8 = Words.get64(b, ((int) l4) - 60528);
+    l3 = Words.get64(b, ((int) l4) - 60248);
+    l8 = Words.get64(b, ((int) l4) - 60256);
     l16 = l15;
     l17 = l14;
     l18 = l13;
     l20 = 0;
     exit = 1; break PART;
    }
-   Words.put64(b, ((int) l0) - 60696, 0L);
-   Words.put64(b, ((int) l0) - 60704, 0L);
-   Words.put64(b, ((int) l0) - 60712, 0L);
-   Words.put64(b, ((int) l0) - 60720, 0L);
+   Words.put64(b, ((int) l0) - 60424, 0L);
+   Words.put64(b, ((int) l0) - 60432, 0L);
+   Words.put64(b, ((int) l0) - 60440, 0L);
+   Words.put64(b, ((int) l0) - 60448, 0L);
    exit = 15; break PART;
   }
  }
@@ -5718,7 +7210,7 @@ static int f130_1(State m, long l0, int l1, int l2, long l3, long l4, long l5, l
  return exit;
 }
 
-static void f130(State m, long l0, int l1, int l2, long l3) {
+static void f139(State m, long l0, int l1, int l2, long l3) {
  final byte[] b = m.bytes;
  long l4 = 0;
  long l5 = 0;
@@ -5761,16 +7253,16 @@ static void f130(State m, long l0, int l1, int l2, long l3) {
                      L21: {
                       L22: {
                        if ((l4 = l4) < 16L) { break L22; }
-                       l5 = Words.get64(b, ((int) l3) - 60704);
-                       l6 = Words.get64(b, ((int) l3) - 60712);
-                       l11 = b[((int) l3) - 60713] & 0xff;
-                       l12 = b[((int) l3) - 60714] & 0xff;
-                       l13 = Words.get16(b, ((int) l3) - 60716) & 0xffff;
-                       l14 = Words.get16(b, ((int) l3) - 60718) & 0xffff;
-                       l15 = Words.get16(b, ((int) l3) - 60720) & 0xffff;
-                       Words.put64(b, ((int) l4) - 60520, 0L);
-                       Words.put64(b, ((int) l4) - 60528, 0L);
-                       Words.put64(b, ((int) l4) - 60536, 0L);
+                       l5 = Words.get64(b, ((int) l3) - 60432);
+                       l6 = Words.get64(b, ((int) l3) - 60440);
+                       l11 = b[((int) l3) - 60441] & 0xff;
+                       l12 = b[((int) l3) - 60442] & 0xff;
+                       l13 = Words.get16(b, ((int) l3) - 60444) & 0xffff;
+                       l14 = Words.get16(b, ((int) l3) - 60446) & 0xffff;
+                       l15 = Words.get16(b, ((int) l3) - 60448) & 0xffff;
+                       Words.put64(b, ((int) l4) - 60248, 0L);
+                       Words.put64(b, ((int) l4) - 60256, 0L);
+                       Words.put64(b, ((int) l4) - 60264, 0L);
                        l7 = 1L;
                        l16 = l15;
                        l17 = l14;
@@ -5779,7 +7271,7 @@ static void f130(State m, long l0, int l1, int l2, long l3) {
                        l20 = l11;
                        l8 = l6;
                        l3 = l5;
-                       final int x91 = f130_1(m, l0, l1, l2, l3, l4, l5, l6, l7, l8, l9, l10, l12, l13, l14, l15, l16, l17, l18, l19, l20);
+                       final int x91 = f139_1(m, l0, l1, l2, l3, l4, l5, l6, l7, l8, l9, l10, l12, l13, l14, l15, l16, l17, l18, l19, l20);
                        l3 = m.kept[0];
                        l5 = m.kept[1];
                        l6 = m.kept[2];
@@ -5811,32 +7303,32 @@ static void f130(State m, long l0, int l1, int l2, long l3) {
                        case 15: break L1;
                        }
                        if (l5 == 0L) { break L16; }
-                       l18 = (l20 = (int) b[((int) l6) - 60720]) & 255;
+                       l18 = (l20 = (int) b[((int) l6) - 60448]) & 255;
                        l7 = 1L;
                        L92: {
                         if (l20 > -1) { break L92; }
-                        l17 = (b[((int) l6) - 60719] & 0xff) & 63;
+                        l17 = (b[((int) l6) - 60447] & 0xff) & 63;
                         L93: {
                          if (l20 + Integer.MIN_VALUE > 2147483615) { break L93; }
                          l18 = ((l18 << 6) & 1984) | l17;
                          l7 = 2L;
                          break L92;
                         }
-                        l19 = (b[((int) l6) - 60718] & 0xff) & 63;
+                        l19 = (b[((int) l6) - 60446] & 0xff) & 63;
                         L94: {
                          if (l20 + Integer.MIN_VALUE > 2147483631) { break L94; }
                          l18 = ((l17 << 6) | ((l18 << 12) & 61440)) | l19;
                          l7 = 3L;
                          break L92;
                         }
-                        l18 = ((l19 << 6) | ((l17 << 12) | ((l18 << 18) & 1835008))) | ((b[((int) l6) - 60717] & 0xff) & 63);
+                        l18 = ((l19 << 6) | ((l17 << 12) | ((l18 << 18) & 1835008))) | ((b[((int) l6) - 60445] & 0xff) & 63);
                         l7 = 4L;
                        }
                        l9 = l6 + l7;
-                       l3 = Words.get64(b, State.far((int) (l8 = ((l2 & 0xffffffffL) & 255L) << 3L), 88128));
-                       l8 = Words.get64(b, State.far((int) l8, 88040));
+                       l3 = Words.get64(b, State.far((int) (l8 = ((l2 & 0xffffffffL) & 255L) << 3L), 89032));
+                       l8 = Words.get64(b, State.far((int) l8, 88944));
                        L95: while (true) {
-                        if (Words.get32(b, ((int) l3) - 60720) == l18) { break L15; }
+                        if (Words.get32(b, ((int) l3) - 60448) == l18) { break L15; }
                         l3 = l3 + 4L;
                         if ((l8 = l8 + -1L) != 0L) { continue L95; }
                         break L95;
@@ -5852,22 +7344,22 @@ static void f130(State m, long l0, int l1, int l2, long l3) {
                          }
                          if (l5 == l7) { break L16; }
                          if (l18 != 20043) { break L16; }
-                         l1 = (l18 = (int) b[((int) l9) - 60720]) & 255;
+                         l1 = (l18 = (int) b[((int) l9) - 60448]) & 255;
                          L99: {
                           if (l18 > -1) { break L99; }
-                          l20 = (b[((int) l9) - 60719] & 0xff) & 63;
+                          l20 = (b[((int) l9) - 60447] & 0xff) & 63;
                           L100: {
                            if (l18 + Integer.MIN_VALUE > 2147483615) { break L100; }
                            l1 = ((l1 << 6) & 1984) | l20;
                            break L99;
                           }
-                          l17 = (b[((int) l9) - 60718] & 0xff) & 63;
+                          l17 = (b[((int) l9) - 60446] & 0xff) & 63;
                           L101: {
                            if (l18 + Integer.MIN_VALUE > 2147483631) { break L101; }
                            l1 = ((l20 << 6) | ((l1 << 12) & 61440)) | l17;
                            break L99;
                           }
-                          l1 = ((l17 << 6) | ((l20 << 12) | ((l1 << 18) & 1835008))) | ((b[((int) l9) - 60717] & 0xff) & 63);
+                          l1 = ((l17 << 6) | ((l20 << 12) | ((l1 << 18) & 1835008))) | ((b[((int) l9) - 60445] & 0xff) & 63);
                          }
                          l7 = 0L;
                          l16 = 0;
@@ -5995,8 +7487,8 @@ static void f130(State m, long l0, int l1, int l2, long l3) {
             if (l20 != 20061) { break L10; }
            }
            Core2.f63(m, l4 + 112L, l20);
-           l16 = (b[((int) l4) - 60607] & 0xff) * 10;
-           l19 = b[((int) l4) - 60608] & 0xff;
+           l16 = (b[((int) l4) - 60335] & 0xff) * 10;
+           l19 = b[((int) l4) - 60336] & 0xff;
           }
           l12 = 0;
           L106: {
@@ -6033,8 +7525,8 @@ static void f130(State m, long l0, int l1, int l2, long l3) {
            if (l17 != 20061) { break L9; }
           }
           Core2.f63(m, l4 + 104L, l17);
-          final int t112 = (b[((int) l4) - 60615] & 0xff) + l16;
-          final int t113 = (l12 = (b[((int) l4) - 60616] & 0xff) & l19) & 255;
+          final int t112 = (b[((int) l4) - 60343] & 0xff) + l16;
+          final int t113 = (l12 = (b[((int) l4) - 60344] & 0xff) & l19) & 255;
           final int t114 = (t113 != 0 ? t112 : 0) & 255;
           final int t115 = l12 & 1;
           l18 = t115 != 0 ? t114 : 0;
@@ -6051,8 +7543,8 @@ static void f130(State m, long l0, int l1, int l2, long l3) {
        if (l20 != 20061) { break L5; }
       }
       Core2.f63(m, l4 + 88L, l20);
-      final int t116 = (b[((int) l4) - 60631] & 0xff) & 255;
-      final int t117 = (l12 = b[((int) l4) - 60632] & 0xff) & 1;
+      final int t116 = (b[((int) l4) - 60359] & 0xff) & 255;
+      final int t117 = (l12 = b[((int) l4) - 60360] & 0xff) & 1;
       l18 = t117 != 0 ? t116 : 0;
      }
      l12 = l12 & 1;
@@ -6064,28 +7556,28 @@ static void f130(State m, long l0, int l1, int l2, long l3) {
       l19 = 0;
       break L118;
      }
-     l12 = (l20 = (int) b[((int) l7) - 60720]) & 255;
+     l12 = (l20 = (int) b[((int) l7) - 60448]) & 255;
      L120: {
       if (l20 > -1) { break L120; }
-      l17 = (b[((int) l7) - 60719] & 0xff) & 63;
+      l17 = (b[((int) l7) - 60447] & 0xff) & 63;
       L121: {
        if (l20 + Integer.MIN_VALUE > 2147483615) { break L121; }
        l12 = ((l12 << 6) & 1984) | l17;
        break L120;
       }
-      l19 = (b[((int) l7) - 60718] & 0xff) & 63;
+      l19 = (b[((int) l7) - 60446] & 0xff) & 63;
       L122: {
        if (l20 + Integer.MIN_VALUE > 2147483631) { break L122; }
        l12 = ((l17 << 6) | ((l12 << 12) & 61440)) | l19;
        break L120;
       }
-      l12 = ((l19 << 6) | ((l17 << 12) | ((l12 << 18) & 1835008))) | ((b[((int) l7) - 60717] & 0xff) & 63);
+      l12 = ((l19 << 6) | ((l17 << 12) | ((l12 << 18) & 1835008))) | ((b[((int) l7) - 60445] & 0xff) & 63);
      }
      l19 = (((l12 + -48) + Integer.MIN_VALUE < -2147483638) | ((l12 + -65296) + Integer.MIN_VALUE < -2147483638)) ? 1 : 0;
     }
     l7 = 1L;
-    l3 = Words.get64(b, ((int) l4) - 60488);
-    l8 = Words.get64(b, ((int) l4) - 60496);
+    l3 = Words.get64(b, ((int) l4) - 60216);
+    l8 = Words.get64(b, ((int) l4) - 60224);
     l16 = l14;
     l17 = l13;
     l20 = 0;
@@ -6100,19 +7592,19 @@ static void f130(State m, long l0, int l1, int l2, long l3) {
    l3 = 0L;
    l20 = 0;
   }
-  Words.put64(b, ((int) l0) - 60720, l7);
-  Words.put64(b, ((int) (l0 + 24L)) - 60720, l3);
-  Words.put64(b, ((int) (l0 + 16L)) - 60720, l8);
-  b[((int) (l0 + 15L)) - 60720] = (byte) l20;
-  b[((int) (l0 + 14L)) - 60720] = (byte) l19;
-  Words.put16(b, ((int) (l0 + 12L)) - 60720, (short) l18);
-  Words.put16(b, ((int) (l0 + 10L)) - 60720, (short) l17);
-  Words.put16(b, ((int) (l0 + 8L)) - 60720, (short) l16);
+  Words.put64(b, ((int) l0) - 60448, l7);
+  Words.put64(b, ((int) (l0 + 24L)) - 60448, l3);
+  Words.put64(b, ((int) (l0 + 16L)) - 60448, l8);
+  b[((int) (l0 + 15L)) - 60448] = (byte) l20;
+  b[((int) (l0 + 14L)) - 60448] = (byte) l19;
+  Words.put16(b, ((int) (l0 + 12L)) - 60448, (short) l18);
+  Words.put16(b, ((int) (l0 + 10L)) - 60448, (short) l17);
+  Words.put16(b, ((int) (l0 + 8L)) - 60448, (short) l16);
  }
  m.g0 = l4 + 240L;
 }
 
-static int f131(State m, long l0, long l1, long l2, long l3, long l4, long l5) {
+static int f140(State m, long l0, long l1, long l2, long l3, long l4, long l5) {
  final byte[] b = m.bytes;
  int l6 = 0;
  int l7 = 0;
@@ -6126,51 +7618,51 @@ static int f131(State m, long l0, long l1, long l2, long l3, long l4, long l5) {
   l6 = 0;
   L2: {
    if (l5 == 0L) { break L2; }
-   l8 = (l7 = (int) b[((int) l4) - 60720]) & 255;
+   l8 = (l7 = (int) b[((int) l4) - 60448]) & 255;
    l12 = 1L;
    L3: {
     if (l7 > -1) { break L3; }
-    l9 = (b[((int) l4) - 60719] & 0xff) & 63;
+    l9 = (b[((int) l4) - 60447] & 0xff) & 63;
     L4: {
      if (l7 + Integer.MIN_VALUE > 2147483615) { break L4; }
      l8 = ((l8 << 6) & 1984) | l9;
      l12 = 2L;
      break L3;
     }
-    l10 = (b[((int) l4) - 60718] & 0xff) & 63;
+    l10 = (b[((int) l4) - 60446] & 0xff) & 63;
     L5: {
      if (l7 + Integer.MIN_VALUE > 2147483631) { break L5; }
      l8 = ((l9 << 6) | ((l8 << 12) & 61440)) | l10;
      l12 = 3L;
      break L3;
     }
-    l8 = ((l10 << 6) | ((l9 << 12) | ((l8 << 18) & 1835008))) | ((b[((int) l4) - 60717] & 0xff) & 63);
+    l8 = ((l10 << 6) | ((l9 << 12) | ((l8 << 18) & 1835008))) | ((b[((int) l4) - 60445] & 0xff) & 63);
     l12 = 4L;
    }
    if (l5 == l12) { break L2; }
-   l7 = (l9 = (int) b[((int) (l5 = l4 + l12)) - 60720]) & 255;
+   l7 = (l9 = (int) b[((int) (l5 = l4 + l12)) - 60448]) & 255;
    L6: {
     if (l9 > -1) { break L6; }
-    l10 = (b[((int) l5) - 60719] & 0xff) & 63;
+    l10 = (b[((int) l5) - 60447] & 0xff) & 63;
     L7: {
      if (l9 + Integer.MIN_VALUE > 2147483615) { break L7; }
      l7 = ((l7 << 6) & 1984) | l10;
      break L6;
     }
-    l11 = (b[((int) l5) - 60718] & 0xff) & 63;
+    l11 = (b[((int) l5) - 60446] & 0xff) & 63;
     L8: {
      if (l9 + Integer.MIN_VALUE > 2147483631) { break L8; }
      l7 = ((l10 << 6) | ((l7 << 12) & 61440)) | l11;
      break L6;
     }
-    l7 = ((l11 << 6) | ((l10 << 12) | ((l7 << 18) & 1835008))) | ((b[((int) l5) - 60717] & 0xff) & 63);
+    l7 = ((l11 << 6) | ((l10 << 12) | ((l7 << 18) & 1835008))) | ((b[((int) l5) - 60445] & 0xff) & 63);
    }
    L9: while (true) {
     L10: {
-     if (Words.get32(b, ((int) l2) - 60720) != l7) { break L10; }
+     if (Words.get32(b, ((int) l2) - 60448) != l7) { break L10; }
      l2 = l1 + -1L;
      L11: while (true) {
-      if ((l6 = (Words.get32(b, ((int) l0) - 60720) == l8) ? 1 : 0) != 0) { break L2; }
+      if ((l6 = (Words.get32(b, ((int) l0) - 60448) == l8) ? 1 : 0) != 0) { break L2; }
       l0 = l0 + 4L;
       l7 = (l2 != 0L) ? 1 : 0;
       l2 = l2 + -1L;
@@ -6189,7 +7681,7 @@ static int f131(State m, long l0, long l1, long l2, long l3, long l4, long l5) {
  throw State.trap();
 }
 
-static int f132(State m, long l0, long l1, long l2, long l3) {
+static int f141(State m, long l0, long l1, long l2, long l3) {
  final byte[] b = m.bytes;
  long l4 = 0;
  long l5 = 0;
@@ -6204,32 +7696,32 @@ static int f132(State m, long l0, long l1, long l2, long l3) {
    return 0;
   }
   L3: {
-   if ((l6 = (int) b[((int) (l2 + (l4 = l3 + -1L))) - 60720]) >= 0) { break L3; }
+   if ((l6 = (int) b[((int) (l2 + (l4 = l3 + -1L))) - 60448]) >= 0) { break L3; }
    l4 = -2L;
    L4: {
-    if ((b[((int) ((l5 = l2 + l3) + -2L)) - 60720] & 0xff) + Integer.MIN_VALUE > -2147483457) { break L4; }
-    l4 = ((b[((int) (l5 + -3L)) - 60720] & 0xff) + Integer.MIN_VALUE > -2147483457) ? -3L : -4L;
+    if ((b[((int) ((l5 = l2 + l3) + -2L)) - 60448] & 0xff) + Integer.MIN_VALUE > -2147483457) { break L4; }
+    l4 = ((b[((int) (l5 + -3L)) - 60448] & 0xff) + Integer.MIN_VALUE > -2147483457) ? -3L : -4L;
    }
-   l6 = (l7 = (int) b[((int) (l3 = l2 + (l4 = l4 + l3))) - 60720]) & 255;
+   l6 = (l7 = (int) b[((int) (l3 = l2 + (l4 = l4 + l3))) - 60448]) & 255;
    if (l7 > -1) { break L3; }
-   l8 = (b[((int) l3) - 60719] & 0xff) & 63;
+   l8 = (b[((int) l3) - 60447] & 0xff) & 63;
    L5: {
     if (l7 + Integer.MIN_VALUE > 2147483615) { break L5; }
     l6 = ((l6 << 6) & 1984) | l8;
     break L3;
    }
-   l9 = (b[((int) l3) - 60718] & 0xff) & 63;
+   l9 = (b[((int) l3) - 60446] & 0xff) & 63;
    L6: {
     if (l7 + Integer.MIN_VALUE > 2147483631) { break L6; }
     l6 = ((l8 << 6) | ((l6 << 12) & 61440)) | l9;
     break L3;
    }
-   l6 = ((l9 << 6) | ((l8 << 12) | ((l6 << 18) & 1835008))) | ((b[((int) l3) - 60717] & 0xff) & 63);
+   l6 = ((l9 << 6) | ((l8 << 12) | ((l6 << 18) & 1835008))) | ((b[((int) l3) - 60445] & 0xff) & 63);
   }
   l3 = -32L;
   L7: {
    L8: while (true) {
-    if ((l8 = Words.get32(b, ((int) (l3 + 83604L)) - 60720)) == l6) { break L7; }
+    if ((l8 = Words.get32(b, ((int) (l3 + 83604L)) - 60448)) == l6) { break L7; }
     l7 = (l3 != 0L) ? 1 : 0;
     l3 = l3 + 4L;
     if (l7 != 0) { continue L8; }
@@ -6241,39 +7733,39 @@ static int f132(State m, long l0, long l1, long l2, long l3) {
    if (l4 == 0L) { break L9; }
    if (l8 != l6) { break L9; }
    L10: {
-    if ((l6 = (int) b[((int) ((l3 = l2 + l4) + -1L)) - 60720]) >= 0) { break L10; }
+    if ((l6 = (int) b[((int) ((l3 = l2 + l4) + -1L)) - 60448]) >= 0) { break L10; }
     l5 = -2L;
     L11: {
-     if ((b[((int) (l3 + -2L)) - 60720] & 0xff) + Integer.MIN_VALUE > -2147483457) { break L11; }
-     l5 = ((b[((int) (l3 + -3L)) - 60720] & 0xff) + Integer.MIN_VALUE > -2147483457) ? -3L : -4L;
+     if ((b[((int) (l3 + -2L)) - 60448] & 0xff) + Integer.MIN_VALUE > -2147483457) { break L11; }
+     l5 = ((b[((int) (l3 + -3L)) - 60448] & 0xff) + Integer.MIN_VALUE > -2147483457) ? -3L : -4L;
     }
-    l6 = (l7 = (int) b[((int) (l3 = (l2 + l5) + l4)) - 60720]) & 255;
+    l6 = (l7 = (int) b[((int) (l3 = (l2 + l5) + l4)) - 60448]) & 255;
     if (l7 > -1) { break L10; }
-    l8 = (b[((int) l3) - 60719] & 0xff) & 63;
+    l8 = (b[((int) l3) - 60447] & 0xff) & 63;
     L12: {
      if (l7 + Integer.MIN_VALUE > 2147483615) { break L12; }
      l6 = ((l6 << 6) & 1984) | l8;
      break L10;
     }
-    l9 = (b[((int) l3) - 60718] & 0xff) & 63;
+    l9 = (b[((int) l3) - 60446] & 0xff) & 63;
     L13: {
      if (l7 + Integer.MIN_VALUE > 2147483631) { break L13; }
      l6 = ((l8 << 6) | ((l6 << 12) & 61440)) | l9;
      break L10;
     }
-    l6 = ((l9 << 6) | ((l8 << 12) | ((l6 << 18) & 1835008))) | ((b[((int) l3) - 60717] & 0xff) & 63);
+    l6 = ((l9 << 6) | ((l8 << 12) | ((l6 << 18) & 1835008))) | ((b[((int) l3) - 60445] & 0xff) & 63);
    }
    l7 = 1;
-   if (Words.get32(b, ((int) l0) - 60720) == l6) { break L9; }
-   if (Words.get32(b, ((int) (l0 + 4L)) - 60720) == l6) { break L9; }
-   if (Words.get32(b, ((int) (l0 + 8L)) - 60720) == l6) { break L9; }
-   if ((l7 = (Words.get32(b, ((int) (l0 + 12L)) - 60720) == l6) ? 1 : 0) != 0) { break L9; }
+   if (Words.get32(b, ((int) l0) - 60448) == l6) { break L9; }
+   if (Words.get32(b, ((int) (l0 + 4L)) - 60448) == l6) { break L9; }
+   if (Words.get32(b, ((int) (l0 + 8L)) - 60448) == l6) { break L9; }
+   if ((l7 = (Words.get32(b, ((int) (l0 + 12L)) - 60448) == l6) ? 1 : 0) != 0) { break L9; }
    if (l1 == 4L) { break L9; }
-   if ((l7 = (Words.get32(b, ((int) (l0 + 16L)) - 60720) == l6) ? 1 : 0) != 0) { break L9; }
+   if ((l7 = (Words.get32(b, ((int) (l0 + 16L)) - 60448) == l6) ? 1 : 0) != 0) { break L9; }
    if (l1 == 5L) { break L9; }
-   if ((l7 = (Words.get32(b, ((int) (l0 + 20L)) - 60720) == l6) ? 1 : 0) != 0) { break L9; }
+   if ((l7 = (Words.get32(b, ((int) (l0 + 20L)) - 60448) == l6) ? 1 : 0) != 0) { break L9; }
    if (l1 == 6L) { break L9; }
-   l7 = (Words.get32(b, ((int) (l0 + 24L)) - 60720) == l6) ? 1 : 0;
+   l7 = (Words.get32(b, ((int) (l0 + 24L)) - 60448) == l6) ? 1 : 0;
   }
   final int t14 = l7;
   return t14;
@@ -6281,124 +7773,7 @@ static int f132(State m, long l0, long l1, long l2, long l3) {
  throw State.trap();
 }
 
-static void f133(State m, long l0, long l1, long l2, long l3, long l4, long l5, long l6) {
- final byte[] b = m.bytes;
- int l7 = 0;
- int l8 = 0;
- int l9 = 0;
- int l10 = 0;
- long l11 = 0;
- long l12 = 0;
- L1: {
-  L2: {
-   L3: {
-    L4: {
-     if (m.g0 < 16L) { break L4; }
-     L5: {
-      L6: {
-       if (l6 == 0L) { break L6; }
-       l8 = (l7 = (int) b[((int) l5) - 60720]) & 255;
-       l11 = 1L;
-       L7: {
-        if (l7 > -1) { break L7; }
-        l9 = (b[((int) l5) - 60719] & 0xff) & 63;
-        L8: {
-         if (l7 + Integer.MIN_VALUE > 2147483615) { break L8; }
-         l8 = ((l8 << 6) & 1984) | l9;
-         l11 = 2L;
-         break L7;
-        }
-        l10 = (b[((int) l5) - 60718] & 0xff) & 63;
-        L9: {
-         if (l7 + Integer.MIN_VALUE > 2147483631) { break L9; }
-         l8 = ((l9 << 6) | ((l8 << 12) & 61440)) | l10;
-         l11 = 3L;
-         break L7;
-        }
-        l8 = ((l10 << 6) | ((l9 << 12) | ((l8 << 18) & 1835008))) | ((b[((int) l5) - 60717] & 0xff) & 63);
-        l11 = 4L;
-       }
-       l5 = l5 + l11;
-       L10: while (true) {
-        if (Words.get32(b, ((int) l1) - 60720) == l8) { break L5; }
-        l1 = l1 + 4L;
-        if (!((l2 = l2 + -1L) == 0L)) { continue L10; }
-        break L10;
-       }
-      }
-      Words.put64(b, ((int) l0) - 60704, 0L);
-      Words.put64(b, ((int) l0) - 60712, 0L);
-      Words.put64(b, ((int) l0) - 60720, 0L);
-      return;
-     }
-     l1 = 0L;
-     l2 = 0L;
-     l12 = 0L;
-     if (l6 == l11) { break L1; }
-     l8 = (l7 = (int) b[((int) l5) - 60720]) & 255;
-     l1 = 1L;
-     L11: {
-      L12: {
-       if (l7 <= -1) { break L12; }
-       l2 = 1L;
-       break L11;
-      }
-      l9 = (b[((int) l5) - 60719] & 0xff) & 63;
-      L13: {
-       if (l7 + Integer.MIN_VALUE > 2147483615) { break L13; }
-       l8 = ((l8 << 6) & 1984) | l9;
-       l2 = 2L;
-       break L11;
-      }
-      l10 = (b[((int) l5) - 60718] & 0xff) & 63;
-      L14: {
-       if (l7 + Integer.MIN_VALUE > 2147483631) { break L14; }
-       l8 = ((l9 << 6) | ((l8 << 12) & 61440)) | l10;
-       l2 = 3L;
-       break L11;
-      }
-      l8 = ((l10 << 6) | ((l9 << 12) | ((l8 << 18) & 1835008))) | ((b[((int) l5) - 60717] & 0xff) & 63);
-      l2 = 4L;
-     }
-     l5 = l5 + l2;
-     l6 = l6 - (l11 + l2);
-     if (Words.get32(b, ((int) l3) - 60720) == l8) { break L2; }
-     l1 = 0L;
-     l2 = 0L;
-     l12 = 0L;
-     if (l4 == 1L) { break L1; }
-     if (Words.get32(b, ((int) (l3 + 4L)) - 60720) == l8) { break L3; }
-     l1 = 0L;
-     l2 = 0L;
-     l12 = 0L;
-     if (l4 == 2L) { break L1; }
-     if (Words.get32(b, ((int) (l3 + 8L)) - 60720) == l8) { break L3; }
-     l1 = 0L;
-     l2 = 0L;
-     l12 = 0L;
-     if (l4 == 3L) { break L1; }
-     l1 = 1L;
-     l2 = l5;
-     l12 = l6;
-     if (Words.get32(b, ((int) (l3 + 12L)) - 60720) == l8) { break L1; }
-     l1 = 0L;
-     l2 = 0L;
-     l12 = 0L;
-     break L1;
-    }
-    throw State.trap();
-   }
-   l1 = 1L;
-  }
-  l2 = l5;
-  l12 = l6;
- }
- Words.put64(b, ((int) l0) - 60720, l1);
- Words.put64(b, ((int) (l0 + 16L)) - 60720, l12);
- Words.put64(b, ((int) (l0 + 8L)) - 60720, l2);
-}
-
-static void f134(State m, long l0, int l1, long l2, long l3) {
+static void f142(State m, long l0, int l1, long l2, long l3) {
  final byte[] b = m.bytes;
  long l4 = 0;
  long l5 = 0;
@@ -6410,28 +7785,28 @@ static void f134(State m, long l0, int l1, long l2, long l3) {
  L1: {
   if ((l4 = l4) < 16L) { break L1; }
   l5 = 0L;
-  Words.put64(b, ((int) l4) - 60696, 0L);
-  Words.put64(b, ((int) l4) - 60704, 0L);
-  Words.put64(b, ((int) l4) - 60712, 0L);
-  Words.put32(b, ((int) l4) - 60716, l1);
-  f133(m, l4 + 8L, l4 + 4L, 1L, 83680L, 2L, l2, l3);
+  Words.put64(b, ((int) l4) - 60424, 0L);
+  Words.put64(b, ((int) l4) - 60432, 0L);
+  Words.put64(b, ((int) l4) - 60440, 0L);
+  Words.put32(b, ((int) l4) - 60444, l1);
+  f130(m, l4 + 8L, l4 + 4L, 1L, 83680L, 2L, l2, l3);
   L2: {
    L3: {
-    if ((b[((int) l4) - 60712] & 0xff) != 1) { break L3; }
-    Words.put64(b, ((int) l0) - 60720, 1L);
-    Words.put64(b, ((int) (l0 + 16L)) - 60720, Words.get64(b, ((int) l4) - 60696));
-    Words.put64(b, ((int) (l0 + 8L)) - 60720, Words.get64(b, ((int) l4) - 60704));
+    if ((b[((int) l4) - 60440] & 0xff) != 1) { break L3; }
+    Words.put64(b, ((int) l0) - 60448, 1L);
+    Words.put64(b, ((int) (l0 + 16L)) - 60448, Words.get64(b, ((int) l4) - 60424));
+    Words.put64(b, ((int) (l0 + 8L)) - 60448, Words.get64(b, ((int) l4) - 60432));
     break L2;
    }
    L4: {
     L5: {
      if (l3 == 0L) { break L5; }
      L6: {
-      if ((l6 = (int) b[((int) l2) - 60720]) > -1) { break L6; }
+      if ((l6 = (int) b[((int) l2) - 60448]) > -1) { break L6; }
       if (l6 + Integer.MIN_VALUE < 2147483616) { break L6; }
       l7 = l6 & 255;
-      l8 = (b[((int) l2) - 60719] & 0xff) & 63;
-      l9 = (b[((int) l2) - 60718] & 0xff) & 63;
+      l8 = (b[((int) l2) - 60447] & 0xff) & 63;
+      l9 = (b[((int) l2) - 60446] & 0xff) & 63;
       L7: {
        L8: {
         if (l6 + Integer.MIN_VALUE > 2147483631) { break L8; }
@@ -6439,7 +7814,7 @@ static void f134(State m, long l0, int l1, long l2, long l3) {
         l5 = 3L;
         break L7;
        }
-       l6 = ((l9 << 6) | ((l8 << 12) | ((l7 << 18) & 1835008))) | ((b[((int) l2) - 60717] & 0xff) & 63);
+       l6 = ((l9 << 6) | ((l8 << 12) | ((l7 << 18) & 1835008))) | ((b[((int) l2) - 60445] & 0xff) & 63);
        l5 = 4L;
       }
       if (l1 != l6) { break L6; }
@@ -6453,9 +7828,9 @@ static void f134(State m, long l0, int l1, long l2, long l3) {
     l2 = 0L;
     l3 = 0L;
    }
-   Words.put64(b, ((int) l0) - 60720, l5);
-   Words.put64(b, ((int) (l0 + 16L)) - 60720, l3);
-   Words.put64(b, ((int) (l0 + 8L)) - 60720, l2);
+   Words.put64(b, ((int) l0) - 60448, l5);
+   Words.put64(b, ((int) (l0 + 16L)) - 60448, l3);
+   Words.put64(b, ((int) (l0 + 8L)) - 60448, l2);
   }
   m.g0 = l4 + 32L;
   return;
@@ -6463,7 +7838,7 @@ static void f134(State m, long l0, int l1, long l2, long l3) {
  throw State.trap();
 }
 
-static void f135(State m, long l0, long l1, long l2) {
+static void f143(State m, long l0, long l1, long l2) {
  final byte[] b = m.bytes;
  long l3 = 0;
  long l4 = 0;
@@ -6475,47 +7850,47 @@ static void f135(State m, long l0, long l1, long l2) {
  L1: {
   L2: {
    if ((l3 = l3) < 16L) { break L2; }
-   Words.put64(b, ((int) l3) - 60632, 0L);
-   Words.put64(b, ((int) l3) - 60640, 0L);
-   Words.put64(b, ((int) l3) - 60648, 0L);
-   Words.put64(b, ((int) l3) - 60688, 0L);
-   Words.put64(b, ((int) l3) - 60680, 0L);
-   Words.put64(b, ((int) l3) - 60672, 0L);
-   Words.put64(b, ((int) l3) - 60712, 0L);
-   Words.put64(b, ((int) l3) - 60704, 0L);
-   Words.put64(b, ((int) l3) - 60696, 0L);
-   Words.put64(b, ((int) l3) - 60600, 0L);
-   Words.put64(b, ((int) l3) - 60592, 0L);
-   Words.put64(b, ((int) l3) - 60584, 0L);
-   Words.put64(b, ((int) l3) - 60624, 0L);
-   Words.put64(b, ((int) l3) - 60616, 0L);
-   Words.put64(b, ((int) l3) - 60608, 0L);
-   f133(m, l3 + 120L, 83668L, 1L, 83672L, 2L, l1, l2);
+   Words.put64(b, ((int) l3) - 60360, 0L);
+   Words.put64(b, ((int) l3) - 60368, 0L);
+   Words.put64(b, ((int) l3) - 60376, 0L);
+   Words.put64(b, ((int) l3) - 60416, 0L);
+   Words.put64(b, ((int) l3) - 60408, 0L);
+   Words.put64(b, ((int) l3) - 60400, 0L);
+   Words.put64(b, ((int) l3) - 60440, 0L);
+   Words.put64(b, ((int) l3) - 60432, 0L);
+   Words.put64(b, ((int) l3) - 60424, 0L);
+   Words.put64(b, ((int) l3) - 60328, 0L);
+   Words.put64(b, ((int) l3) - 60320, 0L);
+   Words.put64(b, ((int) l3) - 60312, 0L);
+   Words.put64(b, ((int) l3) - 60352, 0L);
+   Words.put64(b, ((int) l3) - 60344, 0L);
+   Words.put64(b, ((int) l3) - 60336, 0L);
+   f130(m, l3 + 120L, 83668L, 1L, 83672L, 2L, l1, l2);
    L3: {
     L4: {
      L5: {
-      if ((b[((int) l3) - 60600] & 0xff) != 1) { break L5; }
-      Words.put64(b, ((int) l3) - 60656, Words.get64(b, ((int) l3) - 60584));
-      Words.put64(b, ((int) l3) - 60664, Words.get64(b, ((int) l3) - 60592));
+      if ((b[((int) l3) - 60328] & 0xff) != 1) { break L5; }
+      Words.put64(b, ((int) l3) - 60384, Words.get64(b, ((int) l3) - 60312));
+      Words.put64(b, ((int) l3) - 60392, Words.get64(b, ((int) l3) - 60320));
       break L4;
      }
-     f133(m, l3 + 96L, 83680L, 2L, 83688L, 2L, l1, l2);
-     Words.put64(b, ((int) l3) - 60664, Words.get64(b, ((int) l3) - 60616));
-     Words.put64(b, ((int) l3) - 60656, Words.get64(b, ((int) l3) - 60608));
-     if ((b[((int) l3) - 60624] & 0xff) != 1) { break L3; }
+     f130(m, l3 + 96L, 83680L, 2L, 83688L, 2L, l1, l2);
+     Words.put64(b, ((int) l3) - 60392, Words.get64(b, ((int) l3) - 60344));
+     Words.put64(b, ((int) l3) - 60384, Words.get64(b, ((int) l3) - 60336));
+     if ((b[((int) l3) - 60352] & 0xff) != 1) { break L3; }
     }
-    Words.put64(b, ((int) l0) - 60720, 1L);
-    Words.put64(b, ((int) (l0 + 8L)) - 60720, Words.get64(b, ((int) l3) - 60664));
-    Words.put64(b, ((int) (l0 + 16L)) - 60720, Words.get64(b, ((int) l3) - 60656));
+    Words.put64(b, ((int) l0) - 60448, 1L);
+    Words.put64(b, ((int) (l0 + 8L)) - 60448, Words.get64(b, ((int) l3) - 60392));
+    Words.put64(b, ((int) (l0 + 16L)) - 60448, Words.get64(b, ((int) l3) - 60384));
     break L1;
    }
    L6: {
     if (l2 == 0L) { break L6; }
-    if ((l5 = (int) b[((int) l1) - 60720]) > -1) { break L6; }
+    if ((l5 = (int) b[((int) l1) - 60448]) > -1) { break L6; }
     if (l5 + Integer.MIN_VALUE < 2147483616) { break L6; }
     l6 = l5 & 255;
-    l7 = (b[((int) l1) - 60719] & 0xff) & 63;
-    l8 = (b[((int) l1) - 60718] & 0xff) & 63;
+    l7 = (b[((int) l1) - 60447] & 0xff) & 63;
+    l8 = (b[((int) l1) - 60446] & 0xff) & 63;
     L7: {
      L8: {
       if (l5 + Integer.MIN_VALUE > 2147483631) { break L8; }
@@ -6523,37 +7898,37 @@ static void f135(State m, long l0, long l1, long l2) {
       l4 = 3L;
       break L7;
      }
-     l5 = ((l8 << 6) | ((l7 << 12) | ((l6 << 18) & 1835008))) | ((b[((int) l1) - 60717] & 0xff) & 63);
+     l5 = ((l8 << 6) | ((l7 << 12) | ((l6 << 18) & 1835008))) | ((b[((int) l1) - 60445] & 0xff) & 63);
      l4 = 4L;
     }
     if (l5 != 26376) { break L6; }
-    Words.put64(b, ((int) l0) - 60720, 1L);
-    Words.put64(b, ((int) (l0 + 8L)) - 60720, l1 = l1 + l4);
-    Words.put64(b, ((int) (l0 + 16L)) - 60720, l0 = l2 - l4);
-    Words.put64(b, ((int) l3) - 60632, l0);
-    Words.put64(b, ((int) l3) - 60640, l1);
+    Words.put64(b, ((int) l0) - 60448, 1L);
+    Words.put64(b, ((int) (l0 + 8L)) - 60448, l1 = l1 + l4);
+    Words.put64(b, ((int) (l0 + 16L)) - 60448, l0 = l2 - l4);
+    Words.put64(b, ((int) l3) - 60360, l0);
+    Words.put64(b, ((int) l3) - 60368, l1);
     break L1;
    }
-   f133(m, l3 + 32L, 83696L, 1L, 83700L, 1L, l1, l2);
+   f130(m, l3 + 32L, 83696L, 1L, 83700L, 1L, l1, l2);
    L9: {
-    if ((b[((int) l3) - 60688] & 0xff) != 1) { break L9; }
-    Words.put64(b, ((int) l0) - 60720, 1L);
-    Words.put64(b, ((int) (l0 + 8L)) - 60720, Words.get64(b, ((int) l3) - 60680));
-    Words.put64(b, ((int) (l0 + 16L)) - 60720, Words.get64(b, ((int) l3) - 60672));
+    if ((b[((int) l3) - 60416] & 0xff) != 1) { break L9; }
+    Words.put64(b, ((int) l0) - 60448, 1L);
+    Words.put64(b, ((int) (l0 + 8L)) - 60448, Words.get64(b, ((int) l3) - 60408));
+    Words.put64(b, ((int) (l0 + 16L)) - 60448, Words.get64(b, ((int) l3) - 60400));
     break L1;
    }
-   f133(m, l3 + 8L, 83704L, 2L, 83712L, 1L, l1, l2);
+   f130(m, l3 + 8L, 83704L, 2L, 83712L, 1L, l1, l2);
    L10: {
-    if ((b[((int) l3) - 60712] & 0xff) != 1) { break L10; }
-    Words.put64(b, ((int) l0) - 60720, 1L);
-    Words.put64(b, ((int) (l0 + 8L)) - 60720, Words.get64(b, ((int) l3) - 60704));
-    Words.put64(b, ((int) (l0 + 16L)) - 60720, Words.get64(b, ((int) l3) - 60696));
+    if ((b[((int) l3) - 60440] & 0xff) != 1) { break L10; }
+    Words.put64(b, ((int) l0) - 60448, 1L);
+    Words.put64(b, ((int) (l0 + 8L)) - 60448, Words.get64(b, ((int) l3) - 60432));
+    Words.put64(b, ((int) (l0 + 16L)) - 60448, Words.get64(b, ((int) l3) - 60424));
     break L1;
    }
-   f133(m, l3 + 72L, 83716L, 1L, 83720L, 2L, l1, l2);
-   Words.put64(b, ((int) l0) - 60720, b[((int) l3) - 60648] & 0xffL);
-   Words.put64(b, ((int) (l0 + 8L)) - 60720, Words.get64(b, ((int) l3) - 60640));
-   Words.put64(b, ((int) (l0 + 16L)) - 60720, Words.get64(b, ((int) l3) - 60632));
+   f130(m, l3 + 72L, 83716L, 1L, 83720L, 2L, l1, l2);
+   Words.put64(b, ((int) l0) - 60448, b[((int) l3) - 60376] & 0xffL);
+   Words.put64(b, ((int) (l0 + 8L)) - 60448, Words.get64(b, ((int) l3) - 60368));
+   Words.put64(b, ((int) (l0 + 16L)) - 60448, Words.get64(b, ((int) l3) - 60360));
    break L1;
   }
   throw State.trap();
@@ -6561,7 +7936,7 @@ static void f135(State m, long l0, long l1, long l2) {
  m.g0 = l3 + 144L;
 }
 
-static void f136(State m, long l0, long l1, long l2) {
+static void f144(State m, long l0, long l1, long l2) {
  final byte[] b = m.bytes;
  long l3 = 0;
  long l4 = 0;
@@ -6575,11 +7950,11 @@ static void f136(State m, long l0, long l1, long l2) {
    if ((l3 = l3) < 16L) { break L2; }
    L3: {
     if (l2 == 0L) { break L3; }
-    if ((l5 = (int) b[((int) l1) - 60720]) > -1) { break L3; }
+    if ((l5 = (int) b[((int) l1) - 60448]) > -1) { break L3; }
     if (l5 + Integer.MIN_VALUE < 2147483616) { break L3; }
     l6 = l5 & 255;
-    l7 = (b[((int) l1) - 60719] & 0xff) & 63;
-    l8 = (b[((int) l1) - 60718] & 0xff) & 63;
+    l7 = (b[((int) l1) - 60447] & 0xff) & 63;
+    l8 = (b[((int) l1) - 60446] & 0xff) & 63;
     L4: {
      L5: {
       if (l5 + Integer.MIN_VALUE > 2147483631) { break L5; }
@@ -6587,23 +7962,23 @@ static void f136(State m, long l0, long l1, long l2) {
       l4 = 3L;
       break L4;
      }
-     l5 = ((l8 << 6) | ((l7 << 12) | ((l6 << 18) & 1835008))) | ((b[((int) l1) - 60717] & 0xff) & 63);
+     l5 = ((l8 << 6) | ((l7 << 12) | ((l6 << 18) & 1835008))) | ((b[((int) l1) - 60445] & 0xff) & 63);
      l4 = 4L;
     }
     L6: {
      if (l5 == 26202) { break L6; }
      if (l5 != 26089) { break L3; }
     }
-    Words.put64(b, ((int) l3) - 60712, 1L);
-    f133(m, l3 + 8L, 83924L, 1L, 83556L, 2L, l1 = l1 + l4, l2 = l2 - l4);
-    Words.put64(b, ((int) (l0 + 16L)) - 60720, ((l5 = ((b[((int) l3) - 60712] & 0xff) != 1) ? 1 : 0) != 0) ? l2 : 0L);
-    Words.put64(b, ((int) (l0 + 8L)) - 60720, l5 != 0 ? l1 : 0L);
-    Words.put64(b, ((int) l0) - 60720, l5 & 0xffffffffL);
+    Words.put64(b, ((int) l3) - 60440, 1L);
+    f130(m, l3 + 8L, 83924L, 1L, 83556L, 2L, l1 = l1 + l4, l2 = l2 - l4);
+    Words.put64(b, ((int) (l0 + 16L)) - 60448, ((l5 = ((b[((int) l3) - 60440] & 0xff) != 1) ? 1 : 0) != 0) ? l2 : 0L);
+    Words.put64(b, ((int) (l0 + 8L)) - 60448, l5 != 0 ? l1 : 0L);
+    Words.put64(b, ((int) l0) - 60448, l5 & 0xffffffffL);
     break L1;
    }
-   Words.put64(b, ((int) l0) - 60704, 0L);
-   Words.put64(b, ((int) l0) - 60712, 0L);
-   Words.put64(b, ((int) l0) - 60720, 0L);
+   Words.put64(b, ((int) l0) - 60432, 0L);
+   Words.put64(b, ((int) l0) - 60440, 0L);
+   Words.put64(b, ((int) l0) - 60448, 0L);
    break L1;
   }
   throw State.trap();
@@ -6611,7 +7986,7 @@ static void f136(State m, long l0, long l1, long l2) {
  m.g0 = l3 + 32L;
 }
 
-static void f137(State m, long l0, long l1, long l2) {
+static void f145(State m, long l0, long l1, long l2) {
  final byte[] b = m.bytes;
  long l3 = 0;
  long l4 = 0;
@@ -6637,110 +8012,110 @@ static void f137(State m, long l0, long l1, long l2) {
     break L2;
    }
    l4 = 1L;
-   l8 = l9 = (l7 = (int) b[((int) l1) - 60720]) & 255;
+   l8 = l9 = (l7 = (int) b[((int) l1) - 60448]) & 255;
    L4: {
     if (l7 > -1) { break L4; }
-    l8 = (b[((int) l1) - 60719] & 0xff) & 63;
+    l8 = (b[((int) l1) - 60447] & 0xff) & 63;
     L5: {
      if (l7 + Integer.MIN_VALUE > 2147483615) { break L5; }
      l8 = ((l9 << 6) & 1984) | l8;
      l4 = 2L;
      break L4;
     }
-    l10 = (b[((int) l1) - 60718] & 0xff) & 63;
+    l10 = (b[((int) l1) - 60446] & 0xff) & 63;
     L6: {
      if (l7 + Integer.MIN_VALUE > 2147483631) { break L6; }
      l8 = ((l8 << 6) | ((l9 << 12) & 61440)) | l10;
      l4 = 3L;
      break L4;
     }
-    l8 = ((l10 << 6) | ((l8 << 12) | ((l9 << 18) & 1835008))) | ((b[((int) l1) - 60717] & 0xff) & 63);
+    l8 = ((l10 << 6) | ((l8 << 12) | ((l9 << 18) & 1835008))) | ((b[((int) l1) - 60445] & 0xff) & 63);
     l4 = 4L;
    }
    L7: {
     L8: {
      if (l2 == l4) { break L8; }
-     l11 = (l10 = (int) b[((int) (l5 = l1 + l4)) - 60720]) & 255;
+     l11 = (l10 = (int) b[((int) (l5 = l1 + l4)) - 60448]) & 255;
      l6 = 1L;
      L9: {
       if (l10 > -1) { break L9; }
-      l12 = (b[((int) l5) - 60719] & 0xff) & 63;
+      l12 = (b[((int) l5) - 60447] & 0xff) & 63;
       L10: {
        if (l10 + Integer.MIN_VALUE > 2147483615) { break L10; }
        l11 = ((l11 << 6) & 1984) | l12;
        l6 = 2L;
        break L9;
       }
-      l13 = (b[((int) l5) - 60718] & 0xff) & 63;
+      l13 = (b[((int) l5) - 60446] & 0xff) & 63;
       L11: {
        if (l10 + Integer.MIN_VALUE > 2147483631) { break L11; }
        l11 = ((l12 << 6) | ((l11 << 12) & 61440)) | l13;
        l6 = 3L;
        break L9;
       }
-      l11 = ((l13 << 6) | ((l12 << 12) | ((l11 << 18) & 1835008))) | ((b[((int) l5) - 60717] & 0xff) & 63);
+      l11 = ((l13 << 6) | ((l12 << 12) | ((l11 << 18) & 1835008))) | ((b[((int) l5) - 60445] & 0xff) & 63);
       l6 = 4L;
      }
      if (l2 == (l4 = l6 + l4)) { break L8; }
-     l12 = (l10 = (int) b[((int) (l5 = l5 + l6)) - 60720]) & 255;
+     l12 = (l10 = (int) b[((int) (l5 = l5 + l6)) - 60448]) & 255;
      l6 = 1L;
      L12: {
       if (l10 > -1) { break L12; }
-      l13 = (b[((int) l5) - 60719] & 0xff) & 63;
+      l13 = (b[((int) l5) - 60447] & 0xff) & 63;
       L13: {
        if (l10 + Integer.MIN_VALUE > 2147483615) { break L13; }
        l12 = ((l12 << 6) & 1984) | l13;
        l6 = 2L;
        break L12;
       }
-      l14 = (b[((int) l5) - 60718] & 0xff) & 63;
+      l14 = (b[((int) l5) - 60446] & 0xff) & 63;
       L14: {
        if (l10 + Integer.MIN_VALUE > 2147483631) { break L14; }
        l12 = ((l13 << 6) | ((l12 << 12) & 61440)) | l14;
        l6 = 3L;
        break L12;
       }
-      l12 = ((l14 << 6) | ((l13 << 12) | ((l12 << 18) & 1835008))) | ((b[((int) l5) - 60717] & 0xff) & 63);
+      l12 = ((l14 << 6) | ((l13 << 12) | ((l12 << 18) & 1835008))) | ((b[((int) l5) - 60445] & 0xff) & 63);
       l6 = 4L;
      }
      if (l2 == (l4 = l6 + l4)) { break L8; }
-     l13 = (l10 = (int) b[((int) (l5 = l5 + l6)) - 60720]) & 255;
+     l13 = (l10 = (int) b[((int) (l5 = l5 + l6)) - 60448]) & 255;
      l6 = 1L;
      L15: {
       if (l10 > -1) { break L15; }
-      l14 = (b[((int) l5) - 60719] & 0xff) & 63;
+      l14 = (b[((int) l5) - 60447] & 0xff) & 63;
       L16: {
        if (l10 + Integer.MIN_VALUE > 2147483615) { break L16; }
        l13 = ((l13 << 6) & 1984) | l14;
        l6 = 2L;
        break L15;
       }
-      l15 = (b[((int) l5) - 60718] & 0xff) & 63;
+      l15 = (b[((int) l5) - 60446] & 0xff) & 63;
       L17: {
        if (l10 + Integer.MIN_VALUE > 2147483631) { break L17; }
        l13 = ((l14 << 6) | ((l13 << 12) & 61440)) | l15;
        l6 = 3L;
        break L15;
       }
-      l13 = ((l15 << 6) | ((l14 << 12) | ((l13 << 18) & 1835008))) | ((b[((int) l5) - 60717] & 0xff) & 63);
+      l13 = ((l15 << 6) | ((l14 << 12) | ((l13 << 18) & 1835008))) | ((b[((int) l5) - 60445] & 0xff) & 63);
       l6 = 4L;
      }
      if (l2 != (l6 + l4)) { break L8; }
      Core1.f24(m, l3 + 56L, l8);
-     l8 = b[((int) l3) - 60664] & 0xff;
-     l14 = b[((int) l3) - 60663] & 0xff;
+     l8 = b[((int) l3) - 60392] & 0xff;
+     l14 = b[((int) l3) - 60391] & 0xff;
      Core1.f24(m, l3 + 48L, l11);
-     l10 = b[((int) l3) - 60672] & 0xff;
-     l15 = b[((int) l3) - 60671] & 0xff;
+     l10 = b[((int) l3) - 60400] & 0xff;
+     l15 = b[((int) l3) - 60399] & 0xff;
      Core1.f24(m, l3 + 40L, l12);
-     l12 = b[((int) l3) - 60679] & 0xff;
-     l11 = b[((int) l3) - 60680] & 0xff;
+     l12 = b[((int) l3) - 60407] & 0xff;
+     l11 = b[((int) l3) - 60408] & 0xff;
      Core1.f24(m, l3 + 32L, l13);
-     if ((l10 = (l11 = l11 & (b[((int) l3) - 60688] & 0xff)) & (l8 = l10 & l8)) != 1) { break L8; }
+     if ((l10 = (l11 = l11 & (b[((int) l3) - 60416] & 0xff)) & (l8 = l10 & l8)) != 1) { break L8; }
      final int t18 = l15 + (l14 * 10);
      final int t19 = l8 & 255;
      final int t20 = ((t19 != 0 ? t18 : 0) & 255) * 100;
-     final int t21 = (b[((int) l3) - 60687] & 0xff) + (l12 * 10);
+     final int t21 = (b[((int) l3) - 60415] & 0xff) + (l12 * 10);
      final int t22 = l11;
      final int t23 = t20 + ((t22 != 0 ? t21 : 0) & 255);
      final int t24 = l10;
@@ -6750,118 +8125,118 @@ static void f137(State m, long l0, long l1, long l2) {
     l4 = 1L;
     L25: {
      if (l7 > -1) { break L25; }
-     l8 = (b[((int) l1) - 60719] & 0xff) & 63;
+     l8 = (b[((int) l1) - 60447] & 0xff) & 63;
      L26: {
       if (l7 + Integer.MIN_VALUE > 2147483615) { break L26; }
       l9 = ((l9 << 6) & 1984) | l8;
       l4 = 2L;
       break L25;
      }
-     l10 = (b[((int) l1) - 60718] & 0xff) & 63;
+     l10 = (b[((int) l1) - 60446] & 0xff) & 63;
      L27: {
       if (l7 + Integer.MIN_VALUE > 2147483631) { break L27; }
       l9 = ((l8 << 6) | ((l9 << 12) & 61440)) | l10;
       l4 = 3L;
       break L25;
      }
-     l9 = ((l10 << 6) | ((l8 << 12) | ((l9 << 18) & 1835008))) | ((b[((int) l1) - 60717] & 0xff) & 63);
+     l9 = ((l10 << 6) | ((l8 << 12) | ((l9 << 18) & 1835008))) | ((b[((int) l1) - 60445] & 0xff) & 63);
      l4 = 4L;
     }
     l7 = 0;
     l8 = 0;
     if (l2 == l4) { break L2; }
-    l10 = (l7 = (int) b[((int) (l6 = l1 + l4)) - 60720]) & 255;
+    l10 = (l7 = (int) b[((int) (l6 = l1 + l4)) - 60448]) & 255;
     l1 = 1L;
     L28: {
      if (l7 > -1) { break L28; }
-     l8 = (b[((int) l6) - 60719] & 0xff) & 63;
+     l8 = (b[((int) l6) - 60447] & 0xff) & 63;
      L29: {
       if (l7 + Integer.MIN_VALUE > 2147483615) { break L29; }
       l10 = ((l10 << 6) & 1984) | l8;
       l1 = 2L;
       break L28;
      }
-     l11 = (b[((int) l6) - 60718] & 0xff) & 63;
+     l11 = (b[((int) l6) - 60446] & 0xff) & 63;
      L30: {
       if (l7 + Integer.MIN_VALUE > 2147483631) { break L30; }
       l10 = ((l8 << 6) | ((l10 << 12) & 61440)) | l11;
       l1 = 3L;
       break L28;
      }
-     l10 = ((l11 << 6) | ((l8 << 12) | ((l10 << 18) & 1835008))) | ((b[((int) l6) - 60717] & 0xff) & 63);
+     l10 = ((l11 << 6) | ((l8 << 12) | ((l10 << 18) & 1835008))) | ((b[((int) l6) - 60445] & 0xff) & 63);
      l1 = 4L;
     }
     l7 = 0;
     l8 = 0;
     if (l2 == (l4 = l1 + l4)) { break L2; }
-    l11 = (l7 = (int) b[((int) (l6 = l6 + l1)) - 60720]) & 255;
+    l11 = (l7 = (int) b[((int) (l6 = l6 + l1)) - 60448]) & 255;
     l1 = 1L;
     L31: {
      if (l7 > -1) { break L31; }
-     l8 = (b[((int) l6) - 60719] & 0xff) & 63;
+     l8 = (b[((int) l6) - 60447] & 0xff) & 63;
      L32: {
       if (l7 + Integer.MIN_VALUE > 2147483615) { break L32; }
       l11 = ((l11 << 6) & 1984) | l8;
       l1 = 2L;
       break L31;
      }
-     l12 = (b[((int) l6) - 60718] & 0xff) & 63;
+     l12 = (b[((int) l6) - 60446] & 0xff) & 63;
      L33: {
       if (l7 + Integer.MIN_VALUE > 2147483631) { break L33; }
       l11 = ((l8 << 6) | ((l11 << 12) & 61440)) | l12;
       l1 = 3L;
       break L31;
      }
-     l11 = ((l12 << 6) | ((l8 << 12) | ((l11 << 18) & 1835008))) | ((b[((int) l6) - 60717] & 0xff) & 63);
+     l11 = ((l12 << 6) | ((l8 << 12) | ((l11 << 18) & 1835008))) | ((b[((int) l6) - 60445] & 0xff) & 63);
      l1 = 4L;
     }
     l7 = 0;
     l8 = 0;
     if (l2 == (l4 = l1 + l4)) { break L2; }
-    l12 = (l7 = (int) b[((int) (l6 = l6 + l1)) - 60720]) & 255;
+    l12 = (l7 = (int) b[((int) (l6 = l6 + l1)) - 60448]) & 255;
     l1 = 1L;
     L34: {
      if (l7 > -1) { break L34; }
-     l8 = (b[((int) l6) - 60719] & 0xff) & 63;
+     l8 = (b[((int) l6) - 60447] & 0xff) & 63;
      L35: {
       if (l7 + Integer.MIN_VALUE > 2147483615) { break L35; }
       l12 = ((l12 << 6) & 1984) | l8;
       l1 = 2L;
       break L34;
      }
-     l13 = (b[((int) l6) - 60718] & 0xff) & 63;
+     l13 = (b[((int) l6) - 60446] & 0xff) & 63;
      L36: {
       if (l7 + Integer.MIN_VALUE > 2147483631) { break L36; }
       l12 = ((l8 << 6) | ((l12 << 12) & 61440)) | l13;
       l1 = 3L;
       break L34;
      }
-     l12 = ((l13 << 6) | ((l8 << 12) | ((l12 << 18) & 1835008))) | ((b[((int) l6) - 60717] & 0xff) & 63);
+     l12 = ((l13 << 6) | ((l8 << 12) | ((l12 << 18) & 1835008))) | ((b[((int) l6) - 60445] & 0xff) & 63);
      l1 = 4L;
     }
     l7 = 0;
     l8 = 0;
     if (l2 != (l1 + l4)) { break L2; }
-    f143(m, l3 + 24L, l9);
-    l8 = b[((int) l3) - 60696] & 0xff;
-    l13 = b[((int) l3) - 60695] & 0xff;
-    f143(m, l3 + 16L, l10);
-    l9 = b[((int) l3) - 60704] & 0xff;
-    l14 = b[((int) l3) - 60703] & 0xff;
-    f143(m, l3 + 8L, l11);
-    l10 = b[((int) l3) - 60712] & 0xff;
-    l11 = b[((int) l3) - 60711] & 0xff;
-    f143(m, l3, l12);
+    f151(m, l3 + 24L, l9);
+    l8 = b[((int) l3) - 60424] & 0xff;
+    l13 = b[((int) l3) - 60423] & 0xff;
+    f151(m, l3 + 16L, l10);
+    l9 = b[((int) l3) - 60432] & 0xff;
+    l14 = b[((int) l3) - 60431] & 0xff;
+    f151(m, l3 + 8L, l11);
+    l10 = b[((int) l3) - 60440] & 0xff;
+    l11 = b[((int) l3) - 60439] & 0xff;
+    f151(m, l3, l12);
     l7 = 0;
     L37: {
-     if (((l9 = (l10 = l10 & (b[((int) l3) - 60720] & 0xff)) & (l8 = l9 & l8)) & 1) != 0) { break L37; }
+     if (((l9 = (l10 = l10 & (b[((int) l3) - 60448] & 0xff)) & (l8 = l9 & l8)) & 1) != 0) { break L37; }
      l8 = 0;
      break L2;
     }
     final int t38 = l14 + (l13 * 10);
     final int t39 = l8 & 255;
     final int t40 = ((t39 != 0 ? t38 : 0) & 255) * 100;
-    final int t41 = (b[((int) l3) - 60719] & 0xff) + (l11 * 10);
+    final int t41 = (b[((int) l3) - 60447] & 0xff) + (l11 * 10);
     final int t42 = l10 & 255;
     final int t43 = t40 + ((t42 != 0 ? t41 : 0) & 255);
     final int t44 = l9 & 255;
@@ -6869,15 +8244,15 @@ static void f137(State m, long l0, long l1, long l2) {
    }
    l7 = ((l8 = (((l7 + -1000) & 65535) + Integer.MIN_VALUE < -2147481648) ? 1 : 0) != 0) ? l7 : 0;
   }
-  Words.put16(b, ((int) l0) - 60718, (short) l7);
-  b[((int) l0) - 60720] = (byte) l8;
+  Words.put16(b, ((int) l0) - 60446, (short) l7);
+  b[((int) l0) - 60448] = (byte) l8;
   m.g0 = l3 + 64L;
   return;
  }
  throw State.trap();
 }
 
-static void f138(State m, long l0, long l1, long l2) {
+static void f146(State m, long l0, long l1, long l2) {
  final byte[] b = m.bytes;
  long l3 = 0;
  long l4 = 0;
@@ -6896,11 +8271,11 @@ static void f138(State m, long l0, long l1, long l2) {
       L6: {
        L7: {
         if ((l3 = l3) < 16L) { break L7; }
-        f137(m, l3 + 24L, l1, l2);
+        f145(m, l3 + 24L, l1, l2);
         l6 = 1;
         L8: {
-         if ((b[((int) l3) - 60696] & 0xff) != 1) { break L8; }
-         l7 = Words.get16(b, ((int) l3) - 60694) & 0xffff;
+         if ((b[((int) l3) - 60424] & 0xff) != 1) { break L8; }
+         l7 = Words.get16(b, ((int) l3) - 60422) & 0xffff;
          break L1;
         }
         L9: {
@@ -6909,49 +8284,49 @@ static void f138(State m, long l0, long l1, long l2) {
          l7 = 0;
          break L2;
         }
-        l8 = (l6 = (int) b[((int) l1) - 60720]) & 255;
+        l8 = (l6 = (int) b[((int) l1) - 60448]) & 255;
         l4 = 1L;
         L10: {
          if (l6 > -1) { break L10; }
-         l7 = (b[((int) l1) - 60719] & 0xff) & 63;
+         l7 = (b[((int) l1) - 60447] & 0xff) & 63;
          L11: {
           if (l6 + Integer.MIN_VALUE > 2147483615) { break L11; }
           l8 = ((l8 << 6) & 1984) | l7;
           l4 = 2L;
           break L10;
          }
-         l9 = (b[((int) l1) - 60718] & 0xff) & 63;
+         l9 = (b[((int) l1) - 60446] & 0xff) & 63;
          L12: {
           if (l6 + Integer.MIN_VALUE > 2147483631) { break L12; }
           l8 = ((l7 << 6) | ((l8 << 12) & 61440)) | l9;
           l4 = 3L;
           break L10;
          }
-         l8 = ((l9 << 6) | ((l7 << 12) | ((l8 << 18) & 1835008))) | ((b[((int) l1) - 60717] & 0xff) & 63);
+         l8 = ((l9 << 6) | ((l7 << 12) | ((l8 << 18) & 1835008))) | ((b[((int) l1) - 60445] & 0xff) & 63);
          l4 = 4L;
         }
         l6 = 0;
         l7 = 0;
         if (l2 == l4) { break L2; }
-        l9 = (l6 = (int) b[((int) (l5 = l1 + l4)) - 60720]) & 255;
+        l9 = (l6 = (int) b[((int) (l5 = l1 + l4)) - 60448]) & 255;
         l1 = 1L;
         L13: {
          if (l6 > -1) { break L13; }
-         l7 = (b[((int) l5) - 60719] & 0xff) & 63;
+         l7 = (b[((int) l5) - 60447] & 0xff) & 63;
          L14: {
           if (l6 + Integer.MIN_VALUE > 2147483615) { break L14; }
           l9 = ((l9 << 6) & 1984) | l7;
           l1 = 2L;
           break L13;
          }
-         l10 = (b[((int) l5) - 60718] & 0xff) & 63;
+         l10 = (b[((int) l5) - 60446] & 0xff) & 63;
          L15: {
           if (l6 + Integer.MIN_VALUE > 2147483631) { break L15; }
           l9 = ((l7 << 6) | ((l9 << 12) & 61440)) | l10;
           l1 = 3L;
           break L13;
          }
-         l9 = ((l10 << 6) | ((l7 << 12) | ((l9 << 18) & 1835008))) | ((b[((int) l5) - 60717] & 0xff) & 63);
+         l9 = ((l10 << 6) | ((l7 << 12) | ((l9 << 18) & 1835008))) | ((b[((int) l5) - 60445] & 0xff) & 63);
          l1 = 4L;
         }
         l6 = 0;
@@ -6990,8 +8365,8 @@ static void f138(State m, long l0, long l1, long l2) {
    Core2.f63(m, l3 + 16L, l8);
    l6 = 0;
    l7 = 0;
-   if (((b[((int) l3) - 60704] & 0xff) & 1) == 0) { break L2; }
-   l8 = b[((int) l3) - 60703] & 0xff;
+   if (((b[((int) l3) - 60432] & 0xff) & 1) == 0) { break L2; }
+   l8 = b[((int) l3) - 60431] & 0xff;
    l7 = 0;
    l6 = 0;
    L18: {
@@ -7027,20 +8402,20 @@ static void f138(State m, long l0, long l1, long l2) {
    Core2.f63(m, l3 + 8L, l9);
    l6 = 0;
    l7 = 0;
-   if (((b[((int) l3) - 60712] & 0xff) & 1) == 0) { break L2; }
-   f144(m, l3, l8, b[((int) l3) - 60711] & 0xff);
-   final int t24 = (b[((int) l3) - 60719] & 0xff) & 255;
-   final int t25 = (l6 = b[((int) l3) - 60720] & 0xff) & 1;
+   if (((b[((int) l3) - 60440] & 0xff) & 1) == 0) { break L2; }
+   Core5.f152(m, l3, l8, b[((int) l3) - 60439] & 0xff);
+   final int t24 = (b[((int) l3) - 60447] & 0xff) & 255;
+   final int t25 = (l6 = b[((int) l3) - 60448] & 0xff) & 1;
    l7 = t25 != 0 ? t24 : 0;
   }
   l6 = l6 & 1;
  }
- Words.put16(b, ((int) l0) - 60718, (short) l7);
- b[((int) l0) - 60720] = (byte) l6;
+ Words.put16(b, ((int) l0) - 60446, (short) l7);
+ b[((int) l0) - 60448] = (byte) l6;
  m.g0 = l3 + 32L;
 }
 
-static void f139(State m, long l0, long l1, long l2) {
+static void f147(State m, long l0, long l1, long l2) {
  final byte[] b = m.bytes;
  long l3 = 0;
  long l4 = 0;
@@ -7063,11 +8438,11 @@ static void f139(State m, long l0, long l1, long l2) {
       L6: {
        L7: {
         if ((l3 = l3) < 16L) { break L7; }
-        f140(m, l3 + 56L, l1, l2);
+        f148(m, l3 + 56L, l1, l2);
         l7 = 1;
         L8: {
-         if ((b[((int) l3) - 60664] & 0xff) != 1) { break L8; }
-         l8 = (b[((int) l3) - 60663] & 0xff) & 255;
+         if ((b[((int) l3) - 60392] & 0xff) != 1) { break L8; }
+         l8 = (b[((int) l3) - 60391] & 0xff) & 255;
          break L1;
         }
         L9: {
@@ -7077,87 +8452,87 @@ static void f139(State m, long l0, long l1, long l2) {
          break L1;
         }
         l4 = 1L;
-        l7 = l9 = (l8 = (int) b[((int) l1) - 60720]) & 255;
+        l7 = l9 = (l8 = (int) b[((int) l1) - 60448]) & 255;
         L10: {
          if (l8 > -1) { break L10; }
-         l7 = (b[((int) l1) - 60719] & 0xff) & 63;
+         l7 = (b[((int) l1) - 60447] & 0xff) & 63;
          L11: {
           if (l8 + Integer.MIN_VALUE > 2147483615) { break L11; }
           l7 = ((l9 << 6) & 1984) | l7;
           l4 = 2L;
           break L10;
          }
-         l10 = (b[((int) l1) - 60718] & 0xff) & 63;
+         l10 = (b[((int) l1) - 60446] & 0xff) & 63;
          L12: {
           if (l8 + Integer.MIN_VALUE > 2147483631) { break L12; }
           l7 = ((l7 << 6) | ((l9 << 12) & 61440)) | l10;
           l4 = 3L;
           break L10;
          }
-         l7 = ((l10 << 6) | ((l7 << 12) | ((l9 << 18) & 1835008))) | ((b[((int) l1) - 60717] & 0xff) & 63);
+         l7 = ((l10 << 6) | ((l7 << 12) | ((l9 << 18) & 1835008))) | ((b[((int) l1) - 60445] & 0xff) & 63);
          l4 = 4L;
         }
         L13: {
          if (l2 == l4) { break L13; }
-         l11 = (l10 = (int) b[((int) (l5 = l1 + l4)) - 60720]) & 255;
+         l11 = (l10 = (int) b[((int) (l5 = l1 + l4)) - 60448]) & 255;
          l6 = 1L;
          L14: {
           if (l10 > -1) { break L14; }
-          l12 = (b[((int) l5) - 60719] & 0xff) & 63;
+          l12 = (b[((int) l5) - 60447] & 0xff) & 63;
           L15: {
            if (l10 + Integer.MIN_VALUE > 2147483615) { break L15; }
            l11 = ((l11 << 6) & 1984) | l12;
            l6 = 2L;
            break L14;
           }
-          l13 = (b[((int) l5) - 60718] & 0xff) & 63;
+          l13 = (b[((int) l5) - 60446] & 0xff) & 63;
           L16: {
            if (l10 + Integer.MIN_VALUE > 2147483631) { break L16; }
            l11 = ((l12 << 6) | ((l11 << 12) & 61440)) | l13;
            l6 = 3L;
            break L14;
           }
-          l11 = ((l13 << 6) | ((l12 << 12) | ((l11 << 18) & 1835008))) | ((b[((int) l5) - 60717] & 0xff) & 63);
+          l11 = ((l13 << 6) | ((l12 << 12) | ((l11 << 18) & 1835008))) | ((b[((int) l5) - 60445] & 0xff) & 63);
           l6 = 4L;
          }
          if (l2 == (l4 = l6 + l4)) { break L13; }
-         l12 = (l10 = (int) b[((int) (l5 = l5 + l6)) - 60720]) & 255;
+         l12 = (l10 = (int) b[((int) (l5 = l5 + l6)) - 60448]) & 255;
          l6 = 1L;
          L17: {
           if (l10 > -1) { break L17; }
-          l13 = (b[((int) l5) - 60719] & 0xff) & 63;
+          l13 = (b[((int) l5) - 60447] & 0xff) & 63;
           L18: {
            if (l10 + Integer.MIN_VALUE > 2147483615) { break L18; }
            l12 = ((l12 << 6) & 1984) | l13;
            l6 = 2L;
            break L17;
           }
-          l14 = (b[((int) l5) - 60718] & 0xff) & 63;
+          l14 = (b[((int) l5) - 60446] & 0xff) & 63;
           L19: {
            if (l10 + Integer.MIN_VALUE > 2147483631) { break L19; }
            l12 = ((l13 << 6) | ((l12 << 12) & 61440)) | l14;
            l6 = 3L;
            break L17;
           }
-          l12 = ((l14 << 6) | ((l13 << 12) | ((l12 << 18) & 1835008))) | ((b[((int) l5) - 60717] & 0xff) & 63);
+          l12 = ((l14 << 6) | ((l13 << 12) | ((l12 << 18) & 1835008))) | ((b[((int) l5) - 60445] & 0xff) & 63);
           l6 = 4L;
          }
          if (l2 != (l6 + l4)) { break L13; }
          Core1.f24(m, l3 + 48L, l7);
-         l10 = b[((int) l3) - 60671] & 0xff;
-         l13 = b[((int) l3) - 60672] & 0xff;
+         l10 = b[((int) l3) - 60399] & 0xff;
+         l13 = b[((int) l3) - 60400] & 0xff;
          Core1.f24(m, l3 + 40L, l11);
-         l11 = b[((int) l3) - 60680] & 0xff;
-         l14 = b[((int) l3) - 60679] & 0xff;
+         l11 = b[((int) l3) - 60408] & 0xff;
+         l14 = b[((int) l3) - 60407] & 0xff;
          Core1.f24(m, l3 + 32L, l12);
          l7 = 1;
          if ((l12 = l13 & 1) == 0) { break L13; }
          if (l10 == 0) { break L13; }
-         if (((l11 = (b[((int) l3) - 60688] & 0xff) & l11) & 1) == 0) { break L13; }
+         if (((l11 = (b[((int) l3) - 60416] & 0xff) & l11) & 1) == 0) { break L13; }
          final int t20 = l10 * 100;
          final int t21 = l12;
          final int t22 = t21 != 0 ? t20 : 0;
-         final int t23 = (b[((int) l3) - 60687] & 0xff) + (l14 * 10);
+         final int t23 = (b[((int) l3) - 60415] & 0xff) + (l14 * 10);
          final int t24 = l11 & 255;
          l8 = t22 + ((t24 != 0 ? t23 : 0) & 255);
          break L1;
@@ -7165,21 +8540,21 @@ static void f139(State m, long l0, long l1, long l2) {
         l4 = 1L;
         L25: {
          if (l8 > -1) { break L25; }
-         l7 = (b[((int) l1) - 60719] & 0xff) & 63;
+         l7 = (b[((int) l1) - 60447] & 0xff) & 63;
          L26: {
           if (l8 + Integer.MIN_VALUE > 2147483615) { break L26; }
           l9 = ((l9 << 6) & 1984) | l7;
           l4 = 2L;
           break L25;
          }
-         l10 = (b[((int) l1) - 60718] & 0xff) & 63;
+         l10 = (b[((int) l1) - 60446] & 0xff) & 63;
          L27: {
           if (l8 + Integer.MIN_VALUE > 2147483631) { break L27; }
           l9 = ((l7 << 6) | ((l9 << 12) & 61440)) | l10;
           l4 = 3L;
           break L25;
          }
-         l9 = ((l10 << 6) | ((l7 << 12) | ((l9 << 18) & 1835008))) | ((b[((int) l1) - 60717] & 0xff) & 63);
+         l9 = ((l10 << 6) | ((l7 << 12) | ((l9 << 18) & 1835008))) | ((b[((int) l1) - 60445] & 0xff) & 63);
          l4 = 4L;
         }
         l8 = 0;
@@ -7187,13 +8562,13 @@ static void f139(State m, long l0, long l1, long l2) {
         if (l2 == l4) { break L1; }
         l8 = 0;
         l7 = 0;
-        if ((l10 = (int) b[((int) (l1 = l1 + l4)) - 60720]) > -1) { break L1; }
+        if ((l10 = (int) b[((int) (l1 = l1 + l4)) - 60448]) > -1) { break L1; }
         l8 = 0;
         l7 = 0;
         if (l10 + Integer.MIN_VALUE < 2147483616) { break L1; }
         l7 = l10 & 255;
-        l8 = (b[((int) l1) - 60719] & 0xff) & 63;
-        l11 = (b[((int) l1) - 60718] & 0xff) & 63;
+        l8 = (b[((int) l1) - 60447] & 0xff) & 63;
+        l11 = (b[((int) l1) - 60446] & 0xff) & 63;
         L28: {
          L29: {
           if (l10 + Integer.MIN_VALUE > 2147483631) { break L29; }
@@ -7201,7 +8576,7 @@ static void f139(State m, long l0, long l1, long l2) {
           l6 = 3L;
           break L28;
          }
-         l10 = ((l11 << 6) | ((l8 << 12) | ((l7 << 18) & 1835008))) | ((b[((int) l1) - 60717] & 0xff) & 63);
+         l10 = ((l11 << 6) | ((l8 << 12) | ((l7 << 18) & 1835008))) | ((b[((int) l1) - 60445] & 0xff) & 63);
          l6 = 4L;
         }
         l8 = 0;
@@ -7239,8 +8614,8 @@ static void f139(State m, long l0, long l1, long l2) {
     if (l9 != 20061) { break L2; }
    }
    Core2.f63(m, l3 + 24L, l9);
-   final int t32 = l7 = b[((int) l3) - 60695] & 0xff;
-   final int t33 = (l9 = b[((int) l3) - 60696] & 0xff) & 1;
+   final int t32 = l7 = b[((int) l3) - 60423] & 0xff;
+   final int t33 = (l9 = b[((int) l3) - 60424] & 0xff) & 1;
    l8 = t33 != 0 ? t32 : 0;
    l7 = (((l7 & 255) != 0) ? 1 : 0) & l9;
   }
@@ -7254,7 +8629,7 @@ static void f139(State m, long l0, long l1, long l2) {
    l2 = l2 - l4;
    L36: {
     L37: {
-     if ((l9 = (int) b[((int) (l4 = l1 + l6)) - 60720]) <= -1) { break L37; }
+     if ((l9 = (int) b[((int) (l4 = l1 + l6)) - 60448]) <= -1) { break L37; }
      l1 = 1L;
      break L36;
     }
@@ -7271,27 +8646,27 @@ static void f139(State m, long l0, long l1, long l2) {
     l10 = 0;
     break L34;
    }
-   f140(m, l3 + 16L, l4, l2);
+   f148(m, l3 + 16L, l4, l2);
    l9 = 1;
    L40: {
-    if ((b[((int) l3) - 60704] & 0xff) != 1) { break L40; }
-    l10 = b[((int) l3) - 60703] & 0xff;
+    if ((b[((int) l3) - 60432] & 0xff) != 1) { break L40; }
+    l10 = b[((int) l3) - 60431] & 0xff;
     break L34;
    }
-   f141(m, l3 + 8L, l4, l2);
-   l9 = (b[((int) l3) - 60712] & 0xff) & 1;
-   l10 = b[((int) l3) - 60711] & 0xff;
+   f149(m, l3 + 8L, l4, l2);
+   l9 = (b[((int) l3) - 60440] & 0xff) & 1;
+   l10 = b[((int) l3) - 60439] & 0xff;
   }
   final int t41 = ((l8 & 255) * 100) + (l10 & 255);
   final int t42 = l7 = l7 != 0 ? l9 : 0;
   l8 = t42 != 0 ? t41 : 0;
  }
- Words.put16(b, ((int) l0) - 60718, (short) l8);
- b[((int) l0) - 60720] = (byte) l7;
+ Words.put16(b, ((int) l0) - 60446, (short) l8);
+ b[((int) l0) - 60448] = (byte) l7;
  m.g0 = l3 + 64L;
 }
 
-static void f140(State m, long l0, long l1, long l2) {
+static void f148(State m, long l0, long l1, long l2) {
  final byte[] b = m.bytes;
  long l3 = 0;
  long l4 = 0;
@@ -7330,25 +8705,25 @@ static void f140(State m, long l0, long l1, long l2) {
                      l7 = 0;
                      break L1;
                     }
-                    l8 = (l7 = (int) b[((int) l1) - 60720]) & 255;
+                    l8 = (l7 = (int) b[((int) l1) - 60448]) & 255;
                     l4 = 1L;
                     L21: {
                      if (l7 > -1) { break L21; }
-                     l9 = (b[((int) l1) - 60719] & 0xff) & 63;
+                     l9 = (b[((int) l1) - 60447] & 0xff) & 63;
                      L22: {
                       if (l7 + Integer.MIN_VALUE > 2147483615) { break L22; }
                       l8 = ((l8 << 6) & 1984) | l9;
                       l4 = 2L;
                       break L21;
                      }
-                     l10 = (b[((int) l1) - 60718] & 0xff) & 63;
+                     l10 = (b[((int) l1) - 60446] & 0xff) & 63;
                      L23: {
                       if (l7 + Integer.MIN_VALUE > 2147483631) { break L23; }
                       l8 = ((l9 << 6) | ((l8 << 12) & 61440)) | l10;
                       l4 = 3L;
                       break L21;
                      }
-                     l8 = ((l10 << 6) | ((l9 << 12) | ((l8 << 18) & 1835008))) | ((b[((int) l1) - 60717] & 0xff) & 63);
+                     l8 = ((l10 << 6) | ((l9 << 12) | ((l8 << 18) & 1835008))) | ((b[((int) l1) - 60445] & 0xff) & 63);
                      l4 = 4L;
                     }
                     L24: {
@@ -7357,39 +8732,39 @@ static void f140(State m, long l0, long l1, long l2) {
                        L27: {
                         L28: {
                          if (l2 == l4) { break L28; }
-                         l9 = (l7 = (int) b[((int) (l5 = l1 + l4)) - 60720]) & 255;
+                         l9 = (l7 = (int) b[((int) (l5 = l1 + l4)) - 60448]) & 255;
                          l1 = 1L;
                          L29: {
                           if (l7 > -1) { break L29; }
-                          l10 = (b[((int) l5) - 60719] & 0xff) & 63;
+                          l10 = (b[((int) l5) - 60447] & 0xff) & 63;
                           L30: {
                            if (l7 + Integer.MIN_VALUE > 2147483615) { break L30; }
                            l9 = ((l9 << 6) & 1984) | l10;
                            l1 = 2L;
                            break L29;
                           }
-                          l11 = (b[((int) l5) - 60718] & 0xff) & 63;
+                          l11 = (b[((int) l5) - 60446] & 0xff) & 63;
                           L31: {
                            if (l7 + Integer.MIN_VALUE > 2147483631) { break L31; }
                            l9 = ((l10 << 6) | ((l9 << 12) & 61440)) | l11;
                            l1 = 3L;
                            break L29;
                           }
-                          l9 = ((l11 << 6) | ((l10 << 12) | ((l9 << 18) & 1835008))) | ((b[((int) l5) - 60717] & 0xff) & 63);
+                          l9 = ((l11 << 6) | ((l10 << 12) | ((l9 << 18) & 1835008))) | ((b[((int) l5) - 60445] & 0xff) & 63);
                           l1 = 4L;
                          }
                          if (l2 == (l4 = l1 + l4)) { break L25; }
-                         l10 = (l7 = (int) b[((int) (l5 = l5 + l1)) - 60720]) & 255;
+                         l10 = (l7 = (int) b[((int) (l5 = l5 + l1)) - 60448]) & 255;
                          l1 = 1L;
                          if (l7 > -1) { break L26; }
-                         l11 = (b[((int) l5) - 60719] & 0xff) & 63;
+                         l11 = (b[((int) l5) - 60447] & 0xff) & 63;
                          L32: {
                           if (l7 + Integer.MIN_VALUE > 2147483615) { break L32; }
                           l10 = ((l10 << 6) & 1984) | l11;
                           l1 = 2L;
                           break L26;
                          }
-                         l12 = (b[((int) l5) - 60718] & 0xff) & 63;
+                         l12 = (b[((int) l5) - 60446] & 0xff) & 63;
                          if (l7 + Integer.MIN_VALUE > 2147483631) { break L27; }
                          l10 = ((l11 << 6) | ((l10 << 12) & 61440)) | l12;
                          l1 = 3L;
@@ -7404,8 +8779,8 @@ static void f140(State m, long l0, long l1, long l2) {
                         Core1.f24(m, l3 + 8L, l8);
                         l7 = 1;
                         L34: {
-                         if ((b[((int) l3) - 60712] & 0xff) != 1) { break L34; }
-                         l6 = b[((int) l3) - 60711] & 0xff;
+                         if ((b[((int) l3) - 60440] & 0xff) != 1) { break L34; }
+                         l6 = b[((int) l3) - 60439] & 0xff;
                          break L1;
                         }
                         l7 = 0;
@@ -7425,7 +8800,7 @@ static void f140(State m, long l0, long l1, long l2) {
                         if (l8 != 22235) { break L1; }
                         break L2;
                        }
-                       l10 = ((l12 << 6) | ((l11 << 12) | ((l10 << 18) & 1835008))) | ((b[((int) l5) - 60717] & 0xff) & 63);
+                       l10 = ((l12 << 6) | ((l11 << 12) | ((l10 << 18) & 1835008))) | ((b[((int) l5) - 60445] & 0xff) & 63);
                        l1 = 4L;
                       }
                       if (l2 == (l1 + l4)) { break L24; }
@@ -7469,11 +8844,11 @@ static void f140(State m, long l0, long l1, long l2) {
                       break L8;
                      }
                      Core1.f24(m, l3 + 40L, l8);
-                     l6 = b[((int) l3) - 60680] & 0xff;
-                     l8 = b[((int) l3) - 60679] & 0xff;
+                     l6 = b[((int) l3) - 60408] & 0xff;
+                     l8 = b[((int) l3) - 60407] & 0xff;
                      Core1.f24(m, l3 + 32L, l9);
-                     final int t43 = (b[((int) l3) - 60687] & 0xff) + (l8 * 10);
-                     final int t44 = (l7 = l6 & (b[((int) l3) - 60688] & 0xff)) & 255;
+                     final int t43 = (b[((int) l3) - 60415] & 0xff) + (l8 * 10);
+                     final int t44 = (l7 = l6 & (b[((int) l3) - 60416] & 0xff)) & 255;
                      l6 = t44 != 0 ? t43 : 0;
                      break L1;
                     }
@@ -7519,8 +8894,8 @@ static void f140(State m, long l0, long l1, long l2) {
              if (l8 != 20061) { break L11; }
             }
             Core2.f63(m, l3 + 56L, l8);
-            final int t47 = (l6 = b[((int) l3) - 60663] & 0xff) * 10;
-            final int t48 = (l8 = b[((int) l3) - 60664] & 0xff) & 1;
+            final int t47 = (l6 = b[((int) l3) - 60391] & 0xff) * 10;
+            final int t48 = (l8 = b[((int) l3) - 60392] & 0xff) & 1;
             l7 = t48 != 0 ? t47 : 0;
             l6 = (((l6 & 255) != 0) ? 1 : 0) & l8;
            }
@@ -7560,8 +8935,8 @@ static void f140(State m, long l0, long l1, long l2) {
              if (l10 != 20061) { break L49; }
             }
             Core2.f63(m, l3 + 48L, l10);
-            final int t56 = l9 = b[((int) l3) - 60671] & 0xff;
-            final int t57 = (l10 = b[((int) l3) - 60672] & 0xff) & 1;
+            final int t56 = l9 = b[((int) l3) - 60399] & 0xff;
+            final int t57 = (l10 = b[((int) l3) - 60400] & 0xff) & 1;
             l8 = t57 != 0 ? t56 : 0;
             l9 = (((l9 & 255) != 0) ? 1 : 0) & l10;
            }
@@ -7581,8 +8956,8 @@ static void f140(State m, long l0, long l1, long l2) {
          if (l8 != 20061) { break L1; }
         }
         Core2.f63(m, l3 + 24L, l8);
-        final int t60 = (l8 = b[((int) l3) - 60695] & 0xff) * 10;
-        final int t61 = l7 = (b[((int) l3) - 60696] & 0xff) & 1;
+        final int t60 = (l8 = b[((int) l3) - 60423] & 0xff) * 10;
+        final int t61 = l7 = (b[((int) l3) - 60424] & 0xff) & 1;
         l6 = t61 != 0 ? t60 : 0;
         l7 = l7 & (((l8 & 255) != 0) ? 1 : 0);
         break L1;
@@ -7598,8 +8973,8 @@ static void f140(State m, long l0, long l1, long l2) {
       if (l9 != 20061) { break L1; }
      }
      Core2.f63(m, l3 + 16L, l9);
-     final int t62 = (l6 = b[((int) l3) - 60703] & 0xff) + 10;
-     final int t63 = l8 = (b[((int) l3) - 60704] & 0xff) & 1;
+     final int t62 = (l6 = b[((int) l3) - 60431] & 0xff) + 10;
+     final int t63 = l8 = (b[((int) l3) - 60432] & 0xff) & 1;
      final int t64 = t63 != 0 ? t62 : 10;
      final int t65 = l7 = l8 & (((l6 & 255) != 0) ? 1 : 0);
      l6 = t65 != 0 ? t64 : 0;
@@ -7616,15 +8991,15 @@ static void f140(State m, long l0, long l1, long l2) {
    if (l8 != 20061) { break L1; }
   }
   Core2.f63(m, l3, l8);
-  l6 = b[((int) l3) - 60719] & 0xff;
-  l7 = b[((int) l3) - 60720] & 0xff;
+  l6 = b[((int) l3) - 60447] & 0xff;
+  l7 = b[((int) l3) - 60448] & 0xff;
  }
- b[((int) l0) - 60719] = (byte) l6;
- b[((int) l0) - 60720] = (byte) l7;
+ b[((int) l0) - 60447] = (byte) l6;
+ b[((int) l0) - 60448] = (byte) l7;
  m.g0 = l3 + 64L;
 }
 
-static void f141(State m, long l0, long l1, long l2) {
+static void f149(State m, long l0, long l1, long l2) {
  final byte[] b = m.bytes;
  long l3 = 0;
  long l4 = 0;
@@ -7649,25 +9024,25 @@ static void f141(State m, long l0, long l1, long l2) {
         l7 = 0;
         break L1;
        }
-       l8 = (l7 = (int) b[((int) l1) - 60720]) & 255;
+       l8 = (l7 = (int) b[((int) l1) - 60448]) & 255;
        l4 = 1L;
        L8: {
         if (l7 > -1) { break L8; }
-        l9 = (b[((int) l1) - 60719] & 0xff) & 63;
+        l9 = (b[((int) l1) - 60447] & 0xff) & 63;
         L9: {
          if (l7 + Integer.MIN_VALUE > 2147483615) { break L9; }
          l8 = ((l8 << 6) & 1984) | l9;
          l4 = 2L;
          break L8;
         }
-        l10 = (b[((int) l1) - 60718] & 0xff) & 63;
+        l10 = (b[((int) l1) - 60446] & 0xff) & 63;
         L10: {
          if (l7 + Integer.MIN_VALUE > 2147483631) { break L10; }
          l8 = ((l9 << 6) | ((l8 << 12) & 61440)) | l10;
          l4 = 3L;
          break L8;
         }
-        l8 = ((l10 << 6) | ((l9 << 12) | ((l8 << 18) & 1835008))) | ((b[((int) l1) - 60717] & 0xff) & 63);
+        l8 = ((l10 << 6) | ((l9 << 12) | ((l8 << 18) & 1835008))) | ((b[((int) l1) - 60445] & 0xff) & 63);
         l4 = 4L;
        }
        L11: {
@@ -7675,25 +9050,25 @@ static void f141(State m, long l0, long l1, long l2) {
         l7 = 0;
         break L1;
        }
-       l9 = (l7 = (int) b[((int) (l5 = l1 + l4)) - 60720]) & 255;
+       l9 = (l7 = (int) b[((int) (l5 = l1 + l4)) - 60448]) & 255;
        l1 = 1L;
        L12: {
         if (l7 > -1) { break L12; }
-        l10 = (b[((int) l5) - 60719] & 0xff) & 63;
+        l10 = (b[((int) l5) - 60447] & 0xff) & 63;
         L13: {
          if (l7 + Integer.MIN_VALUE > 2147483615) { break L13; }
          l9 = ((l9 << 6) & 1984) | l10;
          l1 = 2L;
          break L12;
         }
-        l11 = (b[((int) l5) - 60718] & 0xff) & 63;
+        l11 = (b[((int) l5) - 60446] & 0xff) & 63;
         L14: {
          if (l7 + Integer.MIN_VALUE > 2147483631) { break L14; }
          l9 = ((l10 << 6) | ((l9 << 12) & 61440)) | l11;
          l1 = 3L;
          break L12;
         }
-        l9 = ((l11 << 6) | ((l10 << 12) | ((l9 << 18) & 1835008))) | ((b[((int) l5) - 60717] & 0xff) & 63);
+        l9 = ((l11 << 6) | ((l10 << 12) | ((l9 << 18) & 1835008))) | ((b[((int) l5) - 60445] & 0xff) & 63);
         l1 = 4L;
        }
        L15: {
@@ -7739,15 +9114,15 @@ static void f141(State m, long l0, long l1, long l2) {
    if (l9 != 20061) { break L1; }
   }
   Core2.f63(m, l3 + 8L, l9);
-  l6 = b[((int) l3) - 60711] & 0xff;
-  l7 = b[((int) l3) - 60712] & 0xff;
+  l6 = b[((int) l3) - 60439] & 0xff;
+  l7 = b[((int) l3) - 60440] & 0xff;
  }
- b[((int) l0) - 60719] = (byte) l6;
- b[((int) l0) - 60720] = (byte) l7;
+ b[((int) l0) - 60447] = (byte) l6;
+ b[((int) l0) - 60448] = (byte) l7;
  m.g0 = l3 + 16L;
 }
 
-static void f142(State m, long l0, long l1, long l2) {
+static void f150(State m, long l0, long l1, long l2) {
  final byte[] b = m.bytes;
  long l3 = 0;
  long l4 = 0;
@@ -7768,25 +9143,25 @@ static void f142(State m, long l0, long l1, long l2) {
     l7 = 0;
     break L2;
    }
-   l8 = (l7 = (int) b[((int) l1) - 60720]) & 255;
+   l8 = (l7 = (int) b[((int) l1) - 60448]) & 255;
    l4 = 1L;
    L4: {
     if (l7 > -1) { break L4; }
-    l9 = (b[((int) l1) - 60719] & 0xff) & 63;
+    l9 = (b[((int) l1) - 60447] & 0xff) & 63;
     L5: {
      if (l7 + Integer.MIN_VALUE > 2147483615) { break L5; }
      l8 = ((l8 << 6) & 1984) | l9;
      l4 = 2L;
      break L4;
     }
-    l10 = (b[((int) l1) - 60718] & 0xff) & 63;
+    l10 = (b[((int) l1) - 60446] & 0xff) & 63;
     L6: {
      if (l7 + Integer.MIN_VALUE > 2147483631) { break L6; }
      l8 = ((l9 << 6) | ((l8 << 12) & 61440)) | l10;
      l4 = 3L;
      break L4;
     }
-    l8 = ((l10 << 6) | ((l9 << 12) | ((l8 << 18) & 1835008))) | ((b[((int) l1) - 60717] & 0xff) & 63);
+    l8 = ((l10 << 6) | ((l9 << 12) | ((l8 << 18) & 1835008))) | ((b[((int) l1) - 60445] & 0xff) & 63);
     l4 = 4L;
    }
    L7: {
@@ -7794,46 +9169,46 @@ static void f142(State m, long l0, long l1, long l2) {
     l7 = 0;
     break L2;
    }
-   l9 = (l7 = (int) b[((int) (l5 = l1 + l4)) - 60720]) & 255;
+   l9 = (l7 = (int) b[((int) (l5 = l1 + l4)) - 60448]) & 255;
    l1 = 1L;
    L8: {
     if (l7 > -1) { break L8; }
-    l10 = (b[((int) l5) - 60719] & 0xff) & 63;
+    l10 = (b[((int) l5) - 60447] & 0xff) & 63;
     L9: {
      if (l7 + Integer.MIN_VALUE > 2147483615) { break L9; }
      l9 = ((l9 << 6) & 1984) | l10;
      l1 = 2L;
      break L8;
     }
-    l11 = (b[((int) l5) - 60718] & 0xff) & 63;
+    l11 = (b[((int) l5) - 60446] & 0xff) & 63;
     L10: {
      if (l7 + Integer.MIN_VALUE > 2147483631) { break L10; }
      l9 = ((l10 << 6) | ((l9 << 12) & 61440)) | l11;
      l1 = 3L;
      break L8;
     }
-    l9 = ((l11 << 6) | ((l10 << 12) | ((l9 << 18) & 1835008))) | ((b[((int) l5) - 60717] & 0xff) & 63);
+    l9 = ((l11 << 6) | ((l10 << 12) | ((l9 << 18) & 1835008))) | ((b[((int) l5) - 60445] & 0xff) & 63);
     l1 = 4L;
    }
    l7 = 0;
    if (l2 != (l1 + l4)) { break L2; }
    Core1.f24(m, l3 + 8L, l8);
-   l6 = b[((int) l3) - 60712] & 0xff;
-   l7 = b[((int) l3) - 60711] & 0xff;
+   l6 = b[((int) l3) - 60440] & 0xff;
+   l7 = b[((int) l3) - 60439] & 0xff;
    Core1.f24(m, l3, l9);
-   final int t11 = (b[((int) l3) - 60719] & 0xff) + (l7 * 10);
-   final int t12 = (l7 = l6 & (b[((int) l3) - 60720] & 0xff)) & 255;
+   final int t11 = (b[((int) l3) - 60447] & 0xff) + (l7 * 10);
+   final int t12 = (l7 = l6 & (b[((int) l3) - 60448] & 0xff)) & 255;
    l6 = t12 != 0 ? t11 : 0;
   }
-  b[((int) l0) - 60719] = (byte) l6;
-  b[((int) l0) - 60720] = (byte) l7;
+  b[((int) l0) - 60447] = (byte) l6;
+  b[((int) l0) - 60448] = (byte) l7;
   m.g0 = l3 + 16L;
   return;
  }
  throw State.trap();
 }
 
-static void f143(State m, long l0, int l1) {
+static void f151(State m, long l0, int l1) {
  final byte[] b = m.bytes;
  long l2 = 0;
  int l3 = 0;
@@ -7879,667 +9254,11 @@ static void f143(State m, long l0, int l1) {
    if (l1 != 20061) { break L1; }
   }
   Core2.f63(m, l2 + 8L, l1);
-  l4 = b[((int) l2) - 60711] & 0xff;
-  l3 = b[((int) l2) - 60712] & 0xff;
+  l4 = b[((int) l2) - 60439] & 0xff;
+  l3 = b[((int) l2) - 60440] & 0xff;
  }
- b[((int) l0) - 60719] = (byte) l4;
- b[((int) l0) - 60720] = (byte) l3;
+ b[((int) l0) - 60447] = (byte) l4;
+ b[((int) l0) - 60448] = (byte) l3;
  m.g0 = l2 + 16L;
-}
-
-static void f144(State m, long l0, int l1, int l2) {
- final byte[] b = m.bytes;
- int l3 = 0;
- L1: {
-  if (m.g0 < 16L) { break L1; }
-  L2: {
-   L3: {
-    if ((l3 = l1 & 255) != 0) { break L3; }
-    l1 = 1;
-    break L2;
-   }
-   final int t4 = (l1 * 10) + l2;
-   final int t5 = l1 = (((l2 = l2 & 255) != ((l1 + 1) & 255)) & ((l3 != 3) | (l2 != 5))) ? 1 : 0;
-   l2 = t5 != 0 ? t4 : 0;
-  }
-  b[((int) l0) - 60719] = (byte) l2;
-  b[((int) l0) - 60720] = (byte) l1;
-  return;
- }
- throw State.trap();
-}
-
-static int f145(State m, long l0, long l1, long l2, long l3, long l4, long l5) {
- final byte[] b = m.bytes;
- long l6 = 0;
- long l7 = 0;
- int l8 = 0;
- int l9 = 0;
- int l10 = 0;
- int l11 = 0;
- L1: {
-  L2: {
-   L3: {
-    if (m.g0 < 16L) { break L3; }
-    L4: {
-     if (!(l5 == 0L)) { break L4; }
-     return 0;
-    }
-    L5: {
-     if ((l8 = (int) b[((int) (l4 + (l6 = l5 + -1L))) - 60720]) >= 0) { break L5; }
-     l6 = -2L;
-     L6: {
-      if ((b[((int) ((l7 = l4 + l5) + -2L)) - 60720] & 0xff) + Integer.MIN_VALUE > -2147483457) { break L6; }
-      l6 = ((b[((int) (l7 + -3L)) - 60720] & 0xff) + Integer.MIN_VALUE > -2147483457) ? -3L : -4L;
-     }
-     l8 = (l9 = (int) b[((int) (l5 = l4 + (l6 = l6 + l5))) - 60720]) & 255;
-     if (l9 > -1) { break L5; }
-     l10 = (b[((int) l5) - 60719] & 0xff) & 63;
-     L7: {
-      if (l9 + Integer.MIN_VALUE > 2147483615) { break L7; }
-      l8 = ((l8 << 6) & 1984) | l10;
-      break L5;
-     }
-     l11 = (b[((int) l5) - 60718] & 0xff) & 63;
-     L8: {
-      if (l9 + Integer.MIN_VALUE > 2147483631) { break L8; }
-      l8 = ((l10 << 6) | ((l8 << 12) & 61440)) | l11;
-      break L5;
-     }
-     l8 = ((l11 << 6) | ((l10 << 12) | ((l8 << 18) & 1835008))) | ((b[((int) l5) - 60717] & 0xff) & 63);
-    }
-    L9: {
-     if (Words.get32(b, ((int) l0) - 60720) == l8) { break L9; }
-     l9 = 0;
-     if (l1 == 1L) { break L1; }
-     if (Words.get32(b, ((int) (l0 + 4L)) - 60720) != l8) { break L1; }
-     if (l6 == 0L) { break L1; }
-     break L2;
-    }
-    if (!(l6 == 0L)) { break L2; }
-    return 0;
-   }
-   throw State.trap();
-  }
-  L10: {
-   if ((l10 = (int) b[((int) ((l5 = l4 + l6) + -1L)) - 60720]) >= 0) { break L10; }
-   l0 = -2L;
-   L11: {
-    if ((b[((int) (l5 + -2L)) - 60720] & 0xff) + Integer.MIN_VALUE > -2147483457) { break L11; }
-    l0 = ((b[((int) (l5 + -3L)) - 60720] & 0xff) + Integer.MIN_VALUE > -2147483457) ? -3L : -4L;
-   }
-   l10 = (l8 = (int) b[((int) (l5 = (l4 + l0) + l6)) - 60720]) & 255;
-   if (l8 > -1) { break L10; }
-   l9 = (b[((int) l5) - 60719] & 0xff) & 63;
-   L12: {
-    if (l8 + Integer.MIN_VALUE > 2147483615) { break L12; }
-    l10 = ((l10 << 6) & 1984) | l9;
-    break L10;
-   }
-   l11 = (b[((int) l5) - 60718] & 0xff) & 63;
-   L13: {
-    if (l8 + Integer.MIN_VALUE > 2147483631) { break L13; }
-    l10 = ((l9 << 6) | ((l10 << 12) & 61440)) | l11;
-    break L10;
-   }
-   l10 = ((l11 << 6) | ((l9 << 12) | ((l10 << 18) & 1835008))) | ((b[((int) l5) - 60717] & 0xff) & 63);
-  }
-  l5 = l3 + -1L;
-  L14: while (true) {
-   if ((l9 = (Words.get32(b, ((int) l2) - 60720) == l10) ? 1 : 0) != 0) { break L1; }
-   l2 = l2 + 4L;
-   l8 = (l5 != 0L) ? 1 : 0;
-   l5 = l5 + -1L;
-   if (l8 != 0) { continue L14; }
-   break L14;
-  }
- }
- return l9;
-}
-
-static int f146(State m, long l0, long l1, long l2, long l3) {
- final byte[] b = m.bytes;
- int l4 = 0;
- int l5 = 0;
- int l6 = 0;
- int l7 = 0;
- int l8 = 0;
- long l9 = 0;
- long l10 = 0;
- L1: {
-  if (m.g0 < 16L) { break L1; }
-  L2: {
-   if (!(l3 == 0L)) { break L2; }
-   return 0;
-  }
-  l4 = 0;
-  L3: {
-   if ((l5 = (int) b[((int) ((l9 = l2 + l3) + -1L)) - 60720]) >= 0) { break L3; }
-   l10 = -2L;
-   L4: {
-    if ((b[((int) (l9 + -2L)) - 60720] & 0xff) + Integer.MIN_VALUE > -2147483457) { break L4; }
-    l10 = ((b[((int) (l9 + -3L)) - 60720] & 0xff) + Integer.MIN_VALUE > -2147483457) ? -3L : -4L;
-   }
-   l5 = (l6 = (int) b[((int) (l3 = (l2 + l10) + l3)) - 60720]) & 255;
-   if (l6 > -1) { break L3; }
-   l7 = (b[((int) l3) - 60719] & 0xff) & 63;
-   L5: {
-    if (l6 + Integer.MIN_VALUE > 2147483615) { break L5; }
-    l5 = ((l5 << 6) & 1984) | l7;
-    break L3;
-   }
-   l8 = (b[((int) l3) - 60718] & 0xff) & 63;
-   L6: {
-    if (l6 + Integer.MIN_VALUE > 2147483631) { break L6; }
-    l5 = ((l7 << 6) | ((l5 << 12) & 61440)) | l8;
-    break L3;
-   }
-   l5 = ((l8 << 6) | ((l7 << 12) | ((l5 << 18) & 1835008))) | ((b[((int) l3) - 60717] & 0xff) & 63);
-  }
-  L7: {
-   if (l1 == 0L) { break L7; }
-   l3 = l1 + -1L;
-   L8: while (true) {
-    if ((l4 = (Words.get32(b, ((int) l0) - 60720) == l5) ? 1 : 0) != 0) { break L7; }
-    l0 = l0 + 4L;
-    l6 = (l3 != 0L) ? 1 : 0;
-    l3 = l3 + -1L;
-    if (l6 != 0) { continue L8; }
-    break L8;
-   }
-  }
-  final int t9 = l4;
-  return t9;
- }
- throw State.trap();
-}
-
-static int f147(State m, int l0, int l1, int l2, int l3, int l4, long l5, long l6) {
- long l7 = 0;
- int l8 = 0;
- L1: {
-  if ((l7 = m.g0) < 16L) { break L1; }
-  L2: {
-   L3: {
-    L4: {
-     L5: {
-      L6: {
-       switch ((int) ((l3 & 0xffffffffL) & 255L)) {
-       case 1: break L6;
-       case 2: break L4;
-       default: break L5;
-       }
-      }
-      if ((l1 & 255) + Integer.MIN_VALUE < (l4 & 255) + Integer.MIN_VALUE) { break L4; }
-     }
-     l8 = 1;
-     L7: {
-      if ((l0 & 1) != 0) { break L7; }
-      L8: {
-       L9: {
-        if (l2 > 29589) { break L9; }
-        L10: {
-         if (l2 > 22776) { break L10; }
-         if (l2 == 20191) { break L3; }
-         if (l2 == 20237) { break L3; }
-         if (l2 != 20336) { break L8; }
-         break L3;
-        }
-        L11: {
-         if (l2 > 25419) { break L11; }
-         if (l2 == 22777) { break L3; }
-         if (l2 != 25342) { break L8; }
-         break L3;
-        }
-        if (l2 == 25420) { break L3; }
-        if (l2 != 26578) { break L8; }
-        break L3;
-       }
-       L12: {
-        if (l2 > 36143) { break L12; }
-        L13: {
-         switch (l2 + -36014) {
-         case 0: case 5: break L3;
-         case 1: case 2: case 3: case 4: break L8;
-         default: break L13;
-         }
-        }
-        if (l2 == 29590) { break L3; }
-        if (l2 != 32902) { break L8; }
-        break L3;
-       }
-       if (l2 == 36144) { break L3; }
-       if (l2 == 38470) { break L3; }
-       if (l2 == 38520) { break L3; }
-      }
-      if ((l2 + -21441) + Integer.MIN_VALUE < -2147483644) { break L4; }
-     }
-     if ((l3 & 255) != 1) { break L2; }
-     if (((1 << (l3 = l4 & 255)) & 65470) != 0) { break L2; }
-     L14: {
-      if (l3 != 0) { break L14; }
-      if (Core3.f102(m, l0, l1, l5, l6) == 0) { break L4; }
-      m.g0 = l7;
-      return 1;
-     }
-     if (Core3.f101(m, l5, l6) != 0) { break L4; }
-     m.g0 = l7;
-     return 1;
-    }
-    l8 = 1;
-    if (l2 == 21317) { break L2; }
-    if (l2 == 24319) { break L2; }
-   }
-   l8 = ((l2 + -65296) + Integer.MIN_VALUE < -2147483638) ? 1 : 0;
-  }
-  m.g0 = l7;
-  final int t15 = l8;
-  return t15;
- }
- throw State.trap();
-}
-
-static int f148(State m, int l0, int l1, long l2, long l3, int l4, long l5, long l6) {
- final byte[] b = m.bytes;
- long l7 = 0;
- long l8 = 0;
- int l9 = 0;
- int l10 = 0;
- int l11 = 0;
- int l12 = 0;
- int l13 = 0;
- m.g0 = l7 = m.g0 - 16L;
- L1: {
-  L2: {
-   L3: {
-    L4: {
-     if ((l7 = l7) < 16L) { break L4; }
-     L5: {
-      L6: {
-       if (l4 == 20841) { break L6; }
-       if (l4 != 20004) { break L5; }
-      }
-      if (Core5.f151(m, l0, l1, l2, l3) == 0) { break L5; }
-      L7: {
-       L8: {
-        L9: {
-         L10: {
-          L11: {
-           if (l6 + Long.MIN_VALUE < -9223372036854775805L) { break L11; }
-           if (((l9 = b[((int) l5) - 60720] & 0xff) & 240) != 224) { break L10; }
-           if (Words.get32(b, ((int) ((l8 = ((((l12 = (((l10 = b[((int) l5) - 60719] & 0xff) << 8) | ((l11 = b[((int) l5) - 60718] & 0xff) << 16)) | l9) & 0xffffffffL) * 953497L) >>> 22L) & 1016L) + 66852L)) - 60720) == l12) { break L9; }
-           l12 = 1;
-           break L1;
-          }
-          L12: {
-           if (!(l6 == 0L)) { break L12; }
-           l12 = 1;
-           break L1;
-          }
-          l9 = b[((int) l5) - 60720] & 0xff;
-         }
-         L13: {
-          if (((int) (byte) l9) > -1) { break L13; }
-          l12 = (b[((int) l5) - 60719] & 0xff) & 63;
-          L14: {
-           if (l9 + Integer.MIN_VALUE > -2147483425) { break L14; }
-           l9 = ((l9 << 6) & 1984) | l12;
-           break L13;
-          }
-          l10 = (b[((int) l5) - 60718] & 0xff) & 63;
-          L15: {
-           if (l9 + Integer.MIN_VALUE > -2147483409) { break L15; }
-           l9 = ((l12 << 6) | ((l9 << 12) & 61440)) | l10;
-           break L13;
-          }
-          l9 = ((l10 << 6) | ((l12 << 12) | ((l9 << 18) & 1835008))) | ((b[((int) l5) - 60717] & 0xff) & 63);
-         }
-         L16: {
-          if ((l9 + -2048) + Integer.MIN_VALUE > -2147420161) { break L16; }
-          if (Words.get32(b, ((int) ((l8 = ((((l12 = (((l9 >>> 12) | ((l9 << 2) & 16128)) | ((l9 << 16) & 4128768)) | 8421600) & 0xffffffffL) * 953497L) >>> 22L) & 1016L) + 66852L)) - 60720) == l12) { break L8; }
-          l12 = 1;
-          break L1;
-         }
-         L17: {
-          if ((l10 = l9 + -48) + Integer.MIN_VALUE >= -2147483638) { break L17; }
-          l11 = 0;
-          break L7;
-         }
-         l12 = 1;
-         break L1;
-        }
-        l9 = (((l9 << 12) | l11) + (l10 << 6)) + -925824;
-       }
-       l10 = b[((int) (l8 + 66857L)) - 60720] & 0xff;
-       l12 = 1;
-       l11 = 0;
-       L18: {
-        switch ((int) (b[((int) (l8 + 66856L)) - 60720] & 0xffL)) {
-        case 1: break L18;
-        case 2: break L1;
-        default: break L7;
-        }
-       }
-       l11 = 1;
-       l12 = 1;
-       if ((l1 & 255) + Integer.MIN_VALUE < (l10 & 255) + Integer.MIN_VALUE) { break L1; }
-      }
-      l12 = 1;
-      L19: {
-       if ((l0 & 1) != 0) { break L19; }
-       L20: {
-        L21: {
-         if (l9 > 29589) { break L21; }
-         L22: {
-          if (l9 > 22776) { break L22; }
-          if (l9 == 20191) { break L1; }
-          if (l9 == 20237) { break L1; }
-          if (l9 != 20336) { break L20; }
-          break L1;
-         }
-         L23: {
-          if (l9 > 25419) { break L23; }
-          if (l9 == 22777) { break L1; }
-          if (l9 != 25342) { break L20; }
-          break L1;
-         }
-         if (l9 == 25420) { break L1; }
-         if (l9 != 26578) { break L20; }
-         break L1;
-        }
-        L24: {
-         if (l9 > 36143) { break L24; }
-         L25: {
-          switch (l9 + -36014) {
-          case 0: case 5: break L1;
-          case 1: case 2: case 3: case 4: break L20;
-          default: break L25;
-          }
-         }
-         if (l9 == 29590) { break L1; }
-         if (l9 != 32902) { break L20; }
-         break L1;
-        }
-        if (l9 == 36144) { break L1; }
-        if (l9 == 38470) { break L1; }
-        if (l9 == 38520) { break L1; }
-       }
-       l12 = 1;
-       if (((((l9 + -21445) + Integer.MIN_VALUE > 2147483643) ? 1 : 0) | (l11 ^ 1)) != 0) { break L1; }
-       if ((l10 & 255) != 1) { break L5; }
-       break L1;
-      }
-      l12 = 1;
-      if ((l11 & (((l10 & 255) != 1) ? 1 : 0)) != 1) { break L1; }
-     }
-     L26: {
-      if ((l12 = (l4 == 20491) ? 1 : 0) != 0) { break L26; }
-      if (l4 == 20010) { break L26; }
-      l12 = ((l4 == 20010) ? 1 : 0) | l12;
-      break L3;
-     }
-     l10 = Core5.f151(m, l0, l1, l2, l3);
-     if (l6 == 0L) { break L2; }
-     l12 = (l9 = (int) b[((int) l5) - 60720]) & 255;
-     l8 = 1L;
-     L27: {
-      if (l9 > -1) { break L27; }
-      l11 = (b[((int) l5) - 60719] & 0xff) & 63;
-      L28: {
-       if (l9 + Integer.MIN_VALUE > 2147483615) { break L28; }
-       l12 = ((l12 << 6) & 1984) | l11;
-       l8 = 2L;
-       break L27;
-      }
-      l13 = (b[((int) l5) - 60718] & 0xff) & 63;
-      L29: {
-       if (l9 + Integer.MIN_VALUE > 2147483631) { break L29; }
-       l12 = ((l11 << 6) | ((l12 << 12) & 61440)) | l13;
-       l8 = 3L;
-       break L27;
-      }
-      l12 = ((l13 << 6) | ((l11 << 12) | ((l12 << 18) & 1835008))) | ((b[((int) l5) - 60717] & 0xff) & 63);
-      l8 = 4L;
-     }
-     L30: {
-      if ((l9 = (l12 == 33836) ? 1 : 0) != 0) { break L30; }
-      if (l12 == 19975) { break L30; }
-      l12 = ((l12 == 19975) ? 1 : 0) | l9;
-      break L3;
-     }
-     l12 = 1;
-     if (l10 == 0) { break L1; }
-     if (l6 == l8) { break L2; }
-     l9 = (l10 = (int) b[((int) (l8 = l5 + l8)) - 60720]) & 255;
-     L31: {
-      if (l10 > -1) { break L31; }
-      l11 = (b[((int) l8) - 60719] & 0xff) & 63;
-      L32: {
-       if (l10 + Integer.MIN_VALUE > 2147483615) { break L32; }
-       l9 = ((l9 << 6) & 1984) | l11;
-       break L31;
-      }
-      l13 = (b[((int) l8) - 60718] & 0xff) & 63;
-      L33: {
-       if (l10 + Integer.MIN_VALUE > 2147483631) { break L33; }
-       l9 = ((l11 << 6) | ((l9 << 12) & 61440)) | l13;
-       break L31;
-      }
-      l9 = ((l13 << 6) | ((l11 << 12) | ((l9 << 18) & 1835008))) | ((b[((int) l8) - 60717] & 0xff) & 63);
-     }
-     if ((l9 + -19968) + Integer.MIN_VALUE < -2147462656) { break L1; }
-     break L2;
-    }
-    throw State.trap();
-   }
-   if (l12 == 0) { break L2; }
-   l12 = 1;
-   break L1;
-  }
-  l12 = 0;
-  L34: {
-   if (l4 == 21315) { break L34; }
-   if (l4 != 20191) { break L1; }
-  }
-  if (l6 == 0L) { break L1; }
-  l4 = (l9 = (int) b[((int) l5) - 60720]) & 255;
-  L35: {
-   if (l9 > -1) { break L35; }
-   l10 = (b[((int) l5) - 60719] & 0xff) & 63;
-   L36: {
-    if (l9 + Integer.MIN_VALUE > 2147483615) { break L36; }
-    l4 = ((l4 << 6) & 1984) | l10;
-    break L35;
-   }
-   l11 = (b[((int) l5) - 60718] & 0xff) & 63;
-   L37: {
-    if (l9 + Integer.MIN_VALUE > 2147483631) { break L37; }
-    l4 = ((l10 << 6) | ((l4 << 12) & 61440)) | l11;
-    break L35;
-   }
-   l4 = ((l11 << 6) | ((l10 << 12) | ((l4 << 18) & 1835008))) | ((b[((int) l5) - 60717] & 0xff) & 63);
-  }
-  L38: {
-   L39: {
-    if (l4 > 24084) { break L39; }
-    L40: {
-     if (l4 > 21344) { break L40; }
-     if (l4 == 20239) { break L38; }
-     if (l4 == 20811) { break L38; }
-     break L1;
-    }
-    if (l4 == 21345) { break L38; }
-    if (l4 == 23433) { break L38; }
-    break L1;
-   }
-   L41: {
-    if (l4 > 29925) { break L41; }
-    if (l4 == 24085) { break L38; }
-    if (l4 == 28966) { break L38; }
-    break L1;
-   }
-   if (l4 == 29926) { break L38; }
-   if (l4 == 36203) { break L38; }
-   if (l4 != 31859) { break L1; }
-  }
-  if (l3 == 0L) { break L1; }
-  L42: {
-   if ((l4 = (int) b[((int) ((l5 = l2 + l3) + -1L)) - 60720]) >= 0) { break L42; }
-   l6 = -2L;
-   L43: {
-    if ((b[((int) (l5 + -2L)) - 60720] & 0xff) + Integer.MIN_VALUE > -2147483457) { break L43; }
-    l6 = ((b[((int) (l5 + -3L)) - 60720] & 0xff) + Integer.MIN_VALUE > -2147483457) ? -3L : -4L;
-   }
-   l4 = (l12 = (int) b[((int) (l5 = (l2 + l6) + l3)) - 60720]) & 255;
-   if (l12 > -1) { break L42; }
-   l9 = (b[((int) l5) - 60719] & 0xff) & 63;
-   L44: {
-    if (l12 + Integer.MIN_VALUE > 2147483615) { break L44; }
-    l4 = ((l4 << 6) & 1984) | l9;
-    break L42;
-   }
-   l10 = (b[((int) l5) - 60718] & 0xff) & 63;
-   L45: {
-    if (l12 + Integer.MIN_VALUE > 2147483631) { break L45; }
-    l4 = ((l9 << 6) | ((l4 << 12) & 61440)) | l10;
-    break L42;
-   }
-   l4 = ((l10 << 6) | ((l9 << 12) | ((l4 << 18) & 1835008))) | ((b[((int) l5) - 60717] & 0xff) & 63);
-  }
-  L46: {
-   L47: {
-    L48: {
-     L49: {
-      L50: {
-       L51: {
-        if ((l4 + -2048) + Integer.MIN_VALUE > -2147420161) { break L51; }
-        if (Words.get32(b, State.far((int) (l5 = ((((l12 = (((l4 >>> 12) | ((l4 << 2) & 16128)) | ((l4 << 16) & 4128768)) | 8421600) & 0xffffffffL) * 953497L) >>> 22L) & 1016L), 66852)) != l12) { break L46; }
-        l12 = b[((int) (l5 + 66857L)) - 60720] & 0xff;
-        l9 = 0;
-        switch ((int) (b[((int) (l5 + 66856L)) - 60720] & 0xffL)) {
-        case 1: break L50;
-        case 2: break L46;
-        default: break L49;
-        }
-       }
-       if ((l4 + -58) + Integer.MIN_VALUE < 2147483638) { break L46; }
-       if ((l0 & 1) != 0) { break L46; }
-       l12 = l4 + -48;
-       l9 = 0;
-       break L48;
-      }
-      if ((l1 & 255) + Integer.MIN_VALUE < (l12 & 255) + Integer.MIN_VALUE) { break L46; }
-      l9 = 1;
-     }
-     if ((l0 & 1) != 0) { break L47; }
-    }
-    L52: {
-     L53: {
-      if (l4 > 29589) { break L53; }
-      L54: {
-       if (l4 > 22776) { break L54; }
-       if (l4 == 20191) { break L46; }
-       if (l4 == 20237) { break L46; }
-       if (l4 != 20336) { break L52; }
-       break L46;
-      }
-      L55: {
-       if (l4 > 25419) { break L55; }
-       if (l4 == 22777) { break L46; }
-       if (l4 == 25342) { break L46; }
-       break L52;
-      }
-      if (l4 == 25420) { break L46; }
-      if (l4 == 26578) { break L46; }
-      break L52;
-     }
-     L56: {
-      if (l4 > 36143) { break L56; }
-      L57: {
-       switch (l4 + -36014) {
-       case 0: case 5: break L46;
-       case 1: case 2: case 3: case 4: break L52;
-       default: break L57;
-       }
-      }
-      if (l4 == 29590) { break L46; }
-      if (l4 == 32902) { break L46; }
-      break L52;
-     }
-     if (l4 == 36144) { break L46; }
-     if (l4 == 38470) { break L46; }
-     if (l4 == 38520) { break L46; }
-    }
-    if ((l4 + -21441) + Integer.MIN_VALUE < -2147483644) { break L46; }
-   }
-   if (l9 == 0) { break L46; }
-   if ((l12 & 255) == 0) { break L46; }
-   l12 = 1;
-   break L1;
-  }
-  L58: while (true) {
-   L59: {
-    if ((l4 = (int) b[((int) (l2 + (l5 = l3 + -1L))) - 60720]) >= 0) { break L59; }
-    l5 = -2L;
-    L60: {
-     if ((b[((int) ((l6 = l2 + l3) + -2L)) - 60720] & 0xff) + Integer.MIN_VALUE > -2147483457) { break L60; }
-     l5 = ((b[((int) (l6 + -3L)) - 60720] & 0xff) + Integer.MIN_VALUE > -2147483457) ? -3L : -4L;
-    }
-    l4 = (l12 = (int) b[((int) (l3 = l2 + (l5 = l5 + l3))) - 60720]) & 255;
-    if (l12 > -1) { break L59; }
-    l0 = (b[((int) l3) - 60719] & 0xff) & 63;
-    L61: {
-     if (l12 + Integer.MIN_VALUE > 2147483615) { break L61; }
-     l4 = ((l4 << 6) & 1984) | l0;
-     break L59;
-    }
-    l1 = (b[((int) l3) - 60718] & 0xff) & 63;
-    L62: {
-     if (l12 + Integer.MIN_VALUE > 2147483631) { break L62; }
-     l4 = ((l0 << 6) | ((l4 << 12) & 61440)) | l1;
-     break L59;
-    }
-    l4 = ((l1 << 6) | ((l0 << 12) | ((l4 << 18) & 1835008))) | ((b[((int) l3) - 60717] & 0xff) & 63);
-   }
-   Core2.f63(m, l7 + 8L, l4);
-   if ((l12 = ((l5 != 0L) & (((l4 + -65296) + Integer.MIN_VALUE < -2147483638) | ((b[((int) l7) - 60712] & 0xff) == 1))) ? 1 : 0) != 1) { break L1; }
-   L63: {
-    if ((l4 = (int) b[((int) ((l3 = l2 + l5) + -1L)) - 60720]) >= 0) { break L63; }
-    l6 = -2L;
-    L64: {
-     if ((b[((int) (l3 + -2L)) - 60720] & 0xff) + Integer.MIN_VALUE > -2147483457) { break L64; }
-     l6 = ((b[((int) (l3 + -3L)) - 60720] & 0xff) + Integer.MIN_VALUE > -2147483457) ? -3L : -4L;
-    }
-    l4 = (l0 = (int) b[((int) (l3 = (l2 + l6) + l5)) - 60720]) & 255;
-    if (l0 > -1) { break L63; }
-    l1 = (b[((int) l3) - 60719] & 0xff) & 63;
-    L65: {
-     if (l0 + Integer.MIN_VALUE > 2147483615) { break L65; }
-     l4 = ((l4 << 6) & 1984) | l1;
-     break L63;
-    }
-    l9 = (b[((int) l3) - 60718] & 0xff) & 63;
-    L66: {
-     if (l0 + Integer.MIN_VALUE > 2147483631) { break L66; }
-     l4 = ((l1 << 6) | ((l4 << 12) & 61440)) | l9;
-     break L63;
-    }
-    l4 = ((l9 << 6) | ((l1 << 12) | ((l4 << 18) & 1835008))) | ((b[((int) l3) - 60717] & 0xff) & 63);
-   }
-   L67: {
-    if (l4 > 40669) { break L67; }
-    if (l4 == 46) { break L1; }
-    l3 = l5;
-    if (l4 != 28857) { continue L58; }
-    break L1;
-   }
-   if (l4 == 65294) { break L1; }
-   l3 = l5;
-   if (l4 != 40670) { continue L58; }
-   break L58;
-  }
- }
- m.g0 = l7 + 16L;
- return l12;
 }
 }

@@ -2,7 +2,1794 @@
 package chinesenumber;
 
 final class Core7 {
-static int f235(State m, long l0, long l1, long l2) {
+static int f236_1(State m, long l0, long l1, int l2, int l3, long l6, long l7, long l8, long l9, long l10, long l11, long l12, long l13, long l14, long l15, long l16, long l17, long l18, int l24, int l25, int l26, int l27, int l28, int l29) {
+ final byte[] b = m.bytes;
+ int exit = 0;
+ PART: {
+  L7: {
+   L8: {
+    L9: {
+     L10: {
+      if ((l7 = l7) < 16L) { break L10; }
+      m.fill((int) (l7 + 176L), 0, (int) 512L);
+      Words.put64(b, ((int) l6) - 60448, 0L);
+      Words.put64(b, ((int) l7) - 60280, 0L);
+      Words.put64(b, ((int) l7) - 60288, 0L);
+      Words.put64(b, ((int) l7) - 60296, 0L);
+      l24 = 8;
+      if (l2 + Integer.MIN_VALUE > -2147483643) { exit = 1; break PART; }
+      if (l3 + Integer.MIN_VALUE > -2147483646) { exit = 1; break PART; }
+      l8 = l1;
+      l11 = l10 = l0 + (l9 = (l0 == 0L) ? 4096L : 0L);
+      L11: {
+       L12: {
+        L13: {
+         if (l1 + Long.MIN_VALUE < -9223372036854775804L) { break L13; }
+         l11 = l10;
+         l8 = l1;
+         L14: while (true) {
+          if (((Words.get32(b, ((int) l11) - 60448) + 16776990) & 12632312) != 8421376) { break L12; }
+          l11 = l11 + 3L;
+          if ((l8 = l8 + -3L) + Long.MIN_VALUE > -9223372036854775805L) { continue L14; }
+          break L14;
+         }
+        }
+        if (l8 + Long.MIN_VALUE > -9223372036854775805L) { break L12; }
+        L15: {
+         switch ((int) l8) {
+         case 1: case 2: break L12;
+         case 3: break L15;
+         default: break L11;
+         }
+        }
+        if (((((Words.get16(b, ((int) l11) - 60448) & 0xffff) | ((b[((int) (l11 + 2L)) - 60448] & 0xff) << 16)) + 16776990) & 12632312) == 8421376) { break L11; }
+       }
+       if (Core1.f6(m, l10, l1) != 0) { break L11; }
+       l24 = 5;
+       exit = 1; break PART;
+      }
+      l25 = (l3 + Integer.MIN_VALUE < -2147483645) ? l3 : 0;
+      m.fill((int) (l7 + 176L), 0, (int) 512L);
+      l8 = 0L;
+      Words.put64(b, ((int) l7) - 60280, 0L);
+      Words.put64(b, ((int) l7) - 60288, 512L);
+      Words.put64(b, ((int) l7) - 60296, l7 + 176L);
+      m.fill((int) (l7 + 1008L), 0, (int) 224L);
+      Words.put64(b, ((int) l7) - 59536, 0L);
+      Words.put64(b, ((int) l7) - 59512, 0L);
+      Words.put64(b, ((int) l7) - 59528, 0L);
+      Words.put64(b, ((int) l7) - 59520, 0L);
+      m.fill((int) (l7 + 688L), 0, (int) 224L);
+      Core1.f26(m, l7 + 912L, l3 = (l2 + Integer.MIN_VALUE < -2147483642) ? l2 : 0, l10, l1);
+      L16: {
+       if ((b[((int) l7) - 59536] & 0xff) != 1) { break L16; }
+       l24 = Words.get32(b, ((int) l7) - 59516);
+       l2 = b[((int) l7) - 59520] & 0xff;
+       l12 = Words.get64(b, ((int) l7) - 59528);
+       Words.put64(b, ((int) l7) - 59216, 0L);
+       Words.put64(b, ((int) l7) - 59152, 0L);
+       Words.put64(b, ((int) l7) - 59160, 83372L);
+       Words.put64(b, ((int) l7) - 59168, 0L);
+       Words.put64(b, ((int) l7) - 59176, 83372L);
+       Words.put64(b, ((int) l7) - 59192, l12);
+       Words.put64(b, ((int) l7) - 59208, l10);
+       b[((int) l7) - 59216] = (byte) l25;
+       Words.put32(b, ((int) l7) - 59184, l3 = (l2 != 2) ? 1 : 0);
+       Words.put32(b, ((int) l7) - 59180, l3 != 0 ? l24 : 0);
+       Words.put64(b, ((int) l7) - 59200, l1);
+       l11 = 0L;
+       L17: {
+        if (l1 + Long.MIN_VALUE < -9223372036854775776L) { break L17; }
+        Core1.f25(m, l7 + 24L, l10, l1, l1);
+        l8 = l1 - Words.get64(b, ((int) l7) - 60416);
+        l11 = Words.get64(b, ((int) l7) - 60424);
+       }
+       if ((l1 - l11) + Long.MIN_VALUE < -9223372036854775800L) { exit = 2; break PART; }
+       L18: while (true) {
+        L19: {
+         L20: {
+          if (((l0 = Words.get64(b, ((int) (l10 + l11)) - 60448)) & 67553998437089520L) != 63050398541283552L) { break L20; }
+          l8 = l8 + 3L;
+          l11 = l11 + 9L;
+          break L19;
+         }
+         if ((l0 & -9187201950435737472L) != 0L) { exit = 2; break PART; }
+         l8 = l8 + 8L;
+         l11 = l11 + 8L;
+        }
+        if ((l1 - l11) + Long.MIN_VALUE <= -9223372036854775801L) { exit = 2; break PART; }
+        continue L18;
+       }
+      }
+      Core1.f7(m, l7 + 688L, l3, l10, l1);
+      m.copy((int) (l7 + 1008L), (int) (l7 + 688L), (int) 224L);
+      Core1.f30(m, l7 + 136L, l10, l1, l13 = Words.get64(b, ((int) l7) - 59440));
+      l26 = b[((int) l7) - 59432] & 0xff;
+      l14 = Words.get64(b, ((int) l7) - 60312);
+      L21: {
+       if ((l15 = Words.get64(b, ((int) l7) - 60304)) != 0L) { break L21; }
+       if ((l26 & 1) == 0) { break L21; }
+       Words.put64(b, ((int) l7) - 59144, 0L);
+       Words.put64(b, ((int) l7) - 59136, 0L);
+       Words.put64(b, ((int) l7) - 59128, 0L);
+       Core2.f60(m, l7 + 1304L, l10, l1);
+       if ((l3 & 255) != 5) { exit = 3; break PART; }
+       if (((b[((int) l7) - 59144] & 0xff) & 255) != 1) { exit = 3; break PART; }
+       if (((b[((int) l7) - 59136] & 0xff) & 255) != 2) { exit = 3; break PART; }
+       Words.put32(b, ((int) l7) - 59215, 0);
+       b[((int) l7) - 59216] = (byte) l25;
+       Words.put32(b, ((int) l7) - 59212, 0);
+       Words.put64(b, ((int) l7) - 59192, 0L);
+       Words.put64(b, ((int) l7) - 59200, l1);
+       Words.put64(b, ((int) l7) - 59208, l10);
+       Words.put64(b, ((int) l7) - 59184, 0L);
+       Words.put64(b, ((int) l7) - 59152, 0L);
+       Words.put64(b, ((int) l7) - 59160, 83372L);
+       Words.put64(b, ((int) l7) - 59168, 0L);
+       Words.put64(b, ((int) l7) - 59176, 83372L);
+       Core2.f50(m, l7 + 1232L, l7 + 152L, 22);
+       exit = 3; break PART;
+      }
+      l16 = l7 + 1024L;
+      l17 = Words.get64(b, ((int) l7) - 59232);
+      l12 = l1;
+      l11 = l10;
+      L22: {
+       L23: while (true) {
+        if ((l27 = (l12 == 0L) ? 1 : 0) != 0) { break L22; }
+        l2 = (l24 = (int) b[((int) l11) - 60448]) & 255;
+        l8 = 1L;
+        L24: {
+         if (l24 > -1) { break L24; }
+         l28 = (b[((int) l11) - 60447] & 0xff) & 63;
+         L25: {
+          if (l24 + Integer.MIN_VALUE > 2147483615) { break L25; }
+          l2 = ((l2 << 6) & 1984) | l28;
+          l8 = 2L;
+          break L24;
+         }
+         l29 = (b[((int) l11) - 60446] & 0xff) & 63;
+         L26: {
+          if (l24 + Integer.MIN_VALUE > 2147483631) { break L26; }
+          l2 = ((l28 << 6) | ((l2 << 12) & 61440)) | l29;
+          l8 = 3L;
+          break L24;
+         }
+         l2 = ((l29 << 6) | ((l28 << 12) | ((l2 << 18) & 1835008))) | ((b[((int) l11) - 60445] & 0xff) & 63);
+         l8 = 4L;
+        }
+        l12 = l12 - l8;
+        l11 = l11 + l8;
+        L27: {
+         if (l2 > 35999) { break L27; }
+         L28: {
+          switch (l2 + -40) {
+          case 0: case 5: break L22;
+          case 1: case 2: case 3: case 4: continue L23;
+          default: break L28;
+          }
+         }
+         if (l2 != 8722) { continue L23; }
+         break L22;
+        }
+        L29: {
+         switch (l2 + -65288) {
+         case 0: case 5: break L22;
+         case 1: case 2: case 3: case 4: continue L23;
+         default: break L29;
+         }
+        }
+        if (l2 == 36127) { break L22; }
+        if (l2 != 36000) { continue L23; }
+        break L23;
+       }
+      }
+      l11 = 83334L;
+      l8 = 8L;
+      L30: {
+       L31: {
+        L32: {
+         L33: {
+          L34: {
+           switch ((int) ((l3 & 0xffffffffL) & 255L)) {
+           case 1: break L34;
+           case 3: break L33;
+           case 4: break L32;
+           case 5: break L30;
+           default: break L31;
+           }
+          }
+          if (l27 != 0) { break L31; }
+          final long t35 = l27 != 0 ? 83145L : 83112L;
+          final int t36 = ((l25 & 255) != 2) ? 1 : 0;
+          l11 = t36 != 0 ? 83145L : t35;
+          l8 = 33L;
+          break L30;
+         }
+         if (l27 != 0) { break L31; }
+         final long t37 = l27 != 0 ? 83220L : 83178L;
+         final int t38 = ((l25 & 255) != 2) ? 1 : 0;
+         l11 = t38 != 0 ? 83220L : t37;
+         l8 = 42L;
+         break L30;
+        }
+        l11 = ((l25 & 255) == 2) ? 83262L : 83298L;
+        l8 = 36L;
+        break L30;
+       }
+       l11 = 83342L;
+       l8 = 30L;
+      }
+      Words.put64(b, ((int) l7) - 59448, l8);
+      Words.put64(b, ((int) l7) - 59456, l11);
+      Words.put64(b, ((int) l7) - 59464, l17);
+      Words.put64(b, ((int) l7) - 59472, l16);
+      Words.put64(b, ((int) l7) - 59480, 0L);
+      Words.put64(b, ((int) l7) - 59488, l13);
+      Words.put64(b, ((int) l7) - 59496, l1);
+      Words.put64(b, ((int) l7) - 59504, l10);
+      b[((int) l7) - 59512] = (byte) l25;
+      L39: {
+       if (Core1.f31(m, l14, l15, 83372L, 3L) != 0) { break L39; }
+       if (Core1.f31(m, l14, l15, 83375L, 3L) != 0) { break L39; }
+       if (Core1.f31(m, l14, l15, 77252L, 1L) != 0) { break L39; }
+       if (Core1.f31(m, l14, l15, 83378L, 3L) != 0) { break L39; }
+       if (Core1.f31(m, l14, l15, 83381L, 3L) == 0) { break L7; }
+      }
+      l2 = 1;
+      l24 = 19;
+      if (((l25 = 1 << (l3 & 255)) & 26) != 0) { break L8; }
+      if ((l25 & 5) != 0) { exit = 4; break PART; }
+      l18 = l13 + 1L;
+      l8 = 0L;
+      l11 = 0L;
+      L40: {
+       if (l1 + Long.MIN_VALUE < -9223372036854775776L) { break L40; }
+       Core1.f25(m, l7 + 120L, l10, l1, l1);
+       l8 = l1 - Words.get64(b, ((int) l7) - 60320);
+       l11 = Words.get64(b, ((int) l7) - 60328);
+      }
+      l2 = (l18 == 0L) ? 1 : 0;
+      if ((l1 - l11) + Long.MIN_VALUE < -9223372036854775800L) { break L9; }
+      L41: while (true) {
+       L42: {
+        L43: {
+         if (((l12 = Words.get64(b, ((int) (l10 + l11)) - 60448)) & 67553998437089520L) != 63050398541283552L) { break L43; }
+         l8 = l8 + 3L;
+         l11 = l11 + 9L;
+         break L42;
+        }
+        if ((l12 & -9187201950435737472L) != 0L) { break L9; }
+        l8 = l8 + 8L;
+        l11 = l11 + 8L;
+       }
+       if ((l1 - l11) + Long.MIN_VALUE <= -9223372036854775801L) { break L9; }
+       continue L41;
+      }
+     }
+     throw State.trap();
+    }
+    l12 = l2 != 0 ? -1L : l18;
+    L44: {
+     if (l11 + Long.MIN_VALUE >= l1 + Long.MIN_VALUE) { break L44; }
+     L45: while (true) {
+      l8 = l8 + 1L;
+      if ((l11 = Words.get64(b, ((int) (((((b[((int) (l10 + l11)) - 60448] & 0xff) >>> 1) & 0xffffffffL) & 120L) + 66680L)) - 60448) + l11) + Long.MIN_VALUE < l1 + Long.MIN_VALUE) { continue L45; }
+      break L45;
+     }
+    }
+    if (l12 + Long.MIN_VALUE < l8 + Long.MIN_VALUE) { break L7; }
+   }
+   l24 = 18;
+   l2 = 1;
+   exit = 4; break PART;
+  }
+ }
+ m.kept[0] = l0;
+ m.kept[1] = l2;
+ m.kept[2] = l3;
+ m.kept[3] = l7;
+ m.kept[4] = l8;
+ m.kept[5] = l9;
+ m.kept[6] = l10;
+ m.kept[7] = l11;
+ m.kept[8] = l12;
+ m.kept[9] = l13;
+ m.kept[10] = l14;
+ m.kept[11] = l15;
+ m.kept[12] = l16;
+ m.kept[13] = l17;
+ m.kept[14] = l18;
+ m.kept[15] = l24;
+ m.kept[16] = l25;
+ m.kept[17] = l26;
+ m.kept[18] = l27;
+ m.kept[19] = l28;
+ m.kept[20] = l29;
+ return exit;
+}
+
+static int f236_2(State m, long l0, int l3, long l7, long l8, long l9, long l10, long l11, long l12, long l13, long l14, long l17, long l18, long l19, long l20, long l21, long l22, long l23, int l24) {
+ final byte[] b = m.bytes;
+ int exit = 0;
+ PART: {
+  L108: {
+   if ((l18 = Words.get64(b, ((int) l7) - 59208)) + Long.MIN_VALUE < -9223372036854775799L) { break L108; }
+   Words.put32(b, ((int) l7) - 59198, 0);
+   Words.put16(b, ((int) l7) - 59200, (short) 48869);
+   Words.put16(b, ((int) l7) - 59194, (short) 0);
+   Words.put64(b, ((int) l7) - 59192, 8L);
+   Words.put64(b, ((int) l7) - 59208, l18);
+   l12 = l18 + -8L;
+   Words.put64(b, ((int) l7) - 59216, l10);
+   l20 = l10 + (l19 = l18 + -16L);
+   l11 = 0L;
+   l21 = 0L;
+   L109: {
+    L110: while (true) {
+     L111: {
+      L112: {
+       if ((l12 - l11) + Long.MIN_VALUE > -9223372036854775801L) { break L112; }
+       if (l12 + Long.MIN_VALUE <= l11 + Long.MIN_VALUE) { break L108; }
+       L113: while (true) {
+        L114: {
+         if ((b[((int) (l8 = l10 + l11)) - 60448] & 0xff) != 229) { break L114; }
+         if (((b[((int) (l8 + 8L)) - 60448] & 0xff) & 255) != 190) { break L114; }
+         l8 = l11;
+         break L111;
+        }
+        if (l12 != (l11 = l11 + 1L)) { continue L113; }
+        break L108;
+       }
+      }
+      final long t115 = ((long) Long.numberOfTrailingZeros((l8 = ((((l8 = (Words.get64(b, ((int) ((l8 = l10 + l11) + 8L)) - 60448) ^ -4702111234474983746L) | (Words.get64(b, ((int) l8) - 60448) ^ -1880844493789993499L)) & 9187201950435737471L) + 9187201950435737471L) | l8) & -9187201950435737472L) ^ -9187201950435737472L)) >>> 3L;
+      final int t116 = (l8 == -9187201950435737472L) ? 1 : 0;
+      if ((l8 = (t116 != 0 ? 8L : t115) + l11) + Long.MIN_VALUE < (l11 + 8L) + Long.MIN_VALUE) { break L111; }
+      L117: {
+       if ((l12 - l8) + Long.MIN_VALUE < -9223372036854775776L) { break L117; }
+       L118: while (true) {
+        if (((((((((l17 = ((l14 = Words.get64(b, ((int) ((l11 = l10 + l8) + 8L)) - 60448)) ^ -4702111234474983746L) | (Words.get64(b, ((int) l11) - 60448) ^ -1880844493789993499L)) & 9187201950435737471L) + 9187201950435737471L) | l17) & ((((l14 = ((l17 = Words.get64(b, ((int) (l11 + 16L)) - 60448)) ^ -4702111234474983746L) | (l14 ^ -1880844493789993499L)) & 9187201950435737471L) + 9187201950435737471L) | l14)) & ((((l17 = ((l14 = Words.get64(b, ((int) (l11 + 24L)) - 60448)) ^ -4702111234474983746L) | (l17 ^ -1880844493789993499L)) & 9187201950435737471L) + 9187201950435737471L) | l17)) & ((((l11 = (Words.get64(b, ((int) (l11 + 32L)) - 60448) ^ -4702111234474983746L) | (l14 ^ -1880844493789993499L)) & 9187201950435737471L) + 9187201950435737471L) | l11)) & -9187201950435737472L) != -9187201950435737472L) { break L117; }
+        if ((l12 - (l8 = Core2.f62(m, l7 + 1232L, l8 + 32L, l12))) + Long.MIN_VALUE > -9223372036854775777L) { continue L118; }
+        break L118;
+       }
+      }
+      l11 = l12 - l8;
+      L119: {
+       L120: while (true) {
+        if (l11 + Long.MIN_VALUE < -9223372036854775799L) { break L119; }
+        l11 = l11 + -8L;
+        final long t121 = ((long) Long.numberOfTrailingZeros((l14 = ((((l14 = (Words.get64(b, ((int) ((l14 = l10 + l8) + 8L)) - 60448) ^ -4702111234474983746L) | (Words.get64(b, ((int) l14) - 60448) ^ -1880844493789993499L)) & 9187201950435737471L) + 9187201950435737471L) | l14) & -9187201950435737472L) ^ -9187201950435737472L)) >>> 3L;
+        final int t122 = (l14 == -9187201950435737472L) ? 1 : 0;
+        if (((l14 = t122 != 0 ? 8L : t121) + l8) + Long.MIN_VALUE >= (l8 = l8 + 8L) + Long.MIN_VALUE) { continue L120; }
+        break L120;
+       }
+       l8 = (l14 + l8) + -8L;
+       break L111;
+      }
+      final long t123 = ((long) Long.numberOfTrailingZeros((l11 = ((((l11 = (Words.get64(b, ((int) (l20 + 8L)) - 60448) ^ -4702111234474983746L) | (Words.get64(b, ((int) l20) - 60448) ^ -1880844493789993499L)) & 9187201950435737471L) + 9187201950435737471L) | l11) & -9187201950435737472L) ^ -9187201950435737472L)) >>> 3L;
+      final int t124 = (l11 == -9187201950435737472L) ? 1 : 0;
+      l8 = (t124 != 0 ? 8L : t123) + l19;
+     }
+     if (l8 == l12) { break L108; }
+     L125: {
+      if ((l18 - l8) + Long.MIN_VALUE < -9223372036854775799L) { break L125; }
+      if (Words.get64(b, ((int) (l11 = l10 + l8)) - 60448) != -8365795144209483291L) { break L125; }
+      if (Words.get64(b, ((int) l11) - 60447) == -4716422499747384135L) { break L109; }
+     }
+     l22 = 1L;
+     final long t126 = l14 = l8 + 129L;
+     final int t127 = (l14 + Long.MIN_VALUE < (l11 = l8 + 1L) + Long.MIN_VALUE) ? 1 : 0;
+     final long t128 = t127 != 0 ? -1L : t126;
+     final long t129 = l14 = l21 + 25L;
+     final int t130 = (l14 + Long.MIN_VALUE < l21 + Long.MIN_VALUE) ? 1 : 0;
+     if (t128 + Long.MIN_VALUE >= ((l21 = t130 != 0 ? -1L : t129) >>> 3L) + Long.MIN_VALUE) { continue L110; }
+     break L110;
+    }
+    l19 = 0L;
+    l21 = 1L;
+    l14 = 1L;
+    l12 = 0L;
+    L131: while (true) {
+     l17 = l14;
+     L132: {
+      L133: {
+       if ((l24 = b[State.far((int) l21, 83482)] & 0xff) + Integer.MIN_VALUE < (l3 = b[((int) ((l19 + l12) + 83482L)) - 60448] & 0xff) + Integer.MIN_VALUE) { break L133; }
+       l12 = l12 + 1L;
+       L134: {
+        if (l3 + Integer.MIN_VALUE >= l24 + Integer.MIN_VALUE) { break L134; }
+        l22 = (l14 = l12 + l17) - l19;
+        l12 = 0L;
+        break L132;
+       }
+       l12 = ((l24 = (l12 == l22) ? 1 : 0) != 0) ? 0L : l12;
+       l14 = (l24 != 0 ? l22 : 0L) + l17;
+       break L132;
+      }
+      l22 = 1L;
+      l14 = l17 + 1L;
+      l12 = 0L;
+      l19 = l17;
+     }
+     if ((l21 = l14 + l12) + Long.MIN_VALUE < -9223372036854775799L) { continue L131; }
+     break L131;
+    }
+    l21 = 0L;
+    l23 = 1L;
+    l20 = 1L;
+    l14 = 1L;
+    l12 = 0L;
+    L135: while (true) {
+     l17 = l14;
+     L136: {
+      L137: {
+       if ((l24 = b[((int) ((l21 + l12) + 83482L)) - 60448] & 0xff) + Integer.MIN_VALUE < (l3 = b[State.far((int) l20, 83482)] & 0xff) + Integer.MIN_VALUE) { break L137; }
+       l12 = l12 + 1L;
+       L138: {
+        if (l3 + Integer.MIN_VALUE < l24 + Integer.MIN_VALUE) { break L138; }
+        l12 = ((l24 = (l12 == l23) ? 1 : 0) != 0) ? 0L : l12;
+        l14 = (l24 != 0 ? l23 : 0L) + l17;
+        break L136;
+       }
+       l23 = (l14 = l12 + l17) - l21;
+       l12 = 0L;
+       break L136;
+      }
+      l23 = 1L;
+      l14 = l17 + 1L;
+      l12 = 0L;
+      l21 = l17;
+     }
+     if ((l20 = l14 + l12) + Long.MIN_VALUE < -9223372036854775799L) { continue L135; }
+     break L135;
+    }
+    L139: {
+     L140: {
+      L141: {
+       L142: {
+        if (l21 + Long.MIN_VALUE >= l19 + Long.MIN_VALUE) { break L142; }
+        final long t143 = l12 = 9L - l19;
+        final long t144 = l19;
+        final int t145 = (l12 + Long.MIN_VALUE > l19 + Long.MIN_VALUE) ? 1 : 0;
+        l17 = t145 != 0 ? t143 : t144;
+        if ((l19 << 1L) + Long.MIN_VALUE > -9223372036854775800L) { break L140; }
+        l12 = 0L;
+        L146: while (true) {
+         if ((b[((int) (l14 = l12 + 83482L)) - 60448] & 0xff) != (b[((int) (l14 + l22)) - 60448] & 0xff)) { break L140; }
+         if (l19 != (l12 = l12 + 1L)) { continue L146; }
+         break L146;
+        }
+        l21 = l19;
+        l23 = l22;
+        break L141;
+       }
+       final long t147 = l12 = 9L - l21;
+       final long t148 = l21;
+       final int t149 = (l12 + Long.MIN_VALUE > l21 + Long.MIN_VALUE) ? 1 : 0;
+       l17 = t149 != 0 ? t147 : t148;
+       if ((l21 << 1L) + Long.MIN_VALUE > -9223372036854775800L) { break L139; }
+       L150: {
+        if (!(l21 == 0L)) { break L150; }
+        l21 = 0L;
+        break L141;
+       }
+       l12 = 0L;
+       L151: while (true) {
+        if ((b[((int) (l14 = l12 + 83482L)) - 60448] & 0xff) != (b[((int) (l14 + l23)) - 60448] & 0xff)) { break L139; }
+        if (l21 != (l12 = l12 + 1L)) { continue L151; }
+        break L151;
+       }
+      }
+      if ((l18 - l11) + Long.MIN_VALUE < -9223372036854775799L) { break L108; }
+      l17 = l21 + -1L;
+      l20 = 1L - l21;
+      l22 = 9L - l23;
+      l9 = 0L;
+      L152: while (true) {
+       L153: {
+        L154: {
+         L155: {
+          if ((l8 = (l9 + Long.MIN_VALUE > l21 + Long.MIN_VALUE) ? l9 : l21) + Long.MIN_VALUE > -9223372036854775800L) { break L155; }
+          l0 = l10 + l11;
+          L156: while (true) {
+           if ((b[((int) (l8 + 83482L)) - 60448] & 0xff) != (b[((int) (l0 + l8)) - 60448] & 0xff)) { break L154; }
+           if ((l8 = l8 + 1L) != 9L) { continue L156; }
+           break L156;
+          }
+         }
+         l14 = l10 + l11;
+         l8 = l17;
+         L157: while (true) {
+          if (l9 + Long.MIN_VALUE >= (l8 + 1L) + Long.MIN_VALUE) { break L109; }
+          l0 = l14 + l8;
+          l12 = l8 + 83482L;
+          l8 = l8 + -1L;
+          if ((b[((int) l12) - 60448] & 0xff) == (b[((int) l0) - 60448] & 0xff)) { continue L157; }
+          break L157;
+         }
+         l11 = l11 + l23;
+         l9 = l22;
+         break L153;
+        }
+        l11 = (l20 + l11) + l8;
+        l9 = 0L;
+       }
+       if ((l18 - l11) + Long.MIN_VALUE < -9223372036854775799L) { break L108; }
+       continue L152;
+      }
+     }
+     l21 = l19;
+    }
+    if ((l18 - l11) + Long.MIN_VALUE < -9223372036854775799L) { break L108; }
+    L158: {
+     if (l21 + Long.MIN_VALUE < -9223372036854775799L) { break L158; }
+     l9 = (l0 + (l9 + l21)) + l8;
+     L159: while (true) {
+      l0 = l9;
+      l8 = l21;
+      L160: while (true) {
+       if (l8 == 0L) { break L109; }
+       l12 = l8 + 83481L;
+       l24 = b[((int) l0) - 60448] & 0xff;
+       l0 = l0 + -1L;
+       l8 = l8 + -1L;
+       if (l24 == (b[((int) l12) - 60448] & 0xff)) { continue L160; }
+       break L160;
+      }
+      l9 = l9 + l17;
+      if ((l18 - (l11 = l11 + l17)) + Long.MIN_VALUE <= -9223372036854775800L) { break L108; }
+      continue L159;
+     }
+    }
+    l9 = ((l9 + l21) + l0) + -1L;
+    L161: while (true) {
+     l0 = l11 ^ -1L;
+     l12 = l10 + l11;
+     l8 = l21;
+     L162: {
+      L163: while (true) {
+       L164: {
+        if ((b[((int) (l8 + 83482L)) - 60448] & 0xff) == (b[((int) (l12 + l8)) - 60448] & 0xff)) { break L164; }
+        l11 = 0L - l0;
+        break L162;
+       }
+       l0 = l0 + -1L;
+       if ((l8 = l8 + 1L) != 9L) { continue L163; }
+       break L163;
+      }
+      l0 = l9 + l11;
+      l8 = l21;
+      L165: while (true) {
+       if (l8 == 0L) { break L109; }
+       l12 = l8 + 83481L;
+       l24 = b[((int) l0) - 60448] & 0xff;
+       l0 = l0 + -1L;
+       l8 = l8 + -1L;
+       if (l24 == (b[((int) l12) - 60448] & 0xff)) { continue L165; }
+       break L165;
+      }
+      l11 = l11 + l17;
+     }
+     if ((l18 - l11) + Long.MIN_VALUE < -9223372036854775799L) { break L108; }
+     continue L161;
+    }
+   }
+   l8 = 0L;
+   l11 = 0L;
+   L166: {
+    if (l18 + Long.MIN_VALUE < -9223372036854775776L) { break L166; }
+    Core1.f25(m, l7 + 48L, l10, l18, l18);
+    l8 = l18 - Words.get64(b, ((int) l7) - 60392);
+    l11 = Words.get64(b, ((int) l7) - 60400);
+   }
+   L167: {
+    if ((l18 - l11) + Long.MIN_VALUE < -9223372036854775800L) { break L167; }
+    L168: while (true) {
+     L169: {
+      L170: {
+       if (((l0 = Words.get64(b, ((int) (l10 + l11)) - 60448)) & 67553998437089520L) != 63050398541283552L) { break L170; }
+       l8 = l8 + 3L;
+       l11 = l11 + 9L;
+       break L169;
+      }
+      if ((l0 & -9187201950435737472L) != 0L) { break L167; }
+      l8 = l8 + 8L;
+      l11 = l11 + 8L;
+     }
+     if ((l18 - l11) + Long.MIN_VALUE > -9223372036854775801L) { continue L168; }
+     break L168;
+    }
+   }
+   L171: {
+    if (l11 + Long.MIN_VALUE >= l18 + Long.MIN_VALUE) { break L171; }
+    L172: while (true) {
+     l8 = l8 + 1L;
+     if ((l11 = Words.get64(b, ((int) (((((b[((int) (l10 + l11)) - 60448] & 0xff) >>> 1) & 0xffffffffL) & 120L) + 66680L)) - 60448) + l11) + Long.MIN_VALUE < l18 + Long.MIN_VALUE) { continue L172; }
+     break L172;
+    }
+   }
+   final long t173 = l8;
+   final long t174 = l11 = l13 + 1L;
+   final int t175 = (l11 == 0L) ? 1 : 0;
+   l24 = (t173 == (t175 != 0 ? -1L : t174)) ? 16 : 11;
+   exit = 1; break PART;
+  }
+ }
+ m.kept[0] = l0;
+ m.kept[1] = l3;
+ m.kept[2] = l8;
+ m.kept[3] = l9;
+ m.kept[4] = l11;
+ m.kept[5] = l12;
+ m.kept[6] = l14;
+ m.kept[7] = l17;
+ m.kept[8] = l18;
+ m.kept[9] = l19;
+ m.kept[10] = l20;
+ m.kept[11] = l21;
+ m.kept[12] = l22;
+ m.kept[13] = l23;
+ m.kept[14] = l24;
+ return exit;
+}
+
+static int f236(State m, long l0, long l1, int l2, int l3, long l4, long l5, long l6) {
+ final byte[] b = m.bytes;
+ long l7 = 0;
+ long l8 = 0;
+ long l9 = 0;
+ long l10 = 0;
+ long l11 = 0;
+ long l12 = 0;
+ long l13 = 0;
+ long l14 = 0;
+ long l15 = 0;
+ long l16 = 0;
+ long l17 = 0;
+ long l18 = 0;
+ long l19 = 0;
+ long l20 = 0;
+ long l21 = 0;
+ long l22 = 0;
+ long l23 = 0;
+ int l24 = 0;
+ int l25 = 0;
+ int l26 = 0;
+ int l27 = 0;
+ int l28 = 0;
+ int l29 = 0;
+ m.g0 = l7 = m.g0 - 1328L;
+ L1: {
+  L2: {
+   L3: {
+    L4: {
+     L5: {
+      L6: {
+       final int x46 = f236_1(m, l0, l1, l2, l3, l6, l7, l8, l9, l10, l11, l12, l13, l14, l15, l16, l17, l18, l24, l25, l26, l27, l28, l29);
+       l0 = m.kept[0];
+       l2 = (int) m.kept[1];
+       l3 = (int) m.kept[2];
+       l7 = m.kept[3];
+       l8 = m.kept[4];
+       l9 = m.kept[5];
+       l10 = m.kept[6];
+       l11 = m.kept[7];
+       l12 = m.kept[8];
+       l13 = m.kept[9];
+       l14 = m.kept[10];
+       l15 = m.kept[11];
+       l16 = m.kept[12];
+       l17 = m.kept[13];
+       l18 = m.kept[14];
+       l24 = (int) m.kept[15];
+       l25 = (int) m.kept[16];
+       l26 = (int) m.kept[17];
+       l27 = (int) m.kept[18];
+       l28 = (int) m.kept[19];
+       l29 = (int) m.kept[20];
+       switch (x46) {
+       case 1: break L1;
+       case 2: break L3;
+       case 3: break L2;
+       case 4: break L6;
+       }
+       L47: {
+        L48: {
+         if ((l2 = l3 & 255) + Integer.MIN_VALUE < -2147483644) { break L48; }
+         L49: {
+          switch (l2 + -4) {
+          case 1: break L49;
+          default: break L47;
+          }
+         }
+         l0 = l1;
+         l11 = l10;
+         L50: {
+          L51: {
+           L52: while (true) {
+            l12 = 0L;
+            L53: {
+             if (l0 != 0L) { break L53; }
+             l8 = l1;
+             L54: {
+              L55: while (true) {
+               if (l8 == 0L) { break L54; }
+               l2 = (l24 = (int) b[((int) l10) - 60448]) & 255;
+               l11 = 1L;
+               L56: {
+                if (l24 > -1) { break L56; }
+                l3 = (b[((int) l10) - 60447] & 0xff) & 63;
+                L57: {
+                 if (l24 + Integer.MIN_VALUE > 2147483615) { break L57; }
+                 l2 = ((l2 << 6) & 1984) | l3;
+                 l11 = 2L;
+                 break L56;
+                }
+                l25 = (b[((int) l10) - 60446] & 0xff) & 63;
+                L58: {
+                 if (l24 + Integer.MIN_VALUE > 2147483631) { break L58; }
+                 l2 = ((l3 << 6) | ((l2 << 12) & 61440)) | l25;
+                 l11 = 3L;
+                 break L56;
+                }
+                l2 = ((l25 << 6) | ((l3 << 12) | ((l2 << 18) & 1835008))) | ((b[((int) l10) - 60445] & 0xff) & 63);
+                l11 = 4L;
+               }
+               l8 = l8 - l11;
+               l10 = l10 + l11;
+               L59: {
+                if (l2 == 65294) { break L59; }
+                if (l2 != 46) { continue L55; }
+               }
+               l12 = l12 + 1L;
+               continue L55;
+              }
+             }
+             if (l12 + Long.MIN_VALUE < -9223372036854775806L) { break L50; }
+             break L51;
+            }
+            l2 = (l24 = (int) b[((int) l11) - 60448]) & 255;
+            l8 = 1L;
+            L60: {
+             if (l24 > -1) { break L60; }
+             l3 = (b[((int) l11) - 60447] & 0xff) & 63;
+             L61: {
+              if (l24 + Integer.MIN_VALUE > 2147483615) { break L61; }
+              l2 = ((l2 << 6) & 1984) | l3;
+              l8 = 2L;
+              break L60;
+             }
+             l25 = (b[((int) l11) - 60446] & 0xff) & 63;
+             L62: {
+              if (l24 + Integer.MIN_VALUE > 2147483631) { break L62; }
+              l2 = ((l3 << 6) | ((l2 << 12) & 61440)) | l25;
+              l8 = 3L;
+              break L60;
+             }
+             l2 = ((l25 << 6) | ((l3 << 12) | ((l2 << 18) & 1835008))) | ((b[((int) l11) - 60445] & 0xff) & 63);
+             l8 = 4L;
+            }
+            if (l2 == 44) { break L51; }
+            l0 = l0 - l8;
+            l11 = l11 + l8;
+            if (l2 != 65292) { continue L52; }
+            break L52;
+           }
+          }
+          L63: {
+           if (!(l15 == 0L)) { break L63; }
+           l24 = 12;
+           l2 = 1;
+           break L5;
+          }
+          l10 = l15;
+          l11 = l14;
+          L64: while (true) {
+           if (l10 == 0L) { break L50; }
+           l3 = (l2 = (int) b[((int) l11) - 60448]) & 255;
+           l8 = 1L;
+           L65: {
+            if (l2 > -1) { break L65; }
+            l24 = (b[((int) l11) - 60447] & 0xff) & 63;
+            L66: {
+             if (l2 + Integer.MIN_VALUE > 2147483615) { break L66; }
+             l3 = ((l3 << 6) & 1984) | l24;
+             l8 = 2L;
+             break L65;
+            }
+            l25 = (b[((int) l11) - 60446] & 0xff) & 63;
+            L67: {
+             if (l2 + Integer.MIN_VALUE > 2147483631) { break L67; }
+             l3 = ((l24 << 6) | ((l3 << 12) & 61440)) | l25;
+             l8 = 3L;
+             break L65;
+            }
+            l3 = ((l25 << 6) | ((l24 << 12) | ((l3 << 18) & 1835008))) | ((b[((int) l11) - 60445] & 0xff) & 63);
+            l8 = 4L;
+           }
+           l2 = 1;
+           l24 = 12;
+           if ((l3 + -48) + Integer.MIN_VALUE < -2147483638) { break L6; }
+           if ((l3 + -65296) + Integer.MIN_VALUE < -2147483638) { break L6; }
+           l11 = l11 + l8;
+           l10 = l10 - l8;
+           L68: {
+            switch (l3 + -44) {
+            case 0: case 2: break L6;
+            case 1: continue L64;
+            default: break L68;
+            }
+           }
+           switch (l3 + -65292) {
+           case 0: case 2: break L6;
+           default: continue L64;
+           }
+          }
+         }
+         L69: {
+          if (Core1.f29(m, l16, l17, 83384L) == 0) { break L69; }
+          if (Core1.f29(m, l16, l17, 83388L) != 0) { break L69; }
+          l10 = l15;
+          l11 = l14;
+          L70: while (true) {
+           if (l10 == 0L) { break L69; }
+           l3 = (l2 = (int) b[((int) l11) - 60448]) & 255;
+           l8 = 1L;
+           L71: {
+            if (l2 > -1) { break L71; }
+            l24 = (b[((int) l11) - 60447] & 0xff) & 63;
+            L72: {
+             if (l2 + Integer.MIN_VALUE > 2147483615) { break L72; }
+             l3 = ((l3 << 6) & 1984) | l24;
+             l8 = 2L;
+             break L71;
+            }
+            l25 = (b[((int) l11) - 60446] & 0xff) & 63;
+            L73: {
+             if (l2 + Integer.MIN_VALUE > 2147483631) { break L73; }
+             l3 = ((l24 << 6) | ((l3 << 12) & 61440)) | l25;
+             l8 = 3L;
+             break L71;
+            }
+            l3 = ((l25 << 6) | ((l24 << 12) | ((l3 << 18) & 1835008))) | ((b[((int) l11) - 60445] & 0xff) & 63);
+            l8 = 4L;
+           }
+           l2 = 1;
+           l24 = 14;
+           if ((l3 + -48) + Integer.MIN_VALUE < -2147483638) { break L6; }
+           l10 = l10 - l8;
+           l11 = l11 + l8;
+           if ((l3 + -65296) + Integer.MIN_VALUE >= -2147483638) { continue L70; }
+           break L6;
+          }
+         }
+         l2 = 1;
+         L74: {
+          if ((l26 & 1) != 0) { break L74; }
+          l24 = 11;
+          break L6;
+         }
+         l8 = l15;
+         L75: {
+          L76: while (true) {
+           L77: {
+            if (!((l10 = l8) == 0L)) { break L77; }
+            l24 = 0;
+            break L75;
+           }
+           l2 = (l24 = (int) b[((int) l14) - 60448]) & 255;
+           l11 = 1L;
+           L78: {
+            if (l24 > -1) { break L78; }
+            l3 = (b[((int) l14) - 60447] & 0xff) & 63;
+            L79: {
+             if (l24 + Integer.MIN_VALUE > 2147483615) { break L79; }
+             l2 = ((l2 << 6) & 1984) | l3;
+             l11 = 2L;
+             break L78;
+            }
+            l25 = (b[((int) l14) - 60446] & 0xff) & 63;
+            L80: {
+             if (l24 + Integer.MIN_VALUE > 2147483631) { break L80; }
+             l2 = ((l3 << 6) | ((l2 << 12) & 61440)) | l25;
+             l11 = 3L;
+             break L78;
+            }
+            l2 = ((l25 << 6) | ((l3 << 12) | ((l2 << 18) & 1835008))) | ((b[((int) l14) - 60445] & 0xff) & 63);
+            l11 = 4L;
+           }
+           l24 = 13;
+           if (((l2 & 2097119) + -65) + Integer.MIN_VALUE < -2147483622) { break L75; }
+           if (l2 == 37) { break L75; }
+           if (l2 == 8240) { break L75; }
+           if (l2 == 65285) { break L75; }
+           l8 = l10 - l11;
+           l14 = l14 + l11;
+           Core2.f61(m, l7 + 40L, l2);
+           if ((b[((int) l7) - 60408] & 0xff) != 1) { continue L76; }
+           break L76;
+          }
+         }
+         l2 = (l10 != 0L) ? 1 : 0;
+         break L6;
+        }
+        L81: {
+         if ((l26 & 1) == 0) { break L81; }
+         l24 = 0;
+         l2 = 0;
+         break L6;
+        }
+        L82: {
+         L83: {
+          L84: {
+           if (Core1.f31(m, l14, l15, 83491L, 3L) != 0) { break L84; }
+           if (Core1.f31(m, l14, l15, 83494L, 3L) != 0) { break L84; }
+           l2 = 1;
+           l24 = 11;
+           l3 = Core1.f31(m, l14, l15, 83497L, 3L);
+           if (l13 == 0L) { break L6; }
+           if (l3 == 0) { break L6; }
+           break L83;
+          }
+          if (l13 == 0L) { break L82; }
+         }
+         Core1.f30(m, l7 + 104L, l10, l1, l13 + -1L);
+         l10 = Words.get64(b, ((int) l7) - 60336);
+         l11 = Words.get64(b, ((int) l7) - 60344);
+         L85: while (true) {
+          if (l10 == 0L) { break L82; }
+          l2 = (l24 = (int) b[((int) l11) - 60448]) & 255;
+          l8 = 1L;
+          L86: {
+           if (l24 > -1) { break L86; }
+           l3 = (b[((int) l11) - 60447] & 0xff) & 63;
+           L87: {
+            if (l24 + Integer.MIN_VALUE > 2147483615) { break L87; }
+            l2 = ((l2 << 6) & 1984) | l3;
+            l8 = 2L;
+            break L86;
+           }
+           l25 = (b[((int) l11) - 60446] & 0xff) & 63;
+           L88: {
+            if (l24 + Integer.MIN_VALUE > 2147483631) { break L88; }
+            l2 = ((l3 << 6) | ((l2 << 12) & 61440)) | l25;
+            l8 = 3L;
+            break L86;
+           }
+           l2 = ((l25 << 6) | ((l3 << 12) | ((l2 << 18) & 1835008))) | ((b[((int) l11) - 60445] & 0xff) & 63);
+           l8 = 4L;
+          }
+          Core2.f63(m, l7 + 96L, l2);
+          l10 = l10 - l8;
+          l11 = l11 + l8;
+          l2 = 1;
+          if ((b[((int) l7) - 60352] & 0xff) != 1) { continue L85; }
+          l24 = 20;
+          if (((b[((int) l7) - 60351] & 0xff) & 255) == 0) { continue L85; }
+          break L6;
+         }
+        }
+        l2 = 1;
+        l24 = 11;
+        break L6;
+       }
+       L89: {
+        L90: {
+         if (Core1.f31(m, l14, l15, 83491L, 3L) != 0) { break L90; }
+         if (Core1.f31(m, l14, l15, 83494L, 3L) != 0) { break L90; }
+         if (Core1.f31(m, l14, l15, 83497L, 3L) == 0) { break L89; }
+        }
+        Words.put32(b, ((int) l7) - 59144, 24180);
+        l8 = 0L;
+        Words.put64(b, ((int) l7) - 59200, 0L);
+        Words.put64(b, ((int) l7) - 59208, 0L);
+        Words.put64(b, ((int) l7) - 59216, 0L);
+        Core2.f51(m, l7 + 1232L, l7 + 1304L, l10, l1);
+        if ((b[((int) l7) - 59216] & 0xff) != 1) { break L89; }
+        l11 = 0L;
+        L91: {
+         if ((l12 = Words.get64(b, ((int) l7) - 59208)) + Long.MIN_VALUE < -9223372036854775776L) { break L91; }
+         Core1.f25(m, l7 + 80L, l10, l12, l12);
+         l8 = l12 - Words.get64(b, ((int) l7) - 60360);
+         l11 = Words.get64(b, ((int) l7) - 60368);
+        }
+        L92: {
+         if ((l12 - l11) + Long.MIN_VALUE < -9223372036854775800L) { break L92; }
+         L93: while (true) {
+          L94: {
+           L95: {
+            if (((l14 = Words.get64(b, ((int) (l10 + l11)) - 60448)) & 67553998437089520L) != 63050398541283552L) { break L95; }
+            l8 = l8 + 3L;
+            l11 = l11 + 9L;
+            break L94;
+           }
+           if ((l14 & -9187201950435737472L) != 0L) { break L92; }
+           l8 = l8 + 8L;
+           l11 = l11 + 8L;
+          }
+          if ((l12 - l11) + Long.MIN_VALUE > -9223372036854775801L) { continue L93; }
+          break L93;
+         }
+        }
+        L96: {
+         if (l11 + Long.MIN_VALUE >= l12 + Long.MIN_VALUE) { break L96; }
+         L97: while (true) {
+          l8 = l8 + 1L;
+          if ((l11 = Words.get64(b, ((int) (((((b[((int) (l10 + l11)) - 60448] & 0xff) >>> 1) & 0xffffffffL) & 120L) + 66680L)) - 60448) + l11) + Long.MIN_VALUE < l12 + Long.MIN_VALUE) { continue L97; }
+          break L97;
+         }
+        }
+        if (l13 + Long.MIN_VALUE >= l8 + Long.MIN_VALUE) { break L89; }
+        l2 = 1;
+        l24 = 17;
+        break L6;
+       }
+       Words.put32(b, ((int) l7) - 59144, 26376);
+       Words.put64(b, ((int) l7) - 59200, 0L);
+       Words.put64(b, ((int) l7) - 59208, 0L);
+       Words.put64(b, ((int) l7) - 59216, 0L);
+       Core2.f51(m, l7 + 1232L, l7 + 1304L, l10, l1);
+       L98: {
+        if ((b[((int) l7) - 59216] & 0xff) != 1) { break L98; }
+        l12 = Words.get64(b, ((int) l7) - 59208);
+        L99: {
+         if (Core1.f31(m, l8 = l10 + (l11 = Words.get64(b, ((int) l7) - 59200)), l11 = l1 - l11, 83392L, 12L) != 0) { break L99; }
+         if (Core1.f31(m, l8, l11, 83404L, 12L) != 0) { break L99; }
+         if (Core1.f31(m, l8, l11, 83416L, 9L) != 0) { break L99; }
+         if (Core1.f31(m, l8, l11, 83425L, 9L) != 0) { break L99; }
+         if (Core1.f31(m, l8, l11, 83434L, 12L) != 0) { break L99; }
+         if (Core1.f31(m, l8, l11, 83446L, 12L) != 0) { break L99; }
+         if (Core1.f31(m, l8, l11, 83458L, 12L) != 0) { break L99; }
+         if (Core1.f31(m, l8, l11, 83470L, 12L) == 0) { break L98; }
+        }
+        l8 = 0L;
+        l11 = 0L;
+        L100: {
+         if (l12 + Long.MIN_VALUE < -9223372036854775776L) { break L100; }
+         Core1.f25(m, l7 + 64L, l10, l12, l12);
+         l8 = l12 - Words.get64(b, ((int) l7) - 60376);
+         l11 = Words.get64(b, ((int) l7) - 60384);
+        }
+        L101: {
+         if ((l12 - l11) + Long.MIN_VALUE < -9223372036854775800L) { break L101; }
+         L102: while (true) {
+          L103: {
+           L104: {
+            if (((l14 = Words.get64(b, ((int) (l10 + l11)) - 60448)) & 67553998437089520L) != 63050398541283552L) { break L104; }
+            l8 = l8 + 3L;
+            l11 = l11 + 9L;
+            break L103;
+           }
+           if ((l14 & -9187201950435737472L) != 0L) { break L101; }
+           l8 = l8 + 8L;
+           l11 = l11 + 8L;
+          }
+          if ((l12 - l11) + Long.MIN_VALUE > -9223372036854775801L) { continue L102; }
+          break L102;
+         }
+        }
+        L105: {
+         if (l11 + Long.MIN_VALUE >= l12 + Long.MIN_VALUE) { break L105; }
+         L106: while (true) {
+          l8 = l8 + 1L;
+          if ((l11 = Words.get64(b, ((int) (((((b[((int) (l10 + l11)) - 60448] & 0xff) >>> 1) & 0xffffffffL) & 120L) + 66680L)) - 60448) + l11) + Long.MIN_VALUE < l12 + Long.MIN_VALUE) { continue L106; }
+          break L106;
+         }
+        }
+        if (l8 + Long.MIN_VALUE >= l13 + Long.MIN_VALUE) { break L98; }
+        l2 = 1;
+        l24 = 15;
+        break L6;
+       }
+       Words.put32(b, ((int) l7) - 59144, 26376);
+       Words.put64(b, ((int) l7) - 59200, 0L);
+       Words.put64(b, ((int) l7) - 59208, 0L);
+       Words.put64(b, ((int) l7) - 59216, 0L);
+       Core2.f51(m, l7 + 1232L, l7 + 1304L, l10, l1);
+       l2 = 1;
+       L107: {
+        if ((b[((int) l7) - 59216] & 0xff) == 1) { break L107; }
+        l24 = 11;
+        break L6;
+       }
+       final int x176 = f236_2(m, l0, l3, l7, l8, l9, l10, l11, l12, l13, l14, l17, l18, l19, l20, l21, l22, l23, l24);
+       l0 = m.kept[0];
+       l3 = (int) m.kept[1];
+       l8 = m.kept[2];
+       l9 = m.kept[3];
+       l11 = m.kept[4];
+       l12 = m.kept[5];
+       l14 = m.kept[6];
+       l17 = m.kept[7];
+       l18 = m.kept[8];
+       l19 = m.kept[9];
+       l20 = m.kept[10];
+       l21 = m.kept[11];
+       l22 = m.kept[12];
+       l23 = m.kept[13];
+       l24 = (int) m.kept[14];
+       switch (x176) {
+       case 1: break L6;
+       }
+       l24 = 11;
+      }
+      if (l15 == 0L) { break L5; }
+      l25 = 8;
+      l3 = 4;
+      break L4;
+     }
+     l25 = ((l3 = (l1 == 0L) ? 1 : 0) != 0) ? 9 : 10;
+     l3 = l3 != 0 ? 5 : 6;
+    }
+    Core2.f50(m, l7 + 936L, l7 + 152L, l3);
+    L177: {
+     L178: {
+      L179: {
+       if (l2 != 0) { break L179; }
+       if (((b[((int) l7) - 59432] & 0xff) & 1) == 0) { break L179; }
+       Core2.f50(m, l7 + 936L, l7 + 152L, 7);
+       break L178;
+      }
+      if (l2 == 0) { break L178; }
+      if (l24 != 11) { break L177; }
+     }
+     L180: {
+      if ((l11 = Words.get64(b, ((int) l7) - 59232)) == 0L) { break L180; }
+      L181: {
+       if (Core1.f29(m, l16, l11, 83384L) == 0) { break L181; }
+       if (Core1.f29(m, l16, l11, 83388L) == 0) { break L180; }
+      }
+      Core2.f50(m, l7 + 936L, l7 + 152L, l25);
+     }
+     if (l2 == 0) { break L2; }
+    }
+    Core2.f50(m, l7 + 936L, l7 + 152L, l24);
+    break L2;
+   }
+   L182: {
+    if (l11 + Long.MIN_VALUE >= l1 + Long.MIN_VALUE) { break L182; }
+    L183: while (true) {
+     l8 = l8 + 1L;
+     if ((l11 = Words.get64(b, ((int) (((((b[((int) (l10 + l11)) - 60448] & 0xff) >>> 1) & 0xffffffffL) & 120L) + 66680L)) - 60448) + l11) + Long.MIN_VALUE < l1 + Long.MIN_VALUE) { continue L183; }
+     break L183;
+    }
+   }
+   l24 = 3;
+   L184: {
+    L185: {
+     L186: {
+      switch (l2) {
+      case 1: break L184;
+      case 2: break L185;
+      default: break L186;
+      }
+     }
+     l24 = (l8 + Long.MIN_VALUE <= l12 + Long.MIN_VALUE) ? 1 : 0;
+    }
+    Core2.f50(m, l7 + 1232L, l7 + 152L, l24);
+    break L2;
+   }
+   Core2.f50(m, l7 + 1232L, l7 + 152L, 2);
+   Core1.f30(m, l7 + 8L, l10, l1, l12);
+   L187: {
+    if (Core1.f31(m, l11 = Words.get64(b, ((int) l7) - 60440), l8 = Words.get64(b, ((int) l7) - 60432), 70241L, 3L) != 0) { break L187; }
+    if (Core1.f31(m, l11, l8, 70244L, 3L) != 0) { break L187; }
+    if (Core1.f31(m, l11, l8, 70247L, 3L) != 0) { break L187; }
+    if (Core1.f31(m, l11, l8, 70250L, 3L) != 0) { break L187; }
+    if (Core1.f31(m, l11, l8, 70253L, 3L) != 0) { break L187; }
+    if (Core1.f31(m, l11, l8, 70256L, 3L) != 0) { break L187; }
+    if (Core1.f31(m, l11, l8, 70259L, 3L) != 0) { break L187; }
+    if (Core1.f31(m, l11, l8, 70262L, 3L) != 0) { break L187; }
+    if (Core1.f31(m, l11, l8, 70265L, 3L) != 0) { break L187; }
+    if (Core1.f31(m, l11, l8, 70268L, 3L) != 0) { break L187; }
+    if (Core1.f31(m, l11, l8, 70271L, 3L) != 0) { break L187; }
+    if (Core1.f31(m, l11, l8, 70274L, 3L) != 0) { break L187; }
+    if (Core1.f31(m, l11, l8, 70277L, 3L) != 0) { break L187; }
+    L188: while (true) {
+     if (l8 == 0L) { break L2; }
+     l2 = (l24 = (int) b[((int) l11) - 60448]) & 255;
+     l1 = 1L;
+     L189: {
+      if (l24 > -1) { break L189; }
+      l3 = (b[((int) l11) - 60447] & 0xff) & 63;
+      L190: {
+       if (l24 + Integer.MIN_VALUE > 2147483615) { break L190; }
+       l2 = ((l2 << 6) & 1984) | l3;
+       l1 = 2L;
+       break L189;
+      }
+      l25 = (b[((int) l11) - 60446] & 0xff) & 63;
+      L191: {
+       if (l24 + Integer.MIN_VALUE > 2147483631) { break L191; }
+       l2 = ((l3 << 6) | ((l2 << 12) & 61440)) | l25;
+       l1 = 3L;
+       break L189;
+      }
+      l2 = ((l25 << 6) | ((l3 << 12) | ((l2 << 18) & 1835008))) | ((b[((int) l11) - 60445] & 0xff) & 63);
+      l1 = 4L;
+     }
+     if ((l2 + -48) + Integer.MIN_VALUE < -2147483638) { break L187; }
+     l8 = l8 - l1;
+     l11 = l11 + l1;
+     if ((l2 + -65296) + Integer.MIN_VALUE > -2147483639) { continue L188; }
+     break L188;
+    }
+   }
+   Core2.f50(m, l7 + 1232L, l7 + 152L, 21);
+  }
+  final int t192 = (int) l6;
+  final long t193 = l11 = Words.get64(b, ((int) l7) - 60280);
+  final int t194 = l2 = (l11 + Long.MIN_VALUE < -9223372036854775295L) ? 1 : 0;
+  Words.put64(b, t192 - 60448, l11 = t194 != 0 ? t193 : 0L);
+  L195: {
+   if (l5 + Long.MIN_VALUE >= l11 + Long.MIN_VALUE) { break L195; }
+   l24 = 6;
+   break L1;
+  }
+  L196: {
+   L197: {
+    final long t198 = l6 = l4 + (l12 = (l4 == 0L) ? 4096L : 0L);
+    final long t199 = l7 + 176L;
+    final int t200 = l2;
+    if ((t198 - (l0 = t200 != 0 ? t199 : 83372L)) + Long.MIN_VALUE >= l11 + Long.MIN_VALUE) { break L197; }
+    l10 = l11 & 3L;
+    l8 = 0L;
+    L201: {
+     if (l11 + Long.MIN_VALUE < -9223372036854775804L) { break L201; }
+     l5 = l11 & -4L;
+     l8 = 0L;
+     L202: while (true) {
+      b[((int) (l11 = l6 + l8)) - 60448] = (byte) (b[((int) (l1 = l0 + l8)) - 60448] & 0xff);
+      b[((int) (l11 + 1L)) - 60448] = (byte) (b[((int) (l1 + 1L)) - 60448] & 0xff);
+      b[((int) (l11 + 2L)) - 60448] = (byte) (b[((int) (l1 + 2L)) - 60448] & 0xff);
+      b[((int) (l11 + 3L)) - 60448] = (byte) (b[((int) (l1 + 3L)) - 60448] & 0xff);
+      if (l5 != (l8 = l8 + 4L)) { continue L202; }
+      break L202;
+     }
+     if (l10 == 0L) { break L196; }
+    }
+    l11 = l0 + l8;
+    l8 = l4 + (l12 + l8);
+    L203: while (true) {
+     b[((int) l8) - 60448] = (byte) (b[((int) l11) - 60448] & 0xff);
+     l8 = l8 + 1L;
+     l11 = l11 + 1L;
+     if ((l10 = l10 + -1L) != 0L) { continue L203; }
+     break L196;
+    }
+   }
+   if (l11 == 0L) { break L196; }
+   m.copy((int) l6, (int) l0, (int) l11);
+   l24 = 0;
+   break L1;
+  }
+  l24 = 0;
+ }
+ m.g0 = l7 + 1328L;
+ return l24;
+}
+
+static int f238(State m, int l0, int l1, int l2, int l3, long l4, long l5, long l6) {
+ final byte[] b = m.bytes;
+ long l7 = 0;
+ long l8 = 0;
+ long l9 = 0;
+ long l10 = 0;
+ long l11 = 0;
+ long l12 = 0;
+ long l13 = 0;
+ int l14 = 0;
+ int l15 = 0;
+ int l16 = 0;
+ m.g0 = l7 = m.g0 - 64L;
+ L1: {
+  L2: {
+   L3: {
+    L4: {
+     L5: {
+      if ((l7 = l7) < 16L) { break L5; }
+      Words.put64(b, ((int) l6) - 60448, 0L);
+      L6: {
+       if (l3 + Integer.MIN_VALUE <= -2147483647) { break L6; }
+       l14 = 8;
+       break L1;
+      }
+      Words.put64(b, ((int) l7) - 60417, 0L);
+      Words.put64(b, ((int) l7) - 60424, 0L);
+      Words.put64(b, ((int) l7) - 60432, 0L);
+      Words.put64(b, ((int) l7) - 60440, 0L);
+      Words.put64(b, ((int) l7) - 60448, 0L);
+      l14 = 11;
+      if (l0 + Integer.MIN_VALUE > -2147418113) { break L1; }
+      if (l1 + Integer.MIN_VALUE > -2147483393) { break L1; }
+      if (l2 + Integer.MIN_VALUE > -2147483393) { break L1; }
+      if (((l15 = (l2 + Integer.MIN_VALUE < -2147483392) ? l2 : 256) & 255) == 0) { break L1; }
+      if ((((l16 = (l0 + Integer.MIN_VALUE < -2147418112) ? l0 : 65536) + -1) & 65535) + Integer.MIN_VALUE > -2147473650) { break L1; }
+      if ((((l0 = (l1 + Integer.MIN_VALUE < -2147483392) ? l1 : 256) + -1) & 255) + Integer.MIN_VALUE > -2147483637) { break L1; }
+      l14 = b[((int) ((l3 & 0xffffffffL) + 83500L)) - 60448] & 0xff;
+      L7: {
+       L8: {
+        if ((l0 & 255) != 2) { break L8; }
+        l3 = 28;
+        if ((l16 & 3) != 0) { break L7; }
+        final int t9 = (((int) (((l3 = l16 & 65535) & 0xffffffffL) % 400L)) != 0) ? 28 : 29;
+        final int t10 = (int) ((l3 & 0xffffffffL) % 100L);
+        l3 = t10 != 0 ? 29 : t9;
+        break L7;
+       }
+       final int t11 = ((l3 = l0 & 13) == 9) ? 30 : 31;
+       final int t12 = (l3 == 4) ? 1 : 0;
+       l3 = t12 != 0 ? 30 : t11;
+      }
+      L13: {
+       if (l3 + Integer.MIN_VALUE >= (l15 & 255) + Integer.MIN_VALUE) { break L13; }
+       l14 = 11;
+       break L1;
+      }
+      Words.put64(b, ((int) l7) - 60392, 0L);
+      Words.put64(b, ((int) l7) - 60400, 39L);
+      Words.put64(b, ((int) l7) - 60408, l7);
+      Core2.f64(m, l7 + 40L, l14, l16);
+      L14: {
+       final long t15 = l9 = (l8 = Words.get64(b, ((int) l7) - 60392)) + 3L;
+       final int t16 = (l9 + Long.MIN_VALUE < l8 + Long.MIN_VALUE) ? 1 : 0;
+       if ((l9 = t16 != 0 ? -1L : t15) + Long.MIN_VALUE > (l10 = Words.get64(b, ((int) l7) - 60400)) + Long.MIN_VALUE) { break L14; }
+       b[((int) (l11 = Words.get64(b, ((int) l7) - 60408) + l8)) - 60446] = (byte) 180;
+       Words.put16(b, ((int) l11) - 60448, (short) 47589);
+      }
+      Words.put64(b, ((int) l7) - 60392, l9);
+      L17: {
+       if ((l3 = l0 & 255) + Integer.MIN_VALUE > -2147483638) { break L17; }
+       if (((1 << l3) & 1030) == 0) { break L17; }
+       L18: {
+        final long t19 = l11 = l8 + 6L;
+        final int t20 = (l11 + Long.MIN_VALUE < l8 + Long.MIN_VALUE) ? 1 : 0;
+        if ((l8 = t20 != 0 ? -1L : t19) + Long.MIN_VALUE > l10 + Long.MIN_VALUE) { break L18; }
+        b[((int) (l9 = Words.get64(b, ((int) l7) - 60408) + l9)) - 60446] = (byte) 182;
+        Words.put16(b, ((int) l9) - 60448, (short) 39913);
+       }
+       Words.put64(b, ((int) l7) - 60392, l8);
+      }
+      l3 = (l4 == 0L) ? 1 : 0;
+      Core2.f65(m, l7 + 40L, l14, l0);
+      L21: {
+       final long t22 = l9 = (l8 = Words.get64(b, ((int) l7) - 60392)) + 3L;
+       final int t23 = (l9 + Long.MIN_VALUE < l8 + Long.MIN_VALUE) ? 1 : 0;
+       if ((l9 = t23 != 0 ? -1L : t22) + Long.MIN_VALUE > (l10 = Words.get64(b, ((int) l7) - 60400)) + Long.MIN_VALUE) { break L21; }
+       b[((int) (l11 = Words.get64(b, ((int) l7) - 60408) + l8)) - 60446] = (byte) 136;
+       Words.put16(b, ((int) l11) - 60448, (short) 40166);
+      }
+      l12 = l3 != 0 ? 4096L : 0L;
+      Words.put64(b, ((int) l7) - 60392, l9);
+      l3 = (int) (((l15 & 255) & 0xffffffffL) % 10L);
+      L24: {
+       L25: {
+        if (l2 + Integer.MIN_VALUE < -2147483638) { break L25; }
+        if (l3 != 0) { break L24; }
+       }
+       L26: {
+        final long t27 = l11 = l8 + 6L;
+        final int t28 = (l11 + Long.MIN_VALUE < l8 + Long.MIN_VALUE) ? 1 : 0;
+        if ((l8 = t28 != 0 ? -1L : t27) + Long.MIN_VALUE > l10 + Long.MIN_VALUE) { break L26; }
+        b[((int) (l9 = Words.get64(b, ((int) l7) - 60408) + l9)) - 60446] = (byte) 182;
+        Words.put16(b, ((int) l9) - 60448, (short) 39913);
+       }
+       Words.put64(b, ((int) l7) - 60392, l8);
+      }
+      l11 = l4 + l12;
+      Core2.f65(m, l7 + 40L, l14, l15);
+      L29: {
+       final long t30 = l8 = (l13 = Words.get64(b, ((int) l7) - 60392)) + 3L;
+       final int t31 = (l8 + Long.MIN_VALUE < l13 + Long.MIN_VALUE) ? 1 : 0;
+       if ((l8 = t31 != 0 ? -1L : t30) + Long.MIN_VALUE <= Words.get64(b, ((int) l7) - 60400) + Long.MIN_VALUE) { break L29; }
+       l8 = 0L;
+       Words.put64(b, ((int) l6) - 60448, 0L);
+       l10 = 83372L;
+       break L3;
+      }
+      b[((int) (l9 = (l10 = Words.get64(b, ((int) l7) - 60408)) + l13)) - 60446] = (byte) 165;
+      Words.put16(b, ((int) l9) - 60448, (short) 38886);
+      Words.put64(b, ((int) l6) - 60448, l8);
+      L32: {
+       if (l5 + Long.MIN_VALUE >= l8 + Long.MIN_VALUE) { break L32; }
+       l14 = 6;
+       break L1;
+      }
+      if ((l11 - l10) + Long.MIN_VALUE >= l8 + Long.MIN_VALUE) { break L3; }
+      l9 = l8 & 3L;
+      L33: {
+       if (!(l13 == 0L)) { break L33; }
+       l6 = 0L;
+       break L4;
+      }
+      l13 = l8 & -4L;
+      l6 = 0L;
+      L34: while (true) {
+       b[((int) (l5 = l11 + l6)) - 60448] = (byte) (b[((int) (l8 = l10 + l6)) - 60448] & 0xff);
+       b[((int) (l5 + 1L)) - 60448] = (byte) (b[((int) (l8 + 1L)) - 60448] & 0xff);
+       b[((int) (l5 + 2L)) - 60448] = (byte) (b[((int) (l8 + 2L)) - 60448] & 0xff);
+       b[((int) (l5 + 3L)) - 60448] = (byte) (b[((int) (l8 + 3L)) - 60448] & 0xff);
+       if (l13 != (l6 = l6 + 4L)) { continue L34; }
+       break L34;
+      }
+      if (!(l9 == 0L)) { break L4; }
+      break L2;
+     }
+     throw State.trap();
+    }
+    l5 = l10 + l6;
+    l6 = l4 + (l12 + l6);
+    L35: while (true) {
+     b[((int) l6) - 60448] = (byte) (b[((int) l5) - 60448] & 0xff);
+     l6 = l6 + 1L;
+     l5 = l5 + 1L;
+     l14 = 0;
+     if ((l9 = l9 + -1L) != 0L) { continue L35; }
+     break L1;
+    }
+   }
+   if (l8 == 0L) { break L2; }
+   m.copy((int) l11, (int) l10, (int) l8);
+  }
+  l14 = 0;
+ }
+ m.g0 = l7 + 64L;
+ return l14;
+}
+
+static int f240(State m, long l0, int l1, int l2, long l3, long l4, long l5) {
+ final byte[] b = m.bytes;
+ long l6 = 0;
+ long l7 = 0;
+ long l8 = 0;
+ long l9 = 0;
+ long l10 = 0;
+ long l11 = 0;
+ int l12 = 0;
+ int l13 = 0;
+ m.g0 = l6 = m.g0 - 192L;
+ L1: {
+  L2: {
+   L3: {
+    if ((l6 = l6) < 16L) { break L3; }
+    Words.put64(b, ((int) l5) - 60448, 0L);
+    l12 = 0;
+    L4: {
+     if (l1 + Integer.MIN_VALUE > -2147483647) { break L4; }
+     l12 = b[((int) ((l1 & 0xffffffffL) + 83500L)) - 60448] & 0xff;
+    }
+    l13 = 8;
+    if (l2 + Integer.MIN_VALUE > -2147483633) { break L1; }
+    if (l1 + Integer.MIN_VALUE > -2147483647) { break L1; }
+    L5: {
+     if ((l7 = (l0 ^ (l7 = l0 >> 63L)) - l7) + Long.MIN_VALUE < -8223372036854775808L) { break L5; }
+     l13 = (l0 < 0L) ? 4 : 3;
+     break L1;
+    }
+    m.fill((int) (l6 + 7L), 0, (int) 129L);
+    Words.put32(b, ((int) l6) - 60260, ((((l2 << 7) & 256) | (l2 & 1)) | ((l2 << 14) & 65536)) | (l13 = (l2 << 21) & 16777216));
+    b[((int) l6) - 60261] = (byte) l12;
+    Words.put64(b, ((int) l6) - 60272, 0L);
+    Words.put64(b, ((int) l6) - 60280, 129L);
+    Words.put16(b, ((int) l6) - 60296, (short) 0);
+    Words.put64(b, ((int) l6) - 60304, 0L);
+    Words.put64(b, ((int) l6) - 60312, 0L);
+    Words.put64(b, ((int) l6) - 60288, l6 + 7L);
+    L6: {
+     if (l0 > -1L) { break L6; }
+     l1 = (l2 = ((l12 = l12 & 255) != 0) ? 36127 : 36000) | -128;
+     l2 = (l2 >>> 6) | -128;
+     L7: {
+      L8: {
+       if (l13 != 0) { break L8; }
+       l0 = 3L;
+       l13 = 232;
+       break L7;
+      }
+      b[((int) l6) - 60430] = (byte) 137;
+      Words.put16(b, ((int) l6) - 60432, (short) 48367);
+      Words.put16(b, ((int) l6) - 60435, (short) 38374);
+      b[((int) l6) - 60436] = (byte) l1;
+      b[((int) l6) - 60437] = (byte) l2;
+      b[((int) l6) - 60438] = (byte) 232;
+      b[((int) l6) - 60433] = (byte) ((l12 == 1) ? -80 : -72);
+      l0 = 12L;
+      l1 = 136;
+      l2 = 188;
+      l13 = 239;
+     }
+     b[((int) l6) - 60439] = (byte) l1;
+     b[((int) l6) - 60440] = (byte) l2;
+     b[((int) l6) - 60441] = (byte) l13;
+     Words.put64(b, ((int) l6) - 60272, l0);
+    }
+    Core2.f66(m, l6 + 136L, l7);
+    Core2.f67(m, l6 + 160L, l6 + 187L, l6 + 136L);
+    l7 = Words.get64(b, ((int) l6) - 60288);
+    final int t9 = (int) l5;
+    final long t10 = l0 = Words.get64(b, ((int) l6) - 60272);
+    final int t11 = l13 = (Words.get64(b, ((int) l6) - 60280) + Long.MIN_VALUE < l0 + Long.MIN_VALUE) ? 1 : 0;
+    Words.put64(b, t9 - 60448, l8 = t11 != 0 ? 0L : t10);
+    L12: {
+     if (l4 + Long.MIN_VALUE >= l8 + Long.MIN_VALUE) { break L12; }
+     l13 = 6;
+     break L1;
+    }
+    L13: {
+     if (((l10 = l3 + (l9 = (l3 == 0L) ? 4096L : 0L)) - (l11 = l13 != 0 ? 83372L : l7)) + Long.MIN_VALUE >= l8 + Long.MIN_VALUE) { break L13; }
+     l7 = l8 & 3L;
+     l0 = 0L;
+     if (l8 + Long.MIN_VALUE < -9223372036854775804L) { break L2; }
+     l8 = l8 & -4L;
+     l0 = 0L;
+     L14: while (true) {
+      b[((int) (l5 = l10 + l0)) - 60448] = (byte) (b[((int) (l4 = l11 + l0)) - 60448] & 0xff);
+      b[((int) (l5 + 1L)) - 60448] = (byte) (b[((int) (l4 + 1L)) - 60448] & 0xff);
+      b[((int) (l5 + 2L)) - 60448] = (byte) (b[((int) (l4 + 2L)) - 60448] & 0xff);
+      b[((int) (l5 + 3L)) - 60448] = (byte) (b[((int) (l4 + 3L)) - 60448] & 0xff);
+      if (l8 != (l0 = l0 + 4L)) { continue L14; }
+      break L14;
+     }
+     if (!(l7 == 0L)) { break L2; }
+     l13 = 0;
+     break L1;
+    }
+    L15: {
+     if (l8 == 0L) { break L15; }
+     m.copy((int) l10, (int) l11, (int) l8);
+    }
+    l13 = 0;
+    break L1;
+   }
+   throw State.trap();
+  }
+  l5 = l11 + l0;
+  l0 = l3 + (l9 + l0);
+  L16: while (true) {
+   b[((int) l0) - 60448] = (byte) (b[((int) l5) - 60448] & 0xff);
+   l0 = l0 + 1L;
+   l5 = l5 + 1L;
+   l13 = 0;
+   if ((l7 = l7 + -1L) != 0L) { continue L16; }
+   break L16;
+  }
+ }
+ m.g0 = l6 + 192L;
+ return l13;
+}
+
+static int f242(State m, int l0, int l1, long l2, long l3, long l4) {
+ final byte[] b = m.bytes;
+ long l5 = 0;
+ long l6 = 0;
+ long l7 = 0;
+ long l8 = 0;
+ long l9 = 0;
+ long l10 = 0;
+ long l11 = 0;
+ int l12 = 0;
+ int l13 = 0;
+ m.g0 = l5 = m.g0 - 608L;
+ L1: {
+  L2: {
+   L3: {
+    if ((l5 = l5) < 16L) { break L3; }
+    Words.put64(b, ((int) l4) - 60448, 0L);
+    l12 = 8;
+    if (l1 + Integer.MIN_VALUE > -2147483646) { break L1; }
+    l13 = 44;
+    L4: {
+     L5: {
+      L6: {
+       L7: {
+        L8: {
+         L9: {
+          L10: {
+           L11: {
+            L12: {
+             L13: {
+              L14: {
+               L15: {
+                L16: {
+                 switch (l0 + 1) {
+                 case 0: break L6;
+                 case 1: break L2;
+                 case 2: break L5;
+                 case 3: break L4;
+                 case 4: break L16;
+                 case 5: break L15;
+                 case 6: break L14;
+                 case 7: break L13;
+                 case 8: break L12;
+                 case 9: break L11;
+                 case 10: break L10;
+                 case 11: break L9;
+                 case 12: break L8;
+                 case 13: break L7;
+                 default: break L1;
+                 }
+                }
+                l13 = 24;
+                break L4;
+               }
+               l13 = 25;
+               break L4;
+              }
+              l13 = 45;
+              break L4;
+             }
+             l13 = 46;
+             break L4;
+            }
+            l13 = 47;
+            break L4;
+           }
+           l13 = 48;
+           break L4;
+          }
+          l13 = 6;
+          break L4;
+         }
+         l13 = 49;
+         break L4;
+        }
+        l13 = 50;
+        break L4;
+       }
+       l13 = 40;
+       break L4;
+      }
+      l13 = 51;
+      break L4;
+     }
+     l13 = 23;
+    }
+    m.fill((int) (l5 + 24L), 0, (int) 512L);
+    Words.put64(b, ((int) l5) - 60432, 0L);
+    Words.put64(b, ((int) l5) - 60440, 512L);
+    Words.put64(b, ((int) l5) - 60448, l5 + 24L);
+    Words.put32(b, ((int) l5) - 59911, 0);
+    b[((int) l5) - 59912] = (byte) l1;
+    Words.put32(b, ((int) l5) - 59908, 0);
+    Words.put64(b, ((int) l5) - 59896, 0L);
+    Words.put64(b, ((int) l5) - 59904, 83372L);
+    Words.put64(b, ((int) l5) - 59888, 0L);
+    Words.put64(b, ((int) l5) - 59880, 0L);
+    Words.put64(b, ((int) l5) - 59848, 0L);
+    Words.put64(b, ((int) l5) - 59856, 83372L);
+    Words.put64(b, ((int) l5) - 59864, 0L);
+    Words.put64(b, ((int) l5) - 59872, 83372L);
+    Core2.f50(m, l5 + 536L, l5, l13);
+    final int t17 = (int) l4;
+    final long t18 = l6 = Words.get64(b, ((int) l5) - 60432);
+    final int t19 = l12 = (l6 + Long.MIN_VALUE < -9223372036854775295L) ? 1 : 0;
+    Words.put64(b, t17 - 60448, l6 = t19 != 0 ? t18 : 0L);
+    L20: {
+     if (l3 + Long.MIN_VALUE >= l6 + Long.MIN_VALUE) { break L20; }
+     l12 = 6;
+     break L1;
+    }
+    L21: {
+     final long t22 = l8 = l2 + (l7 = (l2 == 0L) ? 4096L : 0L);
+     final long t23 = l5 + 24L;
+     final int t24 = l12;
+     if ((t22 - (l9 = t24 != 0 ? t23 : 83372L)) + Long.MIN_VALUE >= l6 + Long.MIN_VALUE) { break L21; }
+     l10 = l6 & 3L;
+     l3 = 0L;
+     L25: {
+      if (l6 + Long.MIN_VALUE < -9223372036854775804L) { break L25; }
+      l11 = l6 & -4L;
+      l3 = 0L;
+      L26: while (true) {
+       b[((int) (l4 = l8 + l3)) - 60448] = (byte) (b[((int) (l6 = l9 + l3)) - 60448] & 0xff);
+       b[((int) (l4 + 1L)) - 60448] = (byte) (b[((int) (l6 + 1L)) - 60448] & 0xff);
+       b[((int) (l4 + 2L)) - 60448] = (byte) (b[((int) (l6 + 2L)) - 60448] & 0xff);
+       b[((int) (l4 + 3L)) - 60448] = (byte) (b[((int) (l6 + 3L)) - 60448] & 0xff);
+       if (l11 != (l3 = l3 + 4L)) { continue L26; }
+       break L26;
+      }
+      if (l10 == 0L) { break L2; }
+     }
+     l4 = l9 + l3;
+     l3 = l2 + (l7 + l3);
+     L27: while (true) {
+      b[((int) l3) - 60448] = (byte) (b[((int) l4) - 60448] & 0xff);
+      l3 = l3 + 1L;
+      l4 = l4 + 1L;
+      if ((l10 = l10 + -1L) != 0L) { continue L27; }
+      break L2;
+     }
+    }
+    if (l6 == 0L) { break L2; }
+    m.copy((int) l8, (int) l9, (int) l6);
+    l12 = 0;
+    break L1;
+   }
+   throw State.trap();
+  }
+  l12 = 0;
+ }
+ m.g0 = l5 + 608L;
+ return l12;
+}
+
+static int f244(State m, long l0, long l1, long l2, long l3) {
+ final byte[] b = m.bytes;
+ long l4 = 0;
+ long l5 = 0;
+ long l6 = 0;
+ long l7 = 0;
+ long l8 = 0;
+ long l9 = 0;
+ int l10 = 0;
+ m.g0 = l4 = m.g0 - 144L;
+ L1: {
+  L2: {
+   L3: {
+    if ((l4 = l4) < 16L) { break L3; }
+    Words.put64(b, ((int) l3) - 60448, 0L);
+    L4: {
+     if ((l10 = Words.get32(b, ((int) (l0 + 32L)) - 60448)) + Integer.MIN_VALUE <= -2147483645) { break L4; }
+     l10 = 8;
+     break L1;
+    }
+    Words.put64(b, ((int) l4) - 60319, 0L);
+    b[((int) l4) - 60320] = (byte) l10;
+    Words.put64(b, ((int) l4) - 60312, 0L);
+    Words.put64(b, ((int) l4) - 60344, Words.get64(b, ((int) l0) - 60440));
+    Words.put64(b, ((int) l4) - 60352, Words.get64(b, ((int) l0) - 60448));
+    Words.put64(b, ((int) l4) - 60328, Words.get64(b, ((int) (l0 + 24L)) - 60448));
+    Words.put64(b, ((int) l4) - 60336, Words.get64(b, ((int) (l0 + 16L)) - 60448));
+    m.fill((int) (l4 + 16L), 0, (int) 80L);
+    Core2.f52(m, l4, l4 + 16L, l4 + 96L);
+    l5 = Words.get64(b, ((int) l4) - 60448);
+    Words.put64(b, ((int) l3) - 60448, l0 = Words.get64(b, ((int) l4) - 60440));
+    L5: {
+     if (l2 + Long.MIN_VALUE >= l0 + Long.MIN_VALUE) { break L5; }
+     l10 = 6;
+     break L1;
+    }
+    L6: {
+     if (((l7 = l1 + (l6 = (l1 == 0L) ? 4096L : 0L)) - l5) + Long.MIN_VALUE >= l0 + Long.MIN_VALUE) { break L6; }
+     l8 = l0 & 3L;
+     l3 = 0L;
+     L7: {
+      if (l0 + Long.MIN_VALUE < -9223372036854775804L) { break L7; }
+      l9 = l0 & -4L;
+      l3 = 0L;
+      L8: while (true) {
+       b[((int) (l0 = l7 + l3)) - 60448] = (byte) (b[((int) (l2 = l5 + l3)) - 60448] & 0xff);
+       b[((int) (l0 + 1L)) - 60448] = (byte) (b[((int) (l2 + 1L)) - 60448] & 0xff);
+       b[((int) (l0 + 2L)) - 60448] = (byte) (b[((int) (l2 + 2L)) - 60448] & 0xff);
+       b[((int) (l0 + 3L)) - 60448] = (byte) (b[((int) (l2 + 3L)) - 60448] & 0xff);
+       if (l9 != (l3 = l3 + 4L)) { continue L8; }
+       break L8;
+      }
+      if (l8 == 0L) { break L2; }
+     }
+     l0 = l5 + l3;
+     l3 = l1 + (l6 + l3);
+     L9: while (true) {
+      b[((int) l3) - 60448] = (byte) (b[((int) l0) - 60448] & 0xff);
+      l3 = l3 + 1L;
+      l0 = l0 + 1L;
+      if ((l8 = l8 + -1L) != 0L) { continue L9; }
+      break L2;
+     }
+    }
+    if (l0 == 0L) { break L2; }
+    m.copy((int) l7, (int) l5, (int) l0);
+    l10 = 0;
+    break L1;
+   }
+   throw State.trap();
+  }
+  l10 = 0;
+ }
+ m.g0 = l4 + 144L;
+ return l10;
+}
+
+static int f246(State m, long l0, long l1, long l2) {
  final byte[] b = m.bytes;
  long l3 = 0;
  long l4 = 0;
@@ -29,12 +1816,12 @@ static int f235(State m, long l0, long l1, long l2) {
    L3: {
     L4: {
      if ((l4 = l3) < 16L) { break L4; }
-     Words.put64(b, ((int) l2) - 60720, 0L);
-     Words.put64(b, ((int) l2) - 60712, 0L);
-     Words.put64(b, ((int) l2) - 60704, 0L);
-     Words.put64(b, ((int) l4) - 60696, 0L);
-     Words.put64(b, ((int) l4) - 60704, 0L);
-     Words.put64(b, ((int) l4) - 60712, 0L);
+     Words.put64(b, ((int) l2) - 60448, 0L);
+     Words.put64(b, ((int) l2) - 60440, 0L);
+     Words.put64(b, ((int) l2) - 60432, 0L);
+     Words.put64(b, ((int) l4) - 60424, 0L);
+     Words.put64(b, ((int) l4) - 60432, 0L);
+     Words.put64(b, ((int) l4) - 60440, 0L);
      l3 = l1;
      l0 = l5 = l0 + ((l0 == 0L) ? 4096L : 0L);
      L5: {
@@ -44,7 +1831,7 @@ static int f235(State m, long l0, long l1, long l2) {
         l0 = l5;
         l3 = l1;
         L8: while (true) {
-         if (((Words.get32(b, ((int) l0) - 60720) + 16776990) & 12632312) != 8421376) { break L6; }
+         if (((Words.get32(b, ((int) l0) - 60448) + 16776990) & 12632312) != 8421376) { break L6; }
          l0 = l0 + 3L;
          if ((l3 = l3 + -3L) + Long.MIN_VALUE > -9223372036854775805L) { continue L8; }
          break L8;
@@ -58,7 +1845,7 @@ static int f235(State m, long l0, long l1, long l2) {
         default: break L5;
         }
        }
-       if (((((Words.get16(b, ((int) l0) - 60720) & 0xffff) | ((b[((int) (l0 + 2L)) - 60720] & 0xff) << 16)) + 16776990) & 12632312) == 8421376) { break L5; }
+       if (((((Words.get16(b, ((int) l0) - 60448) & 0xffff) | ((b[((int) (l0 + 2L)) - 60448] & 0xff) << 16)) + 16776990) & 12632312) == 8421376) { break L5; }
       }
       l14 = 5;
       if (Core1.f6(m, l5, l1) == 0) { break L1; }
@@ -76,7 +1863,7 @@ static int f235(State m, long l0, long l1, long l2) {
      L10: {
       L11: while (true) {
        l18 = l16;
-       l14 = (l16 = (int) b[((int) l3) - 60720]) & 255;
+       l14 = (l16 = (int) b[((int) l3) - 60448]) & 255;
        l11 = 1L;
        L12: {
         L13: {
@@ -84,21 +1871,21 @@ static int f235(State m, long l0, long l1, long l2) {
          l12 = 1L;
          break L12;
         }
-        l19 = (b[((int) l3) - 60719] & 0xff) & 63;
+        l19 = (b[((int) l3) - 60447] & 0xff) & 63;
         L14: {
          if (l16 + Integer.MIN_VALUE > 2147483615) { break L14; }
          l14 = ((l14 << 6) & 1984) | l19;
          l12 = 2L;
          break L12;
         }
-        l20 = (b[((int) l3) - 60718] & 0xff) & 63;
+        l20 = (b[((int) l3) - 60446] & 0xff) & 63;
         L15: {
          if (l16 + Integer.MIN_VALUE > 2147483631) { break L15; }
          l14 = ((l19 << 6) | ((l14 << 12) & 61440)) | l20;
          l12 = 3L;
          break L12;
         }
-        l14 = ((l20 << 6) | ((l19 << 12) | ((l14 << 18) & 1835008))) | ((b[((int) l3) - 60717] & 0xff) & 63);
+        l14 = ((l20 << 6) | ((l19 << 12) | ((l14 << 18) & 1835008))) | ((b[((int) l3) - 60445] & 0xff) & 63);
         l12 = 4L;
        }
        L16: {
@@ -107,12 +1894,12 @@ static int f235(State m, long l0, long l1, long l2) {
         break L10;
        }
        L17: {
-        if (((b[((int) (l0 + 65540L)) - 60720] & 0xff) & 255) == 1) { break L17; }
+        if (((b[((int) (l0 + 65540L)) - 60448] & 0xff) & 255) == 1) { break L17; }
         l0 = 1L;
         break L10;
        }
-       l13 = b[((int) (l0 + 65542L)) - 60720] & 0xffL;
-       l14 = b[((int) (l0 + 65541L)) - 60720] & 0xff;
+       l13 = b[((int) (l0 + 65542L)) - 60448] & 0xffL;
+       l14 = b[((int) (l0 + 65541L)) - 60448] & 0xff;
        l0 = 1L;
        L18: {
         L19: {
@@ -1000,16 +2787,16 @@ static int f235(State m, long l0, long l1, long l2) {
       l11 = 0L;
       l8 = 0L;
      }
-     Words.put64(b, ((int) l4) - 60696, l8);
-     Words.put64(b, ((int) l4) - 60704, l11);
-     Words.put64(b, ((int) l4) - 60712, l0);
+     Words.put64(b, ((int) l4) - 60424, l8);
+     Words.put64(b, ((int) l4) - 60432, l11);
+     Words.put64(b, ((int) l4) - 60440, l0);
      break L2;
     }
     throw State.trap();
    }
-   Words.put64(b, ((int) l4) - 60704, 0L);
-   Words.put64(b, ((int) l4) - 60712, 1L);
-   Words.put64(b, ((int) l4) - 60696, 0L);
+   Words.put64(b, ((int) l4) - 60432, 0L);
+   Words.put64(b, ((int) l4) - 60440, 1L);
+   Words.put64(b, ((int) l4) - 60424, 0L);
   }
   l14 = Core2.f69(m, l5, l1, l4 + 8L, l2);
  }
@@ -1017,7 +2804,7 @@ static int f235(State m, long l0, long l1, long l2) {
  return l14;
 }
 
-static int f237(State m, long l0, long l1, long l2) {
+static int f248(State m, long l0, long l1, long l2) {
  final byte[] b = m.bytes;
  long l3 = 0;
  long l4 = 0;
@@ -1042,12 +2829,12 @@ static int f237(State m, long l0, long l1, long l2) {
  m.g0 = l3 = m.g0 - 176L;
  L1: {
   if ((l3 = l3) < 16L) { break L1; }
-  Words.put64(b, ((int) l2) - 60720, 0L);
-  Words.put64(b, ((int) l2) - 60712, 0L);
-  Words.put64(b, ((int) l2) - 60704, 0L);
-  Words.put64(b, ((int) l3) - 60704, 0L);
-  Words.put64(b, ((int) l3) - 60712, 0L);
-  Words.put64(b, ((int) l3) - 60720, 0L);
+  Words.put64(b, ((int) l2) - 60448, 0L);
+  Words.put64(b, ((int) l2) - 60440, 0L);
+  Words.put64(b, ((int) l2) - 60432, 0L);
+  Words.put64(b, ((int) l3) - 60432, 0L);
+  Words.put64(b, ((int) l3) - 60440, 0L);
+  Words.put64(b, ((int) l3) - 60448, 0L);
   l4 = l1;
   l0 = l5 = l0 + ((l0 == 0L) ? 4096L : 0L);
   L2: {
@@ -1058,7 +2845,7 @@ static int f237(State m, long l0, long l1, long l2) {
       l0 = l5;
       l4 = l1;
       L6: while (true) {
-       if (((Words.get32(b, ((int) l0) - 60720) + 16776990) & 12632312) != 8421376) { break L4; }
+       if (((Words.get32(b, ((int) l0) - 60448) + 16776990) & 12632312) != 8421376) { break L4; }
        l0 = l0 + 3L;
        if ((l4 = l4 + -3L) + Long.MIN_VALUE > -9223372036854775805L) { continue L6; }
        break L6;
@@ -1072,24 +2859,24 @@ static int f237(State m, long l0, long l1, long l2) {
       default: break L3;
       }
      }
-     if (((((Words.get16(b, ((int) l0) - 60720) & 0xffff) | ((b[((int) (l0 + 2L)) - 60720] & 0xff) << 16)) + 16776990) & 12632312) == 8421376) { break L3; }
+     if (((((Words.get16(b, ((int) l0) - 60448) & 0xffff) | ((b[((int) (l0 + 2L)) - 60448] & 0xff) << 16)) + 16776990) & 12632312) == 8421376) { break L3; }
     }
     l15 = 5;
     if (Core1.f6(m, l5, l1) == 0) { break L2; }
    }
-   Words.put32(b, ((int) l3) - 60640, 0);
-   b[((int) l3) - 60636] = (byte) 0;
-   Words.put32(b, ((int) l3) - 60648, 0);
-   Words.put32(b, ((int) l3) - 60645, 0);
+   Words.put32(b, ((int) l3) - 60368, 0);
+   b[((int) l3) - 60364] = (byte) 0;
+   Words.put32(b, ((int) l3) - 60376, 0);
+   Words.put32(b, ((int) l3) - 60373, 0);
    l6 = 0L;
-   Words.put64(b, ((int) l3) - 60664, 0L);
-   Words.put64(b, ((int) l3) - 60656, 0L);
-   Words.put32(b, ((int) l3) - 60672, 0);
-   b[((int) l3) - 60668] = (byte) 0;
-   Words.put32(b, ((int) l3) - 60680, 0);
-   Words.put32(b, ((int) l3) - 60677, 0);
-   Words.put64(b, ((int) l3) - 60696, 0L);
-   Words.put64(b, ((int) l3) - 60688, 0L);
+   Words.put64(b, ((int) l3) - 60392, 0L);
+   Words.put64(b, ((int) l3) - 60384, 0L);
+   Words.put32(b, ((int) l3) - 60400, 0);
+   b[((int) l3) - 60396] = (byte) 0;
+   Words.put32(b, ((int) l3) - 60408, 0);
+   Words.put32(b, ((int) l3) - 60405, 0);
+   Words.put64(b, ((int) l3) - 60424, 0L);
+   Words.put64(b, ((int) l3) - 60416, 0L);
    L8: {
     L9: {
      L10: {
@@ -1111,7 +2898,7 @@ static int f237(State m, long l0, long l1, long l2) {
         l19 = 1;
         L13: while (true) {
          l14 = l0 + 1L;
-         l15 = (l20 = (int) b[((int) l0) - 60720]) & 255;
+         l15 = (l20 = (int) b[((int) l0) - 60448]) & 255;
          L14: {
           L15: {
            L16: {
@@ -1119,17 +2906,17 @@ static int f237(State m, long l0, long l1, long l2) {
              L18: {
               L19: {
                if (l20 < 0) { break L19; }
-               Words.put64(b, ((int) l3) - 60592, 0L);
-               Words.put64(b, ((int) l3) - 60584, 0L);
-               Words.put64(b, ((int) l3) - 60576, 0L);
-               Words.put64(b, ((int) l3) - 60568, 0L);
-               Words.put64(b, ((int) l3) - 60560, 0L);
-               Words.put64(b, ((int) l3) - 60552, 0L);
+               Words.put64(b, ((int) l3) - 60320, 0L);
+               Words.put64(b, ((int) l3) - 60312, 0L);
+               Words.put64(b, ((int) l3) - 60304, 0L);
+               Words.put64(b, ((int) l3) - 60296, 0L);
+               Words.put64(b, ((int) l3) - 60288, 0L);
+               Words.put64(b, ((int) l3) - 60280, 0L);
                l4 = l4 + -1L;
                l0 = l14;
                break L18;
               }
-              l21 = (b[((int) l14) - 60720] & 0xff) & 63;
+              l21 = (b[((int) l14) - 60448] & 0xff) & 63;
               L20: {
                L21: {
                 if (l20 + Integer.MIN_VALUE > 2147483615) { break L21; }
@@ -1137,22 +2924,22 @@ static int f237(State m, long l0, long l1, long l2) {
                 l14 = 2L;
                 break L20;
                }
-               l22 = (b[((int) l0) - 60718] & 0xff) & 63;
+               l22 = (b[((int) l0) - 60446] & 0xff) & 63;
                L22: {
                 if (l20 + Integer.MIN_VALUE > 2147483631) { break L22; }
                 l15 = ((l21 << 6) | ((l15 << 12) & 61440)) | l22;
                 l14 = 3L;
                 break L20;
                }
-               l15 = ((l22 << 6) | ((l21 << 12) | ((l15 << 18) & 1835008))) | ((b[((int) l0) - 60717] & 0xff) & 63);
+               l15 = ((l22 << 6) | ((l21 << 12) | ((l15 << 18) & 1835008))) | ((b[((int) l0) - 60445] & 0xff) & 63);
                l14 = 4L;
               }
-              Words.put64(b, ((int) l3) - 60592, 0L);
-              Words.put64(b, ((int) l3) - 60584, 0L);
-              Words.put64(b, ((int) l3) - 60576, 0L);
-              Words.put64(b, ((int) l3) - 60568, 0L);
-              Words.put64(b, ((int) l3) - 60560, 0L);
-              Words.put64(b, ((int) l3) - 60552, 0L);
+              Words.put64(b, ((int) l3) - 60320, 0L);
+              Words.put64(b, ((int) l3) - 60312, 0L);
+              Words.put64(b, ((int) l3) - 60304, 0L);
+              Words.put64(b, ((int) l3) - 60296, 0L);
+              Words.put64(b, ((int) l3) - 60288, 0L);
+              Words.put64(b, ((int) l3) - 60280, 0L);
               l4 = l4 - l14;
               l0 = l0 + l14;
               if (l15 + Integer.MIN_VALUE > -2147483521) { break L17; }
@@ -1175,45 +2962,45 @@ static int f237(State m, long l0, long l1, long l2) {
             }
             if (l15 == 12288) { break L15; }
            }
-           Words.put32(b, ((int) l12) - 60720, Words.get32(b, ((int) l3) - 60640));
-           b[((int) l12) - 60716] = (byte) (b[((int) l3) - 60636] & 0xff);
-           Words.put32(b, ((int) l11) - 60720, Words.get32(b, ((int) l3) - 60648));
-           Words.put32(b, ((int) l11) - 60717, Words.get32(b, ((int) l3) - 60645));
-           Words.put64(b, ((int) l10) - 60720, Words.get64(b, ((int) l3) - 60664));
-           Words.put64(b, ((int) l10) - 60712, Words.get64(b, ((int) l3) - 60656));
-           b[((int) l3) - 60630] = (byte) l16;
-           b[((int) l3) - 60631] = (byte) l18;
-           b[((int) l3) - 60632] = (byte) l19;
-           b[((int) l3) - 60624] = (byte) l17;
-           Words.put64(b, ((int) l3) - 60616, l13);
+           Words.put32(b, ((int) l12) - 60448, Words.get32(b, ((int) l3) - 60368));
+           b[((int) l12) - 60444] = (byte) (b[((int) l3) - 60364] & 0xff);
+           Words.put32(b, ((int) l11) - 60448, Words.get32(b, ((int) l3) - 60376));
+           Words.put32(b, ((int) l11) - 60445, Words.get32(b, ((int) l3) - 60373));
+           Words.put64(b, ((int) l10) - 60448, Words.get64(b, ((int) l3) - 60392));
+           Words.put64(b, ((int) l10) - 60440, Words.get64(b, ((int) l3) - 60384));
+           b[((int) l3) - 60358] = (byte) l16;
+           b[((int) l3) - 60359] = (byte) l18;
+           b[((int) l3) - 60360] = (byte) l19;
+           b[((int) l3) - 60352] = (byte) l17;
+           Words.put64(b, ((int) l3) - 60344, l13);
            Core1.f21(m, l3 + 128L, l3 + 88L, l15);
-           if ((b[((int) l3) - 60592] & 0xff) != 1) { break L11; }
-           Words.put32(b, ((int) l3) - 60672, Words.get32(b, ((int) l9) - 60720));
-           b[((int) l3) - 60668] = (byte) (b[((int) l9) - 60716] & 0xff);
-           Words.put32(b, ((int) l3) - 60680, Words.get32(b, ((int) l8) - 60720));
-           Words.put32(b, ((int) l3) - 60677, Words.get32(b, ((int) l8) - 60717));
-           Words.put64(b, ((int) l3) - 60696, Words.get64(b, ((int) l7) - 60720));
-           Words.put64(b, ((int) l3) - 60688, Words.get64(b, ((int) l7) - 60712));
-           l13 = Words.get64(b, ((int) l3) - 60568);
-           l17 = b[((int) l3) - 60576] & 0xff;
-           l16 = b[((int) l3) - 60582] & 0xff;
-           l18 = b[((int) l3) - 60583] & 0xff;
-           l19 = b[((int) l3) - 60584] & 0xff;
+           if ((b[((int) l3) - 60320] & 0xff) != 1) { break L11; }
+           Words.put32(b, ((int) l3) - 60400, Words.get32(b, ((int) l9) - 60448));
+           b[((int) l3) - 60396] = (byte) (b[((int) l9) - 60444] & 0xff);
+           Words.put32(b, ((int) l3) - 60408, Words.get32(b, ((int) l8) - 60448));
+           Words.put32(b, ((int) l3) - 60405, Words.get32(b, ((int) l8) - 60445));
+           Words.put64(b, ((int) l3) - 60424, Words.get64(b, ((int) l7) - 60448));
+           Words.put64(b, ((int) l3) - 60416, Words.get64(b, ((int) l7) - 60440));
+           l13 = Words.get64(b, ((int) l3) - 60296);
+           l17 = b[((int) l3) - 60304] & 0xff;
+           l16 = b[((int) l3) - 60310] & 0xff;
+           l18 = b[((int) l3) - 60311] & 0xff;
+           l19 = b[((int) l3) - 60312] & 0xff;
            break L14;
           }
-          b[((int) l3) - 60668] = (byte) (b[((int) l3) - 60636] & 0xff);
-          Words.put32(b, ((int) l3) - 60672, Words.get32(b, ((int) l3) - 60640));
-          Words.put32(b, ((int) l3) - 60680, Words.get32(b, ((int) l3) - 60648));
-          Words.put32(b, ((int) l3) - 60677, Words.get32(b, ((int) l3) - 60645));
-          Words.put64(b, ((int) l3) - 60696, Words.get64(b, ((int) l3) - 60664));
-          Words.put64(b, ((int) l3) - 60688, Words.get64(b, ((int) l3) - 60656));
+          b[((int) l3) - 60396] = (byte) (b[((int) l3) - 60364] & 0xff);
+          Words.put32(b, ((int) l3) - 60400, Words.get32(b, ((int) l3) - 60368));
+          Words.put32(b, ((int) l3) - 60408, Words.get32(b, ((int) l3) - 60376));
+          Words.put32(b, ((int) l3) - 60405, Words.get32(b, ((int) l3) - 60373));
+          Words.put64(b, ((int) l3) - 60424, Words.get64(b, ((int) l3) - 60392));
+          Words.put64(b, ((int) l3) - 60416, Words.get64(b, ((int) l3) - 60384));
          }
-         Words.put32(b, ((int) l3) - 60640, Words.get32(b, ((int) l3) - 60672));
-         b[((int) l3) - 60636] = (byte) (b[((int) l3) - 60668] & 0xff);
-         Words.put32(b, ((int) l3) - 60648, Words.get32(b, ((int) l3) - 60680));
-         Words.put32(b, ((int) l3) - 60645, Words.get32(b, ((int) l3) - 60677));
-         Words.put64(b, ((int) l3) - 60664, Words.get64(b, ((int) l3) - 60696));
-         Words.put64(b, ((int) l3) - 60656, Words.get64(b, ((int) l3) - 60688));
+         Words.put32(b, ((int) l3) - 60368, Words.get32(b, ((int) l3) - 60400));
+         b[((int) l3) - 60364] = (byte) (b[((int) l3) - 60396] & 0xff);
+         Words.put32(b, ((int) l3) - 60376, Words.get32(b, ((int) l3) - 60408));
+         Words.put32(b, ((int) l3) - 60373, Words.get32(b, ((int) l3) - 60405));
+         Words.put64(b, ((int) l3) - 60392, Words.get64(b, ((int) l3) - 60424));
+         Words.put64(b, ((int) l3) - 60384, Words.get64(b, ((int) l3) - 60416));
          l6 = l6 + 1L;
          if (l4 != 0L) { continue L13; }
          break L13;
@@ -1236,9 +3023,9 @@ static int f237(State m, long l0, long l1, long l2) {
     }
     l6 = 0L;
    }
-   Words.put64(b, ((int) l3) - 60704, l6);
-   Words.put64(b, ((int) l3) - 60712, l13);
-   Words.put64(b, ((int) l3) - 60720, l0);
+   Words.put64(b, ((int) l3) - 60432, l6);
+   Words.put64(b, ((int) l3) - 60440, l13);
+   Words.put64(b, ((int) l3) - 60448, l0);
    l15 = Core2.f69(m, l5, l1, l3, l2);
   }
   m.g0 = l3 + 176L;
@@ -1248,7 +3035,7 @@ static int f237(State m, long l0, long l1, long l2) {
  throw State.trap();
 }
 
-static int f239(State m, long l0, long l1, long l2) {
+static int f250(State m, long l0, long l1, long l2) {
  final byte[] b = m.bytes;
  long l3 = 0;
  long l4 = 0;
@@ -1264,10 +3051,10 @@ static int f239(State m, long l0, long l1, long l2) {
   L2: {
    L3: {
     if ((l3 = l3) < 16L) { break L3; }
-    Words.put64(b, ((int) l2) - 60696, 0L);
-    Words.put64(b, ((int) l2) - 60704, 0L);
-    Words.put64(b, ((int) l2) - 60712, 0L);
-    Words.put64(b, ((int) l2) - 60720, 0L);
+    Words.put64(b, ((int) l2) - 60424, 0L);
+    Words.put64(b, ((int) l2) - 60432, 0L);
+    Words.put64(b, ((int) l2) - 60440, 0L);
+    Words.put64(b, ((int) l2) - 60448, 0L);
     l4 = l1;
     l0 = l5 = l0 + ((l0 == 0L) ? 4096L : 0L);
     L4: {
@@ -1277,7 +3064,7 @@ static int f239(State m, long l0, long l1, long l2) {
        l0 = l5;
        l4 = l1;
        L7: while (true) {
-        if (((Words.get32(b, ((int) l0) - 60720) + 16776990) & 12632312) != 8421376) { break L5; }
+        if (((Words.get32(b, ((int) l0) - 60448) + 16776990) & 12632312) != 8421376) { break L5; }
         l0 = l0 + 3L;
         if ((l4 = l4 + -3L) + Long.MIN_VALUE > -9223372036854775805L) { continue L7; }
         break L7;
@@ -1291,24 +3078,24 @@ static int f239(State m, long l0, long l1, long l2) {
        default: break L4;
        }
       }
-      if (((((Words.get16(b, ((int) l0) - 60720) & 0xffff) | ((b[((int) (l0 + 2L)) - 60720] & 0xff) << 16)) + 16776990) & 12632312) == 8421376) { break L4; }
+      if (((((Words.get16(b, ((int) l0) - 60448) & 0xffff) | ((b[((int) (l0 + 2L)) - 60448] & 0xff) << 16)) + 16776990) & 12632312) == 8421376) { break L4; }
      }
      if (Core1.f6(m, l5, l1) != 0) { break L4; }
      l8 = 5;
      break L1;
     }
-    Words.put16(b, ((int) l3) - 60680, (short) 0);
+    Words.put16(b, ((int) l3) - 60408, (short) 0);
     l6 = 0L;
-    Words.put64(b, ((int) l3) - 60688, 0L);
-    b[((int) l3) - 60680] = (byte) 0;
-    Words.put64(b, ((int) l3) - 60704, 0L);
-    Words.put32(b, ((int) l3) - 60696, 0);
+    Words.put64(b, ((int) l3) - 60416, 0L);
+    b[((int) l3) - 60408] = (byte) 0;
+    Words.put64(b, ((int) l3) - 60432, 0L);
+    Words.put32(b, ((int) l3) - 60424, 0);
     L9: {
      if (l1 != 0L) { break L9; }
-     Words.put64(b, ((int) l2) - 60696, 0L);
-     Words.put64(b, ((int) l2) - 60704, 0L);
-     Words.put64(b, ((int) l2) - 60712, 0L);
-     Words.put64(b, ((int) l2) - 60720, 0L);
+     Words.put64(b, ((int) l2) - 60424, 0L);
+     Words.put64(b, ((int) l2) - 60432, 0L);
+     Words.put64(b, ((int) l2) - 60440, 0L);
+     Words.put64(b, ((int) l2) - 60448, 0L);
      l8 = 9;
      break L1;
     }
@@ -1316,56 +3103,56 @@ static int f239(State m, long l0, long l1, long l2) {
     l0 = l5;
     L10: {
      L11: while (true) {
-      l8 = (l9 = (int) b[((int) l0) - 60720]) & 255;
+      l8 = (l9 = (int) b[((int) l0) - 60448]) & 255;
       l4 = 1L;
       L12: {
        if (l9 > -1) { break L12; }
-       l10 = (b[((int) l0) - 60719] & 0xff) & 63;
+       l10 = (b[((int) l0) - 60447] & 0xff) & 63;
        L13: {
         if (l9 + Integer.MIN_VALUE > 2147483615) { break L13; }
         l8 = ((l8 << 6) & 1984) | l10;
         l4 = 2L;
         break L12;
        }
-       l11 = (b[((int) l0) - 60718] & 0xff) & 63;
+       l11 = (b[((int) l0) - 60446] & 0xff) & 63;
        L14: {
         if (l9 + Integer.MIN_VALUE > 2147483631) { break L14; }
         l8 = ((l10 << 6) | ((l8 << 12) & 61440)) | l11;
         l4 = 3L;
         break L12;
        }
-       l8 = ((l11 << 6) | ((l10 << 12) | ((l8 << 18) & 1835008))) | ((b[((int) l0) - 60717] & 0xff) & 63);
+       l8 = ((l11 << 6) | ((l10 << 12) | ((l8 << 18) & 1835008))) | ((b[((int) l0) - 60445] & 0xff) & 63);
        l4 = 4L;
       }
       Core1.f22(m, l3 + 16L, l3 + 32L, l8);
-      if ((b[((int) l3) - 60704] & 0xff) != 1) { break L10; }
-      b[((int) l3) - 60680] = (byte) (b[((int) l3) - 60694] & 0xff);
-      Words.put16(b, ((int) l3) - 60682, (short) (Words.get16(b, ((int) l3) - 60696) & 0xffff));
-      Words.put32(b, ((int) l3) - 60686, l8 = Words.get32(b, ((int) l3) - 60700));
-      Words.put16(b, ((int) l3) - 60688, (short) (l9 = (b[((int) l3) - 60702] & 0xff) & 255));
+      if ((b[((int) l3) - 60432] & 0xff) != 1) { break L10; }
+      b[((int) l3) - 60408] = (byte) (b[((int) l3) - 60422] & 0xff);
+      Words.put16(b, ((int) l3) - 60410, (short) (Words.get16(b, ((int) l3) - 60424) & 0xffff));
+      Words.put32(b, ((int) l3) - 60414, l8 = Words.get32(b, ((int) l3) - 60428));
+      Words.put16(b, ((int) l3) - 60416, (short) (l9 = (b[((int) l3) - 60430] & 0xff) & 255));
       l6 = l6 + 1L;
       l0 = l0 + l4;
       if ((l7 = l7 - l4) != 0L) { continue L11; }
       break L11;
      }
-     Words.put64(b, ((int) l2) - 60696, 0L);
-     Words.put64(b, ((int) l2) - 60704, 0L);
-     Words.put64(b, ((int) l2) - 60712, 0L);
-     Words.put64(b, ((int) l2) - 60720, 0L);
+     Words.put64(b, ((int) l2) - 60424, 0L);
+     Words.put64(b, ((int) l2) - 60432, 0L);
+     Words.put64(b, ((int) l2) - 60440, 0L);
+     Words.put64(b, ((int) l2) - 60448, 0L);
      if (l9 == 3) { break L2; }
      l8 = 9;
      break L1;
     }
     l0 = 0L;
-    Words.put64(b, ((int) l2) - 60696, 0L);
-    Words.put64(b, ((int) l2) - 60712, 0L);
-    Words.put64(b, ((int) l2) - 60720, 0L);
-    Words.put64(b, ((int) l2) - 60704, l6);
+    Words.put64(b, ((int) l2) - 60424, 0L);
+    Words.put64(b, ((int) l2) - 60440, 0L);
+    Words.put64(b, ((int) l2) - 60448, 0L);
+    Words.put64(b, ((int) l2) - 60432, l6);
     L15: {
      if (l6 + Long.MIN_VALUE < -9223372036854775792L) { break L15; }
      Core1.f25(m, l3, l5, l1, l6);
-     l6 = Words.get64(b, ((int) l3) - 60712);
-     l0 = Words.get64(b, ((int) l3) - 60720);
+     l6 = Words.get64(b, ((int) l3) - 60440);
+     l0 = Words.get64(b, ((int) l3) - 60448);
     }
     L16: {
      if (l6 + Long.MIN_VALUE < -9223372036854775805L) { break L16; }
@@ -1373,7 +3160,7 @@ static int f239(State m, long l0, long l1, long l2) {
       if ((l1 - l0) + Long.MIN_VALUE < -9223372036854775800L) { break L16; }
       L18: {
        L19: {
-        if (((l4 = Words.get64(b, ((int) (l5 + l0)) - 60720)) & 67553998437089520L) != 63050398541283552L) { break L19; }
+        if (((l4 = Words.get64(b, ((int) (l5 + l0)) - 60448)) & 67553998437089520L) != 63050398541283552L) { break L19; }
         l6 = l6 + -3L;
         l0 = l0 + 9L;
         break L18;
@@ -1392,29 +3179,29 @@ static int f239(State m, long l0, long l1, long l2) {
      if (l1 + Long.MIN_VALUE <= l0 + Long.MIN_VALUE) { break L20; }
      l4 = l6 + -1L;
      L21: while (true) {
-      l0 = Words.get64(b, ((int) (((((b[((int) (l5 + l0)) - 60720] & 0xff) >>> 1) & 0xffffffffL) & 120L) + 66680L)) - 60720) + l0;
+      l0 = Words.get64(b, ((int) (((((b[((int) (l5 + l0)) - 60448] & 0xff) >>> 1) & 0xffffffffL) & 120L) + 66680L)) - 60448) + l0;
       if (l4 == 0L) { break L20; }
       l4 = l4 + -1L;
       if (l1 + Long.MIN_VALUE > l0 + Long.MIN_VALUE) { continue L21; }
       break L21;
      }
     }
-    Words.put64(b, ((int) l2) - 60696, l0);
+    Words.put64(b, ((int) l2) - 60424, l0);
     l8 = 2;
     break L1;
    }
    throw State.trap();
   }
-  Words.put32(b, ((int) l2) - 60712, l8 >>> 24);
-  Words.put32(b, ((int) l2) - 60720, l8 & 65535);
-  Words.put32(b, ((int) l2) - 60716, (l8 >>> 16) & 255);
+  Words.put32(b, ((int) l2) - 60440, l8 >>> 24);
+  Words.put32(b, ((int) l2) - 60448, l8 & 65535);
+  Words.put32(b, ((int) l2) - 60444, (l8 >>> 16) & 255);
   l8 = 0;
  }
  m.g0 = l3 + 48L;
  return l8;
 }
 
-static int f241(State m, long l0, int l1, int l2, long l3, long l4, long l5) {
+static int f252(State m, long l0, int l1, int l2, long l3, long l4, long l5) {
  final byte[] b = m.bytes;
  long l6 = 0;
  L1: {
@@ -1426,27 +3213,27 @@ static int f241(State m, long l0, int l1, int l2, long l3, long l4, long l5) {
      if (l2 + Integer.MIN_VALUE > -2147483633) { break L2; }
      L5: {
       if (l0 + Long.MIN_VALUE <= -8223372036854775809L) { break L5; }
-      Words.put64(b, ((int) l5) - 60720, 0L);
+      Words.put64(b, ((int) l5) - 60448, 0L);
       m.g0 = l6;
       return 3;
      }
-     l1 = Core2.f70(m, l0, b[((int) ((l1 & 0xffffffffL) + 83500L)) - 60720] & 0xff, ((((l2 << 7) & 256) | (l2 & 1)) | ((l2 << 14) & 65536)) | ((l2 << 21) & 16777216), l3 + ((l3 == 0L) ? 4096L : 0L), l4, l5);
+     l1 = Core2.f70(m, l0, b[((int) ((l1 & 0xffffffffL) + 83500L)) - 60448] & 0xff, ((((l2 << 7) & 256) | (l2 & 1)) | ((l2 << 14) & 65536)) | ((l2 << 21) & 16777216), l3 + ((l3 == 0L) ? 4096L : 0L), l4, l5);
      m.g0 = l6;
      final int t6 = l1;
      return t6;
     }
     throw State.trap();
    }
-   Words.put64(b, ((int) l5) - 60720, 0L);
+   Words.put64(b, ((int) l5) - 60448, 0L);
    break L1;
   }
-  Words.put64(b, ((int) l5) - 60720, 0L);
+  Words.put64(b, ((int) l5) - 60448, 0L);
  }
  m.g0 = l6;
  return 8;
 }
 
-static int f243(State m, long l0, long l1, long l2) {
+static int f254(State m, long l0, long l1, long l2) {
  final byte[] b = m.bytes;
  long l3 = 0;
  long l4 = 0;
@@ -1459,12 +3246,12 @@ static int f243(State m, long l0, long l1, long l2) {
   L2: {
    L3: {
     if ((l4 = l3) < 16L) { break L3; }
-    Words.put64(b, ((int) l2) - 60720, 0L);
-    Words.put64(b, ((int) l2) - 60712, 0L);
-    Words.put64(b, ((int) l2) - 60704, 0L);
-    Words.put64(b, ((int) l4) - 60680, 0L);
-    Words.put64(b, ((int) l4) - 60688, 0L);
-    Words.put64(b, ((int) l4) - 60696, 0L);
+    Words.put64(b, ((int) l2) - 60448, 0L);
+    Words.put64(b, ((int) l2) - 60440, 0L);
+    Words.put64(b, ((int) l2) - 60432, 0L);
+    Words.put64(b, ((int) l4) - 60408, 0L);
+    Words.put64(b, ((int) l4) - 60416, 0L);
+    Words.put64(b, ((int) l4) - 60424, 0L);
     l3 = l1;
     l0 = l5 = l0 + ((l0 == 0L) ? 4096L : 0L);
     L4: {
@@ -1474,7 +3261,7 @@ static int f243(State m, long l0, long l1, long l2) {
        l0 = l5;
        l3 = l1;
        L7: while (true) {
-        if (((Words.get32(b, ((int) l0) - 60720) + 16776990) & 12632312) != 8421376) { break L5; }
+        if (((Words.get32(b, ((int) l0) - 60448) + 16776990) & 12632312) != 8421376) { break L5; }
         l0 = l0 + 3L;
         if ((l3 = l3 + -3L) + Long.MIN_VALUE > -9223372036854775805L) { continue L7; }
         break L7;
@@ -1488,20 +3275,20 @@ static int f243(State m, long l0, long l1, long l2) {
        default: break L4;
        }
       }
-      if (((((Words.get16(b, ((int) l0) - 60720) & 0xffff) | ((b[((int) (l0 + 2L)) - 60720] & 0xff) << 16)) + 16776990) & 12632312) == 8421376) { break L4; }
+      if (((((Words.get16(b, ((int) l0) - 60448) & 0xffff) | ((b[((int) (l0 + 2L)) - 60448] & 0xff) << 16)) + 16776990) & 12632312) == 8421376) { break L4; }
      }
      if (Core1.f6(m, l5, l1) != 0) { break L4; }
      l8 = 5;
      break L1;
     }
     Core2.f60(m, l4 + 24L, l5, l1);
-    Words.put64(b, ((int) l2) - 60720, 0L);
-    Words.put64(b, ((int) l2) - 60712, 0L);
-    Words.put64(b, ((int) l2) - 60704, 0L);
-    l0 = Words.get64(b, ((int) l4) - 60688);
+    Words.put64(b, ((int) l2) - 60448, 0L);
+    Words.put64(b, ((int) l2) - 60440, 0L);
+    Words.put64(b, ((int) l2) - 60432, 0L);
+    l0 = Words.get64(b, ((int) l4) - 60416);
     L9: {
-     if ((b[((int) l4) - 60696] & 0xff) != 0) { break L9; }
-     Words.put64(b, ((int) l2) - 60720, l0);
+     if ((b[((int) l4) - 60424] & 0xff) != 0) { break L9; }
+     Words.put64(b, ((int) l2) - 60448, l0);
      l8 = 0;
      break L1;
     }
@@ -1514,12 +3301,12 @@ static int f243(State m, long l0, long l1, long l2) {
      }
     }
     l0 = 0L;
-    l3 = l6 = Words.get64(b, ((int) l4) - 60680);
+    l3 = l6 = Words.get64(b, ((int) l4) - 60408);
     L11: {
      if (l6 + Long.MIN_VALUE < -9223372036854775792L) { break L11; }
      Core1.f25(m, l4 + 8L, l5, l1, l6);
-     l3 = Words.get64(b, ((int) l4) - 60704);
-     l0 = Words.get64(b, ((int) l4) - 60712);
+     l3 = Words.get64(b, ((int) l4) - 60432);
+     l0 = Words.get64(b, ((int) l4) - 60440);
     }
     L12: {
      if (l3 + Long.MIN_VALUE < -9223372036854775805L) { break L12; }
@@ -1527,7 +3314,7 @@ static int f243(State m, long l0, long l1, long l2) {
       if ((l1 - l0) + Long.MIN_VALUE < -9223372036854775800L) { break L12; }
       L14: {
        L15: {
-        if (((l7 = Words.get64(b, ((int) (l5 + l0)) - 60720)) & 67553998437089520L) != 63050398541283552L) { break L15; }
+        if (((l7 = Words.get64(b, ((int) (l5 + l0)) - 60448)) & 67553998437089520L) != 63050398541283552L) { break L15; }
         l3 = l3 + -3L;
         l0 = l0 + 9L;
         break L14;
@@ -1546,16 +3333,16 @@ static int f243(State m, long l0, long l1, long l2) {
      if (l1 + Long.MIN_VALUE <= l0 + Long.MIN_VALUE) { break L16; }
      l3 = l3 + -1L;
      L17: while (true) {
-      l0 = Words.get64(b, ((int) (((((b[((int) (l5 + l0)) - 60720] & 0xff) >>> 1) & 0xffffffffL) & 120L) + 66680L)) - 60720) + l0;
+      l0 = Words.get64(b, ((int) (((((b[((int) (l5 + l0)) - 60448] & 0xff) >>> 1) & 0xffffffffL) & 120L) + 66680L)) - 60448) + l0;
       if (l3 == 0L) { break L16; }
       l3 = l3 + -1L;
       if (l1 + Long.MIN_VALUE > l0 + Long.MIN_VALUE) { continue L17; }
       break L17;
      }
     }
-    Words.put64(b, ((int) l2) - 60704, l0);
-    Words.put64(b, ((int) l2) - 60712, l6);
-    Words.put64(b, ((int) l2) - 60720, 0L);
+    Words.put64(b, ((int) l2) - 60432, l0);
+    Words.put64(b, ((int) l2) - 60440, l6);
+    Words.put64(b, ((int) l2) - 60448, 0L);
     l8 = 2;
     break L1;
    }
@@ -1567,7 +3354,7 @@ static int f243(State m, long l0, long l1, long l2) {
  return l8;
 }
 
-static int f245(State m, long l0, long l1, long l2) {
+static int f256(State m, long l0, long l1, long l2) {
  final byte[] b = m.bytes;
  long l3 = 0;
  long l4 = 0;
@@ -1582,12 +3369,12 @@ static int f245(State m, long l0, long l1, long l2) {
  m.g0 = l3 = m.g0 - 112L;
  L1: {
   if ((l3 = l3) < 16L) { break L1; }
-  Words.put64(b, ((int) l2) - 60720, 0L);
-  Words.put64(b, ((int) l2) - 60712, 0L);
-  Words.put64(b, ((int) l2) - 60704, 0L);
-  Words.put64(b, ((int) l3) - 60704, 0L);
-  Words.put64(b, ((int) l3) - 60712, 0L);
-  Words.put64(b, ((int) l3) - 60720, 0L);
+  Words.put64(b, ((int) l2) - 60448, 0L);
+  Words.put64(b, ((int) l2) - 60440, 0L);
+  Words.put64(b, ((int) l2) - 60432, 0L);
+  Words.put64(b, ((int) l3) - 60432, 0L);
+  Words.put64(b, ((int) l3) - 60440, 0L);
+  Words.put64(b, ((int) l3) - 60448, 0L);
   l4 = l1;
   l0 = l5 = l0 + ((l0 == 0L) ? 4096L : 0L);
   L2: {
@@ -1598,7 +3385,7 @@ static int f245(State m, long l0, long l1, long l2) {
       l0 = l5;
       l4 = l1;
       L6: while (true) {
-       if (((Words.get32(b, ((int) l0) - 60720) + 16776990) & 12632312) != 8421376) { break L4; }
+       if (((Words.get32(b, ((int) l0) - 60448) + 16776990) & 12632312) != 8421376) { break L4; }
        l0 = l0 + 3L;
        if ((l4 = l4 + -3L) + Long.MIN_VALUE > -9223372036854775805L) { continue L6; }
        break L6;
@@ -1612,23 +3399,23 @@ static int f245(State m, long l0, long l1, long l2) {
       default: break L3;
       }
      }
-     if (((((Words.get16(b, ((int) l0) - 60720) & 0xffff) | ((b[((int) (l0 + 2L)) - 60720] & 0xff) << 16)) + 16776990) & 12632312) == 8421376) { break L3; }
+     if (((((Words.get16(b, ((int) l0) - 60448) & 0xffff) | ((b[((int) (l0 + 2L)) - 60448] & 0xff) << 16)) + 16776990) & 12632312) == 8421376) { break L3; }
     }
     l9 = 5;
     if (Core1.f6(m, l5, l1) == 0) { break L2; }
    }
    l6 = 0L;
-   Words.put64(b, ((int) l3) - 60648, 0L);
-   Words.put64(b, ((int) l3) - 60640, 0L);
-   Words.put64(b, ((int) l3) - 60632, 0L);
-   Words.put64(b, ((int) l3) - 60624, 0L);
-   Words.put64(b, ((int) l3) - 60616, 0L);
-   Words.put64(b, ((int) l3) - 60656, 0L);
-   Words.put64(b, ((int) l3) - 60664, 0L);
-   Words.put64(b, ((int) l3) - 60672, 0L);
-   Words.put64(b, ((int) l3) - 60680, 0L);
-   Words.put64(b, ((int) l3) - 60688, 0L);
-   Words.put64(b, ((int) l3) - 60696, 0L);
+   Words.put64(b, ((int) l3) - 60376, 0L);
+   Words.put64(b, ((int) l3) - 60368, 0L);
+   Words.put64(b, ((int) l3) - 60360, 0L);
+   Words.put64(b, ((int) l3) - 60352, 0L);
+   Words.put64(b, ((int) l3) - 60344, 0L);
+   Words.put64(b, ((int) l3) - 60384, 0L);
+   Words.put64(b, ((int) l3) - 60392, 0L);
+   Words.put64(b, ((int) l3) - 60400, 0L);
+   Words.put64(b, ((int) l3) - 60408, 0L);
+   Words.put64(b, ((int) l3) - 60416, 0L);
+   Words.put64(b, ((int) l3) - 60424, 0L);
    L8: {
     L9: {
      L10: {
@@ -1639,40 +3426,40 @@ static int f245(State m, long l0, long l1, long l2) {
         l7 = l1;
         l4 = l5;
         L13: while (true) {
-         l9 = (l10 = (int) b[((int) l4) - 60720]) & 255;
+         l9 = (l10 = (int) b[((int) l4) - 60448]) & 255;
          l8 = 1L;
          L14: {
           if (l10 > -1) { break L14; }
-          l11 = (b[((int) l4) - 60719] & 0xff) & 63;
+          l11 = (b[((int) l4) - 60447] & 0xff) & 63;
           L15: {
            if (l10 + Integer.MIN_VALUE > 2147483615) { break L15; }
            l9 = ((l9 << 6) & 1984) | l11;
            l8 = 2L;
            break L14;
           }
-          l12 = (b[((int) l4) - 60718] & 0xff) & 63;
+          l12 = (b[((int) l4) - 60446] & 0xff) & 63;
           L16: {
            if (l10 + Integer.MIN_VALUE > 2147483631) { break L16; }
            l9 = ((l11 << 6) | ((l9 << 12) & 61440)) | l12;
            l8 = 3L;
            break L14;
           }
-          l9 = ((l12 << 6) | ((l11 << 12) | ((l9 << 18) & 1835008))) | ((b[((int) l4) - 60717] & 0xff) & 63);
+          l9 = ((l12 << 6) | ((l11 << 12) | ((l9 << 18) & 1835008))) | ((b[((int) l4) - 60445] & 0xff) & 63);
           l8 = 4L;
          }
          Core1.f20(m, l3 + 24L, l3 + 72L, l9);
-         if ((b[((int) l3) - 60696] & 0xff) != 1) { break L11; }
-         Words.put64(b, ((int) l3) - 60616, Words.get64(b, ((int) l0) - 60688));
-         Words.put64(b, ((int) l3) - 60624, Words.get64(b, ((int) l0) - 60696));
-         Words.put64(b, ((int) l3) - 60632, Words.get64(b, ((int) l0) - 60704));
-         Words.put64(b, ((int) l3) - 60640, Words.get64(b, ((int) l0) - 60712));
-         Words.put64(b, ((int) l3) - 60648, Words.get64(b, ((int) l0) - 60720));
+         if ((b[((int) l3) - 60424] & 0xff) != 1) { break L11; }
+         Words.put64(b, ((int) l3) - 60344, Words.get64(b, ((int) l0) - 60416));
+         Words.put64(b, ((int) l3) - 60352, Words.get64(b, ((int) l0) - 60424));
+         Words.put64(b, ((int) l3) - 60360, Words.get64(b, ((int) l0) - 60432));
+         Words.put64(b, ((int) l3) - 60368, Words.get64(b, ((int) l0) - 60440));
+         Words.put64(b, ((int) l3) - 60376, Words.get64(b, ((int) l0) - 60448));
          l6 = l6 + 1L;
          l4 = l4 + l8;
          if ((l7 = l7 - l8) != 0L) { continue L13; }
          break L13;
         }
-        if ((l0 = Words.get64(b, ((int) l3) - 60647) >>> 56L) + Long.MIN_VALUE < -9223372036854775791L) { break L12; }
+        if ((l0 = Words.get64(b, ((int) l3) - 60375) >>> 56L) + Long.MIN_VALUE < -9223372036854775791L) { break L12; }
         switch (((int) l0) + -17) {
         case 1: break L12;
         default: break L10;
@@ -1687,16 +3474,16 @@ static int f245(State m, long l0, long l1, long l2) {
       break L8;
      }
      l0 = 0L;
-     final long t17 = 0L - (l4 = Words.get64(b, ((int) l3) - 60632));
+     final long t17 = 0L - (l4 = Words.get64(b, ((int) l3) - 60360));
      final long t18 = l4;
-     final int t19 = ((b[((int) l3) - 60648] & 0xff) == 2) ? 1 : 0;
+     final int t19 = ((b[((int) l3) - 60376] & 0xff) == 2) ? 1 : 0;
      l4 = t19 != 0 ? t17 : t18;
     }
     l6 = 0L;
    }
-   Words.put64(b, ((int) l3) - 60704, l6);
-   Words.put64(b, ((int) l3) - 60712, l4);
-   Words.put64(b, ((int) l3) - 60720, l0);
+   Words.put64(b, ((int) l3) - 60432, l6);
+   Words.put64(b, ((int) l3) - 60440, l4);
+   Words.put64(b, ((int) l3) - 60448, l0);
    l9 = Core2.f71(m, l5, l1, l3, l2);
   }
   m.g0 = l3 + 112L;
@@ -1706,7 +3493,7 @@ static int f245(State m, long l0, long l1, long l2) {
  throw State.trap();
 }
 
-static int f247(State m, long l0, long l1, long l2) {
+static int f258(State m, long l0, long l1, long l2) {
  final byte[] b = m.bytes;
  long l3 = 0;
  long l4 = 0;
@@ -1731,12 +3518,12 @@ static int f247(State m, long l0, long l1, long l2) {
  m.g0 = l3 = m.g0 - 176L;
  L1: {
   if ((l3 = l3) < 16L) { break L1; }
-  Words.put64(b, ((int) l2) - 60720, 0L);
-  Words.put64(b, ((int) l2) - 60712, 0L);
-  Words.put64(b, ((int) l2) - 60704, 0L);
-  Words.put64(b, ((int) l3) - 60704, 0L);
-  Words.put64(b, ((int) l3) - 60712, 0L);
-  Words.put64(b, ((int) l3) - 60720, 0L);
+  Words.put64(b, ((int) l2) - 60448, 0L);
+  Words.put64(b, ((int) l2) - 60440, 0L);
+  Words.put64(b, ((int) l2) - 60432, 0L);
+  Words.put64(b, ((int) l3) - 60432, 0L);
+  Words.put64(b, ((int) l3) - 60440, 0L);
+  Words.put64(b, ((int) l3) - 60448, 0L);
   l4 = l1;
   l0 = l5 = l0 + ((l0 == 0L) ? 4096L : 0L);
   L2: {
@@ -1747,7 +3534,7 @@ static int f247(State m, long l0, long l1, long l2) {
       l0 = l5;
       l4 = l1;
       L6: while (true) {
-       if (((Words.get32(b, ((int) l0) - 60720) + 16776990) & 12632312) != 8421376) { break L4; }
+       if (((Words.get32(b, ((int) l0) - 60448) + 16776990) & 12632312) != 8421376) { break L4; }
        l0 = l0 + 3L;
        if ((l4 = l4 + -3L) + Long.MIN_VALUE > -9223372036854775805L) { continue L6; }
        break L6;
@@ -1761,25 +3548,25 @@ static int f247(State m, long l0, long l1, long l2) {
       default: break L3;
       }
      }
-     if (((((Words.get16(b, ((int) l0) - 60720) & 0xffff) | ((b[((int) (l0 + 2L)) - 60720] & 0xff) << 16)) + 16776990) & 12632312) == 8421376) { break L3; }
+     if (((((Words.get16(b, ((int) l0) - 60448) & 0xffff) | ((b[((int) (l0 + 2L)) - 60448] & 0xff) << 16)) + 16776990) & 12632312) == 8421376) { break L3; }
     }
     l15 = 5;
     if (Core1.f6(m, l5, l1) == 0) { break L2; }
    }
    l16 = 0;
-   Words.put32(b, ((int) l3) - 60640, 0);
-   b[((int) l3) - 60636] = (byte) 0;
-   Words.put32(b, ((int) l3) - 60648, 0);
-   Words.put32(b, ((int) l3) - 60645, 0);
+   Words.put32(b, ((int) l3) - 60368, 0);
+   b[((int) l3) - 60364] = (byte) 0;
+   Words.put32(b, ((int) l3) - 60376, 0);
+   Words.put32(b, ((int) l3) - 60373, 0);
    l6 = 0L;
-   Words.put64(b, ((int) l3) - 60664, 0L);
-   Words.put64(b, ((int) l3) - 60656, 0L);
-   Words.put32(b, ((int) l3) - 60672, 0);
-   b[((int) l3) - 60668] = (byte) 0;
-   Words.put32(b, ((int) l3) - 60680, 0);
-   Words.put32(b, ((int) l3) - 60677, 0);
-   Words.put64(b, ((int) l3) - 60696, 0L);
-   Words.put64(b, ((int) l3) - 60688, 0L);
+   Words.put64(b, ((int) l3) - 60392, 0L);
+   Words.put64(b, ((int) l3) - 60384, 0L);
+   Words.put32(b, ((int) l3) - 60400, 0);
+   b[((int) l3) - 60396] = (byte) 0;
+   Words.put32(b, ((int) l3) - 60408, 0);
+   Words.put32(b, ((int) l3) - 60405, 0);
+   Words.put64(b, ((int) l3) - 60424, 0L);
+   Words.put64(b, ((int) l3) - 60416, 0L);
    L8: {
     L9: {
      L10: {
@@ -1800,7 +3587,7 @@ static int f247(State m, long l0, long l1, long l2) {
         l19 = 1;
         L13: while (true) {
          l14 = l0 + 1L;
-         l15 = (l20 = (int) b[((int) l0) - 60720]) & 255;
+         l15 = (l20 = (int) b[((int) l0) - 60448]) & 255;
          L14: {
           L15: {
            L16: {
@@ -1808,17 +3595,17 @@ static int f247(State m, long l0, long l1, long l2) {
              L18: {
               L19: {
                if (l20 < 0) { break L19; }
-               Words.put64(b, ((int) l3) - 60592, 0L);
-               Words.put64(b, ((int) l3) - 60584, 0L);
-               Words.put64(b, ((int) l3) - 60576, 0L);
-               Words.put64(b, ((int) l3) - 60568, 0L);
-               Words.put64(b, ((int) l3) - 60560, 0L);
-               Words.put64(b, ((int) l3) - 60552, 0L);
+               Words.put64(b, ((int) l3) - 60320, 0L);
+               Words.put64(b, ((int) l3) - 60312, 0L);
+               Words.put64(b, ((int) l3) - 60304, 0L);
+               Words.put64(b, ((int) l3) - 60296, 0L);
+               Words.put64(b, ((int) l3) - 60288, 0L);
+               Words.put64(b, ((int) l3) - 60280, 0L);
                l4 = l4 + -1L;
                l0 = l14;
                break L18;
               }
-              l21 = (b[((int) l14) - 60720] & 0xff) & 63;
+              l21 = (b[((int) l14) - 60448] & 0xff) & 63;
               L20: {
                L21: {
                 if (l20 + Integer.MIN_VALUE > 2147483615) { break L21; }
@@ -1826,22 +3613,22 @@ static int f247(State m, long l0, long l1, long l2) {
                 l14 = 2L;
                 break L20;
                }
-               l22 = (b[((int) l0) - 60718] & 0xff) & 63;
+               l22 = (b[((int) l0) - 60446] & 0xff) & 63;
                L22: {
                 if (l20 + Integer.MIN_VALUE > 2147483631) { break L22; }
                 l15 = ((l21 << 6) | ((l15 << 12) & 61440)) | l22;
                 l14 = 3L;
                 break L20;
                }
-               l15 = ((l22 << 6) | ((l21 << 12) | ((l15 << 18) & 1835008))) | ((b[((int) l0) - 60717] & 0xff) & 63);
+               l15 = ((l22 << 6) | ((l21 << 12) | ((l15 << 18) & 1835008))) | ((b[((int) l0) - 60445] & 0xff) & 63);
                l14 = 4L;
               }
-              Words.put64(b, ((int) l3) - 60592, 0L);
-              Words.put64(b, ((int) l3) - 60584, 0L);
-              Words.put64(b, ((int) l3) - 60576, 0L);
-              Words.put64(b, ((int) l3) - 60568, 0L);
-              Words.put64(b, ((int) l3) - 60560, 0L);
-              Words.put64(b, ((int) l3) - 60552, 0L);
+              Words.put64(b, ((int) l3) - 60320, 0L);
+              Words.put64(b, ((int) l3) - 60312, 0L);
+              Words.put64(b, ((int) l3) - 60304, 0L);
+              Words.put64(b, ((int) l3) - 60296, 0L);
+              Words.put64(b, ((int) l3) - 60288, 0L);
+              Words.put64(b, ((int) l3) - 60280, 0L);
               l4 = l4 - l14;
               l0 = l0 + l14;
               if (l15 + Integer.MIN_VALUE > -2147483521) { break L17; }
@@ -1864,45 +3651,45 @@ static int f247(State m, long l0, long l1, long l2) {
             }
             if (l15 == 12288) { break L15; }
            }
-           Words.put32(b, ((int) l12) - 60720, Words.get32(b, ((int) l3) - 60640));
-           b[((int) l12) - 60716] = (byte) (b[((int) l3) - 60636] & 0xff);
-           Words.put32(b, ((int) l11) - 60720, Words.get32(b, ((int) l3) - 60648));
-           Words.put32(b, ((int) l11) - 60717, Words.get32(b, ((int) l3) - 60645));
-           Words.put64(b, ((int) l10) - 60720, Words.get64(b, ((int) l3) - 60664));
-           Words.put64(b, ((int) l10) - 60712, Words.get64(b, ((int) l3) - 60656));
-           b[((int) l3) - 60630] = (byte) l17;
-           b[((int) l3) - 60631] = (byte) l16;
-           b[((int) l3) - 60632] = (byte) l19;
-           b[((int) l3) - 60624] = (byte) l18;
-           Words.put64(b, ((int) l3) - 60616, l13);
+           Words.put32(b, ((int) l12) - 60448, Words.get32(b, ((int) l3) - 60368));
+           b[((int) l12) - 60444] = (byte) (b[((int) l3) - 60364] & 0xff);
+           Words.put32(b, ((int) l11) - 60448, Words.get32(b, ((int) l3) - 60376));
+           Words.put32(b, ((int) l11) - 60445, Words.get32(b, ((int) l3) - 60373));
+           Words.put64(b, ((int) l10) - 60448, Words.get64(b, ((int) l3) - 60392));
+           Words.put64(b, ((int) l10) - 60440, Words.get64(b, ((int) l3) - 60384));
+           b[((int) l3) - 60358] = (byte) l17;
+           b[((int) l3) - 60359] = (byte) l16;
+           b[((int) l3) - 60360] = (byte) l19;
+           b[((int) l3) - 60352] = (byte) l18;
+           Words.put64(b, ((int) l3) - 60344, l13);
            Core1.f21(m, l3 + 128L, l3 + 88L, l15);
-           if ((b[((int) l3) - 60592] & 0xff) != 1) { break L11; }
-           Words.put32(b, ((int) l3) - 60672, Words.get32(b, ((int) l9) - 60720));
-           b[((int) l3) - 60668] = (byte) (b[((int) l9) - 60716] & 0xff);
-           Words.put32(b, ((int) l3) - 60680, Words.get32(b, ((int) l8) - 60720));
-           Words.put32(b, ((int) l3) - 60677, Words.get32(b, ((int) l8) - 60717));
-           Words.put64(b, ((int) l3) - 60696, Words.get64(b, ((int) l7) - 60720));
-           Words.put64(b, ((int) l3) - 60688, Words.get64(b, ((int) l7) - 60712));
-           l13 = Words.get64(b, ((int) l3) - 60568);
-           l18 = b[((int) l3) - 60576] & 0xff;
-           l17 = b[((int) l3) - 60582] & 0xff;
-           l16 = b[((int) l3) - 60583] & 0xff;
-           l19 = b[((int) l3) - 60584] & 0xff;
+           if ((b[((int) l3) - 60320] & 0xff) != 1) { break L11; }
+           Words.put32(b, ((int) l3) - 60400, Words.get32(b, ((int) l9) - 60448));
+           b[((int) l3) - 60396] = (byte) (b[((int) l9) - 60444] & 0xff);
+           Words.put32(b, ((int) l3) - 60408, Words.get32(b, ((int) l8) - 60448));
+           Words.put32(b, ((int) l3) - 60405, Words.get32(b, ((int) l8) - 60445));
+           Words.put64(b, ((int) l3) - 60424, Words.get64(b, ((int) l7) - 60448));
+           Words.put64(b, ((int) l3) - 60416, Words.get64(b, ((int) l7) - 60440));
+           l13 = Words.get64(b, ((int) l3) - 60296);
+           l18 = b[((int) l3) - 60304] & 0xff;
+           l17 = b[((int) l3) - 60310] & 0xff;
+           l16 = b[((int) l3) - 60311] & 0xff;
+           l19 = b[((int) l3) - 60312] & 0xff;
            break L14;
           }
-          b[((int) l3) - 60668] = (byte) (b[((int) l3) - 60636] & 0xff);
-          Words.put32(b, ((int) l3) - 60672, Words.get32(b, ((int) l3) - 60640));
-          Words.put32(b, ((int) l3) - 60680, Words.get32(b, ((int) l3) - 60648));
-          Words.put32(b, ((int) l3) - 60677, Words.get32(b, ((int) l3) - 60645));
-          Words.put64(b, ((int) l3) - 60696, Words.get64(b, ((int) l3) - 60664));
-          Words.put64(b, ((int) l3) - 60688, Words.get64(b, ((int) l3) - 60656));
+          b[((int) l3) - 60396] = (byte) (b[((int) l3) - 60364] & 0xff);
+          Words.put32(b, ((int) l3) - 60400, Words.get32(b, ((int) l3) - 60368));
+          Words.put32(b, ((int) l3) - 60408, Words.get32(b, ((int) l3) - 60376));
+          Words.put32(b, ((int) l3) - 60405, Words.get32(b, ((int) l3) - 60373));
+          Words.put64(b, ((int) l3) - 60424, Words.get64(b, ((int) l3) - 60392));
+          Words.put64(b, ((int) l3) - 60416, Words.get64(b, ((int) l3) - 60384));
          }
-         Words.put32(b, ((int) l3) - 60640, Words.get32(b, ((int) l3) - 60672));
-         b[((int) l3) - 60636] = (byte) (b[((int) l3) - 60668] & 0xff);
-         Words.put32(b, ((int) l3) - 60648, Words.get32(b, ((int) l3) - 60680));
-         Words.put32(b, ((int) l3) - 60645, Words.get32(b, ((int) l3) - 60677));
-         Words.put64(b, ((int) l3) - 60664, Words.get64(b, ((int) l3) - 60696));
-         Words.put64(b, ((int) l3) - 60656, Words.get64(b, ((int) l3) - 60688));
+         Words.put32(b, ((int) l3) - 60368, Words.get32(b, ((int) l3) - 60400));
+         b[((int) l3) - 60364] = (byte) (b[((int) l3) - 60396] & 0xff);
+         Words.put32(b, ((int) l3) - 60376, Words.get32(b, ((int) l3) - 60408));
+         Words.put32(b, ((int) l3) - 60373, Words.get32(b, ((int) l3) - 60405));
+         Words.put64(b, ((int) l3) - 60392, Words.get64(b, ((int) l3) - 60424));
+         Words.put64(b, ((int) l3) - 60384, Words.get64(b, ((int) l3) - 60416));
          l6 = l6 + 1L;
          if (l4 != 0L) { continue L13; }
          break L13;
@@ -1929,9 +3716,9 @@ static int f247(State m, long l0, long l1, long l2) {
     }
     l6 = 0L;
    }
-   Words.put64(b, ((int) l3) - 60704, l6);
-   Words.put64(b, ((int) l3) - 60712, l4);
-   Words.put64(b, ((int) l3) - 60720, l0);
+   Words.put64(b, ((int) l3) - 60432, l6);
+   Words.put64(b, ((int) l3) - 60440, l4);
+   Words.put64(b, ((int) l3) - 60448, l0);
    l15 = Core2.f71(m, l5, l1, l3, l2);
   }
   m.g0 = l3 + 176L;
@@ -1941,7 +3728,7 @@ static int f247(State m, long l0, long l1, long l2) {
  throw State.trap();
 }
 
-static int f249(State m, long l0, long l1, long l2, long l3, long l4, long l5) {
+static int f260(State m, long l0, long l1, long l2, long l3, long l4, long l5) {
  final byte[] b = m.bytes;
  long l6 = 0;
  long l7 = 0;
@@ -1951,20 +3738,20 @@ static int f249(State m, long l0, long l1, long l2, long l3, long l4, long l5) {
  m.g0 = l6 = m.g0 - 112L;
  L1: {
   if ((l7 = l6) < 16L) { break L1; }
-  Words.put64(b, ((int) l4) - 60672, 0L);
-  Words.put64(b, ((int) l4) - 60680, 0L);
-  Words.put64(b, ((int) l4) - 60688, 0L);
-  Words.put64(b, ((int) l4) - 60696, 0L);
-  Words.put64(b, ((int) l4) - 60704, 0L);
-  Words.put64(b, ((int) l4) - 60712, 0L);
-  Words.put64(b, ((int) l4) - 60720, 0L);
-  Words.put64(b, ((int) l5) - 60672, 0L);
-  Words.put64(b, ((int) l5) - 60680, 0L);
-  Words.put64(b, ((int) l5) - 60688, 0L);
-  Words.put64(b, ((int) l5) - 60696, 0L);
-  Words.put64(b, ((int) l5) - 60704, 0L);
-  Words.put64(b, ((int) l5) - 60712, 0L);
-  Words.put64(b, ((int) l5) - 60720, 0L);
+  Words.put64(b, ((int) l4) - 60400, 0L);
+  Words.put64(b, ((int) l4) - 60408, 0L);
+  Words.put64(b, ((int) l4) - 60416, 0L);
+  Words.put64(b, ((int) l4) - 60424, 0L);
+  Words.put64(b, ((int) l4) - 60432, 0L);
+  Words.put64(b, ((int) l4) - 60440, 0L);
+  Words.put64(b, ((int) l4) - 60448, 0L);
+  Words.put64(b, ((int) l5) - 60400, 0L);
+  Words.put64(b, ((int) l5) - 60408, 0L);
+  Words.put64(b, ((int) l5) - 60416, 0L);
+  Words.put64(b, ((int) l5) - 60424, 0L);
+  Words.put64(b, ((int) l5) - 60432, 0L);
+  Words.put64(b, ((int) l5) - 60440, 0L);
+  Words.put64(b, ((int) l5) - 60448, 0L);
   l6 = l1;
   l0 = l8 = l0 + ((l0 == 0L) ? 4096L : 0L);
   L2: {
@@ -1975,7 +3762,7 @@ static int f249(State m, long l0, long l1, long l2, long l3, long l4, long l5) {
       l0 = l8;
       l6 = l1;
       L6: while (true) {
-       if (((Words.get32(b, ((int) l0) - 60720) + 16776990) & 12632312) != 8421376) { break L4; }
+       if (((Words.get32(b, ((int) l0) - 60448) + 16776990) & 12632312) != 8421376) { break L4; }
        l0 = l0 + 3L;
        if ((l6 = l6 + -3L) + Long.MIN_VALUE > -9223372036854775805L) { continue L6; }
        break L6;
@@ -1989,7 +3776,7 @@ static int f249(State m, long l0, long l1, long l2, long l3, long l4, long l5) {
       default: break L3;
       }
      }
-     if (((((Words.get16(b, ((int) l0) - 60720) & 0xffff) | ((b[((int) (l0 + 2L)) - 60720] & 0xff) << 16)) + 16776990) & 12632312) == 8421376) { break L3; }
+     if (((((Words.get16(b, ((int) l0) - 60448) & 0xffff) | ((b[((int) (l0 + 2L)) - 60448] & 0xff) << 16)) + 16776990) & 12632312) == 8421376) { break L3; }
     }
     if (Core1.f6(m, l8, l1) != 0) { break L3; }
     l9 = 5;
@@ -2004,7 +3791,7 @@ static int f249(State m, long l0, long l1, long l2, long l3, long l4, long l5) {
       l0 = l2;
       l6 = l3;
       L11: while (true) {
-       if (((Words.get32(b, ((int) l0) - 60720) + 16776990) & 12632312) != 8421376) { break L9; }
+       if (((Words.get32(b, ((int) l0) - 60448) + 16776990) & 12632312) != 8421376) { break L9; }
        l0 = l0 + 3L;
        if ((l6 = l6 + -3L) + Long.MIN_VALUE > -9223372036854775805L) { continue L11; }
        break L11;
@@ -2018,7 +3805,7 @@ static int f249(State m, long l0, long l1, long l2, long l3, long l4, long l5) {
       default: break L8;
       }
      }
-     if (((((Words.get16(b, ((int) l0) - 60720) & 0xffff) | ((b[((int) (l0 + 2L)) - 60720] & 0xff) << 16)) + 16776990) & 12632312) == 8421376) { break L8; }
+     if (((((Words.get16(b, ((int) l0) - 60448) & 0xffff) | ((b[((int) (l0 + 2L)) - 60448] & 0xff) << 16)) + 16776990) & 12632312) == 8421376) { break L8; }
     }
     if (Core1.f6(m, l2, l3) != 0) { break L8; }
     l9 = 5;
@@ -2030,22 +3817,22 @@ static int f249(State m, long l0, long l1, long l2, long l3, long l4, long l5) {
    Core2.f72(m, l7, l8, l1, l2, l3);
    L13: {
     L14: {
-     if ((b[((int) l7) - 60720] & 0xff) != 1) { break L14; }
-     Words.put32(b, ((int) l4) - 60688, b[((int) l7) - 60672] & 0xff);
-     Words.put64(b, ((int) l4) - 60696, Words.get64(b, ((int) l7) - 60680));
-     Words.put64(b, ((int) l4) - 60704, Words.get64(b, ((int) l7) - 60688));
-     Words.put64(b, ((int) (l6 = l4 + 36L)) - 60720, 0L);
-     Words.put64(b, ((int) l6) - 60712, 0L);
+     if ((b[((int) l7) - 60448] & 0xff) != 1) { break L14; }
+     Words.put32(b, ((int) l4) - 60416, b[((int) l7) - 60400] & 0xff);
+     Words.put64(b, ((int) l4) - 60424, Words.get64(b, ((int) l7) - 60408));
+     Words.put64(b, ((int) l4) - 60432, Words.get64(b, ((int) l7) - 60416));
+     Words.put64(b, ((int) (l6 = l4 + 36L)) - 60448, 0L);
+     Words.put64(b, ((int) l6) - 60440, 0L);
      l9 = 0;
-     Words.put32(b, ((int) l6) - 60704, 0);
+     Words.put32(b, ((int) l6) - 60432, 0);
      final int t15 = (int) l4;
-     final long t16 = 0L - (l6 = Words.get64(b, ((int) l7) - 60704));
+     final long t16 = 0L - (l6 = Words.get64(b, ((int) l7) - 60432));
      final long t17 = l6;
-     final int t18 = l10 = ((l1 = Words.get64(b, ((int) l7) - 60696)) < 0L) ? 1 : 0;
+     final int t18 = l10 = ((l1 = Words.get64(b, ((int) l7) - 60424)) < 0L) ? 1 : 0;
      final long t19 = 0L - (l3 = t18 != 0 ? t16 : t17);
      final long t20 = l3;
      final int t21 = l10;
-     Words.put64(b, t15 - 60720, t21 != 0 ? t19 : t20);
+     Words.put64(b, t15 - 60448, t21 != 0 ? t19 : t20);
      final int t22 = (int) l4;
      final long t23 = 0L - (l1 + ((l6 != 0L) ? 1L : 0L));
      final long t24 = l1;
@@ -2053,13 +3840,13 @@ static int f249(State m, long l0, long l1, long l2, long l3, long l4, long l5) {
      final long t26 = 0L - ((l6 = t25 != 0 ? t23 : t24) + ((l3 != 0L) ? 1L : 0L));
      final long t27 = l6;
      final int t28 = l10;
-     Words.put64(b, t22 - 60712, t28 != 0 ? t26 : t27);
-     Words.put32(b, ((int) l0) - 60704, 0);
-     Words.put64(b, ((int) l0) - 60712, 0L);
-     Words.put64(b, ((int) l0) - 60720, 0L);
-     final long t29 = 0L - (l0 = Words.get64(b, ((int) l7) - 60656));
+     Words.put64(b, t22 - 60440, t28 != 0 ? t26 : t27);
+     Words.put32(b, ((int) l0) - 60432, 0);
+     Words.put64(b, ((int) l0) - 60440, 0L);
+     Words.put64(b, ((int) l0) - 60448, 0L);
+     final long t29 = 0L - (l0 = Words.get64(b, ((int) l7) - 60384));
      final long t30 = l0;
-     final int t31 = l10 = ((l4 = Words.get64(b, ((int) l7) - 60648)) < 0L) ? 1 : 0;
+     final int t31 = l10 = ((l4 = Words.get64(b, ((int) l7) - 60376)) < 0L) ? 1 : 0;
      final long t32 = 0L - (l1 = t31 != 0 ? t29 : t30);
      final long t33 = l1;
      final int t34 = l10;
@@ -2071,32 +3858,32 @@ static int f249(State m, long l0, long l1, long l2, long l3, long l4, long l5) {
      final long t39 = l0;
      final int t40 = l10;
      l0 = t40 != 0 ? t38 : t39;
-     l10 = b[((int) l7) - 60624] & 0xff;
-     l4 = Words.get64(b, ((int) l7) - 60632);
-     l1 = Words.get64(b, ((int) l7) - 60640);
+     l10 = b[((int) l7) - 60352] & 0xff;
+     l4 = Words.get64(b, ((int) l7) - 60360);
+     l1 = Words.get64(b, ((int) l7) - 60368);
      break L13;
     }
     l6 = 0L;
-    Words.put64(b, ((int) l4) - 60672, 0L);
-    Words.put64(b, ((int) l4) - 60680, 0L);
-    Words.put64(b, ((int) l4) - 60688, 0L);
-    Words.put64(b, ((int) l4) - 60696, 0L);
-    Words.put64(b, ((int) l4) - 60704, 0L);
-    Words.put64(b, ((int) l4) - 60712, 0L);
-    Words.put64(b, ((int) l4) - 60720, 0L);
-    Words.put32(b, ((int) l0) - 60704, 0);
-    Words.put64(b, ((int) l0) - 60712, 0L);
-    Words.put64(b, ((int) l0) - 60720, 0L);
+    Words.put64(b, ((int) l4) - 60400, 0L);
+    Words.put64(b, ((int) l4) - 60408, 0L);
+    Words.put64(b, ((int) l4) - 60416, 0L);
+    Words.put64(b, ((int) l4) - 60424, 0L);
+    Words.put64(b, ((int) l4) - 60432, 0L);
+    Words.put64(b, ((int) l4) - 60440, 0L);
+    Words.put64(b, ((int) l4) - 60448, 0L);
+    Words.put32(b, ((int) l0) - 60432, 0);
+    Words.put64(b, ((int) l0) - 60440, 0L);
+    Words.put64(b, ((int) l0) - 60448, 0L);
     l9 = 2;
     l0 = 0L;
     l1 = 0L;
     l4 = 0L;
    }
-   Words.put32(b, ((int) l5) - 60688, l10);
-   Words.put64(b, ((int) l5) - 60696, l4);
-   Words.put64(b, ((int) l5) - 60704, l1);
-   Words.put64(b, ((int) l5) - 60712, l0);
-   Words.put64(b, ((int) l5) - 60720, l6);
+   Words.put32(b, ((int) l5) - 60416, l10);
+   Words.put64(b, ((int) l5) - 60424, l4);
+   Words.put64(b, ((int) l5) - 60432, l1);
+   Words.put64(b, ((int) l5) - 60440, l0);
+   Words.put64(b, ((int) l5) - 60448, l6);
   }
   m.g0 = l7 + 112L;
   final int t41 = l9;
@@ -2105,7 +3892,7 @@ static int f249(State m, long l0, long l1, long l2, long l3, long l4, long l5) {
  throw State.trap();
 }
 
-static int f251(State m, long l0, long l1, long l2, int l3, int l4, long l5, long l6, long l7) {
+static int f262(State m, long l0, long l1, long l2, int l3, int l4, long l5, long l6, long l7) {
  final byte[] b = m.bytes;
  long l8 = 0;
  L1: {
@@ -2120,18 +3907,18 @@ static int f251(State m, long l0, long l1, long l2, int l3, int l4, long l5, lon
      final int t5 = l3;
      return t5;
     }
-    Words.put64(b, ((int) l7) - 60720, 0L);
+    Words.put64(b, ((int) l7) - 60448, 0L);
     break L1;
    }
    throw State.trap();
   }
-  Words.put64(b, ((int) l7) - 60720, 0L);
+  Words.put64(b, ((int) l7) - 60448, 0L);
  }
  m.g0 = l8;
  return 8;
 }
 
-static int f253(State m, long l0, long l1, long l2, int l3, int l4, long l5, long l6, long l7) {
+static int f264(State m, long l0, long l1, long l2, int l3, int l4, long l5, long l6, long l7) {
  final byte[] b = m.bytes;
  long l8 = 0;
  L1: {
@@ -2143,7 +3930,7 @@ static int f253(State m, long l0, long l1, long l2, int l3, int l4, long l5, lon
      if (l4 + Integer.MIN_VALUE >= -2147483632) { break L2; }
      L5: {
       if (l2 != l1) { break L5; }
-      Words.put64(b, ((int) l7) - 60720, 0L);
+      Words.put64(b, ((int) l7) - 60448, 0L);
       m.g0 = l8;
       return 0;
      }
@@ -2154,16 +3941,16 @@ static int f253(State m, long l0, long l1, long l2, int l3, int l4, long l5, lon
     }
     throw State.trap();
    }
-   Words.put64(b, ((int) l7) - 60720, 0L);
+   Words.put64(b, ((int) l7) - 60448, 0L);
    break L1;
   }
-  Words.put64(b, ((int) l7) - 60720, 0L);
+  Words.put64(b, ((int) l7) - 60448, 0L);
  }
  m.g0 = l8;
  return 8;
 }
 
-static int f255(State m, long l0, long l1, long l2, int l3, int l4, long l5, long l6, long l7) {
+static int f266(State m, long l0, long l1, long l2, int l3, int l4, long l5, long l6, long l7) {
  final byte[] b = m.bytes;
  long l8 = 0;
  long l9 = 0;
@@ -2183,7 +3970,7 @@ static int f255(State m, long l0, long l1, long l2, int l3, int l4, long l5, lon
        l0 = l10;
        l9 = l1;
        L7: while (true) {
-        if (((Words.get32(b, ((int) l0) - 60720) + 16776990) & 12632312) != 8421376) { break L5; }
+        if (((Words.get32(b, ((int) l0) - 60448) + 16776990) & 12632312) != 8421376) { break L5; }
         l0 = l0 + 3L;
         if ((l9 = l9 + -3L) + Long.MIN_VALUE > -9223372036854775805L) { continue L7; }
         break L7;
@@ -2197,7 +3984,7 @@ static int f255(State m, long l0, long l1, long l2, int l3, int l4, long l5, lon
        default: break L4;
        }
       }
-      if (((((Words.get16(b, ((int) l0) - 60720) & 0xffff) | ((b[((int) (l0 + 2L)) - 60720] & 0xff) << 16)) + 16776990) & 12632312) == 8421376) { break L4; }
+      if (((((Words.get16(b, ((int) l0) - 60448) & 0xffff) | ((b[((int) (l0 + 2L)) - 60448] & 0xff) << 16)) + 16776990) & 12632312) == 8421376) { break L4; }
      }
      if (Core1.f6(m, l10, l1) == 0) { break L3; }
     }
@@ -2206,18 +3993,18 @@ static int f255(State m, long l0, long l1, long l2, int l3, int l4, long l5, lon
     final int t9 = l3;
     return t9;
    }
-   Words.put64(b, ((int) l7) - 60720, 0L);
+   Words.put64(b, ((int) l7) - 60448, 0L);
    m.g0 = l8;
    return 5;
   }
   throw State.trap();
  }
- Words.put64(b, ((int) l7) - 60720, 0L);
+ Words.put64(b, ((int) l7) - 60448, 0L);
  m.g0 = l8;
  return 8;
 }
 
-static int f257(State m, long l0, long l1, long l2, int l3, int l4, long l5, long l6, long l7) {
+static int f268(State m, long l0, long l1, long l2, int l3, int l4, long l5, long l6, long l7) {
  final byte[] b = m.bytes;
  long l8 = 0;
  L1: {
@@ -2232,16 +4019,16 @@ static int f257(State m, long l0, long l1, long l2, int l3, int l4, long l5, lon
   }
   throw State.trap();
  }
- Words.put64(b, ((int) l7) - 60720, 0L);
+ Words.put64(b, ((int) l7) - 60448, 0L);
  m.g0 = l8;
  return 8;
 }
 
-static int f259(State m, long l0, long l1, long l2, int l3, int l4, long l5, long l6, long l7) {
- return Core5.f161(m, l0 + ((l0 == 0L) ? 4096L : 0L), l1, l2, l3, l4, l5 + ((l5 == 0L) ? 4096L : 0L), l6, l7);
+static int f270(State m, long l0, long l1, long l2, int l3, int l4, long l5, long l6, long l7) {
+ return Core5.f170(m, l0 + ((l0 == 0L) ? 4096L : 0L), l1, l2, l3, l4, l5 + ((l5 == 0L) ? 4096L : 0L), l6, l7);
 }
 
-static int f261(State m, long l0, long l1, long l2, int l3, int l4, long l5, long l6, long l7) {
+static int f272(State m, long l0, long l1, long l2, int l3, int l4, long l5, long l6, long l7) {
  final byte[] b = m.bytes;
  long l8 = 0;
  long l9 = 0;
@@ -2259,7 +4046,7 @@ static int f261(State m, long l0, long l1, long l2, int l3, int l4, long l5, lon
       L6: {
        if (l1 + Long.MIN_VALUE < -9223372036854775804L) { break L6; }
        L7: while (true) {
-        if (((Words.get32(b, ((int) l0) - 60720) + 16776990) & 12632312) != 8421376) { break L5; }
+        if (((Words.get32(b, ((int) l0) - 60448) + 16776990) & 12632312) != 8421376) { break L5; }
         l0 = l0 + 3L;
         if ((l10 = l10 + -3L) + Long.MIN_VALUE > -9223372036854775805L) { continue L7; }
         break L7;
@@ -2273,27 +4060,27 @@ static int f261(State m, long l0, long l1, long l2, int l3, int l4, long l5, lon
        default: break L4;
        }
       }
-      if (((((Words.get16(b, ((int) l0) - 60720) & 0xffff) | ((b[((int) (l0 + 2L)) - 60720] & 0xff) << 16)) + 16776990) & 12632312) == 8421376) { break L4; }
+      if (((((Words.get16(b, ((int) l0) - 60448) & 0xffff) | ((b[((int) (l0 + 2L)) - 60448] & 0xff) << 16)) + 16776990) & 12632312) == 8421376) { break L4; }
      }
      if (Core1.f6(m, l9, l1) == 0) { break L3; }
     }
-    l3 = Core5.f161(m, l9, l1, l2, l3, l4, l5 + ((l5 == 0L) ? 4096L : 0L), l6, l7);
+    l3 = Core5.f170(m, l9, l1, l2, l3, l4, l5 + ((l5 == 0L) ? 4096L : 0L), l6, l7);
     m.g0 = l8;
     final int t9 = l3;
     return t9;
    }
-   Words.put64(b, ((int) l7) - 60720, 0L);
+   Words.put64(b, ((int) l7) - 60448, 0L);
    m.g0 = l8;
    return 5;
   }
   throw State.trap();
  }
- Words.put64(b, ((int) l7) - 60720, 0L);
+ Words.put64(b, ((int) l7) - 60448, 0L);
  m.g0 = l8;
  return 8;
 }
 
-static int f263(State m, long l0, long l1, int l2, int l3, long l4) {
+static int f274(State m, long l0, long l1, int l2, int l3, long l4) {
  final byte[] b = m.bytes;
  long l5 = 0;
  long l6 = 0;
@@ -2305,12 +4092,12 @@ static int f263(State m, long l0, long l1, int l2, int l3, long l4) {
  m.g0 = l5 = m.g0 - 16L;
  L1: {
   if ((l6 = l5) < 16L) { break L1; }
-  Words.put32(b, ((int) l4) - 60720, 0);
+  Words.put32(b, ((int) l4) - 60448, 0);
   L2: {
    L3: {
     if (l3 + Integer.MIN_VALUE > -2147483644) { break L3; }
-    l8 = b[((int) ((l5 = (l3 & 0xffffffffL) << 1L) + 85585L)) - 60720] & 0xff;
-    l9 = b[((int) (l5 + 85584L)) - 60720] & 0xff;
+    l8 = b[((int) ((l5 = (l3 & 0xffffffffL) << 1L) + 86485L)) - 60448] & 0xff;
+    l9 = b[((int) (l5 + 86484L)) - 60448] & 0xff;
     l10 = 1;
     l11 = 1;
     break L2;
@@ -2333,7 +4120,7 @@ static int f263(State m, long l0, long l1, int l2, int l3, long l4) {
       l5 = l0;
       l7 = l1;
       L8: while (true) {
-       if (((Words.get32(b, ((int) l5) - 60720) + 16776990) & 12632312) != 8421376) { break L6; }
+       if (((Words.get32(b, ((int) l5) - 60448) + 16776990) & 12632312) != 8421376) { break L6; }
        l5 = l5 + 3L;
        if ((l7 = l7 + -3L) + Long.MIN_VALUE > -9223372036854775805L) { continue L8; }
        break L8;
@@ -2347,7 +4134,7 @@ static int f263(State m, long l0, long l1, int l2, int l3, long l4) {
       default: break L5;
       }
      }
-     if (((((Words.get16(b, ((int) l5) - 60720) & 0xffff) | ((b[((int) (l5 + 2L)) - 60720] & 0xff) << 16)) + 16776990) & 12632312) == 8421376) { break L5; }
+     if (((((Words.get16(b, ((int) l5) - 60448) & 0xffff) | ((b[((int) (l5 + 2L)) - 60448] & 0xff) << 16)) + 16776990) & 12632312) == 8421376) { break L5; }
     }
     l3 = 5;
     if (Core1.f6(m, l0, l1) == 0) { break L4; }
@@ -2355,14 +4142,14 @@ static int f263(State m, long l0, long l1, int l2, int l3, long l4) {
    l3 = (l2 + Integer.MIN_VALUE < -2147483638) ? l2 : 0;
    L10: {
     if (l11 != 0) { break L10; }
-    Core5.f163(m, l6 + 8L, l3, l0, l1);
-    l8 = b[((int) l6) - 60711] & 0xff;
-    l9 = b[((int) l6) - 60712] & 0xff;
+    Core5.f172(m, l6 + 8L, l3, l0, l1);
+    l8 = b[((int) l6) - 60439] & 0xff;
+    l9 = b[((int) l6) - 60440] & 0xff;
    }
-   Core5.f164(m, l6, l3, l9, l8, l0, l1);
+   Core5.f173(m, l6, l3, l9, l8, l0, l1);
    l3 = 0;
-   if ((b[((int) l6) - 60720] & 0xff) != 1) { break L4; }
-   Words.put32(b, ((int) l4) - 60720, ((b[((int) l6) - 60719] & 0xff) & 255) + 1);
+   if ((b[((int) l6) - 60448] & 0xff) != 1) { break L4; }
+   Words.put32(b, ((int) l4) - 60448, ((b[((int) l6) - 60447] & 0xff) & 255) + 1);
   }
   m.g0 = l6 + 16L;
   final int t11 = l3;
@@ -2371,7 +4158,7 @@ static int f263(State m, long l0, long l1, int l2, int l3, long l4) {
  throw State.trap();
 }
 
-static int f265(State m, long l0, long l1, int l2, int l3, int l4, long l5, long l6, long l7) {
+static int f276(State m, long l0, long l1, int l2, int l3, int l4, long l5, long l6, long l7) {
  final byte[] b = m.bytes;
  long l8 = 0;
  long l9 = 0;
@@ -2398,15 +4185,15 @@ static int f265(State m, long l0, long l1, int l2, int l3, int l4, long l5, long
            L11: {
             if ((l8 = l8) < 16L) { break L11; }
             m.fill((int) (l8 + 72L), 0, (int) 512L);
-            Words.put64(b, ((int) l7) - 60720, 0L);
-            Words.put64(b, ((int) l8) - 60656, 0L);
-            Words.put64(b, ((int) l8) - 60664, 0L);
-            Words.put64(b, ((int) l8) - 60672, 0L);
+            Words.put64(b, ((int) l7) - 60448, 0L);
+            Words.put64(b, ((int) l8) - 60384, 0L);
+            Words.put64(b, ((int) l8) - 60392, 0L);
+            Words.put64(b, ((int) l8) - 60400, 0L);
             L12: {
              L13: {
               if (l3 + Integer.MIN_VALUE > -2147483644) { break L13; }
-              l14 = b[((int) ((l9 = (l3 & 0xffffffffL) << 1L) + 85585L)) - 60720] & 0xff;
-              l15 = b[((int) (l9 + 85584L)) - 60720] & 0xff;
+              l14 = b[((int) ((l9 = (l3 & 0xffffffffL) << 1L) + 86485L)) - 60448] & 0xff;
+              l15 = b[((int) (l9 + 86484L)) - 60448] & 0xff;
               l16 = 1;
               l17 = 1;
               break L12;
@@ -2429,7 +4216,7 @@ static int f265(State m, long l0, long l1, int l2, int l3, int l4, long l5, long
                l0 = l10;
                l9 = l1;
                L17: while (true) {
-                if (((Words.get32(b, ((int) l0) - 60720) + 16776990) & 12632312) != 8421376) { break L15; }
+                if (((Words.get32(b, ((int) l0) - 60448) + 16776990) & 12632312) != 8421376) { break L15; }
                 l0 = l0 + 3L;
                 if ((l9 = l9 + -3L) + Long.MIN_VALUE > -9223372036854775805L) { continue L17; }
                 break L17;
@@ -2443,7 +4230,7 @@ static int f265(State m, long l0, long l1, int l2, int l3, int l4, long l5, long
                default: break L14;
                }
               }
-              if (((((Words.get16(b, ((int) l0) - 60720) & 0xffff) | ((b[((int) (l0 + 2L)) - 60720] & 0xff) << 16)) + 16776990) & 12632312) == 8421376) { break L14; }
+              if (((((Words.get16(b, ((int) l0) - 60448) & 0xffff) | ((b[((int) (l0 + 2L)) - 60448] & 0xff) << 16)) + 16776990) & 12632312) == 8421376) { break L14; }
              }
              if (Core1.f6(m, l10, l1) != 0) { break L14; }
              l3 = 5;
@@ -2451,22 +4238,22 @@ static int f265(State m, long l0, long l1, int l2, int l3, int l4, long l5, long
             }
             l2 = (l2 + Integer.MIN_VALUE < -2147483638) ? l2 : 0;
             m.fill((int) (l8 + 72L), 0, (int) 512L);
-            Words.put64(b, ((int) l8) - 60656, 0L);
-            Words.put64(b, ((int) l8) - 60664, 512L);
-            Words.put64(b, ((int) l8) - 60672, l8 + 72L);
+            Words.put64(b, ((int) l8) - 60384, 0L);
+            Words.put64(b, ((int) l8) - 60392, 512L);
+            Words.put64(b, ((int) l8) - 60400, l8 + 72L);
             L19: {
              if (l17 != 0) { break L19; }
-             Core5.f163(m, l8 + 40L, l2, l10, l1);
-             l14 = b[((int) l8) - 60679] & 0xff;
-             l15 = b[((int) l8) - 60680] & 0xff;
+             Core5.f172(m, l8 + 40L, l2, l10, l1);
+             l14 = b[((int) l8) - 60407] & 0xff;
+             l15 = b[((int) l8) - 60408] & 0xff;
             }
             m.fill((int) (l8 + 584L), 0, (int) 72L);
             if ((l15 & 255) != 0) { break L10; }
             l11 = 0L;
-            Words.put64(b, ((int) l8) - 60040, 0L);
-            Words.put64(b, ((int) l8) - 60048, 0L);
-            Words.put64(b, ((int) l8) - 60056, 0L);
-            Words.put64(b, ((int) l8) - 60064, 0L);
+            Words.put64(b, ((int) l8) - 59768, 0L);
+            Words.put64(b, ((int) l8) - 59776, 0L);
+            Words.put64(b, ((int) l8) - 59784, 0L);
+            Words.put64(b, ((int) l8) - 59792, 0L);
             l0 = l10;
             l12 = l1;
             L20: {
@@ -2492,7 +4279,7 @@ static int f265(State m, long l0, long l1, int l2, int l3, int l4, long l5, long
                       L31: while (true) {
                        L32: {
                         L33: {
-                         if ((l3 = b[((int) l0) - 60720] & 0xff) + Integer.MIN_VALUE > -2147483616) { break L33; }
+                         if ((l3 = b[((int) l0) - 60448] & 0xff) + Integer.MIN_VALUE > -2147483616) { break L33; }
                          if (((1L << (l3 & 0xffffffffL)) & 4294983168L) == 0L) { break L33; }
                          l9 = 1L;
                          break L32;
@@ -2502,8 +4289,8 @@ static int f265(State m, long l0, long l1, int l2, int l3, int l4, long l5, long
                           if (l3 == 194) { break L35; }
                           if ((l16 = (l12 + Long.MIN_VALUE < -9223372036854775805L) ? 1 : 0) != 0) { break L30; }
                           if (((l3 + 28) & 255) + Integer.MIN_VALUE < -2147483395) { break L30; }
-                          l16 = b[((int) (l0 + 1L)) - 60720] & 0xff;
-                          l17 = (int) (byte) (l18 = b[((int) (l0 + 2L)) - 60720] & 0xff);
+                          l16 = b[((int) (l0 + 1L)) - 60448] & 0xff;
+                          l17 = (int) (byte) (l18 = b[((int) (l0 + 2L)) - 60448] & 0xff);
                           if (l3 != 226) { break L34; }
                           if ((l16 & 255) != 128) { break L34; }
                           l9 = 3L;
@@ -2514,7 +4301,7 @@ static int f265(State m, long l0, long l1, int l2, int l3, int l4, long l5, long
                           if (((1 << l18) & 131) != 0) { break L32; }
                           break L29;
                          }
-                         l3 = b[((int) l0) - 60719] & 0xff;
+                         l3 = b[((int) l0) - 60447] & 0xff;
                          L36: {
                           if (l12 != 1L) { break L36; }
                           l16 = l3 & 63;
@@ -2565,8 +4352,8 @@ static int f265(State m, long l0, long l1, int l2, int l3, int l4, long l5, long
                      if (l16 != 0) { break L28; }
                      if ((l3 & 240) != 224) { break L28; }
                      l3 = (l3 << 12) + -925824;
-                     l17 = b[((int) l0) - 60718] & 0xff;
-                     l16 = b[((int) l0) - 60719] & 0xff;
+                     l17 = b[((int) l0) - 60446] & 0xff;
+                     l16 = b[((int) l0) - 60447] & 0xff;
                     }
                     l3 = (l3 + (l17 & 255)) + ((l16 & 255) << 6);
                     l13 = l12 + -3L;
@@ -2575,21 +4362,21 @@ static int f265(State m, long l0, long l1, int l2, int l3, int l4, long l5, long
                    }
                    l9 = 1L;
                    if (((int) (byte) l3) > -1) { break L25; }
-                   l16 = (b[((int) l0) - 60719] & 0xff) & 63;
+                   l16 = (b[((int) l0) - 60447] & 0xff) & 63;
                    if (l3 + Integer.MIN_VALUE > -2147483425) { break L26; }
                   }
                   l3 = ((l3 << 6) & 1984) | l16;
                   l9 = 2L;
                   break L25;
                  }
-                 l17 = (b[((int) l0) - 60718] & 0xff) & 63;
+                 l17 = (b[((int) l0) - 60446] & 0xff) & 63;
                  L41: {
                   if (l3 + Integer.MIN_VALUE > -2147483409) { break L41; }
                   l3 = ((l16 << 6) | ((l3 << 12) & 61440)) | l17;
                   l9 = 3L;
                   break L25;
                  }
-                 l3 = ((l17 << 6) | ((l16 << 12) | ((l3 << 18) & 1835008))) | ((b[((int) l0) - 60717] & 0xff) & 63);
+                 l3 = ((l17 << 6) | ((l16 << 12) | ((l3 << 18) & 1835008))) | ((b[((int) l0) - 60445] & 0xff) & 63);
                  l9 = 4L;
                 }
                 l13 = l12 - l9;
@@ -2613,10 +4400,10 @@ static int f265(State m, long l0, long l1, int l2, int l3, int l4, long l5, long
            throw State.trap();
           }
           l11 = 0L;
-          Words.put64(b, ((int) l8) - 60040, 0L);
-          Words.put64(b, ((int) l8) - 60048, 0L);
-          Words.put64(b, ((int) l8) - 60056, 0L);
-          Words.put64(b, ((int) l8) - 60064, 0L);
+          Words.put64(b, ((int) l8) - 59768, 0L);
+          Words.put64(b, ((int) l8) - 59776, 0L);
+          Words.put64(b, ((int) l8) - 59784, 0L);
+          Words.put64(b, ((int) l8) - 59792, 0L);
           l0 = l10;
           l12 = l1;
           L42: {
@@ -2644,7 +4431,7 @@ static int f265(State m, long l0, long l1, int l2, int l3, int l4, long l5, long
                       L55: while (true) {
                        L56: {
                         L57: {
-                         if ((l3 = b[((int) l0) - 60720] & 0xff) + Integer.MIN_VALUE > -2147483616) { break L57; }
+                         if ((l3 = b[((int) l0) - 60448] & 0xff) + Integer.MIN_VALUE > -2147483616) { break L57; }
                          if (((1L << (l3 & 0xffffffffL)) & 4294983168L) == 0L) { break L57; }
                          l9 = 1L;
                          break L56;
@@ -2654,8 +4441,8 @@ static int f265(State m, long l0, long l1, int l2, int l3, int l4, long l5, long
                           if (l3 == 194) { break L59; }
                           if ((l16 = (l12 + Long.MIN_VALUE < -9223372036854775805L) ? 1 : 0) != 0) { break L54; }
                           if (((l3 + 28) & 255) + Integer.MIN_VALUE < -2147483395) { break L54; }
-                          l16 = b[((int) (l0 + 1L)) - 60720] & 0xff;
-                          l17 = (int) (byte) (l18 = b[((int) (l0 + 2L)) - 60720] & 0xff);
+                          l16 = b[((int) (l0 + 1L)) - 60448] & 0xff;
+                          l17 = (int) (byte) (l18 = b[((int) (l0 + 2L)) - 60448] & 0xff);
                           if (l3 != 226) { break L58; }
                           if ((l16 & 255) != 128) { break L58; }
                           l9 = 3L;
@@ -2666,7 +4453,7 @@ static int f265(State m, long l0, long l1, int l2, int l3, int l4, long l5, long
                           if (((1 << l18) & 131) != 0) { break L56; }
                           break L53;
                          }
-                         l3 = b[((int) l0) - 60719] & 0xff;
+                         l3 = b[((int) l0) - 60447] & 0xff;
                          L60: {
                           if (l12 != 1L) { break L60; }
                           l16 = l3 & 63;
@@ -2717,8 +4504,8 @@ static int f265(State m, long l0, long l1, int l2, int l3, int l4, long l5, long
                      if (l16 != 0) { break L52; }
                      if ((l3 & 240) != 224) { break L52; }
                      l3 = (l3 << 12) + -925824;
-                     l17 = b[((int) l0) - 60718] & 0xff;
-                     l16 = b[((int) l0) - 60719] & 0xff;
+                     l17 = b[((int) l0) - 60446] & 0xff;
+                     l16 = b[((int) l0) - 60447] & 0xff;
                     }
                     l3 = (l3 + (l17 & 255)) + ((l16 & 255) << 6);
                     l13 = l12 + -3L;
@@ -2727,21 +4514,21 @@ static int f265(State m, long l0, long l1, int l2, int l3, int l4, long l5, long
                    }
                    l9 = 1L;
                    if (((int) (byte) l3) > -1) { break L49; }
-                   l16 = (b[((int) l0) - 60719] & 0xff) & 63;
+                   l16 = (b[((int) l0) - 60447] & 0xff) & 63;
                    if (l3 + Integer.MIN_VALUE > -2147483425) { break L50; }
                   }
                   l3 = ((l3 << 6) & 1984) | l16;
                   l9 = 2L;
                   break L49;
                  }
-                 l17 = (b[((int) l0) - 60718] & 0xff) & 63;
+                 l17 = (b[((int) l0) - 60446] & 0xff) & 63;
                  L65: {
                   if (l3 + Integer.MIN_VALUE > -2147483409) { break L65; }
                   l3 = ((l16 << 6) | ((l3 << 12) & 61440)) | l17;
                   l9 = 3L;
                   break L49;
                  }
-                 l3 = ((l17 << 6) | ((l16 << 12) | ((l3 << 18) & 1835008))) | ((b[((int) l0) - 60717] & 0xff) & 63);
+                 l3 = ((l17 << 6) | ((l16 << 12) | ((l3 << 18) & 1835008))) | ((b[((int) l0) - 60445] & 0xff) & 63);
                  l9 = 4L;
                 }
                 l13 = l12 - l9;
@@ -2765,19 +4552,19 @@ static int f265(State m, long l0, long l1, int l2, int l3, int l4, long l5, long
            l3 = 2;
            l16 = 0;
           }
-          l9 = Words.get64(b, ((int) l8) - 60040);
-          l0 = Words.get64(b, ((int) l8) - 60048);
+          l9 = Words.get64(b, ((int) l8) - 59768);
+          l0 = Words.get64(b, ((int) l8) - 59776);
           L66: {
-           if ((b[((int) l8) - 60064] & 0xff) != 0) { break L66; }
-           final int t67 = (l0 + Long.MIN_VALUE > Words.get64(b, ((int) (l12 = (((l2 & 0xffffffffL) & 255L) << 5L) + (l16 != 0 ? 67904L : 67888L))) - 60720) + Long.MIN_VALUE) ? 1 : 0;
-           final int t68 = (l9 + Long.MIN_VALUE > (l0 = Words.get64(b, ((int) l12) - 60712)) + Long.MIN_VALUE) ? 1 : 0;
+           if ((b[((int) l8) - 59792] & 0xff) != 0) { break L66; }
+           final int t67 = (l0 + Long.MIN_VALUE > Words.get64(b, ((int) (l12 = (((l2 & 0xffffffffL) & 255L) << 5L) + (l16 != 0 ? 67904L : 67888L))) - 60448) + Long.MIN_VALUE) ? 1 : 0;
+           final int t68 = (l9 + Long.MIN_VALUE > (l0 = Words.get64(b, ((int) l12) - 60440)) + Long.MIN_VALUE) ? 1 : 0;
            final int t69 = (l9 == l0) ? 1 : 0;
            if ((t69 != 0 ? t67 : t68) != 0) { break L7; }
            l0 = l16 & 0xffffffffL;
            break L5;
           }
           final int t70 = l3;
-          final int t71 = l16 = b[((int) l8) - 60056] & 0xff;
+          final int t71 = l16 = b[((int) l8) - 59784] & 0xff;
           final int t72 = l16 = (l16 == 2) ? 1 : 0;
           l3 = t72 != 0 ? t70 : t71;
           l0 = l16 != 0 ? 0L : l0;
@@ -2786,11 +4573,11 @@ static int f265(State m, long l0, long l1, int l2, int l3, int l4, long l5, long
          l3 = 2;
          l16 = 0;
         }
-        l9 = Words.get64(b, ((int) l8) - 60040);
-        l0 = Words.get64(b, ((int) l8) - 60048);
-        if ((b[((int) l8) - 60064] & 0xff) != 0) { break L4; }
-        final int t73 = (l0 + Long.MIN_VALUE > Words.get64(b, ((int) (l12 = (((l2 & 0xffffffffL) & 255L) << 5L) + (l16 != 0 ? 67904L : 67888L))) - 60720) + Long.MIN_VALUE) ? 1 : 0;
-        final int t74 = (l9 + Long.MIN_VALUE > (l0 = Words.get64(b, ((int) l12) - 60712)) + Long.MIN_VALUE) ? 1 : 0;
+        l9 = Words.get64(b, ((int) l8) - 59768);
+        l0 = Words.get64(b, ((int) l8) - 59776);
+        if ((b[((int) l8) - 59792] & 0xff) != 0) { break L4; }
+        final int t73 = (l0 + Long.MIN_VALUE > Words.get64(b, ((int) (l12 = (((l2 & 0xffffffffL) & 255L) << 5L) + (l16 != 0 ? 67904L : 67888L))) - 60448) + Long.MIN_VALUE) ? 1 : 0;
+        final int t74 = (l9 + Long.MIN_VALUE > (l0 = Words.get64(b, ((int) l12) - 60440)) + Long.MIN_VALUE) ? 1 : 0;
         final int t75 = (l9 == l0) ? 1 : 0;
         if ((t75 != 0 ? t73 : t74) == 0) { break L6; }
        }
@@ -2805,19 +4592,19 @@ static int f265(State m, long l0, long l1, int l2, int l3, int l4, long l5, long
      break L2;
     }
     final int t76 = l3;
-    final int t77 = l16 = b[((int) l8) - 60056] & 0xff;
+    final int t77 = l16 = b[((int) l8) - 59784] & 0xff;
     final int t78 = l16 = (l16 == 2) ? 1 : 0;
     l3 = t78 != 0 ? t76 : t77;
     l0 = l16 != 0 ? 0L : l0;
    }
    l16 = 1;
   }
-  Core5.f164(m, l8 + 32L, l2, l15, l14, l10, l1);
+  Core5.f173(m, l8 + 32L, l2, l15, l14, l10, l1);
   L79: {
    if (l16 == 0) { break L79; }
-   if (((b[((int) l8) - 60688] & 0xff) & 255) != 1) { break L79; }
+   if (((b[((int) l8) - 60416] & 0xff) & 255) != 1) { break L79; }
    l2 = (l4 + Integer.MIN_VALUE < -2147483645) ? l4 : 0;
-   l16 = b[((int) l8) - 60687] & 0xff;
+   l16 = b[((int) l8) - 60415] & 0xff;
    l0 = (l3 == 1) ? l0 : 0L;
    L80: {
     L81: {
@@ -2858,10 +4645,10 @@ static int f265(State m, long l0, long l1, int l2, int l3, int l4, long l5, long
              }
             }
             Core1.f30(m, l8 + 16L, l10, l1, l0);
-            l9 = Words.get64(b, ((int) l8) - 60696);
-            l12 = Words.get64(b, ((int) l8) - 60704);
+            l9 = Words.get64(b, ((int) l8) - 60424);
+            l12 = Words.get64(b, ((int) l8) - 60432);
             Core2.f55(m, l8, l10, l1, l0);
-            l3 = Core1.f31(m, l12, l9, Words.get64(b, ((int) l8) - 60720), Words.get64(b, ((int) l8) - 60712)) != 0 ? 31 : 30;
+            l3 = Core1.f31(m, l12, l9, Words.get64(b, ((int) l8) - 60448), Words.get64(b, ((int) l8) - 60440)) != 0 ? 31 : 30;
             break L80;
            }
            l3 = 24;
@@ -2887,23 +4674,23 @@ static int f265(State m, long l0, long l1, int l2, int l3, int l4, long l5, long
     }
     l3 = 23;
    }
-   Words.put32(b, ((int) l8) - 60135, 0);
-   b[((int) l8) - 60136] = (byte) l2;
-   Words.put32(b, ((int) l8) - 60132, 0);
-   Words.put64(b, ((int) l8) - 60072, 0L);
-   Words.put64(b, ((int) l8) - 60080, 83372L);
-   Words.put64(b, ((int) l8) - 60088, 0L);
-   Words.put64(b, ((int) l8) - 60096, 83372L);
-   Words.put64(b, ((int) l8) - 60104, 0L);
-   Words.put64(b, ((int) l8) - 60112, l0);
-   Words.put64(b, ((int) l8) - 60120, l1);
-   Words.put64(b, ((int) l8) - 60128, l10);
+   Words.put32(b, ((int) l8) - 59863, 0);
+   b[((int) l8) - 59864] = (byte) l2;
+   Words.put32(b, ((int) l8) - 59860, 0);
+   Words.put64(b, ((int) l8) - 59800, 0L);
+   Words.put64(b, ((int) l8) - 59808, 83372L);
+   Words.put64(b, ((int) l8) - 59816, 0L);
+   Words.put64(b, ((int) l8) - 59824, 83372L);
+   Words.put64(b, ((int) l8) - 59832, 0L);
+   Words.put64(b, ((int) l8) - 59840, l0);
+   Words.put64(b, ((int) l8) - 59848, l1);
+   Words.put64(b, ((int) l8) - 59856, l10);
    Core2.f50(m, l8 + 584L, l8 + 48L, l3);
   }
   final int t91 = (int) l7;
-  final long t92 = l0 = Words.get64(b, ((int) l8) - 60656);
+  final long t92 = l0 = Words.get64(b, ((int) l8) - 60384);
   final int t93 = l3 = (l0 + Long.MIN_VALUE < -9223372036854775295L) ? 1 : 0;
-  Words.put64(b, t91 - 60720, l0 = t93 != 0 ? t92 : 0L);
+  Words.put64(b, t91 - 60448, l0 = t93 != 0 ? t92 : 0L);
   L94: {
    if (l6 + Long.MIN_VALUE >= l0 + Long.MIN_VALUE) { break L94; }
    l3 = 6;
@@ -2922,10 +4709,10 @@ static int f265(State m, long l0, long l1, int l2, int l3, int l4, long l5, long
      l6 = l0 & -4L;
      l9 = 0L;
      L101: while (true) {
-      b[((int) (l0 = l11 + l9)) - 60720] = (byte) (b[((int) (l1 = l12 + l9)) - 60720] & 0xff);
-      b[((int) (l0 + 1L)) - 60720] = (byte) (b[((int) (l1 + 1L)) - 60720] & 0xff);
-      b[((int) (l0 + 2L)) - 60720] = (byte) (b[((int) (l1 + 2L)) - 60720] & 0xff);
-      b[((int) (l0 + 3L)) - 60720] = (byte) (b[((int) (l1 + 3L)) - 60720] & 0xff);
+      b[((int) (l0 = l11 + l9)) - 60448] = (byte) (b[((int) (l1 = l12 + l9)) - 60448] & 0xff);
+      b[((int) (l0 + 1L)) - 60448] = (byte) (b[((int) (l1 + 1L)) - 60448] & 0xff);
+      b[((int) (l0 + 2L)) - 60448] = (byte) (b[((int) (l1 + 2L)) - 60448] & 0xff);
+      b[((int) (l0 + 3L)) - 60448] = (byte) (b[((int) (l1 + 3L)) - 60448] & 0xff);
       if (l6 != (l9 = l9 + 4L)) { continue L101; }
       break L101;
      }
@@ -2934,7 +4721,7 @@ static int f265(State m, long l0, long l1, int l2, int l3, int l4, long l5, long
     l0 = l12 + l9;
     l9 = l5 + (l10 + l9);
     L102: while (true) {
-     b[((int) l9) - 60720] = (byte) (b[((int) l0) - 60720] & 0xff);
+     b[((int) l9) - 60448] = (byte) (b[((int) l0) - 60448] & 0xff);
      l9 = l9 + 1L;
      l0 = l0 + 1L;
      if ((l7 = l7 + -1L) != 0L) { continue L102; }
@@ -2952,7 +4739,7 @@ static int f265(State m, long l0, long l1, int l2, int l3, int l4, long l5, long
  return l3;
 }
 
-static int f267(State m, long l0, long l1, int l2, int l3, long l4) {
+static int f278(State m, long l0, long l1, int l2, int l3, long l4) {
  final byte[] b = m.bytes;
  long l5 = 0;
  long l6 = 0;
@@ -2967,36 +4754,36 @@ static int f267(State m, long l0, long l1, int l2, int l3, long l4) {
       if (l3 + Integer.MIN_VALUE < -2147483643) { break L5; }
       if (l2 + Integer.MIN_VALUE > -2147483639) { break L4; }
       if (l3 != 5) { break L4; }
-      l2 = Core5.f169(m, l0, l1, l2, l4);
+      l2 = Core5.f178(m, l0, l1, l2, l4);
       m.g0 = l5;
       final int t6 = l2;
       return t6;
      }
      if (l2 + Integer.MIN_VALUE < -2147483638) { break L3; }
     }
-    Words.put64(b, ((int) l4) - 60696, 0L);
-    Words.put64(b, ((int) l4) - 60704, 0L);
-    Words.put64(b, ((int) l4) - 60712, 0L);
-    Words.put64(b, ((int) l4) - 60720, 0L);
+    Words.put64(b, ((int) l4) - 60424, 0L);
+    Words.put64(b, ((int) l4) - 60432, 0L);
+    Words.put64(b, ((int) l4) - 60440, 0L);
+    Words.put64(b, ((int) l4) - 60448, 0L);
     m.g0 = l5;
     return 8;
    }
-   l3 = b[((int) ((l6 = (l3 & 0xffffffffL) << 1L) + 85585L)) - 60720] & 0xff;
-   l7 = b[((int) (l6 + 85584L)) - 60720] & 0xff;
+   l3 = b[((int) ((l6 = (l3 & 0xffffffffL) << 1L) + 86485L)) - 60448] & 0xff;
+   l7 = b[((int) (l6 + 86484L)) - 60448] & 0xff;
    if (l2 + Integer.MIN_VALUE < -2147483643) { break L1; }
-   l2 = Core5.f167(m, l0, l1, l2, l7, l3, l4);
+   l2 = Core5.f176(m, l0, l1, l2, l7, l3, l4);
    m.g0 = l5;
    final int t7 = l2;
    return t7;
   }
   throw State.trap();
  }
- l2 = Core5.f168(m, l0, l1, l2, l7, l3, l4);
+ l2 = Core5.f177(m, l0, l1, l2, l7, l3, l4);
  m.g0 = l5;
  return l2;
 }
 
-static int f269(State m, long l0, long l1, int l2, int l3, int l4, int l5, long l6, long l7, long l8) {
+static int f280(State m, long l0, long l1, int l2, int l3, int l4, int l5, long l6, long l7, long l8) {
  final byte[] b = m.bytes;
  long l9 = 0;
  long l10 = 0;
@@ -3026,7 +4813,7 @@ static int f269(State m, long l0, long l1, int l2, int l3, int l4, int l5, long 
  m.g0 = l9 = m.g0 - 272L;
  L1: {
   if ((l10 = l9) < 16L) { break L1; }
-  Words.put64(b, ((int) l8) - 60720, 0L);
+  Words.put64(b, ((int) l8) - 60448, 0L);
   l26 = 8;
   L2: {
    if (l2 + Integer.MIN_VALUE > -2147483647) { break L2; }
@@ -3037,7 +4824,7 @@ static int f269(State m, long l0, long l1, int l2, int l3, int l4, int l5, long 
      l27 = l4 = (l4 == 5) ? 1 : 0;
      break L3;
     }
-    final int t5 = b[((int) ((l9 = (l4 & 0xffffffffL) << 1L) + 85585L)) - 60720] & 0xff;
+    final int t5 = b[((int) ((l9 = (l4 & 0xffffffffL) << 1L) + 86485L)) - 60448] & 0xff;
     final int t6 = l4 = (((1L << l9) & 340L) != 0L) ? 1 : 0;
     l27 = t6 != 0 ? t5 : 0;
    }
@@ -3052,7 +4839,7 @@ static int f269(State m, long l0, long l1, int l2, int l3, int l4, int l5, long 
       l9 = l12;
       l11 = l1;
       L10: while (true) {
-       if (((Words.get32(b, ((int) l9) - 60720) + 16776990) & 12632312) != 8421376) { break L8; }
+       if (((Words.get32(b, ((int) l9) - 60448) + 16776990) & 12632312) != 8421376) { break L8; }
        l9 = l9 + 3L;
        if ((l11 = l11 + -3L) + Long.MIN_VALUE > -9223372036854775805L) { continue L10; }
        break L10;
@@ -3066,19 +4853,19 @@ static int f269(State m, long l0, long l1, int l2, int l3, int l4, int l5, long 
       default: break L7;
       }
      }
-     if (((((Words.get16(b, ((int) l9) - 60720) & 0xffff) | ((b[((int) (l9 + 2L)) - 60720] & 0xff) << 16)) + 16776990) & 12632312) == 8421376) { break L7; }
+     if (((((Words.get16(b, ((int) l9) - 60448) & 0xffff) | ((b[((int) (l9 + 2L)) - 60448] & 0xff) << 16)) + 16776990) & 12632312) == 8421376) { break L7; }
     }
     l26 = 5;
     if (Core1.f6(m, l12, l1) == 0) { break L2; }
    }
    l28 = (l3 + Integer.MIN_VALUE < -2147483632) ? l3 : 0;
-   Words.put64(b, ((int) l10) - 60640, 0L);
-   Words.put64(b, ((int) l10) - 60648, l7);
-   Words.put64(b, ((int) l10) - 60656, l6 + ((l6 == 0L) ? 4096L : 0L));
-   b[((int) l10) - 60625] = (byte) ((l26 = l5 & 255) >>> 7);
-   b[((int) l10) - 60626] = (byte) ((l29 = l26 >>> 6) & 1);
-   Words.put32(b, ((int) l10) - 60630, ((((l5 << 12) & 65536) | ((l5 << 5) & 256)) | ((l5 >>> 2) & 1)) | (l30 = (l5 << 19) & 16777216));
-   b[((int) l10) - 60631] = (byte) l27;
+   Words.put64(b, ((int) l10) - 60368, 0L);
+   Words.put64(b, ((int) l10) - 60376, l7);
+   Words.put64(b, ((int) l10) - 60384, l6 + ((l6 == 0L) ? 4096L : 0L));
+   b[((int) l10) - 60353] = (byte) ((l26 = l5 & 255) >>> 7);
+   b[((int) l10) - 60354] = (byte) ((l29 = l26 >>> 6) & 1);
+   Words.put32(b, ((int) l10) - 60358, ((((l5 << 12) & 65536) | ((l5 << 5) & 256)) | ((l5 >>> 2) & 1)) | (l30 = (l5 << 19) & 16777216));
+   b[((int) l10) - 60359] = (byte) l27;
    l13 = l10 + 208L;
    l31 = 0;
    l14 = 0L;
@@ -3086,59 +4873,59 @@ static int f269(State m, long l0, long l1, int l2, int l3, int l4, int l5, long 
    l15 = l12;
    l16 = l1;
    L12: while (true) {
-    Words.put64(b, ((int) l10) - 60480, 0L);
-    Words.put64(b, ((int) l10) - 60488, 0L);
-    Words.put64(b, ((int) l10) - 60496, 0L);
-    Words.put64(b, ((int) l10) - 60504, 0L);
-    Words.put64(b, ((int) l10) - 60512, 0L);
-    Words.put64(b, ((int) l10) - 60520, 0L);
-    Words.put64(b, ((int) l10) - 60528, 0L);
-    Core5.f162(m, l10 + 192L, l2, l28, l12, l1, l15, l16);
+    Words.put64(b, ((int) l10) - 60208, 0L);
+    Words.put64(b, ((int) l10) - 60216, 0L);
+    Words.put64(b, ((int) l10) - 60224, 0L);
+    Words.put64(b, ((int) l10) - 60232, 0L);
+    Words.put64(b, ((int) l10) - 60240, 0L);
+    Words.put64(b, ((int) l10) - 60248, 0L);
+    Words.put64(b, ((int) l10) - 60256, 0L);
+    Core5.f171(m, l10 + 192L, l2, l28, l12, l1, l15, l16);
     L13: {
      L14: {
       L15: {
        L16: {
-        if ((b[((int) l10) - 60528] & 0xff) != 1) { break L16; }
-        l16 = Words.get64(b, ((int) l10) - 60480);
-        l15 = Words.get64(b, ((int) l10) - 60488);
-        l17 = Words.get64(b, ((int) l10) - 60496);
-        l18 = Words.get64(b, ((int) l10) - 60504);
-        l19 = Words.get64(b, ((int) l10) - 60512);
-        l20 = Words.get64(b, ((int) l10) - 60520);
+        if ((b[((int) l10) - 60256] & 0xff) != 1) { break L16; }
+        l16 = Words.get64(b, ((int) l10) - 60208);
+        l15 = Words.get64(b, ((int) l10) - 60216);
+        l17 = Words.get64(b, ((int) l10) - 60224);
+        l18 = Words.get64(b, ((int) l10) - 60232);
+        l19 = Words.get64(b, ((int) l10) - 60240);
+        l20 = Words.get64(b, ((int) l10) - 60248);
         L17: {
          if ((l31 & 1) == 0) { break L17; }
-         Words.put64(b, ((int) l10) - 60488, l16);
-         Words.put64(b, ((int) l10) - 60496, l15);
-         Words.put64(b, ((int) l10) - 60504, l17);
-         Words.put64(b, ((int) l10) - 60512, l18);
-         Words.put64(b, ((int) l10) - 60520, l19);
-         Words.put64(b, ((int) l10) - 60528, l20);
-         if (Core5.f170(m, l14, l10 + 192L) != 0) { break L13; }
+         Words.put64(b, ((int) l10) - 60216, l16);
+         Words.put64(b, ((int) l10) - 60224, l15);
+         Words.put64(b, ((int) l10) - 60232, l17);
+         Words.put64(b, ((int) l10) - 60240, l18);
+         Words.put64(b, ((int) l10) - 60248, l19);
+         Words.put64(b, ((int) l10) - 60256, l20);
+         if (Core6.f179(m, l14, l10 + 192L) != 0) { break L13; }
         }
         l9 = l18;
         l0 = l17;
         L18: {
          L19: while (true) {
           if (l0 == 0L) { break L18; }
-          l26 = (l4 = (int) b[((int) l9) - 60720]) & 255;
+          l26 = (l4 = (int) b[((int) l9) - 60448]) & 255;
           l11 = 1L;
           L20: {
            if (l4 > -1) { break L20; }
-           l3 = (b[((int) l9) - 60719] & 0xff) & 63;
+           l3 = (b[((int) l9) - 60447] & 0xff) & 63;
            L21: {
             if (l4 + Integer.MIN_VALUE > 2147483615) { break L21; }
             l26 = ((l26 << 6) & 1984) | l3;
             l11 = 2L;
             break L20;
            }
-           l5 = (b[((int) l9) - 60718] & 0xff) & 63;
+           l5 = (b[((int) l9) - 60446] & 0xff) & 63;
            L22: {
             if (l4 + Integer.MIN_VALUE > 2147483631) { break L22; }
             l26 = ((l3 << 6) | ((l26 << 12) & 61440)) | l5;
             l11 = 3L;
             break L20;
            }
-           l26 = ((l5 << 6) | ((l3 << 12) | ((l26 << 18) & 1835008))) | ((b[((int) l9) - 60717] & 0xff) & 63);
+           l26 = ((l5 << 6) | ((l3 << 12) | ((l26 << 18) & 1835008))) | ((b[((int) l9) - 60445] & 0xff) & 63);
            l11 = 4L;
           }
           if ((l26 + -48) + Integer.MIN_VALUE < -2147483638) { break L15; }
@@ -3148,17 +4935,17 @@ static int f269(State m, long l0, long l1, int l2, int l3, int l4, int l5, long 
           break L15;
          }
         }
-        Words.put64(b, ((int) l10) - 60488, l16);
-        Words.put64(b, ((int) l10) - 60496, l15);
-        Words.put64(b, ((int) l10) - 60504, l17);
-        Words.put64(b, ((int) l10) - 60512, l18);
-        Words.put64(b, ((int) l10) - 60520, l19);
-        Words.put64(b, ((int) l10) - 60528, l20);
-        if (Core5.f173(m, l10 + 89L, l10 + 192L) != 0) { break L15; }
+        Words.put64(b, ((int) l10) - 60216, l16);
+        Words.put64(b, ((int) l10) - 60224, l15);
+        Words.put64(b, ((int) l10) - 60232, l17);
+        Words.put64(b, ((int) l10) - 60240, l18);
+        Words.put64(b, ((int) l10) - 60248, l19);
+        Words.put64(b, ((int) l10) - 60256, l20);
+        if (Core6.f182(m, l10 + 89L, l10 + 192L) != 0) { break L15; }
         break L14;
        }
        Core2.f53(m, l10 + 64L, l15, l16);
-       Words.put64(b, ((int) l8) - 60720, l9 = Words.get64(b, ((int) l10) - 60640));
+       Words.put64(b, ((int) l8) - 60448, l9 = Words.get64(b, ((int) l10) - 60368));
        l26 = (l9 + Long.MIN_VALUE > l7 + Long.MIN_VALUE) ? 6 : 0;
        break L2;
       }
@@ -3166,53 +4953,53 @@ static int f269(State m, long l0, long l1, int l2, int l3, int l4, int l5, long 
       l21 = l15;
       l22 = l16;
       L23: while (true) {
-       Words.put64(b, ((int) l10) - 60480, 0L);
-       Words.put64(b, ((int) l10) - 60488, 0L);
-       Words.put64(b, ((int) l10) - 60496, 0L);
-       Words.put64(b, ((int) l10) - 60504, 0L);
-       Words.put64(b, ((int) l10) - 60512, 0L);
-       Words.put64(b, ((int) l10) - 60520, 0L);
-       Words.put64(b, ((int) l10) - 60528, 0L);
-       Core5.f162(m, l10 + 192L, l2, l28, l12, l1, l21, l22);
+       Words.put64(b, ((int) l10) - 60208, 0L);
+       Words.put64(b, ((int) l10) - 60216, 0L);
+       Words.put64(b, ((int) l10) - 60224, 0L);
+       Words.put64(b, ((int) l10) - 60232, 0L);
+       Words.put64(b, ((int) l10) - 60240, 0L);
+       Words.put64(b, ((int) l10) - 60248, 0L);
+       Words.put64(b, ((int) l10) - 60256, 0L);
+       Core5.f171(m, l10 + 192L, l2, l28, l12, l1, l21, l22);
        l26 = 0;
-       if ((b[((int) l10) - 60528] & 0xff) != 1) { break L13; }
-       l21 = Words.get64(b, ((int) l10) - 60488);
-       l6 = Words.get64(b, ((int) l10) - 60496);
-       l23 = Words.get64(b, ((int) l10) - 60504);
-       l24 = Words.get64(b, ((int) l10) - 60512);
-       l25 = Words.get64(b, ((int) l10) - 60520);
-       Words.put64(b, ((int) l10) - 60536, l22 = Words.get64(b, ((int) l10) - 60480));
-       Words.put64(b, ((int) l10) - 60544, l21);
-       Words.put64(b, ((int) l10) - 60552, l6);
-       Words.put64(b, ((int) l10) - 60560, l23);
-       Words.put64(b, ((int) l10) - 60568, l24);
-       Words.put64(b, ((int) l10) - 60576, l25);
-       if (Core5.f170(m, l9, l10 + 144L) == 0) { break L13; }
+       if ((b[((int) l10) - 60256] & 0xff) != 1) { break L13; }
+       l21 = Words.get64(b, ((int) l10) - 60216);
+       l6 = Words.get64(b, ((int) l10) - 60224);
+       l23 = Words.get64(b, ((int) l10) - 60232);
+       l24 = Words.get64(b, ((int) l10) - 60240);
+       l25 = Words.get64(b, ((int) l10) - 60248);
+       Words.put64(b, ((int) l10) - 60264, l22 = Words.get64(b, ((int) l10) - 60208));
+       Words.put64(b, ((int) l10) - 60272, l21);
+       Words.put64(b, ((int) l10) - 60280, l6);
+       Words.put64(b, ((int) l10) - 60288, l23);
+       Words.put64(b, ((int) l10) - 60296, l24);
+       Words.put64(b, ((int) l10) - 60304, l25);
+       if (Core6.f179(m, l9, l10 + 144L) == 0) { break L13; }
        l9 = l23;
        l0 = l6;
        L24: {
         L25: {
          L26: while (true) {
           if (l0 == 0L) { break L25; }
-          l26 = (l4 = (int) b[((int) l9) - 60720]) & 255;
+          l26 = (l4 = (int) b[((int) l9) - 60448]) & 255;
           l11 = 1L;
           L27: {
            if (l4 > -1) { break L27; }
-           l3 = (b[((int) l9) - 60719] & 0xff) & 63;
+           l3 = (b[((int) l9) - 60447] & 0xff) & 63;
            L28: {
             if (l4 + Integer.MIN_VALUE > 2147483615) { break L28; }
             l26 = ((l26 << 6) & 1984) | l3;
             l11 = 2L;
             break L27;
            }
-           l5 = (b[((int) l9) - 60718] & 0xff) & 63;
+           l5 = (b[((int) l9) - 60446] & 0xff) & 63;
            L29: {
             if (l4 + Integer.MIN_VALUE > 2147483631) { break L29; }
             l26 = ((l3 << 6) | ((l26 << 12) & 61440)) | l5;
             l11 = 3L;
             break L27;
            }
-           l26 = ((l5 << 6) | ((l3 << 12) | ((l26 << 18) & 1835008))) | ((b[((int) l9) - 60717] & 0xff) & 63);
+           l26 = ((l5 << 6) | ((l3 << 12) | ((l26 << 18) & 1835008))) | ((b[((int) l9) - 60445] & 0xff) & 63);
            l11 = 4L;
           }
           if ((l26 + -48) + Integer.MIN_VALUE < -2147483638) { break L24; }
@@ -3222,13 +5009,13 @@ static int f269(State m, long l0, long l1, int l2, int l3, int l4, int l5, long 
           break L24;
          }
         }
-        Words.put64(b, ((int) l10) - 60488, l22);
-        Words.put64(b, ((int) l10) - 60496, l21);
-        Words.put64(b, ((int) l10) - 60504, l6);
-        Words.put64(b, ((int) l10) - 60512, l23);
-        Words.put64(b, ((int) l10) - 60520, l24);
-        Words.put64(b, ((int) l10) - 60528, l25);
-        if (Core5.f173(m, l10 + 89L, l10 + 192L) == 0) { break L14; }
+        Words.put64(b, ((int) l10) - 60216, l22);
+        Words.put64(b, ((int) l10) - 60224, l21);
+        Words.put64(b, ((int) l10) - 60232, l6);
+        Words.put64(b, ((int) l10) - 60240, l23);
+        Words.put64(b, ((int) l10) - 60248, l24);
+        Words.put64(b, ((int) l10) - 60256, l25);
+        if (Core6.f182(m, l10 + 89L, l10 + 192L) == 0) { break L14; }
        }
        l9 = l6 + l24;
        continue L23;
@@ -3243,19 +5030,19 @@ static int f269(State m, long l0, long l1, int l2, int l3, int l4, int l5, long 
       Core2.f53(m, l10 + 64L, l18, l17);
       break L30;
      }
-     Words.put64(b, ((int) l10) - 60584, l16);
-     Words.put64(b, ((int) l10) - 60592, l15);
-     Words.put64(b, ((int) l10) - 60616, l19);
-     Words.put64(b, ((int) l10) - 60624, l20);
-     Words.put64(b, ((int) l10) - 60600, l17);
-     Words.put64(b, ((int) l10) - 60608, l18);
+     Words.put64(b, ((int) l10) - 60312, l16);
+     Words.put64(b, ((int) l10) - 60320, l15);
+     Words.put64(b, ((int) l10) - 60344, l19);
+     Words.put64(b, ((int) l10) - 60352, l20);
+     Words.put64(b, ((int) l10) - 60328, l17);
+     Words.put64(b, ((int) l10) - 60336, l18);
      L32: {
-      if (Core5.f173(m, l10 + 89L, l10 + 96L) == 0) { break L32; }
+      if (Core6.f182(m, l10 + 89L, l10 + 96L) == 0) { break L32; }
       L33: {
        L34: {
         L35: {
-         if (Core6.f175(m, l18, l17) != 0) { break L35; }
-         l4 = Core6.f176(m, l18, l17);
+         if (Core6.f184(m, l18, l17) != 0) { break L35; }
+         l4 = Core6.f185(m, l18, l17);
          L36: {
           if (l30 != 0) { break L36; }
           if (l4 != 0) { break L32; }
@@ -3264,25 +5051,25 @@ static int f269(State m, long l0, long l1, int l2, int l3, int l4, int l5, long 
           L37: {
            L38: while (true) {
             if (l0 == 0L) { break L37; }
-            l4 = (l3 = (int) b[((int) l9) - 60720]) & 255;
+            l4 = (l3 = (int) b[((int) l9) - 60448]) & 255;
             l11 = 1L;
             L39: {
              if (l3 > -1) { break L39; }
-             l5 = (b[((int) l9) - 60719] & 0xff) & 63;
+             l5 = (b[((int) l9) - 60447] & 0xff) & 63;
              L40: {
               if (l3 + Integer.MIN_VALUE > 2147483615) { break L40; }
               l4 = ((l4 << 6) & 1984) | l5;
               l11 = 2L;
               break L39;
              }
-             l31 = (b[((int) l9) - 60718] & 0xff) & 63;
+             l31 = (b[((int) l9) - 60446] & 0xff) & 63;
              L41: {
               if (l3 + Integer.MIN_VALUE > 2147483631) { break L41; }
               l4 = ((l5 << 6) | ((l4 << 12) & 61440)) | l31;
               l11 = 3L;
               break L39;
              }
-             l4 = ((l31 << 6) | ((l5 << 12) | ((l4 << 18) & 1835008))) | ((b[((int) l9) - 60717] & 0xff) & 63);
+             l4 = ((l31 << 6) | ((l5 << 12) | ((l4 << 18) & 1835008))) | ((b[((int) l9) - 60445] & 0xff) & 63);
              l11 = 4L;
             }
             l0 = l0 - l11;
@@ -3291,38 +5078,38 @@ static int f269(State m, long l0, long l1, int l2, int l3, int l4, int l5, long 
             break L32;
            }
           }
-          Words.put64(b, ((int) l10) - 60512, 0L);
-          Words.put64(b, ((int) l10) - 60520, 0L);
-          Words.put64(b, ((int) l10) - 60528, 0L);
-          Core6.f177(m, l10 + 192L, l18, l17);
+          Words.put64(b, ((int) l10) - 60240, 0L);
+          Words.put64(b, ((int) l10) - 60248, 0L);
+          Words.put64(b, ((int) l10) - 60256, 0L);
+          Core6.f186(m, l10 + 192L, l18, l17);
           L42: {
-           if ((b[((int) l10) - 60528] & 0xff) != 1) { break L42; }
-           l9 = Words.get64(b, ((int) l10) - 60520);
-           Core2.f53(m, l10 + 64L, l18, l17 - (l11 = Words.get64(b, ((int) l10) - 60512)));
-           Core6.f187(m, l10 + 16L, l10 + 64L, l27, l9, l11);
-           l4 = b[((int) l10) - 60703] & 0xff;
+           if ((b[((int) l10) - 60256] & 0xff) != 1) { break L42; }
+           l9 = Words.get64(b, ((int) l10) - 60248);
+           Core2.f53(m, l10 + 64L, l18, l17 - (l11 = Words.get64(b, ((int) l10) - 60240)));
+           Core6.f196(m, l10 + 16L, l10 + 64L, l27, l9, l11);
+           l4 = b[((int) l10) - 60431] & 0xff;
            break L33;
           }
           if (l17 == 0L) { break L34; }
-          l4 = (l3 = (int) b[((int) l18) - 60720]) & 255;
+          l4 = (l3 = (int) b[((int) l18) - 60448]) & 255;
           l9 = 1L;
           L43: {
            if (l3 > -1) { break L43; }
-           l5 = (b[((int) l18) - 60719] & 0xff) & 63;
+           l5 = (b[((int) l18) - 60447] & 0xff) & 63;
            L44: {
             if (l3 + Integer.MIN_VALUE > 2147483615) { break L44; }
             l4 = ((l4 << 6) & 1984) | l5;
             l9 = 2L;
             break L43;
            }
-           l31 = (b[((int) l18) - 60718] & 0xff) & 63;
+           l31 = (b[((int) l18) - 60446] & 0xff) & 63;
            L45: {
             if (l3 + Integer.MIN_VALUE > 2147483631) { break L45; }
             l4 = ((l5 << 6) | ((l4 << 12) & 61440)) | l31;
             l9 = 3L;
             break L43;
            }
-           l4 = ((l31 << 6) | ((l5 << 12) | ((l4 << 18) & 1835008))) | ((b[((int) l18) - 60717] & 0xff) & 63);
+           l4 = ((l31 << 6) | ((l5 << 12) | ((l4 << 18) & 1835008))) | ((b[((int) l18) - 60445] & 0xff) & 63);
            l9 = 4L;
           }
           L46: {
@@ -3337,8 +5124,8 @@ static int f269(State m, long l0, long l1, int l2, int l3, int l4, int l5, long 
            if (l4 != 36127) { break L34; }
           }
           Core2.f53(m, l10 + 64L, 77252L, 1L);
-          Core6.f187(m, l10 + 32L, l10 + 64L, l27, l18 + l9, l17 - l9);
-          l4 = b[((int) l10) - 60687] & 0xff;
+          Core6.f196(m, l10 + 32L, l10 + 64L, l27, l18 + l9, l17 - l9);
+          l4 = b[((int) l10) - 60415] & 0xff;
           break L33;
          }
          L48: {
@@ -3347,31 +5134,31 @@ static int f269(State m, long l0, long l1, int l2, int l3, int l4, int l5, long 
           l0 = l17;
           L49: while (true) {
            if (l0 == 0L) { break L32; }
-           l4 = (l3 = (int) b[((int) l9) - 60720]) & 255;
+           l4 = (l3 = (int) b[((int) l9) - 60448]) & 255;
            l11 = 1L;
            L50: {
             if (l3 > -1) { break L50; }
-            l5 = (b[((int) l9) - 60719] & 0xff) & 63;
+            l5 = (b[((int) l9) - 60447] & 0xff) & 63;
             L51: {
              if (l3 + Integer.MIN_VALUE > 2147483615) { break L51; }
              l4 = ((l4 << 6) & 1984) | l5;
              l11 = 2L;
              break L50;
             }
-            l31 = (b[((int) l9) - 60718] & 0xff) & 63;
+            l31 = (b[((int) l9) - 60446] & 0xff) & 63;
             L52: {
              if (l3 + Integer.MIN_VALUE > 2147483631) { break L52; }
              l4 = ((l5 << 6) | ((l4 << 12) & 61440)) | l31;
              l11 = 3L;
              break L50;
             }
-            l4 = ((l31 << 6) | ((l5 << 12) | ((l4 << 18) & 1835008))) | ((b[((int) l9) - 60717] & 0xff) & 63);
+            l4 = ((l31 << 6) | ((l5 << 12) | ((l4 << 18) & 1835008))) | ((b[((int) l9) - 60445] & 0xff) & 63);
             l11 = 4L;
            }
            Core2.f61(m, l10 + 56L, l4);
            L53: {
-            if ((b[((int) l10) - 60664] & 0xff) != 1) { break L53; }
-            if (((b[((int) l10) - 60663] & 0xff) & 255) != 0) { break L48; }
+            if ((b[((int) l10) - 60392] & 0xff) != 1) { break L53; }
+            if (((b[((int) l10) - 60391] & 0xff) & 255) != 0) { break L48; }
            }
            if (l4 == 38646) { break L48; }
            l9 = l9 + l11;
@@ -3380,25 +5167,25 @@ static int f269(State m, long l0, long l1, int l2, int l3, int l4, int l5, long 
            break L49;
           }
          }
-         Words.put64(b, ((int) l10) - 60472, 0L);
-         Words.put64(b, ((int) l10) - 60480, 0L);
-         Words.put64(b, ((int) l10) - 60488, 0L);
-         Words.put64(b, ((int) l10) - 60496, 0L);
-         Words.put64(b, ((int) l10) - 60504, 0L);
-         Words.put64(b, ((int) l10) - 60512, 0L);
-         Words.put64(b, ((int) l10) - 60520, 0L);
-         Words.put64(b, ((int) l10) - 60528, 0L);
+         Words.put64(b, ((int) l10) - 60200, 0L);
+         Words.put64(b, ((int) l10) - 60208, 0L);
+         Words.put64(b, ((int) l10) - 60216, 0L);
+         Words.put64(b, ((int) l10) - 60224, 0L);
+         Words.put64(b, ((int) l10) - 60232, 0L);
+         Words.put64(b, ((int) l10) - 60240, 0L);
+         Words.put64(b, ((int) l10) - 60248, 0L);
+         Words.put64(b, ((int) l10) - 60256, 0L);
          Core2.f75(m, l10 + 192L, l18, l17, l27);
-         Words.put64(b, ((int) l10) - 60576, Words.get64(b, ((int) l13) - 60720));
-         Words.put64(b, ((int) l10) - 60568, Words.get64(b, ((int) l13) - 60712));
-         Words.put64(b, ((int) l10) - 60560, Words.get64(b, ((int) l13) - 60704));
-         Words.put64(b, ((int) l10) - 60552, Words.get64(b, ((int) l13) - 60696));
-         Words.put64(b, ((int) l10) - 60544, Words.get64(b, ((int) l13) - 60688));
-         Words.put64(b, ((int) l10) - 60536, Words.get64(b, ((int) l13) - 60680));
-         if ((b[((int) l10) - 60528] & 0xff) != 0) { break L32; }
+         Words.put64(b, ((int) l10) - 60304, Words.get64(b, ((int) l13) - 60448));
+         Words.put64(b, ((int) l10) - 60296, Words.get64(b, ((int) l13) - 60440));
+         Words.put64(b, ((int) l10) - 60288, Words.get64(b, ((int) l13) - 60432));
+         Words.put64(b, ((int) l10) - 60280, Words.get64(b, ((int) l13) - 60424));
+         Words.put64(b, ((int) l10) - 60272, Words.get64(b, ((int) l13) - 60416));
+         Words.put64(b, ((int) l10) - 60264, Words.get64(b, ((int) l13) - 60408));
+         if ((b[((int) l10) - 60256] & 0xff) != 0) { break L32; }
          m.fill((int) (l10 + 192L), 0, (int) 80L);
          Core2.f52(m, l10 + 40L, l10 + 192L, l10 + 144L);
-         Core2.f53(m, l10 + 64L, Words.get64(b, ((int) l10) - 60680), Words.get64(b, ((int) l10) - 60672));
+         Core2.f53(m, l10 + 64L, Words.get64(b, ((int) l10) - 60408), Words.get64(b, ((int) l10) - 60400));
          break L30;
         }
         if ((l29 & 1) == 0) { break L32; }
@@ -3406,25 +5193,25 @@ static int f269(State m, long l0, long l1, int l2, int l3, int l4, int l5, long 
         l5 = 0;
         l11 = l17;
         L54: while (true) {
-         l4 = (l3 = (int) b[((int) l18) - 60720]) & 255;
+         l4 = (l3 = (int) b[((int) l18) - 60448]) & 255;
          l9 = 1L;
          L55: {
           if (l3 > -1) { break L55; }
-          l31 = (b[((int) l18) - 60719] & 0xff) & 63;
+          l31 = (b[((int) l18) - 60447] & 0xff) & 63;
           L56: {
            if (l3 + Integer.MIN_VALUE > 2147483615) { break L56; }
            l4 = ((l4 << 6) & 1984) | l31;
            l9 = 2L;
            break L55;
           }
-          l32 = (b[((int) l18) - 60718] & 0xff) & 63;
+          l32 = (b[((int) l18) - 60446] & 0xff) & 63;
           L57: {
            if (l3 + Integer.MIN_VALUE > 2147483631) { break L57; }
            l4 = ((l31 << 6) | ((l4 << 12) & 61440)) | l32;
            l9 = 3L;
            break L55;
           }
-          l4 = ((l32 << 6) | ((l31 << 12) | ((l4 << 18) & 1835008))) | ((b[((int) l18) - 60717] & 0xff) & 63);
+          l4 = ((l32 << 6) | ((l31 << 12) | ((l4 << 18) & 1835008))) | ((b[((int) l18) - 60445] & 0xff) & 63);
           l9 = 4L;
          }
          l11 = l11 - l9;
@@ -3437,27 +5224,27 @@ static int f269(State m, long l0, long l1, int l2, int l3, int l4, int l5, long 
            if (l4 != 48) { break L58; }
           }
           if (l11 == 0L) { break L58; }
-          l3 = (l31 = (int) b[((int) l18) - 60720]) & 255;
+          l3 = (l31 = (int) b[((int) l18) - 60448]) & 255;
           L60: {
            if (l31 > -1) { break L60; }
-           l32 = (b[((int) l18) - 60719] & 0xff) & 63;
+           l32 = (b[((int) l18) - 60447] & 0xff) & 63;
            L61: {
             if (l31 + Integer.MIN_VALUE > 2147483615) { break L61; }
             l3 = ((l3 << 6) & 1984) | l32;
             break L60;
            }
-           l33 = (b[((int) l18) - 60718] & 0xff) & 63;
+           l33 = (b[((int) l18) - 60446] & 0xff) & 63;
            L62: {
             if (l31 + Integer.MIN_VALUE > 2147483631) { break L62; }
             l3 = ((l32 << 6) | ((l3 << 12) & 61440)) | l33;
             break L60;
            }
-           l3 = ((l33 << 6) | ((l32 << 12) | ((l3 << 18) & 1835008))) | ((b[((int) l18) - 60717] & 0xff) & 63);
+           l3 = ((l33 << 6) | ((l32 << 12) | ((l3 << 18) & 1835008))) | ((b[((int) l18) - 60445] & 0xff) & 63);
           }
           l3 = (((l3 + -48) + Integer.MIN_VALUE < -2147483638) | ((l3 + -65296) + Integer.MIN_VALUE < -2147483638)) ? 1 : 0;
          }
-         Core6.f179(m, l10, l3, l4);
-         Core2.f53(m, l10 + 64L, Words.get64(b, ((int) l10) - 60720), Words.get64(b, ((int) l10) - 60712));
+         Core6.f188(m, l10, l3, l4);
+         Core2.f53(m, l10 + 64L, Words.get64(b, ((int) l10) - 60448), Words.get64(b, ((int) l10) - 60440));
          L63: {
           L64: {
            if (((l5 | l3) & 1) == 0) { break L64; }
@@ -3470,8 +5257,8 @@ static int f269(State m, long l0, long l1, int l2, int l3, int l4, int l5, long 
          break L30;
         }
        }
-       Core6.f187(m, l10 + 24L, l10 + 64L, l27, l18, l17);
-       l4 = b[((int) l10) - 60695] & 0xff;
+       Core6.f196(m, l10 + 24L, l10 + 64L, l27, l18, l17);
+       l4 = b[((int) l10) - 60423] & 0xff;
       }
       if ((l4 & 1) != 0) { break L30; }
      }
@@ -3489,7 +5276,7 @@ static int f269(State m, long l0, long l1, int l2, int l3, int l4, int l5, long 
  throw State.trap();
 }
 
-static int f271(State m, long l0, long l1, int l2, long l3) {
+static int f282(State m, long l0, long l1, int l2, long l3) {
  final byte[] b = m.bytes;
  long l4 = 0;
  long l5 = 0;
@@ -3501,14 +5288,14 @@ static int f271(State m, long l0, long l1, int l2, long l3) {
   L2: {
    L3: {
     if ((l5 = l4) < 16L) { break L3; }
-    Words.put32(b, ((int) l3) - 60720, 0);
-    b[((int) l5) - 60706] = (byte) 0;
-    Words.put16(b, ((int) l5) - 60708, (short) 0);
+    Words.put32(b, ((int) l3) - 60448, 0);
+    b[((int) l5) - 60434] = (byte) 0;
+    Words.put16(b, ((int) l5) - 60436, (short) 0);
     L4: {
      L5: {
       if (l2 + Integer.MIN_VALUE > -2147483644) { break L5; }
       if (((1L << (l4 = (l2 & 0xffffffffL) << 1L)) & 340L) == 0L) { break L4; }
-      l7 = b[((int) (l4 + 85585L)) - 60720] & 0xff;
+      l7 = b[((int) (l4 + 86485L)) - 60448] & 0xff;
       break L2;
      }
      l7 = 1;
@@ -3528,7 +5315,7 @@ static int f271(State m, long l0, long l1, int l2, long l3) {
      l0 = l6;
      l4 = l1;
      L9: while (true) {
-      if (((Words.get32(b, ((int) l0) - 60720) + 16776990) & 12632312) != 8421376) { break L7; }
+      if (((Words.get32(b, ((int) l0) - 60448) + 16776990) & 12632312) != 8421376) { break L7; }
       l0 = l0 + 3L;
       if ((l4 = l4 + -3L) + Long.MIN_VALUE > -9223372036854775805L) { continue L9; }
       break L9;
@@ -3542,21 +5329,21 @@ static int f271(State m, long l0, long l1, int l2, long l3) {
      default: break L6;
      }
     }
-    if (((((Words.get16(b, ((int) l0) - 60720) & 0xffff) | ((b[((int) (l0 + 2L)) - 60720] & 0xff) << 16)) + 16776990) & 12632312) == 8421376) { break L6; }
+    if (((((Words.get16(b, ((int) l0) - 60448) & 0xffff) | ((b[((int) (l0 + 2L)) - 60448] & 0xff) << 16)) + 16776990) & 12632312) == 8421376) { break L6; }
    }
    if (Core1.f6(m, l6, l1) != 0) { break L6; }
    l2 = 5;
    break L1;
   }
-  Core6.f190(m, l5 + 12L, l6, l1, l7);
+  Core6.f199(m, l5 + 12L, l6, l1, l7);
   l2 = 0;
-  if ((b[((int) l5) - 60708] & 0xff) != 1) { break L1; }
+  if ((b[((int) l5) - 60436] & 0xff) != 1) { break L1; }
   l7 = 16;
-  l8 = b[((int) l5) - 60706] & 0xff;
+  l8 = b[((int) l5) - 60434] & 0xff;
   L11: {
    L12: {
     L13: {
-     switch ((int) (b[((int) l5) - 60707] & 0xffL)) {
+     switch ((int) (b[((int) l5) - 60435] & 0xffL)) {
      case 1: break L12;
      case 2: break L11;
      default: break L13;
@@ -3567,13 +5354,13 @@ static int f271(State m, long l0, long l1, int l2, long l3) {
    }
    l7 = l8 + 10;
   }
-  Words.put32(b, ((int) l3) - 60720, l7);
+  Words.put32(b, ((int) l3) - 60448, l7);
  }
  m.g0 = l5 + 16L;
  return l2;
 }
 
-static int f273(State m, long l0, long l1, int l2, int l3, long l4, long l5, long l6) {
+static int f284(State m, long l0, long l1, int l2, int l3, long l4, long l5, long l6) {
  final byte[] b = m.bytes;
  long l7 = 0;
  long l8 = 0;
@@ -3595,17 +5382,17 @@ static int f273(State m, long l0, long l1, int l2, int l3, long l4, long l5, lon
      L5: {
       if ((l7 = l7) < 16L) { break L5; }
       m.fill((int) (l7 + 140L), 0, (int) 512L);
-      Words.put64(b, ((int) l6) - 60720, 0L);
-      Words.put64(b, ((int) l7) - 60592, 0L);
-      Words.put64(b, ((int) l7) - 60600, 0L);
-      Words.put64(b, ((int) l7) - 60608, 0L);
+      Words.put64(b, ((int) l6) - 60448, 0L);
+      Words.put64(b, ((int) l7) - 60320, 0L);
+      Words.put64(b, ((int) l7) - 60328, 0L);
+      Words.put64(b, ((int) l7) - 60336, 0L);
       L6: {
        L7: {
         if (l2 + Integer.MIN_VALUE < -2147483643) { break L7; }
         l17 = l16 = (l2 == 5) ? 1 : 0;
         break L6;
        }
-       final int t8 = b[((int) ((l8 = (l2 & 0xffffffffL) << 1L) + 85585L)) - 60720] & 0xff;
+       final int t8 = b[((int) ((l8 = (l2 & 0xffffffffL) << 1L) + 86485L)) - 60448] & 0xff;
        final int t9 = l16 = (((1L << l8) & 340L) != 0L) ? 1 : 0;
        l17 = t9 != 0 ? t8 : 0;
       }
@@ -3621,7 +5408,7 @@ static int f273(State m, long l0, long l1, int l2, int l3, long l4, long l5, lon
          l0 = l9;
          l8 = l1;
          L13: while (true) {
-          if (((Words.get32(b, ((int) l0) - 60720) + 16776990) & 12632312) != 8421376) { break L11; }
+          if (((Words.get32(b, ((int) l0) - 60448) + 16776990) & 12632312) != 8421376) { break L11; }
           l0 = l0 + 3L;
           if ((l8 = l8 + -3L) + Long.MIN_VALUE > -9223372036854775805L) { continue L13; }
           break L13;
@@ -3635,48 +5422,48 @@ static int f273(State m, long l0, long l1, int l2, int l3, long l4, long l5, lon
          default: break L10;
          }
         }
-        if (((((Words.get16(b, ((int) l0) - 60720) & 0xffff) | ((b[((int) (l0 + 2L)) - 60720] & 0xff) << 16)) + 16776990) & 12632312) == 8421376) { break L10; }
+        if (((((Words.get16(b, ((int) l0) - 60448) & 0xffff) | ((b[((int) (l0 + 2L)) - 60448] & 0xff) << 16)) + 16776990) & 12632312) == 8421376) { break L10; }
        }
        if (Core1.f6(m, l9, l1) != 0) { break L10; }
        l2 = 5;
        break L1;
       }
       m.fill((int) (l7 + 140L), 0, (int) 512L);
-      Words.put64(b, ((int) l7) - 60592, 0L);
-      Words.put64(b, ((int) l7) - 60600, 512L);
-      Words.put64(b, ((int) l7) - 60608, l7 + 140L);
-      Words.put64(b, ((int) l7) - 60064, 0L);
-      Words.put64(b, ((int) l7) - 60056, 0L);
-      Words.put64(b, ((int) l7) - 60048, 0L);
-      Words.put64(b, ((int) l7) - 60040, 0L);
-      Words.put64(b, ((int) l7) - 60032, 0L);
-      Words.put64(b, ((int) l7) - 60024, 0L);
-      Words.put64(b, ((int) l7) - 60016, 0L);
-      Words.put64(b, ((int) l7) - 60008, 0L);
-      Words.put16(b, ((int) l7) - 60068, (short) 0);
-      b[((int) l7) - 60066] = (byte) 0;
+      Words.put64(b, ((int) l7) - 60320, 0L);
+      Words.put64(b, ((int) l7) - 60328, 512L);
+      Words.put64(b, ((int) l7) - 60336, l7 + 140L);
+      Words.put64(b, ((int) l7) - 59792, 0L);
+      Words.put64(b, ((int) l7) - 59784, 0L);
+      Words.put64(b, ((int) l7) - 59776, 0L);
+      Words.put64(b, ((int) l7) - 59768, 0L);
+      Words.put64(b, ((int) l7) - 59760, 0L);
+      Words.put64(b, ((int) l7) - 59752, 0L);
+      Words.put64(b, ((int) l7) - 59744, 0L);
+      Words.put64(b, ((int) l7) - 59736, 0L);
+      Words.put16(b, ((int) l7) - 59796, (short) 0);
+      b[((int) l7) - 59794] = (byte) 0;
       Core2.f75(m, l7 + 656L, l9, l1, l17);
-      Core6.f190(m, l7 + 652L, l9, l1, l17);
+      Core6.f199(m, l7 + 652L, l9, l1, l17);
       l0 = 0L;
-      if ((b[((int) l7) - 60064] & 0xff) != 1) { break L2; }
+      if ((b[((int) l7) - 59792] & 0xff) != 1) { break L2; }
       l0 = 0L;
-      if (((b[((int) l7) - 60068] & 0xff) & 255) != 1) { break L2; }
-      l2 = b[((int) l7) - 60067] & 0xff;
-      l16 = b[((int) l7) - 60066] & 0xff;
-      l10 = Words.get64(b, ((int) l7) - 60048);
-      l17 = b[((int) l7) - 60056] & 0xff;
+      if (((b[((int) l7) - 59796] & 0xff) & 255) != 1) { break L2; }
+      l2 = b[((int) l7) - 59795] & 0xff;
+      l16 = b[((int) l7) - 59794] & 0xff;
+      l10 = Words.get64(b, ((int) l7) - 59776);
+      l17 = b[((int) l7) - 59784] & 0xff;
       m.fill((int) (l7 + 720L), 0, (int) 72L);
-      Words.put32(b, ((int) l7) - 59924, 0);
-      Words.put32(b, ((int) l7) - 59927, 0);
-      Words.put64(b, ((int) l7) - 59864, 0L);
-      Words.put64(b, ((int) l7) - 59872, 83372L);
-      Words.put64(b, ((int) l7) - 59880, 0L);
-      Words.put64(b, ((int) l7) - 59888, 83372L);
-      Words.put64(b, ((int) l7) - 59896, 0L);
-      Words.put64(b, ((int) l7) - 59904, l11 = (l17 == 1) ? l10 : 0L);
-      Words.put64(b, ((int) l7) - 59912, l1);
-      Words.put64(b, ((int) l7) - 59920, l9);
-      b[((int) l7) - 59928] = (byte) (l3 = (l3 + Integer.MIN_VALUE < -2147483645) ? l3 : 0);
+      Words.put32(b, ((int) l7) - 59652, 0);
+      Words.put32(b, ((int) l7) - 59655, 0);
+      Words.put64(b, ((int) l7) - 59592, 0L);
+      Words.put64(b, ((int) l7) - 59600, 83372L);
+      Words.put64(b, ((int) l7) - 59608, 0L);
+      Words.put64(b, ((int) l7) - 59616, 83372L);
+      Words.put64(b, ((int) l7) - 59624, 0L);
+      Words.put64(b, ((int) l7) - 59632, l11 = (l17 == 1) ? l10 : 0L);
+      Words.put64(b, ((int) l7) - 59640, l1);
+      Words.put64(b, ((int) l7) - 59648, l9);
+      b[((int) l7) - 59656] = (byte) (l3 = (l3 + Integer.MIN_VALUE < -2147483645) ? l3 : 0);
       L15: {
        L16: {
         if (l2 != 0) { break L16; }
@@ -3695,7 +5482,7 @@ static int f273(State m, long l0, long l1, int l2, int l3, long l4, long l5, lon
          l3 = l16 + 34;
          break L17;
         }
-        l3 = b[State.far((int) ((l16 & 0xffffffffL) & 255L), 88296)] & 0xff;
+        l3 = b[State.far((int) ((l16 & 0xffffffffL) & 255L), 89200)] & 0xff;
        }
        Core2.f50(m, l7 + 792L, l7 + 112L, l3);
        break L3;
@@ -3703,86 +5490,86 @@ static int f273(State m, long l0, long l1, int l2, int l3, long l4, long l5, lon
       l8 = 0L;
       if (l11 == 0L) { break L4; }
       Core1.f30(m, l7 + 96L, l9, l1, l12 = l11 - ((l11 != 0L) ? 1L : 0L));
-      l13 = Words.get64(b, ((int) l7) - 60616);
-      l0 = Words.get64(b, ((int) l7) - 60624);
+      l13 = Words.get64(b, ((int) l7) - 60344);
+      l0 = Words.get64(b, ((int) l7) - 60352);
       Core1.f30(m, l7 + 80L, l9, l1, l11);
-      l14 = Words.get64(b, ((int) l7) - 60632);
-      l15 = Words.get64(b, ((int) l7) - 60640);
+      l14 = Words.get64(b, ((int) l7) - 60360);
+      l15 = Words.get64(b, ((int) l7) - 60368);
       L20: {
        L21: {
         L22: {
-         if (Core1.f31(m, l0, l13, 85719L, 3L) == 0) { break L22; }
+         if (Core1.f31(m, l0, l13, 86619L, 3L) == 0) { break L22; }
          l16 = 20998;
-         if (Core1.f31(m, l15, l14, 85722L, 3L) != 0) { break L20; }
+         if (Core1.f31(m, l15, l14, 86622L, 3L) != 0) { break L20; }
          l16 = 19975;
          L23: {
-          if (Core1.f31(m, l15, l14, 85725L, 1L) == 0) { break L23; }
+          if (Core1.f31(m, l15, l14, 86625L, 1L) == 0) { break L23; }
           l12 = l10;
           break L20;
          }
          l12 = l10;
-         if (Core1.f31(m, l15, l14, 85726L, 1L) != 0) { break L20; }
-         if (Core1.f31(m, l15, l14, 85718L, 1L) != 0) { break L21; }
-         if (Core1.f31(m, l15, l14, 85727L, 3L) != 0) { break L21; }
+         if (Core1.f31(m, l15, l14, 86626L, 1L) != 0) { break L20; }
+         if (Core1.f31(m, l15, l14, 86618L, 1L) != 0) { break L21; }
+         if (Core1.f31(m, l15, l14, 86627L, 3L) != 0) { break L21; }
          break L4;
         }
         l16 = 19975;
         L24: {
-         if (Core1.f31(m, l15, l14, 85725L, 1L) == 0) { break L24; }
+         if (Core1.f31(m, l15, l14, 86625L, 1L) == 0) { break L24; }
          l12 = l10;
          break L20;
         }
         l12 = l10;
-        if (Core1.f31(m, l15, l14, 85726L, 1L) != 0) { break L20; }
-        if (Core1.f31(m, l15, l14, 85718L, 1L) != 0) { break L21; }
-        if (Core1.f31(m, l15, l14, 85727L, 3L) == 0) { break L4; }
+        if (Core1.f31(m, l15, l14, 86626L, 1L) != 0) { break L20; }
+        if (Core1.f31(m, l15, l14, 86618L, 1L) != 0) { break L21; }
+        if (Core1.f31(m, l15, l14, 86627L, 3L) == 0) { break L4; }
        }
        L25: while (true) {
         if (l13 == 0L) { break L4; }
-        l2 = (l16 = (int) b[((int) l0) - 60720]) & 255;
+        l2 = (l16 = (int) b[((int) l0) - 60448]) & 255;
         l10 = 1L;
         L26: {
          if (l16 > -1) { break L26; }
-         l17 = (b[((int) l0) - 60719] & 0xff) & 63;
+         l17 = (b[((int) l0) - 60447] & 0xff) & 63;
          L27: {
           if (l16 + Integer.MIN_VALUE > 2147483615) { break L27; }
           l2 = ((l2 << 6) & 1984) | l17;
           l10 = 2L;
           break L26;
          }
-         l18 = (b[((int) l0) - 60718] & 0xff) & 63;
+         l18 = (b[((int) l0) - 60446] & 0xff) & 63;
          L28: {
           if (l16 + Integer.MIN_VALUE > 2147483631) { break L28; }
           l2 = ((l17 << 6) | ((l2 << 12) & 61440)) | l18;
           l10 = 3L;
           break L26;
          }
-         l2 = ((l18 << 6) | ((l17 << 12) | ((l2 << 18) & 1835008))) | ((b[((int) l0) - 60717] & 0xff) & 63);
+         l2 = ((l18 << 6) | ((l17 << 12) | ((l2 << 18) & 1835008))) | ((b[((int) l0) - 60445] & 0xff) & 63);
          l10 = 4L;
         }
         Core2.f63(m, l7 + 72L, l2);
         l16 = 28857;
         L29: {
-         if ((b[((int) l7) - 60648] & 0xff) == 1) { break L29; }
+         if ((b[((int) l7) - 60376] & 0xff) == 1) { break L29; }
          Core2.f61(m, l7 + 64L, l2);
          l0 = l0 + l10;
          l13 = l13 - l10;
-         if ((b[((int) l7) - 60656] & 0xff) != 1) { continue L25; }
+         if ((b[((int) l7) - 60384] & 0xff) != 1) { continue L25; }
         }
         break L25;
        }
        l12 = l11;
       }
-      Words.put64(b, ((int) l7) - 59936, 0L);
-      Words.put64(b, ((int) l7) - 59944, 83372L);
-      Words.put64(b, ((int) l7) - 59952, 0L);
-      Words.put64(b, ((int) l7) - 59960, 83372L);
-      Words.put32(b, ((int) l7) - 59964, l16);
-      Words.put32(b, ((int) l7) - 59968, 1);
-      Words.put64(b, ((int) l7) - 59976, l12);
-      Words.put64(b, ((int) l7) - 59984, l1);
-      Words.put64(b, ((int) l7) - 59992, l9);
-      b[((int) l7) - 60000] = (byte) l3;
+      Words.put64(b, ((int) l7) - 59664, 0L);
+      Words.put64(b, ((int) l7) - 59672, 83372L);
+      Words.put64(b, ((int) l7) - 59680, 0L);
+      Words.put64(b, ((int) l7) - 59688, 83372L);
+      Words.put32(b, ((int) l7) - 59692, l16);
+      Words.put32(b, ((int) l7) - 59696, 1);
+      Words.put64(b, ((int) l7) - 59704, l12);
+      Words.put64(b, ((int) l7) - 59712, l1);
+      Words.put64(b, ((int) l7) - 59720, l9);
+      b[((int) l7) - 59728] = (byte) l3;
       Core2.f50(m, l7 + 720L, l7 + 112L, 2);
       break L3;
      }
@@ -3792,8 +5579,8 @@ static int f273(State m, long l0, long l1, int l2, int l3, long l4, long l5, lon
     L30: {
      if (l1 + Long.MIN_VALUE < -9223372036854775776L) { break L30; }
      Core1.f25(m, l7 + 48L, l9, l1, l1);
-     l8 = l1 - Words.get64(b, ((int) l7) - 60664);
-     l0 = Words.get64(b, ((int) l7) - 60672);
+     l8 = l1 - Words.get64(b, ((int) l7) - 60392);
+     l0 = Words.get64(b, ((int) l7) - 60400);
     }
     l13 = l11 + 1L;
     L31: {
@@ -3801,7 +5588,7 @@ static int f273(State m, long l0, long l1, int l2, int l3, long l4, long l5, lon
      L32: while (true) {
       L33: {
        L34: {
-        if (((l10 = Words.get64(b, ((int) (l9 + l0)) - 60720)) & 67553998437089520L) != 63050398541283552L) { break L34; }
+        if (((l10 = Words.get64(b, ((int) (l9 + l0)) - 60448)) & 67553998437089520L) != 63050398541283552L) { break L34; }
         l8 = l8 + 3L;
         l0 = l0 + 9L;
         break L33;
@@ -3819,7 +5606,7 @@ static int f273(State m, long l0, long l1, int l2, int l3, long l4, long l5, lon
      if (l0 + Long.MIN_VALUE >= l1 + Long.MIN_VALUE) { break L35; }
      L36: while (true) {
       l8 = l8 + 1L;
-      if ((l0 = Words.get64(b, ((int) (((((b[((int) (l9 + l0)) - 60720] & 0xff) >>> 1) & 0xffffffffL) & 120L) + 66680L)) - 60720) + l0) + Long.MIN_VALUE < l1 + Long.MIN_VALUE) { continue L36; }
+      if ((l0 = Words.get64(b, ((int) (((((b[((int) (l9 + l0)) - 60448] & 0xff) >>> 1) & 0xffffffffL) & 120L) + 66680L)) - 60448) + l0) + Long.MIN_VALUE < l1 + Long.MIN_VALUE) { continue L36; }
       break L36;
      }
     }
@@ -3828,7 +5615,7 @@ static int f273(State m, long l0, long l1, int l2, int l3, long l4, long l5, lon
     L37: {
      L38: {
       L39: {
-       if (Core1.f31(m, l0 = Words.get64(b, ((int) l7) - 60688), l10 = Words.get64(b, ((int) l7) - 60680), 85722L, 3L) == 0) { break L39; }
+       if (Core1.f31(m, l0 = Words.get64(b, ((int) l7) - 60416), l10 = Words.get64(b, ((int) l7) - 60408), 86622L, 3L) == 0) { break L39; }
        if (l13 != l8) { break L38; }
        l2 = 41;
        break L37;
@@ -3836,29 +5623,29 @@ static int f273(State m, long l0, long l1, int l2, int l3, long l4, long l5, lon
       L40: {
        L41: {
         if (Core1.f31(m, l0, l10, 77254L, 1L) != 0) { break L41; }
-        if (Core1.f31(m, l0, l10, 85730L, 3L) != 0) { break L41; }
-        if (Core1.f31(m, l0, l10, 85733L, 3L) != 0) { break L41; }
+        if (Core1.f31(m, l0, l10, 86630L, 3L) != 0) { break L41; }
+        if (Core1.f31(m, l0, l10, 86633L, 3L) != 0) { break L41; }
         L42: {
-         if (Core1.f31(m, l0, l10, 85736L, 3L) != 0) { break L42; }
-         if (Core1.f31(m, l0, l10, 85739L, 3L) != 0) { break L42; }
-         if (Core1.f31(m, l0, l10, 85718L, 1L) != 0) { break L40; }
-         if (Core1.f31(m, l0, l10, 85727L, 3L) == 0) { break L38; }
+         if (Core1.f31(m, l0, l10, 86636L, 3L) != 0) { break L42; }
+         if (Core1.f31(m, l0, l10, 86639L, 3L) != 0) { break L42; }
+         if (Core1.f31(m, l0, l10, 86618L, 1L) != 0) { break L40; }
+         if (Core1.f31(m, l0, l10, 86627L, 3L) == 0) { break L38; }
          break L40;
         }
-        if (Core6.f194(m, l9, l1, l11) == 0) { break L40; }
+        if (Core6.f203(m, l9, l1, l11) == 0) { break L40; }
         l2 = 43;
         break L37;
        }
        l2 = 3;
        if (l13 == l8) { break L37; }
        Core1.f30(m, l7 + 16L, l9, l1, l11);
-       l0 = Words.get64(b, ((int) l7) - 60696);
-       l8 = Words.get64(b, ((int) l7) - 60704);
+       l0 = Words.get64(b, ((int) l7) - 60424);
+       l8 = Words.get64(b, ((int) l7) - 60432);
        Core2.f55(m, l7, l9, l1, l11);
-       if (Core1.f31(m, l8, l0, Words.get64(b, ((int) l7) - 60720), Words.get64(b, ((int) l7) - 60712)) != 0) { break L37; }
+       if (Core1.f31(m, l8, l0, Words.get64(b, ((int) l7) - 60448), Words.get64(b, ((int) l7) - 60440)) != 0) { break L37; }
        break L38;
       }
-      if (Core6.f194(m, l9, l1, l11) != 0) { break L38; }
+      if (Core6.f203(m, l9, l1, l11) != 0) { break L38; }
       l2 = 42;
       break L37;
      }
@@ -3866,9 +5653,9 @@ static int f273(State m, long l0, long l1, int l2, int l3, long l4, long l5, lon
     }
     Core2.f50(m, l7 + 792L, l7 + 112L, l2);
    }
-   l0 = Words.get64(b, ((int) l7) - 60592);
+   l0 = Words.get64(b, ((int) l7) - 60320);
   }
-  Words.put64(b, ((int) l6) - 60720, l0 = ((l2 = (l0 + Long.MIN_VALUE < -9223372036854775295L) ? 1 : 0) != 0) ? l0 : 0L);
+  Words.put64(b, ((int) l6) - 60448, l0 = ((l2 = (l0 + Long.MIN_VALUE < -9223372036854775295L) ? 1 : 0) != 0) ? l0 : 0L);
   L43: {
    if (l5 + Long.MIN_VALUE >= l0 + Long.MIN_VALUE) { break L43; }
    l2 = 6;
@@ -3887,10 +5674,10 @@ static int f273(State m, long l0, long l1, int l2, int l3, long l4, long l5, lon
      l10 = l0 & -4L;
      l8 = 0L;
      L50: while (true) {
-      b[((int) (l0 = l5 + l8)) - 60720] = (byte) (b[((int) (l1 = l6 + l8)) - 60720] & 0xff);
-      b[((int) (l0 + 1L)) - 60720] = (byte) (b[((int) (l1 + 1L)) - 60720] & 0xff);
-      b[((int) (l0 + 2L)) - 60720] = (byte) (b[((int) (l1 + 2L)) - 60720] & 0xff);
-      b[((int) (l0 + 3L)) - 60720] = (byte) (b[((int) (l1 + 3L)) - 60720] & 0xff);
+      b[((int) (l0 = l5 + l8)) - 60448] = (byte) (b[((int) (l1 = l6 + l8)) - 60448] & 0xff);
+      b[((int) (l0 + 1L)) - 60448] = (byte) (b[((int) (l1 + 1L)) - 60448] & 0xff);
+      b[((int) (l0 + 2L)) - 60448] = (byte) (b[((int) (l1 + 2L)) - 60448] & 0xff);
+      b[((int) (l0 + 3L)) - 60448] = (byte) (b[((int) (l1 + 3L)) - 60448] & 0xff);
       if (l10 != (l8 = l8 + 4L)) { continue L50; }
       break L50;
      }
@@ -3899,7 +5686,7 @@ static int f273(State m, long l0, long l1, int l2, int l3, long l4, long l5, lon
     l0 = l6 + l8;
     l8 = l4 + (l11 + l8);
     L51: while (true) {
-     b[((int) l8) - 60720] = (byte) (b[((int) l0) - 60720] & 0xff);
+     b[((int) l8) - 60448] = (byte) (b[((int) l0) - 60448] & 0xff);
      l8 = l8 + 1L;
      l0 = l0 + 1L;
      if ((l9 = l9 + -1L) != 0L) { continue L51; }
@@ -3917,7 +5704,7 @@ static int f273(State m, long l0, long l1, int l2, int l3, long l4, long l5, lon
  return l2;
 }
 
-static int f275(State m, long l0, long l1, int l2, long l3) {
+static int f286(State m, long l0, long l1, int l2, long l3) {
  final byte[] b = m.bytes;
  long l4 = 0;
  long l5 = 0;
@@ -3929,26 +5716,26 @@ static int f275(State m, long l0, long l1, int l2, long l3) {
   L2: {
    L3: {
     if ((l4 = l4) < 16L) { break L3; }
-    Words.put64(b, ((int) l3) - 60720, 0L);
-    Words.put64(b, ((int) l3) - 60712, 0L);
-    Words.put64(b, ((int) l3) - 60704, 0L);
-    Words.put64(b, ((int) l3) - 60696, 0L);
-    Words.put64(b, ((int) l3) - 60688, 0L);
-    Words.put64(b, ((int) l3) - 60680, 0L);
-    Words.put64(b, ((int) l3) - 60672, 0L);
-    Words.put64(b, ((int) l4) - 60648, 0L);
-    Words.put64(b, ((int) l4) - 60656, 0L);
-    Words.put64(b, ((int) l4) - 60664, 0L);
-    Words.put64(b, ((int) l4) - 60672, 0L);
-    Words.put64(b, ((int) l4) - 60680, 0L);
-    Words.put64(b, ((int) l4) - 60688, 0L);
-    Words.put64(b, ((int) l4) - 60696, 0L);
-    Words.put64(b, ((int) l4) - 60704, 0L);
+    Words.put64(b, ((int) l3) - 60448, 0L);
+    Words.put64(b, ((int) l3) - 60440, 0L);
+    Words.put64(b, ((int) l3) - 60432, 0L);
+    Words.put64(b, ((int) l3) - 60424, 0L);
+    Words.put64(b, ((int) l3) - 60416, 0L);
+    Words.put64(b, ((int) l3) - 60408, 0L);
+    Words.put64(b, ((int) l3) - 60400, 0L);
+    Words.put64(b, ((int) l4) - 60376, 0L);
+    Words.put64(b, ((int) l4) - 60384, 0L);
+    Words.put64(b, ((int) l4) - 60392, 0L);
+    Words.put64(b, ((int) l4) - 60400, 0L);
+    Words.put64(b, ((int) l4) - 60408, 0L);
+    Words.put64(b, ((int) l4) - 60416, 0L);
+    Words.put64(b, ((int) l4) - 60424, 0L);
+    Words.put64(b, ((int) l4) - 60432, 0L);
     L4: {
      L5: {
       if (l2 + Integer.MIN_VALUE > -2147483644) { break L5; }
       if (((1L << (l5 = (l2 & 0xffffffffL) << 1L)) & 340L) == 0L) { break L4; }
-      l8 = b[((int) (l5 + 85585L)) - 60720] & 0xff;
+      l8 = b[((int) (l5 + 86485L)) - 60448] & 0xff;
       break L2;
      }
      l8 = 1;
@@ -3968,7 +5755,7 @@ static int f275(State m, long l0, long l1, int l2, long l3) {
      l0 = l6;
      l5 = l1;
      L9: while (true) {
-      if (((Words.get32(b, ((int) l0) - 60720) + 16776990) & 12632312) != 8421376) { break L7; }
+      if (((Words.get32(b, ((int) l0) - 60448) + 16776990) & 12632312) != 8421376) { break L7; }
       l0 = l0 + 3L;
       if ((l5 = l5 + -3L) + Long.MIN_VALUE > -9223372036854775805L) { continue L9; }
       break L9;
@@ -3982,33 +5769,33 @@ static int f275(State m, long l0, long l1, int l2, long l3) {
      default: break L6;
      }
     }
-    if (((((Words.get16(b, ((int) l0) - 60720) & 0xffff) | ((b[((int) (l0 + 2L)) - 60720] & 0xff) << 16)) + 16776990) & 12632312) == 8421376) { break L6; }
+    if (((((Words.get16(b, ((int) l0) - 60448) & 0xffff) | ((b[((int) (l0 + 2L)) - 60448] & 0xff) << 16)) + 16776990) & 12632312) == 8421376) { break L6; }
    }
    if (Core1.f6(m, l6, l1) != 0) { break L6; }
    l2 = 5;
    break L1;
   }
   Core2.f75(m, l4 + 16L, l6, l1, l8);
-  Words.put64(b, ((int) l3) - 60720, 0L);
-  Words.put64(b, ((int) l3) - 60712, 0L);
-  Words.put64(b, ((int) l3) - 60704, 0L);
-  Words.put64(b, ((int) l3) - 60696, 0L);
-  Words.put64(b, ((int) l3) - 60688, 0L);
-  Words.put64(b, ((int) l3) - 60680, 0L);
-  Words.put64(b, ((int) l3) - 60672, 0L);
-  l5 = Words.get64(b, ((int) l4) - 60688);
+  Words.put64(b, ((int) l3) - 60448, 0L);
+  Words.put64(b, ((int) l3) - 60440, 0L);
+  Words.put64(b, ((int) l3) - 60432, 0L);
+  Words.put64(b, ((int) l3) - 60424, 0L);
+  Words.put64(b, ((int) l3) - 60416, 0L);
+  Words.put64(b, ((int) l3) - 60408, 0L);
+  Words.put64(b, ((int) l3) - 60400, 0L);
+  l5 = Words.get64(b, ((int) l4) - 60416);
   L11: {
-   if ((b[((int) l4) - 60704] & 0xff) != 0) { break L11; }
-   l6 = Words.get64(b, ((int) l4) - 60664);
-   l1 = Words.get64(b, ((int) l4) - 60672);
-   l0 = Words.get64(b, ((int) l4) - 60680);
-   Words.put32(b, ((int) l3) - 60688, b[((int) l4) - 60656] & 0xff);
-   Words.put64(b, ((int) l3) - 60704, l1);
-   Words.put64(b, ((int) (l1 = l3 + 36L)) - 60720, 0L);
-   Words.put64(b, ((int) l1) - 60712, 0L);
+   if ((b[((int) l4) - 60432] & 0xff) != 0) { break L11; }
+   l6 = Words.get64(b, ((int) l4) - 60392);
+   l1 = Words.get64(b, ((int) l4) - 60400);
+   l0 = Words.get64(b, ((int) l4) - 60408);
+   Words.put32(b, ((int) l3) - 60416, b[((int) l4) - 60384] & 0xff);
+   Words.put64(b, ((int) l3) - 60432, l1);
+   Words.put64(b, ((int) (l1 = l3 + 36L)) - 60448, 0L);
+   Words.put64(b, ((int) l1) - 60440, 0L);
    l2 = 0;
-   Words.put32(b, ((int) l1) - 60704, 0);
-   Words.put64(b, ((int) l3) - 60696, l6);
+   Words.put32(b, ((int) l1) - 60432, 0);
+   Words.put64(b, ((int) l3) - 60424, l6);
    final int t12 = (int) l3;
    final long t13 = 0L - l5;
    final long t14 = l5;
@@ -4016,7 +5803,7 @@ static int f275(State m, long l0, long l1, int l2, long l3) {
    final long t16 = 0L - (l1 = t15 != 0 ? t13 : t14);
    final long t17 = l1;
    final int t18 = l8;
-   Words.put64(b, t12 - 60720, t18 != 0 ? t16 : t17);
+   Words.put64(b, t12 - 60448, t18 != 0 ? t16 : t17);
    final int t19 = (int) l3;
    final long t20 = 0L - (l0 + ((l5 != 0L) ? 1L : 0L));
    final long t21 = l0;
@@ -4024,27 +5811,27 @@ static int f275(State m, long l0, long l1, int l2, long l3) {
    final long t23 = 0L - ((l0 = t22 != 0 ? t20 : t21) + ((l1 != 0L) ? 1L : 0L));
    final long t24 = l0;
    final int t25 = l8;
-   Words.put64(b, t19 - 60712, t25 != 0 ? t23 : t24);
+   Words.put64(b, t19 - 60440, t25 != 0 ? t23 : t24);
    break L1;
   }
   l2 = 1;
   L26: {
    L27: {
     L28: {
-     switch (b[((int) l4) - 60696] & 0xff) {
+     switch (b[((int) l4) - 60424] & 0xff) {
      case 1: break L28;
      case 2: break L27;
      case 3: break L26;
      default: break L1;
      }
     }
-    Words.put64(b, ((int) l3) - 60680, l5);
+    Words.put64(b, ((int) l3) - 60408, l5);
     l0 = 0L;
     L29: {
      if (l5 + Long.MIN_VALUE < -9223372036854775792L) { break L29; }
      Core1.f25(m, l4, l6, l1, l5);
-     l5 = Words.get64(b, ((int) l4) - 60712);
-     l0 = Words.get64(b, ((int) l4) - 60720);
+     l5 = Words.get64(b, ((int) l4) - 60440);
+     l0 = Words.get64(b, ((int) l4) - 60448);
     }
     L30: {
      if (l5 + Long.MIN_VALUE < -9223372036854775805L) { break L30; }
@@ -4052,7 +5839,7 @@ static int f275(State m, long l0, long l1, int l2, long l3) {
       if ((l1 - l0) + Long.MIN_VALUE < -9223372036854775800L) { break L30; }
       L32: {
        L33: {
-        if (((l7 = Words.get64(b, ((int) (l6 + l0)) - 60720)) & 67553998437089520L) != 63050398541283552L) { break L33; }
+        if (((l7 = Words.get64(b, ((int) (l6 + l0)) - 60448)) & 67553998437089520L) != 63050398541283552L) { break L33; }
         l5 = l5 + -3L;
         l0 = l0 + 9L;
         break L32;
@@ -4071,14 +5858,14 @@ static int f275(State m, long l0, long l1, int l2, long l3) {
      if (l1 + Long.MIN_VALUE <= l0 + Long.MIN_VALUE) { break L34; }
      l5 = l5 + -1L;
      L35: while (true) {
-      l0 = Words.get64(b, ((int) (((((b[((int) (l6 + l0)) - 60720] & 0xff) >>> 1) & 0xffffffffL) & 120L) + 66680L)) - 60720) + l0;
+      l0 = Words.get64(b, ((int) (((((b[((int) (l6 + l0)) - 60448] & 0xff) >>> 1) & 0xffffffffL) & 120L) + 66680L)) - 60448) + l0;
       if (l5 == 0L) { break L34; }
       l5 = l5 + -1L;
       if (l1 + Long.MIN_VALUE > l0 + Long.MIN_VALUE) { continue L35; }
       break L35;
      }
     }
-    Words.put64(b, ((int) l3) - 60672, l0);
+    Words.put64(b, ((int) l3) - 60400, l0);
     l2 = 2;
     break L1;
    }
@@ -4091,7 +5878,7 @@ static int f275(State m, long l0, long l1, int l2, long l3) {
  return l2;
 }
 
-static int f277_1(State m, long l0, long l1, int l2, int l3, int l4, long l6, long l7, long l8, long l9, long l10, long l11, long l12, long l20, long l29, long l30, long l31, long l32, long l33, long l34, long l35, long l36, long l37, long l38, long l39, long l40, long l41, int l42, int l43, int l44, int l47, int l48, int l50, int l53, int l54) {
+static int f288_1(State m, long l0, long l1, int l2, int l3, int l4, long l6, long l7, long l8, long l9, long l10, long l11, long l12, long l20, long l30, long l31, long l32, long l33, long l34, long l35, long l36, long l37, long l38, long l39, long l40, long l41, long l42, int l43, int l44, int l45, int l48, int l49, int l50, int l53, int l54) {
  final byte[] b = m.bytes;
  int exit = 0;
  PART: {
@@ -4099,165 +5886,165 @@ static int f277_1(State m, long l0, long l1, int l2, int l3, int l4, long l6, lo
    L14: {
     L15: {
      L16: {
-      if ((b[((int) l10) - 60096] & 0xff) != 1) { break L16; }
-      l32 = Words.get64(b, ((int) l10) - 60048);
-      l31 = Words.get64(b, ((int) l10) - 60056);
-      l33 = Words.get64(b, ((int) l10) - 60064);
-      l34 = Words.get64(b, ((int) l10) - 60072);
-      l35 = Words.get64(b, ((int) l10) - 60080);
-      l36 = Words.get64(b, ((int) l10) - 60088);
+      if ((b[((int) l10) - 59696] & 0xff) != 1) { break L16; }
+      l33 = Words.get64(b, ((int) l10) - 59648);
+      l32 = Words.get64(b, ((int) l10) - 59656);
+      l34 = Words.get64(b, ((int) l10) - 59664);
+      l35 = Words.get64(b, ((int) l10) - 59672);
+      l36 = Words.get64(b, ((int) l10) - 59680);
+      l37 = Words.get64(b, ((int) l10) - 59688);
       L17: {
        if ((l53 & 1) == 0) { break L17; }
-       Words.put64(b, ((int) l10) - 60056, l32);
-       Words.put64(b, ((int) l10) - 60064, l31);
-       Words.put64(b, ((int) l10) - 60072, l33);
-       Words.put64(b, ((int) l10) - 60080, l34);
-       Words.put64(b, ((int) l10) - 60088, l35);
-       Words.put64(b, ((int) l10) - 60096, l36);
-       if (Core5.f170(m, l30, l10 + 624L) != 0) { break L13; }
+       Words.put64(b, ((int) l10) - 59656, l33);
+       Words.put64(b, ((int) l10) - 59664, l32);
+       Words.put64(b, ((int) l10) - 59672, l34);
+       Words.put64(b, ((int) l10) - 59680, l35);
+       Words.put64(b, ((int) l10) - 59688, l36);
+       Words.put64(b, ((int) l10) - 59696, l37);
+       if (Core6.f179(m, l31, l10 + 752L) != 0) { break L13; }
       }
-      b[((int) l10) - 60256] = (byte) l48;
-      b[((int) l10) - 60257] = (byte) l50;
-      Words.put32(b, ((int) l10) - 60261, l47);
-      b[((int) l10) - 60262] = (byte) l43;
-      b[((int) l10) - 60263] = (byte) l44;
-      b[((int) l10) - 60264] = (byte) l2;
-      l9 = l34;
-      l0 = l33;
+      b[((int) l10) - 59896] = (byte) l49;
+      b[((int) l10) - 59897] = (byte) l50;
+      Words.put32(b, ((int) l10) - 59901, l48);
+      b[((int) l10) - 59902] = (byte) l44;
+      b[((int) l10) - 59903] = (byte) l45;
+      b[((int) l10) - 59904] = (byte) l2;
+      l9 = l35;
+      l0 = l34;
       L18: {
        L19: while (true) {
         if (l0 == 0L) { break L18; }
-        l42 = (l4 = (int) b[((int) l9) - 60720]) & 255;
+        l43 = (l4 = (int) b[((int) l9) - 60448]) & 255;
         l11 = 1L;
         L20: {
          if (l4 > -1) { break L20; }
-         l3 = (b[((int) l9) - 60719] & 0xff) & 63;
+         l3 = (b[((int) l9) - 60447] & 0xff) & 63;
          L21: {
           if (l4 + Integer.MIN_VALUE > 2147483615) { break L21; }
-          l42 = ((l42 << 6) & 1984) | l3;
+          l43 = ((l43 << 6) & 1984) | l3;
           l11 = 2L;
           break L20;
          }
-         l54 = (b[((int) l9) - 60718] & 0xff) & 63;
+         l54 = (b[((int) l9) - 60446] & 0xff) & 63;
          L22: {
           if (l4 + Integer.MIN_VALUE > 2147483631) { break L22; }
-          l42 = ((l3 << 6) | ((l42 << 12) & 61440)) | l54;
+          l43 = ((l3 << 6) | ((l43 << 12) & 61440)) | l54;
           l11 = 3L;
           break L20;
          }
-         l42 = ((l54 << 6) | ((l3 << 12) | ((l42 << 18) & 1835008))) | ((b[((int) l9) - 60717] & 0xff) & 63);
+         l43 = ((l54 << 6) | ((l3 << 12) | ((l43 << 18) & 1835008))) | ((b[((int) l9) - 60445] & 0xff) & 63);
          l11 = 4L;
         }
-        if ((l42 + -48) + Integer.MIN_VALUE < -2147483638) { break L15; }
+        if ((l43 + -48) + Integer.MIN_VALUE < -2147483638) { break L15; }
         l0 = l0 - l11;
         l9 = l9 + l11;
-        if ((l42 + -65296) + Integer.MIN_VALUE > -2147483639) { continue L19; }
+        if ((l43 + -65296) + Integer.MIN_VALUE > -2147483639) { continue L19; }
         break L15;
        }
       }
-      Words.put64(b, ((int) l10) - 60328, l32);
-      Words.put64(b, ((int) l10) - 60336, l31);
-      Words.put64(b, ((int) l10) - 60344, l33);
-      Words.put64(b, ((int) l10) - 60352, l34);
-      Words.put64(b, ((int) l10) - 60368, l36);
-      Words.put64(b, ((int) l10) - 60360, l35);
-      m.fill((int) (l10 + 624L), 0, (int) 120L);
-      Core3.f112(m, l10 + 624L, l12, l1, l12 + l35, l1 - l35, l2, l44);
-      Words.put64(b, ((int) l10) - 60216, b[((int) l10) - 60096] & 0xffL);
-      Words.put64(b, ((int) l10) - 60208, b[((int) l10) - 60088] & 0xffL);
-      m.copy((int) l29, (int) l20, (int) 104L);
-      if (Core6.f195(m, l10 + 456L, l12, l1, l10 + 352L, l10 + 504L) != 0) { break L15; }
+      Words.put64(b, ((int) l10) - 60040, l33);
+      Words.put64(b, ((int) l10) - 60048, l32);
+      Words.put64(b, ((int) l10) - 60056, l34);
+      Words.put64(b, ((int) l10) - 60064, l35);
+      Words.put64(b, ((int) l10) - 60080, l37);
+      Words.put64(b, ((int) l10) - 60072, l36);
+      m.fill((int) (l10 + 752L), 0, (int) 128L);
+      Core3.f112(m, l10 + 752L, l12, l1, l12 + l36, l1 - l36, l2, l45);
+      Words.put64(b, ((int) l10) - 59824, b[((int) l10) - 59696] & 0xffL);
+      Words.put64(b, ((int) l10) - 59816, b[((int) l10) - 59688] & 0xffL);
+      m.copy((int) l30, (int) l20, (int) 112L);
+      if (Core6.f204(m, l10 + 544L, l12, l1, l10 + 368L, l10 + 624L) != 0) { break L15; }
       break L14;
      }
-     Core2.f53(m, l10 + 152L, l31, l32);
-     Words.put64(b, ((int) l8) - 60720, l9 = Words.get64(b, ((int) l10) - 60552));
-     l42 = (l9 + Long.MIN_VALUE > l7 + Long.MIN_VALUE) ? 6 : 0;
+     Core2.f53(m, l10 + 152L, l32, l33);
+     Words.put64(b, ((int) l8) - 60448, l9 = Words.get64(b, ((int) l10) - 60280));
+     l43 = (l9 + Long.MIN_VALUE > l7 + Long.MIN_VALUE) ? 6 : 0;
      exit = 1; break PART;
     }
-    l9 = l33 + l35;
-    l37 = l31;
+    l9 = l34 + l36;
     l38 = l32;
+    l39 = l33;
     L23: while (true) {
-     Words.put64(b, ((int) l10) - 60048, 0L);
-     Words.put64(b, ((int) l10) - 60056, 0L);
-     Words.put64(b, ((int) l10) - 60064, 0L);
-     Words.put64(b, ((int) l10) - 60072, 0L);
-     Words.put64(b, ((int) l10) - 60080, 0L);
-     Words.put64(b, ((int) l10) - 60088, 0L);
-     Words.put64(b, ((int) l10) - 60096, 0L);
-     Core3.f111(m, l10 + 624L, l12, l1, l37, l38, l2, l44);
-     l42 = 0;
-     if ((b[((int) l10) - 60096] & 0xff) != 1) { break L13; }
-     l37 = Words.get64(b, ((int) l10) - 60056);
-     l39 = Words.get64(b, ((int) l10) - 60064);
-     l40 = Words.get64(b, ((int) l10) - 60072);
-     l6 = Words.get64(b, ((int) l10) - 60080);
-     l41 = Words.get64(b, ((int) l10) - 60088);
-     Words.put64(b, ((int) l10) - 60224, l38 = Words.get64(b, ((int) l10) - 60048));
-     Words.put64(b, ((int) l10) - 60232, l37);
-     Words.put64(b, ((int) l10) - 60240, l39);
-     Words.put64(b, ((int) l10) - 60248, l40);
-     Words.put64(b, ((int) l10) - 60256, l6);
-     Words.put64(b, ((int) l10) - 60264, l41);
-     if (Core5.f170(m, l9, l10 + 456L) == 0) { break L13; }
-     b[((int) l10) - 60536] = (byte) l48;
-     b[((int) l10) - 60537] = (byte) l50;
-     Words.put32(b, ((int) l10) - 60541, l47);
-     b[((int) l10) - 60542] = (byte) l43;
-     b[((int) l10) - 60543] = (byte) l44;
-     b[((int) l10) - 60544] = (byte) l2;
-     l9 = l40;
-     l0 = l39;
+     Words.put64(b, ((int) l10) - 59648, 0L);
+     Words.put64(b, ((int) l10) - 59656, 0L);
+     Words.put64(b, ((int) l10) - 59664, 0L);
+     Words.put64(b, ((int) l10) - 59672, 0L);
+     Words.put64(b, ((int) l10) - 59680, 0L);
+     Words.put64(b, ((int) l10) - 59688, 0L);
+     Words.put64(b, ((int) l10) - 59696, 0L);
+     Core3.f111(m, l10 + 752L, l12, l1, l38, l39, l2, l45);
+     l43 = 0;
+     if ((b[((int) l10) - 59696] & 0xff) != 1) { break L13; }
+     l38 = Words.get64(b, ((int) l10) - 59656);
+     l40 = Words.get64(b, ((int) l10) - 59664);
+     l41 = Words.get64(b, ((int) l10) - 59672);
+     l6 = Words.get64(b, ((int) l10) - 59680);
+     l42 = Words.get64(b, ((int) l10) - 59688);
+     Words.put64(b, ((int) l10) - 59864, l39 = Words.get64(b, ((int) l10) - 59648));
+     Words.put64(b, ((int) l10) - 59872, l38);
+     Words.put64(b, ((int) l10) - 59880, l40);
+     Words.put64(b, ((int) l10) - 59888, l41);
+     Words.put64(b, ((int) l10) - 59896, l6);
+     Words.put64(b, ((int) l10) - 59904, l42);
+     if (Core6.f179(m, l9, l10 + 544L) == 0) { break L13; }
+     b[((int) l10) - 59960] = (byte) l49;
+     b[((int) l10) - 59961] = (byte) l50;
+     Words.put32(b, ((int) l10) - 59965, l48);
+     b[((int) l10) - 59966] = (byte) l44;
+     b[((int) l10) - 59967] = (byte) l45;
+     b[((int) l10) - 59968] = (byte) l2;
+     l9 = l41;
+     l0 = l40;
      L24: {
       L25: {
        L26: while (true) {
         if (l0 == 0L) { break L25; }
-        l42 = (l4 = (int) b[((int) l9) - 60720]) & 255;
+        l43 = (l4 = (int) b[((int) l9) - 60448]) & 255;
         l11 = 1L;
         L27: {
          if (l4 > -1) { break L27; }
-         l3 = (b[((int) l9) - 60719] & 0xff) & 63;
+         l3 = (b[((int) l9) - 60447] & 0xff) & 63;
          L28: {
           if (l4 + Integer.MIN_VALUE > 2147483615) { break L28; }
-          l42 = ((l42 << 6) & 1984) | l3;
+          l43 = ((l43 << 6) & 1984) | l3;
           l11 = 2L;
           break L27;
          }
-         l54 = (b[((int) l9) - 60718] & 0xff) & 63;
+         l54 = (b[((int) l9) - 60446] & 0xff) & 63;
          L29: {
           if (l4 + Integer.MIN_VALUE > 2147483631) { break L29; }
-          l42 = ((l3 << 6) | ((l42 << 12) & 61440)) | l54;
+          l43 = ((l3 << 6) | ((l43 << 12) & 61440)) | l54;
           l11 = 3L;
           break L27;
          }
-         l42 = ((l54 << 6) | ((l3 << 12) | ((l42 << 18) & 1835008))) | ((b[((int) l9) - 60717] & 0xff) & 63);
+         l43 = ((l54 << 6) | ((l3 << 12) | ((l43 << 18) & 1835008))) | ((b[((int) l9) - 60445] & 0xff) & 63);
          l11 = 4L;
         }
-        if ((l42 + -48) + Integer.MIN_VALUE < -2147483638) { break L24; }
+        if ((l43 + -48) + Integer.MIN_VALUE < -2147483638) { break L24; }
         l0 = l0 - l11;
         l9 = l9 + l11;
-        if ((l42 + -65296) + Integer.MIN_VALUE >= -2147483638) { continue L26; }
+        if ((l43 + -65296) + Integer.MIN_VALUE >= -2147483638) { continue L26; }
         break L24;
        }
       }
-      Words.put64(b, ((int) l10) - 60328, l38);
-      Words.put64(b, ((int) l10) - 60336, l37);
-      Words.put64(b, ((int) l10) - 60344, l39);
-      Words.put64(b, ((int) l10) - 60352, l40);
-      Words.put64(b, ((int) l10) - 60368, l41);
-      Words.put64(b, ((int) l10) - 60360, l6);
-      m.fill((int) (l10 + 624L), 0, (int) 120L);
-      Core3.f112(m, l10 + 624L, l12, l1, l12 + l6, l1 - l6, l2, l44);
-      Words.put64(b, ((int) l10) - 60216, b[((int) l10) - 60096] & 0xffL);
-      Words.put64(b, ((int) l10) - 60208, b[((int) l10) - 60088] & 0xffL);
-      m.copy((int) l29, (int) l20, (int) 104L);
-      if (Core6.f195(m, l10 + 176L, l12, l1, l10 + 352L, l10 + 504L) == 0) { break L14; }
+      Words.put64(b, ((int) l10) - 60040, l39);
+      Words.put64(b, ((int) l10) - 60048, l38);
+      Words.put64(b, ((int) l10) - 60056, l40);
+      Words.put64(b, ((int) l10) - 60064, l41);
+      Words.put64(b, ((int) l10) - 60080, l42);
+      Words.put64(b, ((int) l10) - 60072, l6);
+      m.fill((int) (l10 + 752L), 0, (int) 128L);
+      Core3.f112(m, l10 + 752L, l12, l1, l12 + l6, l1 - l6, l2, l45);
+      Words.put64(b, ((int) l10) - 59824, b[((int) l10) - 59696] & 0xffL);
+      Words.put64(b, ((int) l10) - 59816, b[((int) l10) - 59688] & 0xffL);
+      m.copy((int) l30, (int) l20, (int) 112L);
+      if (Core6.f204(m, l10 + 480L, l12, l1, l10 + 368L, l10 + 624L) == 0) { break L14; }
      }
-     l9 = l39 + l6;
+     l9 = l40 + l6;
      continue L23;
     }
    }
-   l42 = 1;
+   l43 = 1;
   }
  }
  m.kept[0] = l0;
@@ -4266,345 +6053,346 @@ static int f277_1(State m, long l0, long l1, int l2, int l3, int l4, long l6, lo
  m.kept[3] = l6;
  m.kept[4] = l9;
  m.kept[5] = l11;
- m.kept[6] = l31;
- m.kept[7] = l32;
- m.kept[8] = l33;
- m.kept[9] = l34;
- m.kept[10] = l35;
- m.kept[11] = l36;
- m.kept[12] = l37;
- m.kept[13] = l38;
- m.kept[14] = l39;
- m.kept[15] = l40;
- m.kept[16] = l41;
- m.kept[17] = l42;
+ m.kept[6] = l32;
+ m.kept[7] = l33;
+ m.kept[8] = l34;
+ m.kept[9] = l35;
+ m.kept[10] = l36;
+ m.kept[11] = l37;
+ m.kept[12] = l38;
+ m.kept[13] = l39;
+ m.kept[14] = l40;
+ m.kept[15] = l41;
+ m.kept[16] = l42;
+ m.kept[17] = l43;
  m.kept[18] = l54;
  return exit;
 }
 
-static int f277_2(State m, long l0, int l3, int l4, int l5, long l6, long l9, long l10, long l11, long l13, long l14, long l15, long l34, long l35, long l36, long l37, long l38, long l39, long l40, long l41, int l46, int l48, int l50, int l51, int l52, int l53, int l54, int l55, int l56) {
+static int f288_2(State m, long l0, int l3, int l4, int l5, long l6, long l9, long l10, long l11, long l13, long l14, long l15, long l31, long l35, long l36, long l37, long l38, long l39, long l40, long l41, long l42, int l47, int l49, int l50, int l51, int l52, int l53, int l54, int l55, int l56) {
  final byte[] b = m.bytes;
  int exit = 0;
  PART: {
-  L35: {
-   L36: {
+  L39: {
+   L40: {
     switch (l3) {
-    case 1: break L35;
+    case 1: break L39;
     case 2: exit = 1; break PART;
-    default: break L36;
+    case 3: exit = 2; break PART;
+    default: break L40;
     }
    }
-   Words.put32(b, ((int) l15) - 60720, Words.get32(b, ((int) l10) - 60440));
-   Words.put16(b, ((int) l15) - 60716, (short) (Words.get16(b, ((int) l10) - 60436) & 0xffff));
-   b[((int) l10) - 60393] = (byte) l48;
-   b[((int) l10) - 60394] = (byte) l50;
-   b[((int) l10) - 60395] = (byte) l51;
-   b[((int) l10) - 60396] = (byte) l52;
-   Words.put16(b, ((int) l10) - 60398, (short) l46);
-   b[((int) l10) - 60423] = (byte) l53;
-   b[((int) l10) - 60424] = (byte) l54;
-   Words.put64(b, ((int) l10) - 60408, l9);
-   Words.put64(b, ((int) l10) - 60416, l39);
-   if (Core6.f196(m, l10 + 322L, l36, l35, l10 + 296L, l37, l40) == 0) { exit = 2; break PART; }
-   L37: {
-    if (((int) (byte) l5) > -1) { break L37; }
-    Words.put32(b, ((int) l14) - 60720, Words.get32(b, ((int) l10) - 60440));
-    Words.put16(b, ((int) l14) - 60716, (short) (Words.get16(b, ((int) l10) - 60436) & 0xffff));
-    b[((int) l10) - 60095] = (byte) l53;
-    b[((int) l10) - 60096] = (byte) l54;
-    Words.put64(b, ((int) l10) - 60080, l9);
-    Words.put64(b, ((int) l10) - 60088, l39);
-    if ((Core6.f197(m, l36, l35, l10 + 624L, l37, l40) & 1) == 0) { break L37; }
-    Words.put32(b, ((int) l10) - 60256, 0);
-    Words.put64(b, ((int) l10) - 60264, 0L);
-    Core3.f113(m, l10 + 456L, l53, l10 + 280L);
-    if ((b[((int) l10) - 60264] & 0xff) != 1) { exit = 3; break PART; }
-    l11 = Words.get64(b, ((int) l10) - 60260);
-    L38: {
-     L39: {
-      L40: {
-       switch ((int) (b[((int) l10) - 60262] & 0xffL)) {
-       case 1: case 2: case 3: case 5: case 7: case 8: exit = 3; break PART;
-       case 4: break L39;
-       case 6: break L38;
-       default: break L40;
-       }
-      }
-      if (Core6.f202(m, l39, l9) != 0) { exit = 3; break PART; }
-      if ((l11 & 71777214277878015L) != 281479271677953L) { exit = 3; break PART; }
-      if (((((int) (l0 = l11 >>> 16L)) + -10000) & 65535) + Integer.MIN_VALUE < -2147427112) { exit = 3; break PART; }
-      Words.put64(b, ((int) l13) - 60713, 0L);
-      Words.put64(b, ((int) l13) - 60720, 0L);
-      Words.put64(b, ((int) l10) - 60344, 0L);
-      l6 = 1L;
-      Words.put64(b, ((int) l10) - 60352, 1L);
-      Words.put64(b, ((int) l10) - 60360, 0L);
-      b[((int) l10) - 60336] = (byte) 0;
-      Words.put64(b, ((int) l10) - 60368, l0 & 65535L);
-      m.fill((int) (l10 + 624L), 0, (int) 80L);
-      Core2.f52(m, l10 + 8L, l10 + 624L, l10 + 352L);
-      Core2.f53(m, l10 + 152L, Words.get64(b, ((int) l10) - 60712), Words.get64(b, ((int) l10) - 60704));
-      Core6.f208(m, l10 + 152L, (int) (l11 >>> 40L));
-      Core6.f208(m, l10 + 152L, (int) (l11 >>> 56L));
-      Words.put64(b, ((int) l10) - 60080, 0L);
-      Words.put64(b, ((int) l10) - 60088, 0L);
-      Words.put64(b, ((int) l10) - 60096, 0L);
-      l11 = 85825L;
-      L41: {
-       if (Core4.f119(m, l39, l9) != 0) { break L41; }
-       Core4.f123(m, l10 + 624L, 21, l39, l9);
-       l11 = ((l4 = (((b[((int) l10) - 60096] & 0xff) & 255) == 1) ? 1 : 0) != 0) ? 85825L : 83372L;
-       l6 = l4 & 0xffffffffL;
-      }
-      Core2.f53(m, l10 + 152L, l11, l6);
-      exit = 3; break PART;
-     }
-     b[((int) l10) - 60392] = (byte) (b[((int) l10) - 60261] & 0xff);
-     Words.put16(b, ((int) l10) - 60391, (short) l11);
-     if (Core6.f203(m, l54, l36, l35, l37, l40, l39, l9) != 0) { exit = 3; break PART; }
-     if (Core6.f204(m, l39, l9) != 0) { exit = 3; break PART; }
-     Core3.f115(m, l10 + 40L, l54, l37, l40, l10 + 328L);
-     if ((b[((int) l10) - 60680] & 0xff) != 1) { exit = 3; break PART; }
-     l4 = b[((int) l10) - 60679] & 0xff;
-     L42: {
-      if ((l54 & 255) != 2) { break L42; }
-      Words.put64(b, ((int) l10) - 60080, 0L);
-      Words.put64(b, ((int) l10) - 60088, 0L);
-      Words.put64(b, ((int) l10) - 60096, 0L);
-      Core4.f123(m, l10 + 624L, 22, l37, l40);
-      if ((b[((int) l10) - 60096] & 0xff) != 1) { break L42; }
-      Core2.f53(m, l10 + 152L, l37, l40 - Words.get64(b, ((int) l10) - 60080));
-     }
-     l0 = l11 >>> 8L;
-     l3 = (int) l11;
+   Words.put32(b, ((int) l15) - 60448, Words.get32(b, ((int) l10) - 60184));
+   Words.put16(b, ((int) l15) - 60444, (short) (Words.get16(b, ((int) l10) - 60180) & 0xffff));
+   b[((int) l10) - 60081] = (byte) l49;
+   b[((int) l10) - 60082] = (byte) l50;
+   b[((int) l10) - 60083] = (byte) l51;
+   b[((int) l10) - 60084] = (byte) l52;
+   Words.put16(b, ((int) l10) - 60086, (short) l47);
+   b[((int) l10) - 60111] = (byte) l53;
+   b[((int) l10) - 60112] = (byte) l54;
+   Words.put64(b, ((int) l10) - 60096, l0);
+   Words.put64(b, ((int) l10) - 60104, l40);
+   if (Core6.f205(m, l10 + 362L, l37, l36, l10 + 336L, l42, l31) == 0) { exit = 3; break PART; }
+   L41: {
+    if (((int) (byte) l5) > -1) { break L41; }
+    Words.put32(b, ((int) l14) - 60448, Words.get32(b, ((int) l10) - 60184));
+    Words.put16(b, ((int) l14) - 60444, (short) (Words.get16(b, ((int) l10) - 60180) & 0xffff));
+    b[((int) l10) - 59695] = (byte) l53;
+    b[((int) l10) - 59696] = (byte) l54;
+    Words.put64(b, ((int) l10) - 59680, l0);
+    Words.put64(b, ((int) l10) - 59688, l40);
+    if ((Core6.f206(m, l37, l36, l10 + 752L, l42, l31) & 1) == 0) { break L41; }
+    Words.put32(b, ((int) l10) - 59896, 0);
+    Words.put64(b, ((int) l10) - 59904, 0L);
+    Core3.f113(m, l10 + 544L, l53, l10 + 264L);
+    if ((b[((int) l10) - 59904] & 0xff) != 1) { exit = 4; break PART; }
+    l9 = Words.get64(b, ((int) l10) - 59900);
+    L42: {
      L43: {
       L44: {
-       if ((l4 & 255) + Integer.MIN_VALUE > -2147483639) { break L44; }
-       Core2.f53(m, l10 + 152L, 85708L, 1L);
-       break L43;
+       switch ((int) (b[((int) l10) - 59902] & 0xffL)) {
+       case 1: case 2: case 3: case 5: case 7: case 8: exit = 4; break PART;
+       case 4: break L43;
+       case 6: break L42;
+       default: break L44;
+       }
+      }
+      if (Core6.f212(m, l40, l0) != 0) { exit = 4; break PART; }
+      if ((l9 & 71777214277878015L) != 281479271677953L) { exit = 4; break PART; }
+      if (((((int) (l11 = l9 >>> 16L)) + -10000) & 65535) + Integer.MIN_VALUE < -2147427112) { exit = 4; break PART; }
+      Words.put64(b, ((int) l13) - 60441, 0L);
+      Words.put64(b, ((int) l13) - 60448, 0L);
+      Words.put64(b, ((int) l10) - 60056, 0L);
+      l6 = 1L;
+      Words.put64(b, ((int) l10) - 60064, 1L);
+      Words.put64(b, ((int) l10) - 60072, 0L);
+      b[((int) l10) - 60048] = (byte) 0;
+      Words.put64(b, ((int) l10) - 60080, l11 & 65535L);
+      m.fill((int) (l10 + 752L), 0, (int) 80L);
+      Core2.f52(m, l10, l10 + 752L, l10 + 368L);
+      Core2.f53(m, l10 + 152L, Words.get64(b, ((int) l10) - 60448), Words.get64(b, ((int) l10) - 60440));
+      Core6.f218(m, l10 + 152L, (int) (l9 >>> 40L));
+      Core6.f218(m, l10 + 152L, (int) (l9 >>> 56L));
+      Words.put64(b, ((int) l10) - 59680, 0L);
+      Words.put64(b, ((int) l10) - 59688, 0L);
+      Words.put64(b, ((int) l10) - 59696, 0L);
+      l9 = 86725L;
+      L45: {
+       if (Core4.f121(m, l40, l0) != 0) { break L45; }
+       Core4.f125(m, l10 + 752L, 21, l40, l0);
+       l9 = ((l4 = (((b[((int) l10) - 59696] & 0xff) & 255) == 1) ? 1 : 0) != 0) ? 86725L : 83372L;
+       l6 = l4 & 0xffffffffL;
+      }
+      Core2.f53(m, l10 + 152L, l9, l6);
+      exit = 4; break PART;
+     }
+     b[((int) l10) - 59968] = (byte) (b[((int) l10) - 59901] & 0xff);
+     Words.put16(b, ((int) l10) - 59967, (short) l9);
+     if (Core6.f213(m, l54, l37, l36, l42, l31, l40, l0) != 0) { exit = 4; break PART; }
+     if (Core6.f214(m, l40, l0) != 0) { exit = 4; break PART; }
+     Core3.f115(m, l10 + 32L, l54, l42, l31, l10 + 480L);
+     if ((b[((int) l10) - 60416] & 0xff) != 1) { exit = 4; break PART; }
+     l4 = b[((int) l10) - 60415] & 0xff;
+     L46: {
+      if ((l54 & 255) != 2) { break L46; }
+      Words.put64(b, ((int) l10) - 59680, 0L);
+      Words.put64(b, ((int) l10) - 59688, 0L);
+      Words.put64(b, ((int) l10) - 59696, 0L);
+      Core4.f125(m, l10 + 752L, 22, l42, l31);
+      if ((b[((int) l10) - 59696] & 0xff) != 1) { break L46; }
+      Core2.f53(m, l10 + 152L, l42, l31 - Words.get64(b, ((int) l10) - 59680));
+     }
+     l11 = l9 >>> 8L;
+     l3 = (int) l9;
+     L47: {
+      L48: {
+       if ((l4 & 255) + Integer.MIN_VALUE > -2147483639) { break L48; }
+       Core2.f53(m, l10 + 152L, 86608L, 1L);
+       break L47;
       }
       Core2.f53(m, l10 + 152L, 83372L, 0L);
      }
-     l54 = (int) l0;
-     Words.put64(b, ((int) l13) - 60713, 0L);
-     Words.put64(b, ((int) l13) - 60720, 0L);
-     Words.put64(b, ((int) l10) - 60344, 0L);
-     Words.put64(b, ((int) l10) - 60352, 1L);
-     Words.put64(b, ((int) l10) - 60360, 0L);
-     b[((int) l10) - 60336] = (byte) 0;
-     Words.put64(b, ((int) l10) - 60368, (l4 & 0xffffffffL) & 255L);
-     m.fill((int) (l10 + 624L), 0, (int) 80L);
-     Core2.f52(m, l10 + 24L, l10 + 624L, l10 + 352L);
-     Core2.f53(m, l10 + 152L, Words.get64(b, ((int) l10) - 60696), Words.get64(b, ((int) l10) - 60688));
-     Core6.f209(m, l10 + 152L, l3);
-     L45: {
-      if (((1 << l53) & -1064961) != 0) { break L45; }
-      Core6.f209(m, l10 + 152L, l54);
+     l54 = (int) l11;
+     Words.put64(b, ((int) l13) - 60441, 0L);
+     Words.put64(b, ((int) l13) - 60448, 0L);
+     Words.put64(b, ((int) l10) - 60056, 0L);
+     Words.put64(b, ((int) l10) - 60064, 1L);
+     Words.put64(b, ((int) l10) - 60072, 0L);
+     b[((int) l10) - 60048] = (byte) 0;
+     Words.put64(b, ((int) l10) - 60080, (l4 & 0xffffffffL) & 255L);
+     m.fill((int) (l10 + 752L), 0, (int) 80L);
+     Core2.f52(m, l10 + 16L, l10 + 752L, l10 + 368L);
+     Core2.f53(m, l10 + 152L, Words.get64(b, ((int) l10) - 60432), Words.get64(b, ((int) l10) - 60424));
+     Core6.f219(m, l10 + 152L, l3);
+     L49: {
+      if (((1 << l53) & -1064961) != 0) { break L49; }
+      Core6.f219(m, l10 + 152L, l54);
      }
-     Words.put64(b, ((int) l10) - 60080, 0L);
-     Words.put64(b, ((int) l10) - 60088, 0L);
-     Words.put64(b, ((int) l10) - 60096, 0L);
-     L46: {
-      L47: {
-       if (Core4.f119(m, l39, l9) == 0) { break L47; }
-       l9 = 85825L;
+     Words.put64(b, ((int) l10) - 59680, 0L);
+     Words.put64(b, ((int) l10) - 59688, 0L);
+     Words.put64(b, ((int) l10) - 59696, 0L);
+     L50: {
+      L51: {
+       if (Core4.f121(m, l40, l0) == 0) { break L51; }
+       l9 = 86725L;
        l11 = 1L;
-       break L46;
+       break L50;
       }
-      Core4.f123(m, l10 + 624L, 21, l39, l9);
-      l9 = ((l4 = (((b[((int) l10) - 60096] & 0xff) & 255) == 1) ? 1 : 0) != 0) ? 85825L : 83372L;
+      Core4.f125(m, l10 + 752L, 21, l40, l0);
+      l9 = ((l4 = (((b[((int) l10) - 59696] & 0xff) & 255) == 1) ? 1 : 0) != 0) ? 86725L : 83372L;
       l11 = l4 & 0xffffffffL;
      }
      Core2.f53(m, l10 + 152L, l9, l11);
-     exit = 3; break PART;
+     exit = 4; break PART;
     }
-    Words.put64(b, ((int) l13) - 60713, 0L);
-    Words.put64(b, ((int) l13) - 60720, 0L);
-    Words.put64(b, ((int) l10) - 60344, 0L);
-    Words.put64(b, ((int) l10) - 60360, 0L);
-    b[((int) l10) - 60336] = (byte) 1;
-    Words.put64(b, ((int) l10) - 60352, 10L);
-    Words.put64(b, ((int) l10) - 60368, ((l11 & 65535L) * 10L) + 5L);
-    m.fill((int) (l10 + 624L), 0, (int) 80L);
-    Core2.f52(m, l10 + 64L, l10 + 624L, l10 + 352L);
-    Core2.f53(m, l10 + 152L, Words.get64(b, ((int) l10) - 60656), Words.get64(b, ((int) l10) - 60648));
-    Core6.f205(m, l10 + 48L, l37, l40);
-    l11 = Words.get64(b, ((int) l10) - 60664);
-    l9 = Words.get64(b, ((int) l10) - 60672);
-    Words.put64(b, ((int) l10) - 60352, 0L);
-    Words.put64(b, ((int) l10) - 60360, 0L);
-    Words.put64(b, ((int) l10) - 60368, 0L);
-    L48: {
-     if (l53 != 26) { break L48; }
-     Core4.f133(m, l10 + 352L, 83608L, 2L, 83568L, 1L, l9, l11);
-     if ((b[((int) l10) - 60368] & 0xff) != 1) { exit = 3; break PART; }
-     l6 = Words.get64(b, ((int) l10) - 60360);
-     l0 = Words.get64(b, ((int) l10) - 60352);
-     Words.put64(b, ((int) l10) - 60080, 0L);
-     Words.put64(b, ((int) l10) - 60088, 0L);
-     Words.put64(b, ((int) l10) - 60096, 0L);
-     L49: {
-      L50: {
-       L51: {
-        if (l0 == 0L) { break L51; }
-        if ((l4 = (int) b[((int) l6) - 60720]) > -1) { break L51; }
-        if (l4 + Integer.MIN_VALUE < 2147483616) { break L51; }
-        l3 = l4 & 255;
-        l54 = (b[((int) l6) - 60719] & 0xff) & 63;
-        l53 = (b[((int) l6) - 60718] & 0xff) & 63;
-        L52: {
-         L53: {
-          if (l4 + Integer.MIN_VALUE > 2147483631) { break L53; }
-          l4 = ((l54 << 6) | ((l3 << 12) & 61440)) | l53;
-          break L52;
-         }
-         l4 = ((l53 << 6) | ((l54 << 12) | ((l3 << 18) & 1835008))) | ((b[((int) l6) - 60717] & 0xff) & 63);
-        }
-        if (l11 == 0L) { break L49; }
-        if (l4 != 23567) { break L50; }
-        break L49;
-       }
-       if (l11 == 0L) { break L49; }
-      }
+    Words.put64(b, ((int) l13) - 60441, 0L);
+    Words.put64(b, ((int) l13) - 60448, 0L);
+    Words.put64(b, ((int) l10) - 60056, 0L);
+    Words.put64(b, ((int) l10) - 60072, 0L);
+    b[((int) l10) - 60048] = (byte) 1;
+    Words.put64(b, ((int) l10) - 60064, 10L);
+    Words.put64(b, ((int) l10) - 60080, ((l9 & 65535L) * 10L) + 5L);
+    m.fill((int) (l10 + 752L), 0, (int) 80L);
+    Core2.f52(m, l10 + 56L, l10 + 752L, l10 + 368L);
+    Core2.f53(m, l10 + 152L, Words.get64(b, ((int) l10) - 60392), Words.get64(b, ((int) l10) - 60384));
+    Core6.f215(m, l10 + 40L, l42, l31);
+    l11 = Words.get64(b, ((int) l10) - 60400);
+    l9 = Words.get64(b, ((int) l10) - 60408);
+    Words.put64(b, ((int) l10) - 60064, 0L);
+    Words.put64(b, ((int) l10) - 60072, 0L);
+    Words.put64(b, ((int) l10) - 60080, 0L);
+    L52: {
+     if (l53 != 26) { break L52; }
+     Core4.f130(m, l10 + 368L, 83608L, 2L, 83568L, 1L, l9, l11);
+     if ((b[((int) l10) - 60080] & 0xff) != 1) { exit = 4; break PART; }
+     l6 = Words.get64(b, ((int) l10) - 60072);
+     l0 = Words.get64(b, ((int) l10) - 60064);
+     Words.put64(b, ((int) l10) - 59680, 0L);
+     Words.put64(b, ((int) l10) - 59688, 0L);
+     Words.put64(b, ((int) l10) - 59696, 0L);
+     L53: {
       L54: {
        L55: {
-        if ((l4 = (int) b[((int) l9) - 60720]) <= -1) { break L55; }
-        l11 = 1L;
-        break L54;
+        if (l0 == 0L) { break L55; }
+        if ((l4 = (int) b[((int) l6) - 60448]) > -1) { break L55; }
+        if (l4 + Integer.MIN_VALUE < 2147483616) { break L55; }
+        l3 = l4 & 255;
+        l54 = (b[((int) l6) - 60447] & 0xff) & 63;
+        l53 = (b[((int) l6) - 60446] & 0xff) & 63;
+        L56: {
+         L57: {
+          if (l4 + Integer.MIN_VALUE > 2147483631) { break L57; }
+          l4 = ((l54 << 6) | ((l3 << 12) & 61440)) | l53;
+          break L56;
+         }
+         l4 = ((l53 << 6) | ((l54 << 12) | ((l3 << 18) & 1835008))) | ((b[((int) l6) - 60445] & 0xff) & 63);
+        }
+        if (l11 == 0L) { break L53; }
+        if (l4 != 23567) { break L54; }
+        break L53;
        }
-       L56: {
-        if (l4 + Integer.MIN_VALUE >= 2147483616) { break L56; }
+       if (l11 == 0L) { break L53; }
+      }
+      L58: {
+       L59: {
+        if ((l4 = (int) b[((int) l9) - 60448]) <= -1) { break L59; }
+        l11 = 1L;
+        break L58;
+       }
+       L60: {
+        if (l4 + Integer.MIN_VALUE >= 2147483616) { break L60; }
         l11 = 2L;
-        break L54;
+        break L58;
        }
        l11 = (l4 + Integer.MIN_VALUE < 2147483632) ? 3L : 4L;
       }
       Core2.f53(m, l10 + 152L, l9, l11);
      }
-     Core4.f135(m, l10 + 624L, l6, l0);
-     if ((b[((int) l10) - 60096] & 0xff) != 1) { exit = 3; break PART; }
-     Core2.f53(m, l10 + 152L, l6, l0 - Words.get64(b, ((int) l10) - 60080));
-     exit = 3; break PART;
+     Core4.f143(m, l10 + 752L, l6, l0);
+     if ((b[((int) l10) - 59696] & 0xff) != 1) { exit = 4; break PART; }
+     Core2.f53(m, l10 + 152L, l6, l0 - Words.get64(b, ((int) l10) - 59680));
+     exit = 4; break PART;
     }
-    if (l11 == 0L) { exit = 3; break PART; }
-    L57: {
-     L58: {
-      if ((l4 = (int) b[((int) l9) - 60720]) <= -1) { break L58; }
+    if (l11 == 0L) { exit = 4; break PART; }
+    L61: {
+     L62: {
+      if ((l4 = (int) b[((int) l9) - 60448]) <= -1) { break L62; }
       l11 = 1L;
-      break L57;
+      break L61;
      }
-     L59: {
-      if (l4 + Integer.MIN_VALUE >= 2147483616) { break L59; }
+     L63: {
+      if (l4 + Integer.MIN_VALUE >= 2147483616) { break L63; }
       l11 = 2L;
-      break L57;
+      break L61;
      }
      l11 = (l4 + Integer.MIN_VALUE < 2147483632) ? 3L : 4L;
     }
     Core2.f53(m, l10 + 152L, l9, l11);
-    exit = 3; break PART;
+    exit = 4; break PART;
    }
    l6 = 0L;
-   Words.put64(b, ((int) l10) - 60376, 0L);
-   Words.put64(b, ((int) l10) - 60384, 0L);
-   Words.put64(b, ((int) l10) - 60392, 0L);
-   Core4.f129(m, l10 + 328L, l54, l37, l40);
-   if ((b[((int) l10) - 60392] & 0xff) != 1) { exit = 3; break PART; }
-   l38 = Words.get64(b, ((int) l10) - 60384);
-   Core2.f53(m, l10 + 152L, l37, l40 - (l39 = Words.get64(b, ((int) l10) - 60376)));
-   Words.put64(b, ((int) l10) - 60368, 0L);
-   Words.put64(b, ((int) l10) - 60360, 0L);
-   Words.put64(b, ((int) l10) - 60352, 0L);
-   Words.put64(b, ((int) l10) - 60344, 0L);
-   l37 = Words.get64(b, State.far((int) (l9 = (l53 & 0xffffffffL) << 3L), 88568));
-   l40 = Words.get64(b, State.far((int) l9, 88312));
+   Words.put64(b, ((int) l10) - 59952, 0L);
+   Words.put64(b, ((int) l10) - 59960, 0L);
+   Words.put64(b, ((int) l10) - 59968, 0L);
+   Core4.f138(m, l10 + 480L, l54, l42, l31);
+   if ((b[((int) l10) - 59968] & 0xff) != 1) { exit = 4; break PART; }
+   l38 = Words.get64(b, ((int) l10) - 59960);
+   Core2.f53(m, l10 + 152L, l42, l31 - (l40 = Words.get64(b, ((int) l10) - 59952)));
+   Words.put64(b, ((int) l10) - 60080, 0L);
+   Words.put64(b, ((int) l10) - 60072, 0L);
+   Words.put64(b, ((int) l10) - 60064, 0L);
+   Words.put64(b, ((int) l10) - 60056, 0L);
+   l41 = Words.get64(b, State.far((int) (l9 = (l53 & 0xffffffffL) << 3L), 89472));
+   l39 = Words.get64(b, State.far((int) l9, 89216));
    l54 = 0;
    l9 = 0L;
    l53 = 0;
-   L60: while (true) {
-    Words.put64(b, ((int) l10) - 60248, l11 = l39);
-    Words.put64(b, ((int) l10) - 60256, l0 = l38);
-    b[((int) l10) - 60257] = (byte) l53;
-    b[((int) l10) - 60258] = (byte) (l4 = l54);
-    Words.put32(b, ((int) l10) - 60264, (int) l9);
-    Words.put16(b, ((int) l10) - 60260, (short) (l9 >>> 32L));
-    Core4.f130(m, l10 + 352L, b[((int) (l9 = l37 + (l6 << 1L))) - 60720] & 0xff, b[((int) (l9 + 1L)) - 60720] & 0xff, l10 + 456L);
-    if ((b[((int) l10) - 60368] & 0xff) != 1) { exit = 3; break PART; }
-    l39 = Words.get64(b, ((int) l10) - 60344);
-    l38 = Words.get64(b, ((int) l10) - 60352);
-    l53 = b[((int) l10) - 60353] & 0xff;
-    l54 = b[((int) l10) - 60354] & 0xff;
-    L61: {
-     L62: {
-      L63: {
-       switch ((int) (b[((int) l9) - 60720] & 0xffL)) {
-       case 1: break L62;
-       case 2: case 3: break L61;
-       default: break L63;
+   L64: while (true) {
+    Words.put64(b, ((int) l10) - 59888, l11 = l40);
+    Words.put64(b, ((int) l10) - 59896, l0 = l38);
+    b[((int) l10) - 59897] = (byte) l53;
+    b[((int) l10) - 59898] = (byte) (l4 = l54);
+    Words.put32(b, ((int) l10) - 59904, (int) l9);
+    Words.put16(b, ((int) l10) - 59900, (short) (l9 >>> 32L));
+    Core4.f139(m, l10 + 368L, b[((int) (l9 = l41 + (l6 << 1L))) - 60448] & 0xff, b[((int) (l9 + 1L)) - 60448] & 0xff, l10 + 544L);
+    if ((b[((int) l10) - 60080] & 0xff) != 1) { exit = 4; break PART; }
+    l40 = Words.get64(b, ((int) l10) - 60056);
+    l38 = Words.get64(b, ((int) l10) - 60064);
+    l53 = b[((int) l10) - 60065] & 0xff;
+    l54 = b[((int) l10) - 60066] & 0xff;
+    L65: {
+     L66: {
+      L67: {
+       switch ((int) (b[((int) l9) - 60448] & 0xffL)) {
+       case 1: break L66;
+       case 2: case 3: break L65;
+       default: break L67;
        }
       }
-      L64: {
-       if ((b[((int) (l9 + 1L)) - 60720] & 0xff) != 9) { break L64; }
-       Core2.f53(m, l10 + 152L, l0, l11 - l39);
-       break L61;
+      L68: {
+       if ((b[((int) (l9 + 1L)) - 60448] & 0xff) != 9) { break L68; }
+       Core2.f53(m, l10 + 152L, l0, l11 - l40);
+       break L65;
       }
-      Words.put64(b, ((int) l10) - 60072, 0L);
-      Words.put64(b, ((int) l10) - 60080, 0L);
-      Words.put64(b, ((int) l10) - 60088, 0L);
-      Words.put64(b, ((int) l10) - 60096, 0L);
-      Core4.f121(m, l10 + 80L, l4 & 1, l0, l11);
-      l9 = Words.get64(b, ((int) l10) - 60640);
-      Core2.f53(m, l10 + 152L, l0, l11 - (l41 = Words.get64(b, ((int) l10) - 60632)));
-      Core4.f120(m, l10 + 624L, l9, l41);
-      l9 = l41 = Words.get64(b, ((int) l10) - 60096);
-      l0 = l34 = Words.get64(b, ((int) l10) - 60088);
-      L65: {
-       L66: while (true) {
-        if (l0 == 0L) { break L65; }
-        l4 = (l3 = (int) b[((int) l9) - 60720]) & 255;
+      Words.put64(b, ((int) l10) - 59672, 0L);
+      Words.put64(b, ((int) l10) - 59680, 0L);
+      Words.put64(b, ((int) l10) - 59688, 0L);
+      Words.put64(b, ((int) l10) - 59696, 0L);
+      Core4.f123(m, l10 + 72L, l4 & 1, l0, l11);
+      l9 = Words.get64(b, ((int) l10) - 60376);
+      Core2.f53(m, l10 + 152L, l0, l11 - (l42 = Words.get64(b, ((int) l10) - 60368)));
+      Core4.f122(m, l10 + 752L, l9, l42);
+      l9 = l42 = Words.get64(b, ((int) l10) - 59696);
+      l0 = l35 = Words.get64(b, ((int) l10) - 59688);
+      L69: {
+       L70: while (true) {
+        if (l0 == 0L) { break L69; }
+        l4 = (l3 = (int) b[((int) l9) - 60448]) & 255;
         l11 = 1L;
-        L67: {
-         if (l3 > -1) { break L67; }
-         l55 = (b[((int) l9) - 60719] & 0xff) & 63;
-         L68: {
-          if (l3 + Integer.MIN_VALUE > 2147483615) { break L68; }
+        L71: {
+         if (l3 > -1) { break L71; }
+         l55 = (b[((int) l9) - 60447] & 0xff) & 63;
+         L72: {
+          if (l3 + Integer.MIN_VALUE > 2147483615) { break L72; }
           l4 = ((l4 << 6) & 1984) | l55;
           l11 = 2L;
-          break L67;
+          break L71;
          }
-         l56 = (b[((int) l9) - 60718] & 0xff) & 63;
-         L69: {
-          if (l3 + Integer.MIN_VALUE > 2147483631) { break L69; }
+         l56 = (b[((int) l9) - 60446] & 0xff) & 63;
+         L73: {
+          if (l3 + Integer.MIN_VALUE > 2147483631) { break L73; }
           l4 = ((l55 << 6) | ((l4 << 12) & 61440)) | l56;
           l11 = 3L;
-          break L67;
+          break L71;
          }
-         l4 = ((l56 << 6) | ((l55 << 12) | ((l4 << 18) & 1835008))) | ((b[((int) l9) - 60717] & 0xff) & 63);
+         l4 = ((l56 << 6) | ((l55 << 12) | ((l4 << 18) & 1835008))) | ((b[((int) l9) - 60445] & 0xff) & 63);
          l11 = 4L;
         }
-        L70: {
-         if ((l4 + -48) + Integer.MIN_VALUE < -2147483638) { break L70; }
+        L74: {
+         if ((l4 + -48) + Integer.MIN_VALUE < -2147483638) { break L74; }
          l0 = l0 - l11;
          l9 = l9 + l11;
-         if ((l4 + -65296) + Integer.MIN_VALUE > -2147483639) { continue L66; }
+         if ((l4 + -65296) + Integer.MIN_VALUE > -2147483639) { continue L70; }
         }
-        break L66;
+        break L70;
        }
-       Core2.f53(m, l10 + 152L, l41, l34);
-       break L61;
+       Core2.f53(m, l10 + 152L, l42, l35);
+       break L65;
       }
-      L71: {
-       if ((Core6.f198(m, 1, l41, l34) & 1) != 0) { break L71; }
-       Core2.f53(m, l10 + 152L, l41, l34);
-       break L61;
+      L75: {
+       if ((Core6.f207(m, 1, l42, l35) & 1) != 0) { break L75; }
+       Core2.f53(m, l10 + 152L, l42, l35);
+       break L65;
       }
-      final int t72 = Core6.f210(m, l10 + 152L, 1, l41, l34);
-      break L61;
+      final int t76 = Core6.f220(m, l10 + 152L, 1, l42, l35);
+      break L65;
      }
-     Core2.f53(m, l10 + 152L, l0, l11 - l39);
+     Core2.f53(m, l10 + 152L, l0, l11 - l40);
     }
-    l9 = (Words.get32(b, ((int) l10) - 60360) & 0xffffffffL) | ((Words.get16(b, ((int) (l10 + 364L)) - 60720) & 0xffffL) << 32L);
-    if ((l6 = l6 + 1L) != l40) { continue L60; }
-    exit = 3; break PART;
+    l9 = (Words.get32(b, ((int) l10) - 60072) & 0xffffffffL) | ((Words.get16(b, ((int) (l10 + 380L)) - 60448) & 0xffffL) << 32L);
+    if ((l6 = l6 + 1L) != l39) { continue L64; }
+    exit = 4; break PART;
    }
   }
  }
@@ -4614,12 +6402,12 @@ static int f277_2(State m, long l0, int l3, int l4, int l5, long l6, long l9, lo
  m.kept[3] = l6;
  m.kept[4] = l9;
  m.kept[5] = l11;
- m.kept[6] = l34;
- m.kept[7] = l37;
- m.kept[8] = l38;
- m.kept[9] = l39;
- m.kept[10] = l40;
- m.kept[11] = l41;
+ m.kept[6] = l35;
+ m.kept[7] = l38;
+ m.kept[8] = l39;
+ m.kept[9] = l40;
+ m.kept[10] = l41;
+ m.kept[11] = l42;
  m.kept[12] = l53;
  m.kept[13] = l54;
  m.kept[14] = l55;
@@ -4627,7 +6415,184 @@ static int f277_2(State m, long l0, int l3, int l4, int l5, long l6, long l9, lo
  return exit;
 }
 
-static int f277(State m, long l0, long l1, int l2, int l3, int l4, int l5, long l6, long l7, long l8) {
+static int f288_3(State m, long l0, int l3, int l4, long l6, long l10, long l37, long l38, long l40, long l41, long l42, int l46, int l53, int l54) {
+ final byte[] b = m.bytes;
+ int exit = 0;
+ PART: {
+  L81: {
+   L82: while (true) {
+    if (l37 == 0L) { break L81; }
+    l4 = (l3 = (int) b[((int) l42) - 60448]) & 255;
+    l0 = 1L;
+    L83: {
+     if (l3 > -1) { break L83; }
+     l54 = (b[((int) l42) - 60447] & 0xff) & 63;
+     L84: {
+      if (l3 + Integer.MIN_VALUE > 2147483615) { break L84; }
+      l4 = ((l4 << 6) & 1984) | l54;
+      l0 = 2L;
+      break L83;
+     }
+     l53 = (b[((int) l42) - 60446] & 0xff) & 63;
+     L85: {
+      if (l3 + Integer.MIN_VALUE > 2147483631) { break L85; }
+      l4 = ((l54 << 6) | ((l4 << 12) & 61440)) | l53;
+      l0 = 3L;
+      break L83;
+     }
+     l4 = ((l53 << 6) | ((l54 << 12) | ((l4 << 18) & 1835008))) | ((b[((int) l42) - 60445] & 0xff) & 63);
+     l0 = 4L;
+    }
+    L86: {
+     if ((l4 + -48) + Integer.MIN_VALUE < -2147483638) { break L86; }
+     l37 = l37 - l0;
+     l42 = l42 + l0;
+     if ((l4 + -65296) + Integer.MIN_VALUE > -2147483639) { continue L82; }
+    }
+    break L82;
+   }
+   if (l46 == 0) { exit = 1; break PART; }
+   l0 = l41;
+   l40 = l38;
+   L87: while (true) {
+    if (l40 == 0L) { exit = 1; break PART; }
+    l4 = (l3 = (int) b[((int) l0) - 60448]) & 255;
+    l6 = 1L;
+    L88: {
+     if (l3 > -1) { break L88; }
+     l54 = (b[((int) l0) - 60447] & 0xff) & 63;
+     L89: {
+      if (l3 + Integer.MIN_VALUE > 2147483615) { break L89; }
+      l4 = ((l4 << 6) & 1984) | l54;
+      l6 = 2L;
+      break L88;
+     }
+     l53 = (b[((int) l0) - 60446] & 0xff) & 63;
+     L90: {
+      if (l3 + Integer.MIN_VALUE > 2147483631) { break L90; }
+      l4 = ((l54 << 6) | ((l4 << 12) & 61440)) | l53;
+      l6 = 3L;
+      break L88;
+     }
+     l4 = ((l53 << 6) | ((l54 << 12) | ((l4 << 18) & 1835008))) | ((b[((int) l0) - 60445] & 0xff) & 63);
+     l6 = 4L;
+    }
+    Core2.f61(m, l10 + 128L, l4);
+    l40 = l40 - l6;
+    l0 = l0 + l6;
+    if ((b[((int) l10) - 60320] & 0xff) != 1) { continue L87; }
+    if (((b[((int) l10) - 60319] & 0xff) & 255) + Integer.MIN_VALUE <= -2147483647) { continue L87; }
+    break L87;
+   }
+  }
+ }
+ m.kept[0] = l0;
+ m.kept[1] = l3;
+ m.kept[2] = l4;
+ m.kept[3] = l6;
+ m.kept[4] = l37;
+ m.kept[5] = l40;
+ m.kept[6] = l42;
+ m.kept[7] = l53;
+ m.kept[8] = l54;
+ return exit;
+}
+
+static int f288_4(State m, long l0, int l3, int l4, long l6, long l9, long l10, long l11, long l40, int l53, int l54) {
+ final byte[] b = m.bytes;
+ int exit = 0;
+ PART: {
+  L100: while (true) {
+   l4 = (l3 = (int) b[((int) l9) - 60448]) & 255;
+   l0 = 1L;
+   L101: {
+    if (l3 > -1) { break L101; }
+    l54 = (b[((int) l9) - 60447] & 0xff) & 63;
+    L102: {
+     if (l3 + Integer.MIN_VALUE > 2147483615) { break L102; }
+     l4 = ((l4 << 6) & 1984) | l54;
+     l0 = 2L;
+     break L101;
+    }
+    l53 = (b[((int) l9) - 60446] & 0xff) & 63;
+    L103: {
+     if (l3 + Integer.MIN_VALUE > 2147483631) { break L103; }
+     l4 = ((l54 << 6) | ((l4 << 12) & 61440)) | l53;
+     l0 = 3L;
+     break L101;
+    }
+    l4 = ((l53 << 6) | ((l54 << 12) | ((l4 << 18) & 1835008))) | ((b[((int) l9) - 60445] & 0xff) & 63);
+    l0 = 4L;
+   }
+   l11 = l11 - l0;
+   L104: {
+    L105: {
+     L106: {
+      L107: {
+       L108: {
+        L109: {
+         L110: {
+          if (l4 > 20107) { break L110; }
+          if ((l3 = l4 + -19968) + Integer.MIN_VALUE <= -2147483612) { break L109; }
+          break L107;
+         }
+         L111: {
+          if (l4 > 22234) { break L111; }
+          if ((l3 = l4 + -20841) + Integer.MIN_VALUE > -2147483644) { break L108; }
+          if (((1 << l3) & 21) == 0) { break L108; }
+          break L106;
+         }
+         if (l4 == 38646) { break L106; }
+         if (l4 != 22235) { break L105; }
+         break L106;
+        }
+        if (((1L << (l3 & 0xffffffffL)) & 68719477257L) == 0L) { break L107; }
+        break L106;
+       }
+       switch (l4 + -20108) {
+       case 0: case 8: break L106;
+       default: break L105;
+       }
+      }
+      if (l4 == 12295) { break L106; }
+      if (l4 != 20061) { break L105; }
+     }
+     Core2.f63(m, l10 + 104L, l4);
+     if (((l4 = b[((int) l10) - 60343] & 0xff) & 255) == 0) { break L105; }
+     if (((b[((int) l10) - 60344] & 0xff) & 1) == 0) { break L105; }
+     L112: {
+      L113: {
+       if ((l4 & 255) + Integer.MIN_VALUE <= -2147483639) { break L113; }
+       l6 = 83372L;
+       l40 = 0L;
+       break L112;
+      }
+      l6 = Words.get64(b, ((int) ((((l4 & 0xffffffffL) & 255L) << 3L) + 89720L)) - 60448);
+      l40 = 1L;
+     }
+     Core2.f53(m, l10 + 152L, l6, l40);
+     break L104;
+    }
+    Core2.f53(m, l10 + 152L, l9, l0);
+   }
+   l9 = l9 + l0;
+   if (!(l11 == 0L)) { continue L100; }
+   break L100;
+  }
+ }
+ m.kept[0] = l0;
+ m.kept[1] = l3;
+ m.kept[2] = l4;
+ m.kept[3] = l6;
+ m.kept[4] = l9;
+ m.kept[5] = l11;
+ m.kept[6] = l40;
+ m.kept[7] = l53;
+ m.kept[8] = l54;
+ return exit;
+}
+
+static int f288(State m, long l0, long l1, int l2, int l3, int l4, int l5, long l6, long l7, long l8) {
  final byte[] b = m.bytes;
  long l9 = 0;
  long l10 = 0;
@@ -4662,7 +6627,7 @@ static int f277(State m, long l0, long l1, int l2, int l3, int l4, int l5, long 
  long l39 = 0;
  long l40 = 0;
  long l41 = 0;
- int l42 = 0;
+ long l42 = 0;
  int l43 = 0;
  int l44 = 0;
  int l45 = 0;
@@ -4677,23 +6642,23 @@ static int f277(State m, long l0, long l1, int l2, int l3, int l4, int l5, long 
  int l54 = 0;
  int l55 = 0;
  int l56 = 0;
- m.g0 = l9 = m.g0 - 752L;
+ m.g0 = l9 = m.g0 - 880L;
  L1: {
   if ((l10 = l9) < 16L) { break L1; }
-  Words.put64(b, ((int) l8) - 60720, 0L);
-  l42 = 8;
+  Words.put64(b, ((int) l8) - 60448, 0L);
+  l43 = 8;
   L2: {
    if (l2 + Integer.MIN_VALUE > -2147483647) { break L2; }
    if (l3 + Integer.MIN_VALUE > -2147483633) { break L2; }
    L3: {
     L4: {
      if (l4 + Integer.MIN_VALUE < -2147483643) { break L4; }
-     l43 = l4 = (l4 == 5) ? 1 : 0;
+     l44 = l4 = (l4 == 5) ? 1 : 0;
      break L3;
     }
-    final int t5 = b[((int) ((l9 = (l4 & 0xffffffffL) << 1L) + 85585L)) - 60720] & 0xff;
+    final int t5 = b[((int) ((l9 = (l4 & 0xffffffffL) << 1L) + 86485L)) - 60448] & 0xff;
     final int t6 = l4 = (((1L << l9) & 340L) != 0L) ? 1 : 0;
-    l43 = t6 != 0 ? t5 : 0;
+    l44 = t6 != 0 ? t5 : 0;
    }
    if ((l5 & -253) != 0) { break L2; }
    if (l4 == 0) { break L2; }
@@ -4706,7 +6671,7 @@ static int f277(State m, long l0, long l1, int l2, int l3, int l4, int l5, long 
       l9 = l12;
       l11 = l1;
       L10: while (true) {
-       if (((Words.get32(b, ((int) l9) - 60720) + 16776990) & 12632312) != 8421376) { break L8; }
+       if (((Words.get32(b, ((int) l9) - 60448) + 16776990) & 12632312) != 8421376) { break L8; }
        l9 = l9 + 3L;
        if ((l11 = l11 + -3L) + Long.MIN_VALUE > -9223372036854775805L) { continue L10; }
        break L10;
@@ -4720,442 +6685,437 @@ static int f277(State m, long l0, long l1, int l2, int l3, int l4, int l5, long 
       default: break L7;
       }
      }
-     if (((((Words.get16(b, ((int) l9) - 60720) & 0xffff) | ((b[((int) (l9 + 2L)) - 60720] & 0xff) << 16)) + 16776990) & 12632312) == 8421376) { break L7; }
+     if (((((Words.get16(b, ((int) l9) - 60448) & 0xffff) | ((b[((int) (l9 + 2L)) - 60448] & 0xff) << 16)) + 16776990) & 12632312) == 8421376) { break L7; }
     }
-    l42 = 5;
+    l43 = 5;
     if (Core1.f6(m, l12, l1) == 0) { break L2; }
    }
-   l44 = (l3 + Integer.MIN_VALUE < -2147483632) ? l3 : 0;
-   l47 = ((l42 = (l5 << 12) & 65536) | (l45 = (l5 << 19) & 16777216)) | (l46 = ((l5 << 5) & 256) | ((l5 >>> 2) & 1));
-   l48 = (l4 = l5 & 255) >>> 7;
-   l50 = (l49 = l4 >>> 6) & 1;
-   Words.put64(b, ((int) l10) - 60552, 0L);
-   Words.put64(b, ((int) l10) - 60560, l7);
-   Words.put64(b, ((int) l10) - 60568, l6 + ((l6 == 0L) ? 4096L : 0L));
-   l51 = l45 >>> 24;
-   l52 = l42 >>> 16;
-   l13 = l10 + 385L;
-   l14 = (l10 + 624L) | 2L;
-   l15 = (l10 + 296L) | 2L;
-   l16 = l10 + 440L;
-   l17 = l10 + 404L;
-   l18 = l10 + 384L;
-   l19 = (l10 + 352L) | 2L;
-   l20 = (l10 + 624L) + 16L;
-   l21 = (l10 + 504L) + 104L;
-   l22 = (l10 + 504L) + 68L;
-   l23 = (l10 + 504L) + 48L;
-   l24 = (l10 + 504L) + 18L;
-   l25 = (l10 + 624L) + 104L;
-   l26 = (l10 + 624L) + 68L;
-   l27 = (l10 + 624L) + 48L;
-   l28 = (l10 + 624L) + 18L;
-   l29 = (l10 + 504L) + 16L;
+   l45 = (l3 + Integer.MIN_VALUE < -2147483632) ? l3 : 0;
+   l48 = ((l43 = (l5 << 12) & 65536) | (l46 = (l5 << 19) & 16777216)) | (l47 = ((l5 << 5) & 256) | ((l5 >>> 2) & 1));
+   l49 = (l5 & 128) >>> 7;
+   l50 = (l5 >>> 6) & 1;
+   Words.put64(b, ((int) l10) - 60280, 0L);
+   Words.put64(b, ((int) l10) - 60288, l7);
+   Words.put64(b, ((int) l10) - 60296, l6 + ((l6 == 0L) ? 4096L : 0L));
+   l51 = l46 >>> 24;
+   l52 = l43 >>> 16;
+   l13 = l10 + 401L;
+   l14 = (l10 + 752L) | 2L;
+   l15 = (l10 + 336L) | 2L;
+   l16 = l10 + 784L;
+   l17 = (l10 + 480L) + 16L;
+   l18 = (l10 + 752L) + 90L;
+   l19 = (l10 + 752L) + 56L;
+   l20 = (l10 + 752L) + 16L;
+   l21 = (l10 + 368L) + 90L;
+   l22 = (l10 + 368L) + 56L;
+   l23 = (l10 + 368L) | 2L;
+   l24 = (l10 + 624L) + 106L;
+   l25 = (l10 + 624L) + 72L;
+   l26 = (l10 + 624L) + 18L;
+   l27 = (l10 + 752L) + 106L;
+   l28 = (l10 + 752L) + 72L;
+   l29 = (l10 + 752L) + 18L;
+   l30 = (l10 + 624L) + 16L;
    l53 = 0;
-   l30 = 0L;
-   l42 = 0;
-   l31 = l12;
-   l32 = l1;
+   l31 = 0L;
+   l43 = 0;
+   l32 = l12;
+   l33 = l1;
    L12: while (true) {
-    Words.put64(b, ((int) l10) - 60048, 0L);
-    Words.put64(b, ((int) l10) - 60056, 0L);
-    Words.put64(b, ((int) l10) - 60064, 0L);
-    Words.put64(b, ((int) l10) - 60072, 0L);
-    Words.put64(b, ((int) l10) - 60080, 0L);
-    Words.put64(b, ((int) l10) - 60088, 0L);
-    Words.put64(b, ((int) l10) - 60096, 0L);
-    Core3.f111(m, l10 + 624L, l12, l1, l31, l32, l2, l44);
-    final int x30 = f277_1(m, l0, l1, l2, l3, l4, l6, l7, l8, l9, l10, l11, l12, l20, l29, l30, l31, l32, l33, l34, l35, l36, l37, l38, l39, l40, l41, l42, l43, l44, l47, l48, l50, l53, l54);
+    Words.put64(b, ((int) l10) - 59648, 0L);
+    Words.put64(b, ((int) l10) - 59656, 0L);
+    Words.put64(b, ((int) l10) - 59664, 0L);
+    Words.put64(b, ((int) l10) - 59672, 0L);
+    Words.put64(b, ((int) l10) - 59680, 0L);
+    Words.put64(b, ((int) l10) - 59688, 0L);
+    Words.put64(b, ((int) l10) - 59696, 0L);
+    Core3.f111(m, l10 + 752L, l12, l1, l32, l33, l2, l45);
+    final int x30 = f288_1(m, l0, l1, l2, l3, l4, l6, l7, l8, l9, l10, l11, l12, l20, l30, l31, l32, l33, l34, l35, l36, l37, l38, l39, l40, l41, l42, l43, l44, l45, l48, l49, l50, l53, l54);
     l0 = m.kept[0];
     l3 = (int) m.kept[1];
     l4 = (int) m.kept[2];
     l6 = m.kept[3];
     l9 = m.kept[4];
     l11 = m.kept[5];
-    l31 = m.kept[6];
-    l32 = m.kept[7];
-    l33 = m.kept[8];
-    l34 = m.kept[9];
-    l35 = m.kept[10];
-    l36 = m.kept[11];
-    l37 = m.kept[12];
-    l38 = m.kept[13];
-    l39 = m.kept[14];
-    l40 = m.kept[15];
-    l41 = m.kept[16];
-    l42 = (int) m.kept[17];
+    l32 = m.kept[6];
+    l33 = m.kept[7];
+    l34 = m.kept[8];
+    l35 = m.kept[9];
+    l36 = m.kept[10];
+    l37 = m.kept[11];
+    l38 = m.kept[12];
+    l39 = m.kept[13];
+    l40 = m.kept[14];
+    l41 = m.kept[15];
+    l42 = m.kept[16];
+    l43 = (int) m.kept[17];
     l54 = (int) m.kept[18];
     switch (x30) {
     case 1: break L2;
     }
-    Core2.f53(m, l10 + 152L, l36 + (l9 = ((l53 & 1) != 0) ? l30 : 0L), l35 - l9);
+    Core2.f53(m, l10 + 152L, l37 + (l9 = ((l53 & 1) != 0) ? l31 : 0L), l36 - l9);
     L31: {
      L32: {
-      if ((l42 & 1) == 0) { break L32; }
-      Core2.f53(m, l10 + 152L, l34, l33);
+      if ((l43 & 1) == 0) { break L32; }
+      Core2.f53(m, l10 + 152L, l35, l34);
       break L31;
      }
-     b[((int) l10) - 60425] = (byte) l48;
-     b[((int) l10) - 60426] = (byte) l50;
-     Words.put32(b, ((int) l10) - 60430, l47);
-     b[((int) l10) - 60431] = (byte) l43;
-     b[((int) l10) - 60432] = (byte) l44;
-     b[((int) l10) - 60433] = (byte) l2;
-     m.fill((int) (l10 + 624L), 0, (int) 120L);
-     Core3.f112(m, l10 + 624L, l12, l1, l37 = l12 + l35, l40 = l1 - l35, l2, l44);
-     Words.put32(b, ((int) l10) - 60440, Words.get32(b, ((int) l28) - 60720));
-     Words.put16(b, ((int) l10) - 60436, (short) (Words.get16(b, ((int) l28) - 60716) & 0xffff));
-     Words.put64(b, ((int) l10) - 60456, Words.get64(b, ((int) l27) - 60720));
-     Words.put64(b, ((int) l10) - 60448, Words.get64(b, ((int) l27) - 60712));
-     Words.put32(b, ((int) l10) - 60464, Words.get32(b, ((int) l26) - 60704));
-     Words.put64(b, ((int) l10) - 60472, Words.get64(b, ((int) l26) - 60712));
-     Words.put64(b, ((int) l10) - 60480, Words.get64(b, ((int) l26) - 60720));
-     l55 = Words.get32(b, ((int) l10) - 60032);
-     l39 = Words.get64(b, ((int) l10) - 60072);
-     l9 = Words.get64(b, ((int) l10) - 60064);
-     l11 = Words.get64(b, ((int) l10) - 60056);
-     l4 = b[((int) l10) - 60096] & 0xff;
-     l54 = b[((int) l10) - 60080] & 0xff;
-     l53 = b[((int) l10) - 60079] & 0xff;
-     l3 = b[((int) l10) - 60088] & 0xff;
-     Words.put64(b, ((int) l10) - 60496, Words.get64(b, ((int) l25) - 60720));
-     Words.put64(b, ((int) l10) - 60488, Words.get64(b, ((int) l25) - 60712));
-     l0 = Words.get64(b, ((int) l10) - 60008);
-     l6 = Words.get64(b, ((int) l10) - 60000);
-     Words.put32(b, ((int) l24) - 60720, Words.get32(b, ((int) l10) - 60440));
-     Words.put16(b, ((int) l24) - 60716, (short) (Words.get16(b, ((int) l10) - 60436) & 0xffff));
-     Words.put64(b, ((int) l10) - 60544, l36);
-     Words.put64(b, ((int) l10) - 60536, l35);
-     Words.put64(b, ((int) l10) - 60528, l34);
-     Words.put64(b, ((int) l10) - 60520, l33);
-     Words.put64(b, ((int) l10) - 60512, l31);
-     Words.put64(b, ((int) l10) - 60504, l32);
-     Words.put64(b, ((int) l10) - 60208, l3 & 0xffffffffL);
-     b[((int) l10) - 60199] = (byte) l53;
-     b[((int) l10) - 60200] = (byte) l54;
-     Words.put64(b, ((int) l10) - 60216, (l4 & 0xffffffffL) & 255L);
-     Words.put64(b, ((int) l10) - 60176, l11);
-     Words.put64(b, ((int) l10) - 60184, l9);
-     Words.put64(b, ((int) l10) - 60192, l39);
-     Words.put64(b, ((int) l23) - 60720, Words.get64(b, ((int) l10) - 60456));
-     Words.put64(b, ((int) l23) - 60712, Words.get64(b, ((int) l10) - 60448));
-     Words.put32(b, ((int) l10) - 60152, l55);
-     Words.put32(b, ((int) l22) - 60704, Words.get32(b, ((int) l10) - 60464));
-     Words.put64(b, ((int) l22) - 60712, Words.get64(b, ((int) l10) - 60472));
-     Words.put64(b, ((int) l22) - 60720, Words.get64(b, ((int) l10) - 60480));
-     Words.put64(b, ((int) l10) - 60120, l6);
-     Words.put64(b, ((int) l10) - 60128, l0);
-     Words.put64(b, ((int) l21) - 60712, Words.get64(b, ((int) l10) - 60488));
-     Words.put64(b, ((int) l21) - 60720, Words.get64(b, ((int) l10) - 60496));
+     b[((int) l10) - 60169] = (byte) l49;
+     b[((int) l10) - 60170] = (byte) l50;
+     Words.put32(b, ((int) l10) - 60174, l48);
+     b[((int) l10) - 60175] = (byte) l44;
+     b[((int) l10) - 60176] = (byte) l45;
+     b[((int) l10) - 60177] = (byte) l2;
+     m.fill((int) (l10 + 752L), 0, (int) 128L);
+     Core3.f112(m, l10 + 752L, l12, l1, l42 = l12 + l36, l31 = l1 - l36, l2, l45);
+     Words.put32(b, ((int) l10) - 60184, Words.get32(b, ((int) l29) - 60448));
+     Words.put16(b, ((int) l10) - 60180, (short) (Words.get16(b, ((int) l29) - 60444) & 0xffff));
+     Words.put64(b, ((int) l10) - 60200, Words.get64(b, ((int) l28) - 60448));
+     Words.put64(b, ((int) l10) - 60192, Words.get64(b, ((int) l28) - 60440));
+     l40 = Words.get64(b, ((int) l10) - 59672);
+     l0 = Words.get64(b, ((int) l10) - 59664);
+     l6 = Words.get64(b, ((int) l10) - 59656);
+     l39 = Words.get64(b, ((int) l10) - 59648);
+     l41 = Words.get64(b, ((int) l10) - 59640);
+     l38 = Words.get64(b, ((int) l10) - 59632);
+     l4 = b[((int) l10) - 59696] & 0xff;
+     l3 = b[((int) l10) - 59688] & 0xff;
+     l53 = b[((int) l10) - 59679] & 0xff;
+     l54 = b[((int) l10) - 59680] & 0xff;
+     Words.put64(b, ((int) l10) - 60224, Words.get64(b, ((int) l27) - 60448));
+     Words.put64(b, ((int) l10) - 60216, Words.get64(b, ((int) l27) - 60440));
+     Words.put64(b, ((int) l10) - 60210, Words.get64(b, ((int) l27) - 60434));
+     Words.put64(b, ((int) l10) - 60272, l37);
+     Words.put64(b, ((int) l10) - 60264, l36);
+     Words.put64(b, ((int) l10) - 60256, l35);
+     Words.put64(b, ((int) l10) - 60248, l34);
+     Words.put64(b, ((int) l10) - 60240, l32);
+     Words.put64(b, ((int) l10) - 60232, l33);
+     b[((int) l10) - 59808] = (byte) l54;
+     b[((int) l10) - 59807] = (byte) l53;
+     Words.put64(b, ((int) l10) - 59816, l3 & 0xffffffffL);
+     Words.put64(b, ((int) l10) - 59824, (l4 & 0xffffffffL) & 255L);
+     l9 = Words.get64(b, ((int) l10) - 59608);
+     l11 = Words.get64(b, ((int) l10) - 59600);
+     l55 = b[((int) l10) - 59592] & 0xff;
+     l56 = b[((int) l10) - 59591] & 0xff;
+     Words.put32(b, ((int) l26) - 60448, Words.get32(b, ((int) l10) - 60184));
+     Words.put16(b, ((int) l26) - 60444, (short) (Words.get16(b, ((int) l10) - 60180) & 0xffff));
+     Words.put64(b, ((int) l10) - 59760, l38);
+     Words.put64(b, ((int) l10) - 59768, l41);
+     Words.put64(b, ((int) l10) - 59776, l39);
+     Words.put64(b, ((int) l10) - 59784, l6);
+     Words.put64(b, ((int) l10) - 59792, l0);
+     Words.put64(b, ((int) l10) - 59800, l40);
+     Words.put64(b, ((int) l25) - 60440, Words.get64(b, ((int) l10) - 60192));
+     Words.put64(b, ((int) l25) - 60448, Words.get64(b, ((int) l10) - 60200));
+     b[((int) l10) - 59719] = (byte) l56;
+     b[((int) l10) - 59720] = (byte) l55;
+     Words.put64(b, ((int) l10) - 59728, l11);
+     Words.put64(b, ((int) l10) - 59736, l9);
+     Words.put64(b, ((int) l24) - 60434, Words.get64(b, ((int) l10) - 60210));
+     Words.put64(b, ((int) l24) - 60440, Words.get64(b, ((int) l10) - 60216));
+     Words.put64(b, ((int) l24) - 60448, Words.get64(b, ((int) l10) - 60224));
      L33: {
-      if (Core6.f195(m, l10 + 287L, l12, l1, l10 + 176L, l10 + 504L) == 0) { break L33; }
-      if ((l4 & 255) == 0) { break L33; }
       L34: {
-       final int x73 = f277_2(m, l0, l3, l4, l5, l6, l9, l10, l11, l13, l14, l15, l34, l35, l36, l37, l38, l39, l40, l41, l46, l48, l50, l51, l52, l53, l54, l55, l56);
-       l0 = m.kept[0];
-       l3 = (int) m.kept[1];
-       l4 = (int) m.kept[2];
-       l6 = m.kept[3];
-       l9 = m.kept[4];
-       l11 = m.kept[5];
-       l34 = m.kept[6];
-       l37 = m.kept[7];
-       l38 = m.kept[8];
-       l39 = m.kept[9];
-       l40 = m.kept[10];
-       l41 = m.kept[11];
-       l53 = (int) m.kept[12];
-       l54 = (int) m.kept[13];
-       l55 = (int) m.kept[14];
-       l56 = (int) m.kept[15];
-       switch (x73) {
-       case 1: break L34;
-       case 2: break L33;
-       case 3: break L31;
-       }
-       m.fill((int) (l10 + 624L), 0, (int) 112L);
-       Core2.f72(m, l10 + 624L, l9, l11, l0, l6);
-       if ((b[((int) l10) - 60096] & 0xff) != 1) { break L33; }
-       L74: {
-        if (l52 != 0) { break L74; }
-        Words.put32(b, ((int) l19) - 60720, Words.get32(b, ((int) l10) - 60440));
-        Words.put16(b, ((int) l19) - 60716, (short) (Words.get16(b, ((int) l10) - 60436) & 0xffff));
-        Words.put64(b, ((int) l18) - 60720, Words.get64(b, ((int) l10) - 60456));
-        Words.put64(b, ((int) l18) - 60712, Words.get64(b, ((int) l10) - 60448));
-        Words.put64(b, ((int) l17) - 60720, Words.get64(b, ((int) l10) - 60480));
-        Words.put64(b, ((int) l17) - 60712, Words.get64(b, ((int) l10) - 60472));
-        Words.put32(b, ((int) l17) - 60704, Words.get32(b, ((int) l10) - 60464));
-        b[((int) l10) - 60367] = (byte) l53;
-        b[((int) l10) - 60368] = (byte) l54;
-        Words.put64(b, ((int) l10) - 60344, l11);
-        Words.put64(b, ((int) l10) - 60352, l9);
-        Words.put64(b, ((int) l10) - 60360, l39);
-        Words.put32(b, ((int) l10) - 60320, l55);
-        Words.put64(b, ((int) l16) - 60720, Words.get64(b, ((int) l10) - 60496));
-        Words.put64(b, ((int) l16) - 60712, Words.get64(b, ((int) l10) - 60488));
-        Words.put64(b, ((int) l10) - 60288, l6);
-        Words.put64(b, ((int) l10) - 60296, l0);
-        if (Core3.f116(m, l10 + 352L) != 0) { break L33; }
-       }
-       L75: {
-        if (Core6.f199(m, l9, l11, l0, l6) == 0) { break L75; }
-        if (Core6.f200(m, l51, l9, l11, l0, l6) == 0) { break L33; }
-       }
-       Core2.f73(m, l10 + 96L, l9, l11, l0, l6);
-       if ((Core6.f214(m, l10 + 152L, l51, l9, l11, Words.get64(b, ((int) l10) - 60624), Words.get64(b, ((int) l10) - 60616)) & 1) == 0) { break L33; }
-       Words.put32(b, ((int) l10) - 60368, 0);
-       L76: {
-        L77: {
-         if (l55 + Integer.MIN_VALUE > -2147483521) { break L77; }
-         b[((int) l10) - 60368] = (byte) l55;
-         l39 = 1L;
-         break L76;
-        }
-        L78: {
-         if (l55 + Integer.MIN_VALUE > -2147481601) { break L78; }
-         b[((int) l10) - 60367] = (byte) ((l55 & 63) | 128);
-         b[((int) l10) - 60368] = (byte) ((l55 >>> 6) | 192);
-         l39 = 2L;
-         break L76;
-        }
-        L79: {
-         if (l55 + Integer.MIN_VALUE > -2147418113) { break L79; }
-         b[((int) l10) - 60366] = (byte) ((l55 & 63) | 128);
-         b[((int) l10) - 60368] = (byte) ((l55 >>> 12) | 224);
-         b[((int) l10) - 60367] = (byte) (((l55 >>> 6) & 63) | 128);
-         l39 = 3L;
-         break L76;
-        }
-        b[((int) l10) - 60365] = (byte) ((l55 & 63) | 128);
-        b[((int) l10) - 60368] = (byte) ((l55 >>> 18) + -16);
-        b[((int) l10) - 60366] = (byte) (((l55 >>> 6) & 63) | 128);
-        b[((int) l10) - 60367] = (byte) (((l55 >>> 12) & 63) | 128);
-        l39 = 4L;
-       }
-       Core2.f53(m, l10 + 152L, l10 + 352L, l39);
-       l39 = 0L;
-       Words.put64(b, ((int) l10) - 60040, 0L);
-       Words.put64(b, ((int) l10) - 60048, 0L);
-       Words.put64(b, ((int) l10) - 60056, 0L);
-       Words.put64(b, ((int) l10) - 60064, 0L);
-       Words.put64(b, ((int) l10) - 60072, 0L);
-       Words.put64(b, ((int) l10) - 60080, 0L);
-       Words.put64(b, ((int) l10) - 60088, 0L);
-       Words.put64(b, ((int) l10) - 60096, 0L);
-       Core2.f75(m, l10 + 624L, l9, l11, 1);
-       l9 = 83372L;
-       L80: {
-        if ((b[((int) l10) - 60096] & 0xff) != 0) { break L80; }
-        if (((b[((int) l10) - 60048] & 0xff) & 255) != 2) { break L80; }
-        Words.put64(b, ((int) l10) - 60040, 0L);
-        Words.put64(b, ((int) l10) - 60048, 0L);
-        Words.put64(b, ((int) l10) - 60056, 0L);
-        Words.put64(b, ((int) l10) - 60064, 0L);
-        Words.put64(b, ((int) l10) - 60072, 0L);
-        Words.put64(b, ((int) l10) - 60080, 0L);
-        Words.put64(b, ((int) l10) - 60088, 0L);
-        Words.put64(b, ((int) l10) - 60096, 0L);
-        Core2.f75(m, l10 + 624L, l0, l6, 1);
-        l9 = ((l4 = ((((b[((int) l10) - 60096] & 0xff) & 255) != 0) | (((b[((int) l10) - 60048] & 0xff) & 255) != 2)) ? 1 : 0) != 0) ? 77254L : 83372L;
-        l39 = l4 & 0xffffffffL;
-       }
-       if ((Core6.f214(m, l10 + 152L, l51, l0, l6, l9, l39) & 1) == 0) { break L33; }
-       break L31;
-      }
-      b[((int) l10) - 60390] = (byte) l52;
-      Words.put16(b, ((int) l10) - 60392, (short) l46);
-      Words.put64(b, ((int) l10) - 60224, l32);
-      Words.put64(b, ((int) l10) - 60232, l31);
-      Words.put64(b, ((int) l10) - 60240, l33);
-      Words.put64(b, ((int) l10) - 60248, l34);
-      Words.put64(b, ((int) l10) - 60256, l35);
-      Words.put64(b, ((int) l10) - 60264, l36);
-      if (Core6.f174(m, l43, l10 + 328L, l10 + 456L) == 0) { break L33; }
-      L81: {
-       if (Core6.f175(m, l34, l33) != 0) { break L81; }
-       l4 = Core6.f176(m, l34, l33);
-       L82: {
-        if (l45 != 0) { break L82; }
-        if (l4 != 0) { break L33; }
-        l9 = l34;
-        l0 = l33;
-        L83: {
-         L84: while (true) {
-          if (l0 == 0L) { break L83; }
-          l4 = (l3 = (int) b[((int) l9) - 60720]) & 255;
-          l11 = 1L;
-          L85: {
-           if (l3 > -1) { break L85; }
-           l54 = (b[((int) l9) - 60719] & 0xff) & 63;
-           L86: {
-            if (l3 + Integer.MIN_VALUE > 2147483615) { break L86; }
-            l4 = ((l4 << 6) & 1984) | l54;
-            l11 = 2L;
-            break L85;
+       L35: {
+        if (Core6.f204(m, l10 + 271L, l12, l1, l10 + 176L, l10 + 624L) == 0) { break L35; }
+        Words.put32(b, ((int) l10) - 60120, 0);
+        Words.put32(b, ((int) l10) - 60117, 0);
+        Words.put64(b, ((int) l10) - 60168, 0L);
+        Words.put64(b, ((int) l10) - 60160, 0L);
+        Words.put64(b, ((int) l10) - 60152, 0L);
+        Words.put64(b, ((int) l10) - 60144, 0L);
+        Words.put64(b, ((int) l10) - 60136, 0L);
+        Words.put64(b, ((int) l10) - 60128, 0L);
+        if ((l4 & 255) == 0) { break L35; }
+        L36: {
+         L37: {
+          L38: {
+           final int x77 = f288_2(m, l0, l3, l4, l5, l6, l9, l10, l11, l13, l14, l15, l31, l35, l36, l37, l38, l39, l40, l41, l42, l47, l49, l50, l51, l52, l53, l54, l55, l56);
+           l0 = m.kept[0];
+           l3 = (int) m.kept[1];
+           l4 = (int) m.kept[2];
+           l6 = m.kept[3];
+           l9 = m.kept[4];
+           l11 = m.kept[5];
+           l35 = m.kept[6];
+           l38 = m.kept[7];
+           l39 = m.kept[8];
+           l40 = m.kept[9];
+           l41 = m.kept[10];
+           l42 = m.kept[11];
+           l53 = (int) m.kept[12];
+           l54 = (int) m.kept[13];
+           l55 = (int) m.kept[14];
+           l56 = (int) m.kept[15];
+           switch (x77) {
+           case 1: break L38;
+           case 2: break L37;
+           case 3: break L35;
+           case 4: break L31;
            }
-           l53 = (b[((int) l9) - 60718] & 0xff) & 63;
-           L87: {
-            if (l3 + Integer.MIN_VALUE > 2147483631) { break L87; }
-            l4 = ((l54 << 6) | ((l4 << 12) & 61440)) | l53;
-            l11 = 3L;
-            break L85;
+           L78: {
+            if ((l54 & 255) + Integer.MIN_VALUE > -2147483646) { break L78; }
+            Words.put64(b, ((int) l16) - 60448, Words.get64(b, ((int) l10) - 60200));
+            Words.put64(b, ((int) l16) - 60440, Words.get64(b, ((int) l10) - 60192));
+            b[((int) l10) - 59898] = (byte) l49;
+            b[((int) l10) - 59899] = (byte) l50;
+            b[((int) l10) - 59900] = (byte) l51;
+            b[((int) l10) - 59901] = (byte) l52;
+            Words.put16(b, ((int) l10) - 59903, (short) l47);
+            b[((int) l10) - 59904] = (byte) l44;
+            Words.put64(b, ((int) l10) - 59672, l38);
+            Words.put64(b, ((int) l10) - 59680, l41);
+            Words.put64(b, ((int) l10) - 59688, l39);
+            Words.put64(b, ((int) l10) - 59696, l6);
+            Core2.f53(m, l10 + 152L, l40, l0);
+            if ((Core6.f225(m, l10 + 544L, l10 + 752L, l10 + 152L) & 1) == 0) { break L35; }
+            Core2.f53(m, l10 + 152L, l9, l11);
+            break L31;
            }
-           l4 = ((l53 << 6) | ((l54 << 12) | ((l4 << 18) & 1835008))) | ((b[((int) l9) - 60717] & 0xff) & 63);
-           l11 = 4L;
+           L79: {
+            if (l52 != 0) { break L79; }
+            Words.put32(b, ((int) l23) - 60448, Words.get32(b, ((int) l10) - 60184));
+            Words.put16(b, ((int) l23) - 60444, (short) (Words.get16(b, ((int) l10) - 60180) & 0xffff));
+            Words.put64(b, ((int) l22) - 60448, Words.get64(b, ((int) l10) - 60200));
+            Words.put64(b, ((int) l22) - 60440, Words.get64(b, ((int) l10) - 60192));
+            b[((int) l10) - 60079] = (byte) l53;
+            b[((int) l10) - 60080] = (byte) l54;
+            Words.put64(b, ((int) l10) - 60032, l38);
+            Words.put64(b, ((int) l10) - 60040, l41);
+            Words.put64(b, ((int) l10) - 60048, l39);
+            Words.put64(b, ((int) l10) - 60056, l6);
+            Words.put64(b, ((int) l10) - 60064, l0);
+            Words.put64(b, ((int) l10) - 60072, l40);
+            b[((int) l10) - 59991] = (byte) l56;
+            b[((int) l10) - 59992] = (byte) l55;
+            Words.put64(b, ((int) l10) - 60000, l11);
+            Words.put64(b, ((int) l10) - 60008, l9);
+            Words.put64(b, ((int) l21) - 60434, Words.get64(b, ((int) l10) - 60210));
+            Words.put64(b, ((int) l21) - 60440, Words.get64(b, ((int) l10) - 60216));
+            Words.put64(b, ((int) l21) - 60448, Words.get64(b, ((int) l10) - 60224));
+            if (Core4.f116(m, l37, l36, l10 + 368L) != 0) { break L35; }
+           }
+           l42 = l41;
+           l37 = l38;
+           L80: {
+            if (((int) (byte) l5) >= 0) { break L80; }
+            l42 = l41;
+            l37 = l38;
+            if (((l55 | l56) & 255) == 0) { break L80; }
+            Words.put32(b, ((int) l14) - 60448, Words.get32(b, ((int) l10) - 60184));
+            Words.put16(b, ((int) l14) - 60444, (short) (Words.get16(b, ((int) l10) - 60180) & 0xffff));
+            Words.put64(b, ((int) l10) - 59968, 0L);
+            Words.put64(b, ((int) l10) - 59960, 0L);
+            Words.put64(b, ((int) l10) - 59952, 0L);
+            Words.put64(b, ((int) l10) - 59944, 0L);
+            Words.put64(b, ((int) l10) - 59936, 0L);
+            Words.put64(b, ((int) l10) - 59928, 0L);
+            Words.put64(b, ((int) l10) - 59920, 0L);
+            Words.put64(b, ((int) l10) - 59912, 0L);
+            b[((int) l10) - 59695] = (byte) l53;
+            b[((int) l10) - 59696] = (byte) l54;
+            Words.put64(b, ((int) l10) - 59648, l38);
+            Words.put64(b, ((int) l10) - 59656, l41);
+            Words.put64(b, ((int) l10) - 59664, l39);
+            Words.put64(b, ((int) l10) - 59672, l6);
+            Words.put64(b, ((int) l10) - 59680, l0);
+            Words.put64(b, ((int) l10) - 59688, l40);
+            Words.put64(b, ((int) l19) - 60440, Words.get64(b, ((int) l10) - 60192));
+            Words.put64(b, ((int) l19) - 60448, Words.get64(b, ((int) l10) - 60200));
+            Words.put64(b, ((int) l18) - 60448, Words.get64(b, ((int) l10) - 60224));
+            Words.put64(b, ((int) l18) - 60440, Words.get64(b, ((int) l10) - 60216));
+            Words.put64(b, ((int) l18) - 60434, Words.get64(b, ((int) l10) - 60210));
+            Words.put64(b, ((int) l10) - 59624, l9);
+            Words.put64(b, ((int) l10) - 59616, l11);
+            b[((int) l10) - 59607] = (byte) l56;
+            b[((int) l10) - 59608] = (byte) l55;
+            Core4.f117(m, l10 + 480L, l10 + 752L);
+            if ((l4 = b[((int) l10) - 59968] & 0xff) != 1) { break L36; }
+            m.fill((int) (l10 + 544L), 0, (int) 80L);
+            Core2.f52(m, l10 + 88L, l10 + 544L, l17);
+            Core2.f53(m, l10 + 152L, Words.get64(b, ((int) l10) - 60360), Words.get64(b, ((int) l10) - 60352));
+            Core2.f53(m, l10 + 152L, 86726L, 3L);
+            break L31;
+           }
+           final int x91 = f288_3(m, l0, l3, l4, l6, l10, l37, l38, l40, l41, l42, l46, l53, l54);
+           l0 = m.kept[0];
+           l3 = (int) m.kept[1];
+           l4 = (int) m.kept[2];
+           l6 = m.kept[3];
+           l37 = m.kept[4];
+           l40 = m.kept[5];
+           l42 = m.kept[6];
+           l53 = (int) m.kept[7];
+           l54 = (int) m.kept[8];
+           switch (x91) {
+           case 1: break L34;
+           }
+           L92: {
+            if (l46 == 0) { break L92; }
+            Words.put64(b, ((int) l10) - 59640, 0L);
+            Words.put64(b, ((int) l10) - 59648, 0L);
+            Words.put64(b, ((int) l10) - 59656, 0L);
+            Words.put64(b, ((int) l10) - 59664, 0L);
+            Words.put64(b, ((int) l10) - 59672, 0L);
+            Words.put64(b, ((int) l10) - 59680, 0L);
+            Words.put64(b, ((int) l10) - 59688, 0L);
+            Words.put64(b, ((int) l10) - 59696, 0L);
+            Core2.f75(m, l10 + 752L, l41, l38, 1);
+            Words.put64(b, ((int) l10) - 59904, Words.get64(b, ((int) l20) - 60448));
+            Words.put64(b, ((int) l10) - 59896, Words.get64(b, ((int) l20) - 60440));
+            Words.put64(b, ((int) l10) - 59888, Words.get64(b, ((int) l20) - 60432));
+            Words.put64(b, ((int) l10) - 59880, Words.get64(b, ((int) l20) - 60424));
+            Words.put64(b, ((int) l10) - 59872, Words.get64(b, ((int) l20) - 60416));
+            Words.put64(b, ((int) l10) - 59864, Words.get64(b, ((int) l20) - 60408));
+            if ((b[((int) l10) - 59696] & 0xff) != 0) { break L35; }
+            m.fill((int) (l10 + 752L), 0, (int) 80L);
+            Core2.f52(m, l10 + 112L, l10 + 752L, l10 + 544L);
+            Core2.f53(m, l10 + 152L, Words.get64(b, ((int) l10) - 60336), Words.get64(b, ((int) l10) - 60328));
+            break L33;
+           }
+           if ((Core6.f220(m, l10 + 152L, 1, l41, l38) & 1) == 0) { break L35; }
+           break L33;
           }
-          l0 = l0 - l11;
-          l9 = l9 + l11;
-          if (l4 != 21448) { continue L84; }
-          break L33;
+          m.fill((int) (l10 + 752L), 0, (int) 112L);
+          Core2.f72(m, l10 + 752L, l0, l6, l9, l11);
+          if ((b[((int) l10) - 59696] & 0xff) != 1) { break L35; }
+          L93: {
+           if (l52 != 0) { break L93; }
+           Words.put32(b, ((int) l23) - 60448, Words.get32(b, ((int) l10) - 60184));
+           Words.put16(b, ((int) l23) - 60444, (short) (Words.get16(b, ((int) l10) - 60180) & 0xffff));
+           Words.put64(b, ((int) l22) - 60448, Words.get64(b, ((int) l10) - 60200));
+           Words.put64(b, ((int) l22) - 60440, Words.get64(b, ((int) l10) - 60192));
+           b[((int) l10) - 60079] = (byte) l53;
+           b[((int) l10) - 60080] = (byte) l54;
+           Words.put64(b, ((int) l10) - 60032, l38);
+           Words.put64(b, ((int) l10) - 60040, l41);
+           Words.put64(b, ((int) l10) - 60048, l39);
+           Words.put64(b, ((int) l10) - 60056, l6);
+           Words.put64(b, ((int) l10) - 60064, l0);
+           Words.put64(b, ((int) l10) - 60072, l40);
+           b[((int) l10) - 59991] = (byte) l56;
+           b[((int) l10) - 59992] = (byte) l55;
+           Words.put64(b, ((int) l10) - 60000, l11);
+           Words.put64(b, ((int) l10) - 60008, l9);
+           Words.put64(b, ((int) l21) - 60442, Words.get64(b, ((int) l10) - 60218));
+           Words.put64(b, ((int) l21) - 60448, Words.get64(b, ((int) l10) - 60224));
+           if (Core4.f118(m, l10 + 368L) != 0) { break L35; }
+          }
+          L94: {
+           if (Core6.f209(m, l0, l6, l9, l11) == 0) { break L94; }
+           if (Core6.f210(m, l51, l0, l6, l9, l11) == 0) { break L35; }
+          }
+          Core2.f73(m, l10 + 136L, l0, l6, l9, l11);
+          if ((Core6.f224(m, l10 + 152L, l51, l0, l6, Words.get64(b, ((int) l10) - 60312), Words.get64(b, ((int) l10) - 60304)) & 1) == 0) { break L35; }
+          Words.put32(b, ((int) l10) - 60080, 0);
+          L95: {
+           L96: {
+            if ((l4 = (int) l38) + Integer.MIN_VALUE > -2147483521) { break L96; }
+            b[((int) l10) - 60080] = (byte) l38;
+            l40 = 1L;
+            break L95;
+           }
+           L97: {
+            if (l4 + Integer.MIN_VALUE > -2147481601) { break L97; }
+            b[((int) l10) - 60079] = (byte) ((l4 & 63) | 128);
+            b[((int) l10) - 60080] = (byte) ((l4 >>> 6) | 192);
+            l40 = 2L;
+            break L95;
+           }
+           L98: {
+            if (l4 + Integer.MIN_VALUE > -2147418113) { break L98; }
+            b[((int) l10) - 60078] = (byte) ((l4 & 63) | 128);
+            b[((int) l10) - 60080] = (byte) ((l4 >>> 12) | 224);
+            b[((int) l10) - 60079] = (byte) (((l4 >>> 6) & 63) | 128);
+            l40 = 3L;
+            break L95;
+           }
+           b[((int) l10) - 60077] = (byte) ((l4 & 63) | 128);
+           b[((int) l10) - 60080] = (byte) ((l4 >>> 18) + -16);
+           b[((int) l10) - 60078] = (byte) (((l4 >>> 6) & 63) | 128);
+           b[((int) l10) - 60079] = (byte) (((l4 >>> 12) & 63) | 128);
+           l40 = 4L;
+          }
+          Core2.f53(m, l10 + 152L, l10 + 368L, l40);
+          l40 = 0L;
+          Words.put64(b, ((int) l10) - 59640, 0L);
+          Words.put64(b, ((int) l10) - 59648, 0L);
+          Words.put64(b, ((int) l10) - 59656, 0L);
+          Words.put64(b, ((int) l10) - 59664, 0L);
+          Words.put64(b, ((int) l10) - 59672, 0L);
+          Words.put64(b, ((int) l10) - 59680, 0L);
+          Words.put64(b, ((int) l10) - 59688, 0L);
+          Words.put64(b, ((int) l10) - 59696, 0L);
+          Core2.f75(m, l10 + 752L, l0, l6, 1);
+          l0 = 83372L;
+          L99: {
+           if ((b[((int) l10) - 59696] & 0xff) != 0) { break L99; }
+           if (((b[((int) l10) - 59648] & 0xff) & 255) != 2) { break L99; }
+           Words.put64(b, ((int) l10) - 59640, 0L);
+           Words.put64(b, ((int) l10) - 59648, 0L);
+           Words.put64(b, ((int) l10) - 59656, 0L);
+           Words.put64(b, ((int) l10) - 59664, 0L);
+           Words.put64(b, ((int) l10) - 59672, 0L);
+           Words.put64(b, ((int) l10) - 59680, 0L);
+           Words.put64(b, ((int) l10) - 59688, 0L);
+           Words.put64(b, ((int) l10) - 59696, 0L);
+           Core2.f75(m, l10 + 752L, l9, l11, 1);
+           l0 = ((l4 = ((((b[((int) l10) - 59696] & 0xff) & 255) != 0) | (((b[((int) l10) - 59648] & 0xff) & 255) != 2)) ? 1 : 0) != 0) ? 77254L : 83372L;
+           l40 = l4 & 0xffffffffL;
+          }
+          if ((Core6.f224(m, l10 + 152L, l51, l9, l11, l0, l40) & 1) == 0) { break L35; }
+          break L31;
          }
+         b[((int) l10) - 60114] = (byte) l49;
+         b[((int) l10) - 60115] = (byte) l50;
+         b[((int) l10) - 60116] = (byte) l51;
+         b[((int) l10) - 60117] = (byte) l52;
+         Words.put16(b, ((int) l10) - 60119, (short) l47);
+         b[((int) l10) - 60120] = (byte) l44;
+         Words.put64(b, ((int) l10) - 60128, l33);
+         Words.put64(b, ((int) l10) - 60136, l32);
+         Words.put64(b, ((int) l10) - 60144, l34);
+         Words.put64(b, ((int) l10) - 60152, l35);
+         Words.put64(b, ((int) l10) - 60160, l36);
+         Words.put64(b, ((int) l10) - 60168, l37);
+         if ((Core6.f225(m, l10 + 328L, l10 + 280L, l10 + 152L) & 1) == 0) { break L35; }
+         break L31;
         }
-        if ((Core6.f210(m, l10 + 152L, l43, l34, l33) & 1) != 0) { break L31; }
-        break L33;
+        if ((l4 & 1) != 0) { break L31; }
        }
-       L88: {
-        if (l4 == 0) { break L88; }
-        l9 = l34;
-        l0 = l33;
-        L89: while (true) {
-         if (l0 == 0L) { break L33; }
-         l4 = (l3 = (int) b[((int) l9) - 60720]) & 255;
-         l11 = 1L;
-         L90: {
-          if (l3 > -1) { break L90; }
-          l54 = (b[((int) l9) - 60719] & 0xff) & 63;
-          L91: {
-           if (l3 + Integer.MIN_VALUE > 2147483615) { break L91; }
-           l4 = ((l4 << 6) & 1984) | l54;
-           l11 = 2L;
-           break L90;
-          }
-          l53 = (b[((int) l9) - 60718] & 0xff) & 63;
-          L92: {
-           if (l3 + Integer.MIN_VALUE > 2147483631) { break L92; }
-           l4 = ((l54 << 6) | ((l4 << 12) & 61440)) | l53;
-           l11 = 3L;
-           break L90;
-          }
-          l4 = ((l53 << 6) | ((l54 << 12) | ((l4 << 18) & 1835008))) | ((b[((int) l9) - 60717] & 0xff) & 63);
-          l11 = 4L;
-         }
-         Core2.f61(m, l10 + 144L, l4);
-         L93: {
-          if ((b[((int) l10) - 60576] & 0xff) != 1) { break L93; }
-          if (((b[((int) l10) - 60575] & 0xff) & 255) != 0) { break L88; }
-         }
-         if (l4 == 38646) { break L88; }
-         l9 = l9 + l11;
-         l0 = l0 - l11;
-         if (l4 != 12295) { continue L89; }
-         break L89;
-        }
-       }
-       Words.put64(b, ((int) l10) - 60040, 0L);
-       Words.put64(b, ((int) l10) - 60048, 0L);
-       Words.put64(b, ((int) l10) - 60056, 0L);
-       Words.put64(b, ((int) l10) - 60064, 0L);
-       Words.put64(b, ((int) l10) - 60072, 0L);
-       Words.put64(b, ((int) l10) - 60080, 0L);
-       Words.put64(b, ((int) l10) - 60088, 0L);
-       Words.put64(b, ((int) l10) - 60096, 0L);
-       Core2.f75(m, l10 + 624L, l34, l33, l43);
-       Words.put64(b, ((int) l10) - 60368, Words.get64(b, ((int) l20) - 60720));
-       Words.put64(b, ((int) l10) - 60360, Words.get64(b, ((int) l20) - 60712));
-       Words.put64(b, ((int) l10) - 60352, Words.get64(b, ((int) l20) - 60704));
-       Words.put64(b, ((int) l10) - 60344, Words.get64(b, ((int) l20) - 60696));
-       Words.put64(b, ((int) l10) - 60336, Words.get64(b, ((int) l20) - 60688));
-       Words.put64(b, ((int) l10) - 60328, Words.get64(b, ((int) l20) - 60680));
-       if ((b[((int) l10) - 60096] & 0xff) != 0) { break L33; }
-       m.fill((int) (l10 + 624L), 0, (int) 80L);
-       Core2.f52(m, l10 + 128L, l10 + 624L, l10 + 352L);
-       Core2.f53(m, l10 + 152L, Words.get64(b, ((int) l10) - 60592), Words.get64(b, ((int) l10) - 60584));
+       Core2.f53(m, l10 + 152L, l35, l34);
        break L31;
       }
-      if ((l49 & 1) == 0) { break L33; }
-      if (l33 == 0L) { break L31; }
-      l54 = 0;
-      l11 = l33;
-      L94: while (true) {
-       l4 = (l3 = (int) b[((int) l34) - 60720]) & 255;
-       l9 = 1L;
-       L95: {
-        if (l3 > -1) { break L95; }
-        l53 = (b[((int) l34) - 60719] & 0xff) & 63;
-        L96: {
-         if (l3 + Integer.MIN_VALUE > 2147483615) { break L96; }
-         l4 = ((l4 << 6) & 1984) | l53;
-         l9 = 2L;
-         break L95;
-        }
-        l55 = (b[((int) l34) - 60718] & 0xff) & 63;
-        L97: {
-         if (l3 + Integer.MIN_VALUE > 2147483631) { break L97; }
-         l4 = ((l53 << 6) | ((l4 << 12) & 61440)) | l55;
-         l9 = 3L;
-         break L95;
-        }
-        l4 = ((l55 << 6) | ((l53 << 12) | ((l4 << 18) & 1835008))) | ((b[((int) l34) - 60717] & 0xff) & 63);
-        l9 = 4L;
-       }
-       l11 = l11 - l9;
-       l34 = l34 + l9;
-       l3 = 0;
-       L98: {
-        if ((l54 & 1) != 0) { break L98; }
-        L99: {
-         if (l4 == 65296) { break L99; }
-         if (l4 != 48) { break L98; }
-        }
-        if (l11 == 0L) { break L98; }
-        l3 = (l53 = (int) b[((int) l34) - 60720]) & 255;
-        L100: {
-         if (l53 > -1) { break L100; }
-         l55 = (b[((int) l34) - 60719] & 0xff) & 63;
-         L101: {
-          if (l53 + Integer.MIN_VALUE > 2147483615) { break L101; }
-          l3 = ((l3 << 6) & 1984) | l55;
-          break L100;
-         }
-         l56 = (b[((int) l34) - 60718] & 0xff) & 63;
-         L102: {
-          if (l53 + Integer.MIN_VALUE > 2147483631) { break L102; }
-          l3 = ((l55 << 6) | ((l3 << 12) & 61440)) | l56;
-          break L100;
-         }
-         l3 = ((l56 << 6) | ((l55 << 12) | ((l3 << 18) & 1835008))) | ((b[((int) l34) - 60717] & 0xff) & 63);
-        }
-        l3 = (((l3 + -48) + Integer.MIN_VALUE < -2147483638) | ((l3 + -65296) + Integer.MIN_VALUE < -2147483638)) ? 1 : 0;
-       }
-       Core6.f179(m, l10 + 112L, l3, l4);
-       Core2.f53(m, l10 + 152L, Words.get64(b, ((int) l10) - 60608), Words.get64(b, ((int) l10) - 60600));
-       L103: {
-        L104: {
-         if (((l54 | l3) & 1) == 0) { break L104; }
-         l54 = l54 & (l3 ^ 1);
-         break L103;
-        }
-        l54 = (((l4 + -48) + Integer.MIN_VALUE < -2147483638) | ((l4 + -65296) + Integer.MIN_VALUE < -2147483638)) ? 1 : 0;
-       }
-       if (!(l11 == 0L)) { continue L94; }
-       break L31;
-      }
+      Core2.f53(m, l10 + 152L, l41, l38);
      }
-     Core2.f53(m, l10 + 152L, l34, l33);
+     if (l11 == 0L) { break L31; }
+     f288_4(m, l0, l3, l4, l6, l9, l10, l11, l40, l53, l54);
+     l0 = m.kept[0];
+     l3 = (int) m.kept[1];
+     l4 = (int) m.kept[2];
+     l6 = m.kept[3];
+     l9 = m.kept[4];
+     l11 = m.kept[5];
+     l40 = m.kept[6];
+     l53 = (int) m.kept[7];
+     l54 = (int) m.kept[8];
     }
-    l30 = l33 + l35;
+    l31 = l34 + l36;
     l53 = 1;
     continue L12;
    }
   }
-  m.g0 = l10 + 752L;
-  final int t105 = l42;
-  return t105;
+  m.g0 = l10 + 880L;
+  final int t115 = l43;
+  return t115;
  }
  throw State.trap();
 }
 
-static int f279_1(State m, long l0, int l1, int l2, int l3, long l7, long l8, long l9, long l11, long l12, long l13, long l14, long l15, long l16, long l17, long l18, long l19, long l20, long l21, long l22, long l23, long l24, long l25, long l26, int l27, int l28, int l29, int l30, int l31) {
+static int f290_1(State m, long l0, int l1, int l2, int l3, long l7, long l8, long l9, long l11, long l12, long l13, long l14, long l15, long l16, long l17, long l18, long l19, long l20, long l21, long l22, long l23, long l24, long l25, long l26, int l27, int l28, int l29, int l30, int l31) {
  final byte[] b = m.bytes;
  int exit = 0;
  PART: {
@@ -5190,12 +7150,12 @@ static int f279_1(State m, long l0, int l1, int l2, int l3, long l7, long l8, lo
           L70: while (true) {
            Core1.f3(m, l8 + 192L, l16, 0L, 10L, 0L);
            Core1.f3(m, l8 + 176L, l17, 0L, 0L, 10L);
-           if ((((l16 = (l17 = Words.get64(b, ((int) l8) - 60528)) & -2L) ^ l9) | ((l17 = (Words.get64(b, ((int) l8) - 60520) + Words.get64(b, ((int) l8) - 60536)) + (((l17 + Words.get64(b, ((int) l8) - 60544)) + Long.MIN_VALUE < l17 + Long.MIN_VALUE) ? 1L : 0L)) ^ l7)) == 0L) { break L69; }
+           if ((((l16 = (l17 = Words.get64(b, ((int) l8) - 60256)) & -2L) ^ l9) | ((l17 = (Words.get64(b, ((int) l8) - 60248) + Words.get64(b, ((int) l8) - 60264)) + (((l17 + Words.get64(b, ((int) l8) - 60272)) + Long.MIN_VALUE < l17 + Long.MIN_VALUE) ? 1L : 0L)) ^ l7)) == 0L) { break L69; }
            if (l0 == 36L) { break L62; }
            Core1.f3(m, l8 + 160L, l16, 0L, 10L, 0L);
            Core1.f3(m, l8 + 144L, l17, 0L, 0L, 10L);
            l0 = l0 + 2L;
-           if (!((((l16 = (l17 = Words.get64(b, ((int) l8) - 60560)) & -4L) ^ l9) | ((l17 = (Words.get64(b, ((int) l8) - 60552) + Words.get64(b, ((int) l8) - 60568)) + (((l17 + Words.get64(b, ((int) l8) - 60576)) + Long.MIN_VALUE < l17 + Long.MIN_VALUE) ? 1L : 0L)) ^ l7)) == 0L)) { continue L70; }
+           if (!((((l16 = (l17 = Words.get64(b, ((int) l8) - 60288)) & -4L) ^ l9) | ((l17 = (Words.get64(b, ((int) l8) - 60280) + Words.get64(b, ((int) l8) - 60296)) + (((l17 + Words.get64(b, ((int) l8) - 60304)) + Long.MIN_VALUE < l17 + Long.MIN_VALUE) ? 1L : 0L)) ^ l7)) == 0L)) { continue L70; }
            break L70;
           }
           l0 = l0 + -1L;
@@ -5214,11 +7174,11 @@ static int f279_1(State m, long l0, int l1, int l2, int l3, long l7, long l8, lo
         if (l21 == 37L) { break L62; }
         Core1.f3(m, l8 + 256L, l17, 0L, 10L, 0L);
         Core1.f3(m, l8 + 240L, l0, 0L, 0L, 10L);
-        if ((((l17 = (l0 = Words.get64(b, ((int) l8) - 60464)) & -2L) ^ l9) | ((l0 = (Words.get64(b, ((int) l8) - 60456) + Words.get64(b, ((int) l8) - 60472)) + (((l0 + Words.get64(b, ((int) l8) - 60480)) + Long.MIN_VALUE < l0 + Long.MIN_VALUE) ? 1L : 0L)) ^ l7)) == 0L) { break L64; }
+        if ((((l17 = (l0 = Words.get64(b, ((int) l8) - 60192)) & -2L) ^ l9) | ((l0 = (Words.get64(b, ((int) l8) - 60184) + Words.get64(b, ((int) l8) - 60200)) + (((l0 + Words.get64(b, ((int) l8) - 60208)) + Long.MIN_VALUE < l0 + Long.MIN_VALUE) ? 1L : 0L)) ^ l7)) == 0L) { break L64; }
         Core1.f3(m, l8 + 224L, l17, 0L, 10L, 0L);
         Core1.f3(m, l8 + 208L, l0, 0L, 0L, 10L);
         l21 = l21 + 2L;
-        if ((((l17 = (l0 = Words.get64(b, ((int) l8) - 60496)) & -4L) ^ l9) | ((l0 = (Words.get64(b, ((int) l8) - 60488) + Words.get64(b, ((int) l8) - 60504)) + (((l0 + Words.get64(b, ((int) l8) - 60512)) + Long.MIN_VALUE < l0 + Long.MIN_VALUE) ? 1L : 0L)) ^ l7)) != 0L) { continue L71; }
+        if ((((l17 = (l0 = Words.get64(b, ((int) l8) - 60224)) & -4L) ^ l9) | ((l0 = (Words.get64(b, ((int) l8) - 60216) + Words.get64(b, ((int) l8) - 60232)) + (((l0 + Words.get64(b, ((int) l8) - 60240)) + Long.MIN_VALUE < l0 + Long.MIN_VALUE) ? 1L : 0L)) ^ l7)) != 0L) { continue L71; }
         break L71;
        }
        l21 = l21 + -1L;
@@ -5247,16 +7207,16 @@ static int f279_1(State m, long l0, int l1, int l2, int l3, long l7, long l8, lo
         if (l27 != 0) { break L84; }
         if (((l0 ^ 127L) | l16) == 0L) { break L84; }
         Core1.f4(m, l8 + 128L, l12, l17, 127 - ((int) l0));
-        l9 = Words.get64(b, ((int) l8) - 60584);
-        l7 = Words.get64(b, ((int) l8) - 60592);
+        l9 = Words.get64(b, ((int) l8) - 60312);
+        l7 = Words.get64(b, ((int) l8) - 60320);
         L85: {
          L86: {
           if (((l0 = l0 + 1L) | (l13 = l16 + ((l0 == 0L) ? 1L : 0L))) == 0L) { break L86; }
           Core1.f5(m, l8 + 112L, l12, l17, (int) l0);
           l22 = 10L + -1L;
           l23 = 0L - ((10L == 0L) ? 1L : 0L);
-          l16 = Words.get64(b, ((int) l8) - 60600);
-          l17 = Words.get64(b, ((int) l8) - 60608);
+          l16 = Words.get64(b, ((int) l8) - 60328);
+          l17 = Words.get64(b, ((int) l8) - 60336);
           l14 = 0L;
           L87: while (true) {
            l11 = l14;
@@ -5277,19 +7237,19 @@ static int f279_1(State m, long l0, int l1, int l2, int l3, long l7, long l8, lo
         l7 = l14 | (l7 << 1L);
        }
        Core1.f3(m, l8 + 96L, l7, l7, 10L, 0L);
-       if (((l27 = Words.get32(b, ((int) (l26 + ((l12 - Words.get64(b, ((int) l8) - 60624)) << 2L))) - 60720)) + -55296) + Integer.MIN_VALUE <= 2147430399) { exit = 1; break PART; }
-       b[((int) (l0 = (l8 + 494L) + (l16 = l20 + -3L))) - 60718] = (byte) ((l27 & 63) | 128);
-       b[((int) l0) - 60720] = (byte) ((l27 >>> 12) | 224);
-       b[((int) l0) - 60719] = (byte) (((l27 >>> 6) & 63) | 128);
+       if (((l27 = Words.get32(b, ((int) (l26 + ((l12 - Words.get64(b, ((int) l8) - 60352)) << 2L))) - 60448)) + -55296) + Integer.MIN_VALUE <= 2147430399) { exit = 1; break PART; }
+       b[((int) (l0 = (l8 + 494L) + (l16 = l20 + -3L))) - 60446] = (byte) ((l27 & 63) | 128);
+       b[((int) l0) - 60448] = (byte) ((l27 >>> 12) | 224);
+       b[((int) l0) - 60447] = (byte) (((l27 >>> 6) & 63) | 128);
        l0 = 1L;
        l12 = l7;
        l17 = l9;
        if ((l15 = l15 + 1L) != l21) { continue L75; }
        break L75;
       }
-      b[((int) (l7 = (l8 + 494L) + (l15 = l20 + -6L))) - 60718] = (byte) ((l27 = l2 != 0 ? 28857 : 40670) & 191);
-      b[((int) l7) - 60720] = (byte) ((l27 >>> 12) | 224);
-      b[((int) l7) - 60719] = (byte) (((l27 >>> 6) & 59) | 128);
+      b[((int) (l7 = (l8 + 494L) + (l15 = l20 + -6L))) - 60446] = (byte) ((l27 = l2 != 0 ? 28857 : 40670) & 191);
+      b[((int) l7) - 60448] = (byte) ((l27 >>> 12) | 224);
+      b[((int) l7) - 60447] = (byte) (((l27 >>> 6) & 59) | 128);
       l22 = 0L;
       L88: {
        L89: {
@@ -5311,16 +7271,16 @@ static int f279_1(State m, long l0, int l1, int l2, int l3, long l7, long l8, lo
        Core1.f3(m, l8 + 64L, ((l1 = l27 & 1) != 0) ? l7 : 1L, l1 != 0 ? l0 : 0L, l9, l17);
        Core1.f3(m, l8 + 80L, l7, l0, l7, l0);
        l1 = (l27 + Integer.MIN_VALUE > -2147483645) ? 1 : 0;
-       l0 = Words.get64(b, ((int) l8) - 60632);
-       l7 = Words.get64(b, ((int) l8) - 60640);
-       l17 = Words.get64(b, ((int) l8) - 60648);
-       l9 = Words.get64(b, ((int) l8) - 60656);
+       l0 = Words.get64(b, ((int) l8) - 60360);
+       l7 = Words.get64(b, ((int) l8) - 60368);
+       l17 = Words.get64(b, ((int) l8) - 60376);
+       l9 = Words.get64(b, ((int) l8) - 60384);
        l27 = l27 >>> 1;
        if (l1 != 0) { continue L90; }
        break L90;
       }
       Core1.f3(m, l8 + 48L, l9, l17, l7, l0);
-      if (((l0 = Words.get64(b, ((int) l8) - 60672)) | (l22 = Words.get64(b, ((int) l8) - 60664))) == 0L) { exit = 1; break PART; }
+      if (((l0 = Words.get64(b, ((int) l8) - 60400)) | (l22 = Words.get64(b, ((int) l8) - 60392))) == 0L) { exit = 1; break PART; }
      }
      final long t91 = l25;
      final int t92 = (((l0 | l22) == 0L) | ((l24 | l25) == 0L)) ? 1 : 0;
@@ -5339,15 +7299,15 @@ static int f279_1(State m, long l0, int l1, int l2, int l3, long l7, long l8, lo
      if (l27 != 0) { break L60; }
      if (((l14 ^ 127L) | l16) == 0L) { break L60; }
      Core1.f4(m, l8 + 16L, l24, l25, 127 - ((int) l14));
-     l17 = Words.get64(b, ((int) l8) - 60696);
-     l7 = Words.get64(b, ((int) l8) - 60704);
+     l17 = Words.get64(b, ((int) l8) - 60424);
+     l7 = Words.get64(b, ((int) l8) - 60432);
      L103: {
       if (((l9 = l14 + 1L) | (l13 = l16 + ((l9 == 0L) ? 1L : 0L))) == 0L) { break L103; }
       Core1.f5(m, l8, l24, l25, (int) l9);
       l23 = l0 + -1L;
       l12 = l22 - ((l0 == 0L) ? 1L : 0L);
-      l11 = Words.get64(b, ((int) l8) - 60712);
-      l16 = Words.get64(b, ((int) l8) - 60720);
+      l11 = Words.get64(b, ((int) l8) - 60440);
+      l16 = Words.get64(b, ((int) l8) - 60448);
       l14 = 0L;
       L104: while (true) {
        l18 = l14;
@@ -5372,28 +7332,28 @@ static int f279_1(State m, long l0, int l1, int l2, int l3, long l7, long l8, lo
      if ((t107 != 0 ? t106 : 0) != 0) { break L105; }
      if ((l31 & 255) == 0) { exit = 2; break PART; }
     }
-    Words.put32(b, ((int) l8) - 59518, 0);
-    b[((int) l8) - 59519] = (byte) l30;
-    b[((int) l8) - 59520] = (byte) l29;
-    Words.put16(b, ((int) l8) - 59514, (short) 0);
+    Words.put32(b, ((int) l8) - 59246, 0);
+    b[((int) l8) - 59247] = (byte) l30;
+    b[((int) l8) - 59248] = (byte) l29;
+    Words.put16(b, ((int) l8) - 59242, (short) 0);
     final int t108 = (int) l8;
     final long t109 = ((l27 = (l3 == 1) ? 1 : 0) != 0) ? 69676L : 69892L;
     final long t110 = l27 != 0 ? 69244L : 69460L;
     final int t111 = l2;
-    Words.put64(b, t108 - 59512, l16 = t111 != 0 ? t109 : t110);
+    Words.put64(b, t108 - 59240, l16 = t111 != 0 ? t109 : t110);
     L112: {
      if ((l17 = 235L - (l0 = Core2.f49(m, l8 + 965L, l8 + 1200L, l31, 0, l24, l25))) == 0L) { break L112; }
      m.copy((int) (((l8 + 494L) + l0) + 236L), (int) ((l8 + 965L) + l0), (int) l17);
     }
     L113: {
      L114: {
-      if (((l17 = (l8 + 494L) + (l0 = l0 + 230L)) - 85826L) + Long.MIN_VALUE > -9223372036854775803L) { break L114; }
-      Words.put16(b, ((int) l17) - 60716, (short) 35769);
-      Words.put32(b, ((int) l17) - 60720, -460945179);
+      if (((l17 = (l8 + 494L) + (l0 = l0 + 230L)) - 86729L) + Long.MIN_VALUE > -9223372036854775803L) { break L114; }
+      Words.put16(b, ((int) l17) - 60444, (short) 35769);
+      Words.put32(b, ((int) l17) - 60448, -460945179);
       break L113;
      }
-     Words.put16(b, ((int) l17) - 60716, (short) (Words.get16(b, State.far((int) 0L, 85830)) & 0xffff));
-     Words.put32(b, ((int) l17) - 60720, Words.get32(b, State.far((int) 0L, 85826)));
+     Words.put16(b, ((int) l17) - 60444, (short) (Words.get16(b, State.far((int) 0L, 86733)) & 0xffff));
+     Words.put32(b, ((int) l17) - 60448, Words.get32(b, State.far((int) 0L, 86729)));
     }
     m.fill((int) (l8 + 965L), 0, (int) 235L);
     L115: {
@@ -5403,72 +7363,72 @@ static int f279_1(State m, long l0, int l1, int l2, int l3, long l7, long l8, lo
      final int t118 = (l7 == 0L) ? 1 : 0;
      if ((t118 != 0 ? t116 : t117) != 0) { exit = 2; break PART; }
     }
-    Words.put32(b, ((int) l8) - 59518, 0);
-    b[((int) l8) - 59519] = (byte) l30;
-    b[((int) l8) - 59520] = (byte) l29;
-    Words.put16(b, ((int) l8) - 59514, (short) 0);
-    Words.put64(b, ((int) l8) - 59512, l16);
+    Words.put32(b, ((int) l8) - 59246, 0);
+    b[((int) l8) - 59247] = (byte) l30;
+    b[((int) l8) - 59248] = (byte) l29;
+    Words.put16(b, ((int) l8) - 59242, (short) 0);
+    Words.put64(b, ((int) l8) - 59240, l16);
     l9 = Core2.f49(m, l8 + 965L, l8 + 1200L, l31, 0, l9, l7);
-    if (((l27 = Words.get32(b, ((int) (l16 + 112L)) - 60720)) + -55296) + Integer.MIN_VALUE <= 2147430399) { exit = 1; break PART; }
+    if (((l27 = Words.get32(b, ((int) (l16 + 112L)) - 60448)) + -55296) + Integer.MIN_VALUE <= 2147430399) { exit = 1; break PART; }
     l16 = (l8 + 965L) + l9;
     l7 = 0L;
     L119: {
      L120: {
       if (l9 == 235L) { break L120; }
-      l3 = (l1 = (int) b[((int) l16) - 60720]) & 255;
+      l3 = (l1 = (int) b[((int) l16) - 60448]) & 255;
       l17 = 1L;
       L121: {
        if (l1 > -1) { break L121; }
-       l28 = (b[((int) l16) - 60719] & 0xff) & 63;
+       l28 = (b[((int) l16) - 60447] & 0xff) & 63;
        L122: {
         if (l1 + Integer.MIN_VALUE > 2147483615) { break L122; }
         l3 = ((l3 << 6) & 1984) | l28;
         l17 = 2L;
         break L121;
        }
-       l29 = (b[((int) l16) - 60718] & 0xff) & 63;
+       l29 = (b[((int) l16) - 60446] & 0xff) & 63;
        L123: {
         if (l1 + Integer.MIN_VALUE > 2147483631) { break L123; }
         l3 = ((l28 << 6) | ((l3 << 12) & 61440)) | l29;
         l17 = 3L;
         break L121;
        }
-       l3 = ((l29 << 6) | ((l28 << 12) | ((l3 << 18) & 1835008))) | ((b[((int) l16) - 60717] & 0xff) & 63);
+       l3 = ((l29 << 6) | ((l28 << 12) | ((l3 << 18) & 1835008))) | ((b[((int) l16) - 60445] & 0xff) & 63);
        l17 = 4L;
       }
       l7 = 235L - l9;
       L124: {
        if (l3 != l27) { break L124; }
-       Words.put64(b, ((int) l8) - 59496, 0L);
-       Words.put64(b, ((int) l8) - 59504, 0L);
-       Words.put64(b, ((int) l8) - 59512, 0L);
-       Words.put64(b, ((int) l8) - 59520, 0L);
+       Words.put64(b, ((int) l8) - 59224, 0L);
+       Words.put64(b, ((int) l8) - 59232, 0L);
+       Words.put64(b, ((int) l8) - 59240, 0L);
+       Words.put64(b, ((int) l8) - 59248, 0L);
        Core2.f80(m, l8 + 1200L, l14 = l16 + l17, l13 = l7 - l17);
-       if ((b[((int) l8) - 59520] & 0xff) != 1) { break L124; }
-       Core2.f61(m, l8 + 40L, Words.get32(b, ((int) l8) - 59512));
-       if ((b[((int) l8) - 60680] & 0xff) != 1) { break L124; }
-       if (((b[((int) l8) - 60679] & 0xff) & 255) + Integer.MIN_VALUE > -2147483643) { break L124; }
-       Words.put64(b, ((int) l8) - 59496, 0L);
-       Words.put64(b, ((int) l8) - 59504, 0L);
-       Words.put64(b, ((int) l8) - 59512, 0L);
-       Words.put64(b, ((int) l8) - 59520, 0L);
+       if ((b[((int) l8) - 59248] & 0xff) != 1) { break L124; }
+       Core2.f61(m, l8 + 40L, Words.get32(b, ((int) l8) - 59240));
+       if ((b[((int) l8) - 60408] & 0xff) != 1) { break L124; }
+       if (((b[((int) l8) - 60407] & 0xff) & 255) + Integer.MIN_VALUE > -2147483643) { break L124; }
+       Words.put64(b, ((int) l8) - 59224, 0L);
+       Words.put64(b, ((int) l8) - 59232, 0L);
+       Words.put64(b, ((int) l8) - 59240, 0L);
+       Words.put64(b, ((int) l8) - 59248, 0L);
        l27 = 1;
        l9 = l14;
        l17 = l13;
        L125: while (true) {
         Core2.f80(m, l8 + 1200L, l9, l17);
         L126: {
-         if ((b[((int) l8) - 59520] & 0xff) == 1) { break L126; }
+         if ((b[((int) l8) - 59248] & 0xff) == 1) { break L126; }
          l16 = l14;
          l7 = l13;
          break L124;
         }
-        l17 = Words.get64(b, ((int) l8) - 59496);
-        l9 = Words.get64(b, ((int) l8) - 59504);
-        Core2.f61(m, l8 + 32L, Words.get32(b, ((int) l8) - 59512));
-        if ((b[((int) l8) - 60688] & 0xff) != 1) { break L124; }
+        l17 = Words.get64(b, ((int) l8) - 59224);
+        l9 = Words.get64(b, ((int) l8) - 59232);
+        Core2.f61(m, l8 + 32L, Words.get32(b, ((int) l8) - 59240));
+        if ((b[((int) l8) - 60416] & 0xff) != 1) { break L124; }
         l3 = l27 & 255;
-        l27 = l1 = b[((int) l8) - 60687] & 0xff;
+        l27 = l1 = b[((int) l8) - 60415] & 0xff;
         if (l3 + Integer.MIN_VALUE < (l1 & 255) + Integer.MIN_VALUE) { continue L125; }
         break L125;
        }
@@ -5511,7 +7471,7 @@ static int f279_1(State m, long l0, int l1, int l2, int l3, long l7, long l8, lo
  return exit;
 }
 
-static int f279(State m, long l0, int l1, int l2, int l3, long l4, long l5, long l6) {
+static int f290(State m, long l0, int l1, int l2, int l3, long l4, long l5, long l6) {
  final byte[] b = m.bytes;
  long l7 = 0;
  long l8 = 0;
@@ -5543,17 +7503,17 @@ static int f279(State m, long l0, int l1, int l2, int l3, long l4, long l5, long
   L2: {
    L3: {
     if ((l8 = l7) < 16L) { break L3; }
-    Words.put64(b, ((int) l6) - 60720, 0L);
+    Words.put64(b, ((int) l6) - 60448, 0L);
     l27 = 8;
     if (l2 + Integer.MIN_VALUE > -2147483647) { break L1; }
     if (l3 + Integer.MIN_VALUE > -2147483647) { break L1; }
-    if ((l28 = Words.get32(b, ((int) (l0 + 32L)) - 60720)) + Integer.MIN_VALUE > -2147483645) { break L1; }
-    l29 = b[((int) ((l2 & 0xffffffffL) + 83500L)) - 60720] & 0xff;
-    l30 = b[((int) ((l3 & 0xffffffffL) + 83500L)) - 60720] & 0xff;
-    l7 = Words.get64(b, ((int) (l0 + 24L)) - 60720);
-    l9 = Words.get64(b, ((int) (l0 + 16L)) - 60720);
-    l10 = Words.get64(b, ((int) l0) - 60712);
-    l11 = Words.get64(b, ((int) l0) - 60720);
+    if ((l28 = Words.get32(b, ((int) (l0 + 32L)) - 60448)) + Integer.MIN_VALUE > -2147483645) { break L1; }
+    l29 = b[((int) ((l2 & 0xffffffffL) + 83500L)) - 60448] & 0xff;
+    l30 = b[((int) ((l3 & 0xffffffffL) + 83500L)) - 60448] & 0xff;
+    l7 = Words.get64(b, ((int) (l0 + 24L)) - 60448);
+    l9 = Words.get64(b, ((int) (l0 + 16L)) - 60448);
+    l10 = Words.get64(b, ((int) l0) - 60440);
+    l11 = Words.get64(b, ((int) l0) - 60448);
     L4: {
      L5: {
       L6: {
@@ -5611,12 +7571,12 @@ static int f279(State m, long l0, int l1, int l2, int l3, long l4, long l5, long
              L23: while (true) {
               Core1.f3(m, l8 + 400L, l16, 0L, 10L, 0L);
               Core1.f3(m, l8 + 384L, l17, 0L, 0L, 10L);
-              if ((((l16 = (l17 = Words.get64(b, ((int) l8) - 60320)) & -2L) ^ l9) | ((l17 = (Words.get64(b, ((int) l8) - 60312) + Words.get64(b, ((int) l8) - 60328)) + (((l17 + Words.get64(b, ((int) l8) - 60336)) + Long.MIN_VALUE < l17 + Long.MIN_VALUE) ? 1L : 0L)) ^ l7)) == 0L) { break L8; }
+              if ((((l16 = (l17 = Words.get64(b, ((int) l8) - 60048)) & -2L) ^ l9) | ((l17 = (Words.get64(b, ((int) l8) - 60040) + Words.get64(b, ((int) l8) - 60056)) + (((l17 + Words.get64(b, ((int) l8) - 60064)) + Long.MIN_VALUE < l17 + Long.MIN_VALUE) ? 1L : 0L)) ^ l7)) == 0L) { break L8; }
               if (l0 == 36L) { break L17; }
               Core1.f3(m, l8 + 368L, l16, 0L, 10L, 0L);
               Core1.f3(m, l8 + 352L, l17, 0L, 0L, 10L);
               l0 = l0 + 2L;
-              if ((((l16 = (l17 = Words.get64(b, ((int) l8) - 60352)) & -4L) ^ l9) | ((l17 = (Words.get64(b, ((int) l8) - 60344) + Words.get64(b, ((int) l8) - 60360)) + (((l17 + Words.get64(b, ((int) l8) - 60368)) + Long.MIN_VALUE < l17 + Long.MIN_VALUE) ? 1L : 0L)) ^ l7)) == 0L) { break L9; }
+              if ((((l16 = (l17 = Words.get64(b, ((int) l8) - 60080)) & -4L) ^ l9) | ((l17 = (Words.get64(b, ((int) l8) - 60072) + Words.get64(b, ((int) l8) - 60088)) + (((l17 + Words.get64(b, ((int) l8) - 60096)) + Long.MIN_VALUE < l17 + Long.MIN_VALUE) ? 1L : 0L)) ^ l7)) == 0L) { break L9; }
               continue L23;
              }
             }
@@ -5627,11 +7587,11 @@ static int f279(State m, long l0, int l1, int l2, int l3, long l4, long l5, long
              if (l0 == 37L) { break L17; }
              Core1.f3(m, l8 + 464L, l16, 0L, 10L, 0L);
              Core1.f3(m, l8 + 448L, l17, 0L, 0L, 10L);
-             if ((((l16 = (l17 = Words.get64(b, ((int) l8) - 60256)) & -2L) ^ l9) | ((l17 = (Words.get64(b, ((int) l8) - 60248) + Words.get64(b, ((int) l8) - 60264)) + (((l17 + Words.get64(b, ((int) l8) - 60272)) + Long.MIN_VALUE < l17 + Long.MIN_VALUE) ? 1L : 0L)) ^ l7)) == 0L) { break L7; }
+             if ((((l16 = (l17 = Words.get64(b, ((int) l8) - 59984)) & -2L) ^ l9) | ((l17 = (Words.get64(b, ((int) l8) - 59976) + Words.get64(b, ((int) l8) - 59992)) + (((l17 + Words.get64(b, ((int) l8) - 60000)) + Long.MIN_VALUE < l17 + Long.MIN_VALUE) ? 1L : 0L)) ^ l7)) == 0L) { break L7; }
              Core1.f3(m, l8 + 432L, l16, 0L, 10L, 0L);
              Core1.f3(m, l8 + 416L, l17, 0L, 0L, 10L);
              l0 = l0 + 2L;
-             if (!((((l16 = (l17 = Words.get64(b, ((int) l8) - 60288)) & -4L) ^ l9) | ((l17 = (Words.get64(b, ((int) l8) - 60280) + Words.get64(b, ((int) l8) - 60296)) + (((l17 + Words.get64(b, ((int) l8) - 60304)) + Long.MIN_VALUE < l17 + Long.MIN_VALUE) ? 1L : 0L)) ^ l7)) == 0L)) { continue L24; }
+             if (!((((l16 = (l17 = Words.get64(b, ((int) l8) - 60016)) & -4L) ^ l9) | ((l17 = (Words.get64(b, ((int) l8) - 60008) + Words.get64(b, ((int) l8) - 60024)) + (((l17 + Words.get64(b, ((int) l8) - 60032)) + Long.MIN_VALUE < l17 + Long.MIN_VALUE) ? 1L : 0L)) ^ l7)) == 0L)) { continue L24; }
              break L24;
             }
             l0 = l0 + -1L;
@@ -5647,7 +7607,7 @@ static int f279(State m, long l0, int l1, int l2, int l3, long l4, long l5, long
            break L5;
           }
           if (((1L << (l0 = (l1 & 0xffffffffL) << 1L)) & 340L) == 0L) { break L1; }
-          l31 = b[((int) (l0 + 85585L)) - 60720] & 0xff;
+          l31 = b[((int) (l0 + 86485L)) - 60448] & 0xff;
           break L4;
          }
          l0 = l0 + -1L;
@@ -5675,16 +7635,16 @@ static int f279(State m, long l0, int l1, int l2, int l3, long l4, long l5, long
         Core1.f3(m, l8 + 320L, ((l1 = l27 & 1) != 0) ? l0 : 1L, l1 != 0 ? l17 : 0L, l16, l18);
         Core1.f3(m, l8 + 336L, l0, l17, l0, l17);
         l1 = (l27 + Integer.MIN_VALUE > -2147483645) ? 1 : 0;
-        l17 = Words.get64(b, ((int) l8) - 60376);
-        l0 = Words.get64(b, ((int) l8) - 60384);
-        l18 = Words.get64(b, ((int) l8) - 60392);
-        l16 = Words.get64(b, ((int) l8) - 60400);
+        l17 = Words.get64(b, ((int) l8) - 60104);
+        l0 = Words.get64(b, ((int) l8) - 60112);
+        l18 = Words.get64(b, ((int) l8) - 60120);
+        l16 = Words.get64(b, ((int) l8) - 60128);
         l27 = l27 >>> 1;
         if (l1 != 0) { continue L32; }
         break L32;
        }
        Core1.f3(m, l8 + 304L, l16, l18, l0, l17);
-       if (((l15 = Words.get64(b, ((int) l8) - 60416)) | (l12 = Words.get64(b, ((int) l8) - 60408))) == 0L) { break L3; }
+       if (((l15 = Words.get64(b, ((int) l8) - 60144)) | (l12 = Words.get64(b, ((int) l8) - 60136))) == 0L) { break L3; }
       }
       final long t33 = l14;
       final int t34 = (((l15 | l12) == 0L) | ((l13 | l14) == 0L)) ? 1 : 0;
@@ -5703,16 +7663,16 @@ static int f279(State m, long l0, int l1, int l2, int l3, long l4, long l5, long
       if (l27 != 0) { break L5; }
       if (((l19 ^ 127L) | l18) == 0L) { break L5; }
       Core1.f4(m, l8 + 288L, l13, l14, 127 - ((int) l19));
-      l16 = Words.get64(b, ((int) l8) - 60424);
-      l0 = Words.get64(b, ((int) l8) - 60432);
+      l16 = Words.get64(b, ((int) l8) - 60152);
+      l0 = Words.get64(b, ((int) l8) - 60160);
       L45: {
        L46: {
         if (((l17 = l19 + 1L) | (l18 = l18 + ((l17 == 0L) ? 1L : 0L))) == 0L) { break L46; }
         Core1.f5(m, l8 + 272L, l13, l14, (int) l17);
         l20 = l15 + -1L;
         l21 = l12 - ((l15 == 0L) ? 1L : 0L);
-        l19 = Words.get64(b, ((int) l8) - 60440);
-        l14 = Words.get64(b, ((int) l8) - 60448);
+        l19 = Words.get64(b, ((int) l8) - 60168);
+        l14 = Words.get64(b, ((int) l8) - 60176);
         l13 = 0L;
         L47: while (true) {
          l22 = l13;
@@ -5754,7 +7714,7 @@ static int f279(State m, long l0, int l1, int l2, int l3, long l4, long l5, long
     final int t58 = l27;
     l25 = t58 != 0 ? t56 : t57;
     L59: {
-     final int x127 = f279_1(m, l0, l1, l2, l3, l7, l8, l9, l11, l12, l13, l14, l15, l16, l17, l18, l19, l20, l21, l22, l23, l24, l25, l26, l27, l28, l29, l30, l31);
+     final int x127 = f290_1(m, l0, l1, l2, l3, l7, l8, l9, l11, l12, l13, l14, l15, l16, l17, l18, l19, l20, l21, l22, l23, l24, l25, l26, l27, l28, l29, l30, l31);
      l0 = m.kept[0];
      l1 = (int) m.kept[1];
      l3 = (int) m.kept[2];
@@ -5790,15 +7750,15 @@ static int f279(State m, long l0, int l1, int l2, int l3, long l4, long l5, long
       final int t131 = (l9 == 0L) ? 1 : 0;
       if ((t131 != 0 ? t129 : t130) != 0) { break L2; }
      }
-     Words.put32(b, ((int) l8) - 59518, 0);
-     b[((int) l8) - 59519] = (byte) l30;
-     b[((int) l8) - 59520] = (byte) l29;
-     Words.put16(b, ((int) l8) - 59514, (short) 0);
+     Words.put32(b, ((int) l8) - 59246, 0);
+     b[((int) l8) - 59247] = (byte) l30;
+     b[((int) l8) - 59248] = (byte) l29;
+     Words.put16(b, ((int) l8) - 59242, (short) 0);
      final int t132 = (int) l8;
      final long t133 = ((l27 = (l3 == 1) ? 1 : 0) != 0) ? 69676L : 69892L;
      final long t134 = l27 != 0 ? 69244L : 69460L;
      final int t135 = l2;
-     Words.put64(b, t132 - 59512, l17 = t135 != 0 ? t133 : t134);
+     Words.put64(b, t132 - 59240, l17 = t135 != 0 ? t133 : t134);
      l9 = (l8 + 494L) + (l0 = l15 - (l7 = 235L - (l16 = Core2.f49(m, l8 + 965L, l8 + 1200L, l31, 0, l7, l9))));
      L136: {
       if (l7 == 0L) { break L136; }
@@ -5807,27 +7767,27 @@ static int f279(State m, long l0, int l1, int l2, int l3, long l4, long l5, long
      if (l28 != 2) { break L59; }
      L137: {
       L138: {
-       if (((l7 = l9 + -6L) - 85826L) + Long.MIN_VALUE > -9223372036854775803L) { break L138; }
-       b[((int) l7) - 60720] = (byte) 229;
-       b[((int) (l9 + -1L)) - 60720] = (byte) 139;
-       Words.put32(b, ((int) (l9 + -5L)) - 60720, -1176205688);
+       if (((l7 = l9 + -6L) - 86729L) + Long.MIN_VALUE > -9223372036854775803L) { break L138; }
+       b[((int) l7) - 60448] = (byte) 229;
+       b[((int) (l9 + -1L)) - 60448] = (byte) 139;
+       Words.put32(b, ((int) (l9 + -5L)) - 60448, -1176205688);
        break L137;
       }
-      Words.put16(b, ((int) l7) - 60716, (short) (Words.get16(b, State.far((int) 0L, 85830)) & 0xffff));
-      Words.put32(b, ((int) l7) - 60720, Words.get32(b, State.far((int) 0L, 85826)));
+      Words.put16(b, ((int) l7) - 60444, (short) (Words.get16(b, State.far((int) 0L, 86733)) & 0xffff));
+      Words.put32(b, ((int) l7) - 60448, Words.get32(b, State.far((int) 0L, 86729)));
      }
-     if (((l27 = Words.get32(b, ((int) (l17 + 156L)) - 60720)) + -55296) + Integer.MIN_VALUE <= 2147430399) { break L3; }
-     b[((int) (l7 = (l8 + 494L) + (l0 = l0 + -9L))) - 60718] = (byte) ((l27 & 63) | 128);
-     b[((int) l7) - 60720] = (byte) ((l27 >>> 12) | 224);
-     b[((int) l7) - 60719] = (byte) (((l27 >>> 6) & 63) | 128);
+     if (((l27 = Words.get32(b, ((int) (l17 + 156L)) - 60448)) + -55296) + Integer.MIN_VALUE <= 2147430399) { break L3; }
+     b[((int) (l7 = (l8 + 494L) + (l0 = l0 + -9L))) - 60446] = (byte) ((l27 & 63) | 128);
+     b[((int) l7) - 60448] = (byte) ((l27 >>> 12) | 224);
+     b[((int) l7) - 60447] = (byte) (((l27 >>> 6) & 63) | 128);
     }
     L139: {
      if (l10 > -1L) { break L139; }
-     b[((int) (l7 = (l8 + 494L) + (l0 = l0 + -3L))) - 60718] = (byte) ((l27 = l2 != 0 ? 36127 : 36000) | 128);
-     b[((int) l7) - 60720] = (byte) 232;
-     b[((int) l7) - 60719] = (byte) ((l27 >>> 6) | 128);
+     b[((int) (l7 = (l8 + 494L) + (l0 = l0 + -3L))) - 60446] = (byte) ((l27 = l2 != 0 ? 36127 : 36000) | 128);
+     b[((int) l7) - 60448] = (byte) 232;
+     b[((int) l7) - 60447] = (byte) ((l27 >>> 6) | 128);
     }
-    Words.put64(b, ((int) l6) - 60720, l7 = 471L - l0);
+    Words.put64(b, ((int) l6) - 60448, l7 = 471L - l0);
     L140: {
      if (l5 + Long.MIN_VALUE >= l7 + Long.MIN_VALUE) { break L140; }
      l27 = 6;
@@ -5848,7 +7808,7 @@ static int f279(State m, long l0, int l1, int l2, int l3, long l4, long l5, long
  return l27;
 }
 
-static int f281(State m, long l0, long l1, int l2, int l3, long l4) {
+static int f292(State m, long l0, long l1, int l2, int l3, long l4) {
  final byte[] b = m.bytes;
  long l5 = 0;
  long l6 = 0;
@@ -5860,10 +7820,10 @@ static int f281(State m, long l0, long l1, int l2, int l3, long l4) {
     if ((l5 = m.g0) < 16L) { break L3; }
     L4: {
      if (l2 + Integer.MIN_VALUE < -2147483638) { break L4; }
-     Words.put64(b, ((int) l4) - 60696, 0L);
-     Words.put64(b, ((int) l4) - 60704, 0L);
-     Words.put64(b, ((int) l4) - 60712, 0L);
-     Words.put64(b, ((int) l4) - 60720, 0L);
+     Words.put64(b, ((int) l4) - 60424, 0L);
+     Words.put64(b, ((int) l4) - 60432, 0L);
+     Words.put64(b, ((int) l4) - 60440, 0L);
+     Words.put64(b, ((int) l4) - 60448, 0L);
      break L1;
     }
     if (l3 + Integer.MIN_VALUE > -2147483643) { break L2; }
@@ -5873,7 +7833,7 @@ static int f281(State m, long l0, long l1, int l2, int l3, long l4) {
      L6: {
       if (l1 + Long.MIN_VALUE < -9223372036854775804L) { break L6; }
       L7: while (true) {
-       if (((Words.get32(b, ((int) l0) - 60720) + 16776990) & 12632312) != 8421376) { break L5; }
+       if (((Words.get32(b, ((int) l0) - 60448) + 16776990) & 12632312) != 8421376) { break L5; }
        l0 = l0 + 3L;
        if ((l7 = l7 + -3L) + Long.MIN_VALUE > -9223372036854775805L) { continue L7; }
        break L7;
@@ -5888,46 +7848,46 @@ static int f281(State m, long l0, long l1, int l2, int l3, long l4) {
        default: break L8;
        }
       }
-      if (((((Words.get16(b, ((int) l0) - 60720) & 0xffff) | ((b[((int) (l0 + 2L)) - 60720] & 0xff) << 16)) + 16776990) & 12632312) != 8421376) { break L5; }
+      if (((((Words.get16(b, ((int) l0) - 60448) & 0xffff) | ((b[((int) (l0 + 2L)) - 60448] & 0xff) << 16)) + 16776990) & 12632312) != 8421376) { break L5; }
      }
      L10: {
       if (l3 + Integer.MIN_VALUE > -2147483644) { break L10; }
-      l3 = b[((int) ((l0 = (l3 & 0xffffffffL) << 1L) + 85585L)) - 60720] & 0xff;
-      l8 = b[((int) (l0 + 85584L)) - 60720] & 0xff;
+      l3 = b[((int) ((l0 = (l3 & 0xffffffffL) << 1L) + 86485L)) - 60448] & 0xff;
+      l8 = b[((int) (l0 + 86484L)) - 60448] & 0xff;
       L11: {
        if (l2 + Integer.MIN_VALUE < -2147483643) { break L11; }
-       l2 = Core5.f167(m, l6, l1, l2, l8, l3, l4);
+       l2 = Core5.f176(m, l6, l1, l2, l8, l3, l4);
        m.g0 = l5;
        final int t12 = l2;
        return t12;
       }
-      l2 = Core5.f168(m, l6, l1, l2, l8, l3, l4);
+      l2 = Core5.f177(m, l6, l1, l2, l8, l3, l4);
       m.g0 = l5;
       final int t13 = l2;
       return t13;
      }
-     l2 = Core5.f169(m, l6, l1, l2, l4);
+     l2 = Core5.f178(m, l6, l1, l2, l4);
      m.g0 = l5;
      final int t14 = l2;
      return t14;
     }
-    l2 = Core6.f215(m, l6, l1, l2, l3, l4);
+    l2 = Core6.f226(m, l6, l1, l2, l3, l4);
     m.g0 = l5;
     final int t15 = l2;
     return t15;
    }
    throw State.trap();
   }
-  Words.put64(b, ((int) l4) - 60696, 0L);
-  Words.put64(b, ((int) l4) - 60704, 0L);
-  Words.put64(b, ((int) l4) - 60712, 0L);
-  Words.put64(b, ((int) l4) - 60720, 0L);
+  Words.put64(b, ((int) l4) - 60424, 0L);
+  Words.put64(b, ((int) l4) - 60432, 0L);
+  Words.put64(b, ((int) l4) - 60440, 0L);
+  Words.put64(b, ((int) l4) - 60448, 0L);
  }
  m.g0 = l5;
  return 8;
 }
 
-static int f283(State m, long l0, long l1, int l2, int l3, int l4, int l5, long l6, long l7, long l8) {
+static int f294(State m, long l0, long l1, int l2, int l3, int l4, int l5, long l6, long l7, long l8) {
  final byte[] b = m.bytes;
  long l9 = 0;
  long l10 = 0;
@@ -5954,7 +7914,7 @@ static int f283(State m, long l0, long l1, int l2, int l3, int l4, int l5, long 
         L8: {
          L9: {
           if (l3 + Integer.MIN_VALUE > -2147483644) { break L9; }
-          l16 = b[((int) (((l3 & 0xffffffffL) << 1L) + 85585L)) - 60720] & 0xff;
+          l16 = b[((int) (((l3 & 0xffffffffL) << 1L) + 86485L)) - 60448] & 0xff;
           l17 = (l3 == 0) ? 1 : 0;
           break L8;
          }
@@ -5965,22 +7925,22 @@ static int f283(State m, long l0, long l1, int l2, int l3, int l4, int l5, long 
         if (l4 + Integer.MIN_VALUE >= -2147483646) { break L4; }
         if (l5 + Integer.MIN_VALUE >= -2147483646) { break L3; }
         l10 = l6 + ((l6 == 0L) ? 4096L : 0L);
-        l18 = b[((int) ((l4 & 0xffffffffL) + 83500L)) - 60720] & 0xff;
-        l19 = b[((int) ((l5 & 0xffffffffL) + 83500L)) - 60720] & 0xff;
+        l18 = b[((int) ((l4 & 0xffffffffL) + 83500L)) - 60448] & 0xff;
+        l19 = b[((int) ((l5 & 0xffffffffL) + 83500L)) - 60448] & 0xff;
         L10: {
          if (l2 + Integer.MIN_VALUE <= -2147483644) { break L10; }
          L11: {
           final long t12 = 0L - l0;
           final long t13 = l0;
           final int t14 = l20 = (l1 < 0L) ? 1 : 0;
-          final int t15 = ((l6 = t14 != 0 ? t12 : t13) + Long.MIN_VALUE <= Words.get64(b, ((int) (l11 = ((l2 & 0xffffffffL) << 5L) + (l20 != 0 ? 67904L : 67888L))) - 60720) + Long.MIN_VALUE) ? 1 : 0;
+          final int t15 = ((l6 = t14 != 0 ? t12 : t13) + Long.MIN_VALUE <= Words.get64(b, ((int) (l11 = ((l2 & 0xffffffffL) << 5L) + (l20 != 0 ? 67904L : 67888L))) - 60448) + Long.MIN_VALUE) ? 1 : 0;
           final long t16 = 0L - (l1 + ((l0 != 0L) ? 1L : 0L));
           final long t17 = l1;
           final int t18 = l20;
-          final int t19 = ((l0 = t18 != 0 ? t16 : t17) + Long.MIN_VALUE <= (l11 = Words.get64(b, ((int) l11) - 60712)) + Long.MIN_VALUE) ? 1 : 0;
+          final int t19 = ((l0 = t18 != 0 ? t16 : t17) + Long.MIN_VALUE <= (l11 = Words.get64(b, ((int) l11) - 60440)) + Long.MIN_VALUE) ? 1 : 0;
           final int t20 = (l0 == l11) ? 1 : 0;
           if ((t20 != 0 ? t15 : t19) != 0) { break L11; }
-          Words.put64(b, ((int) l8) - 60720, 0L);
+          Words.put64(b, ((int) l8) - 60448, 0L);
           l3 = 7;
           break L1;
          }
@@ -6001,10 +7961,10 @@ static int f283(State m, long l0, long l1, int l2, int l3, int l4, int l5, long 
             m.fill((int) (l9 + 13L), 0, (int) 235L);
             L29: {
              if (l17 == 0) { break L29; }
-             Words.put16(b, ((int) l9) - 60456, (short) 0);
+             Words.put16(b, ((int) l9) - 60184, (short) 0);
              l11 = 0L;
-             Words.put64(b, ((int) l9) - 60464, 0L);
-             Words.put64(b, ((int) l9) - 60472, 0L);
+             Words.put64(b, ((int) l9) - 60192, 0L);
+             Words.put64(b, ((int) l9) - 60200, 0L);
              l5 = (l5 == 1) ? 1 : 0;
              L30: {
               if (l0 == 0L) { break L30; }
@@ -6013,10 +7973,10 @@ static int f283(State m, long l0, long l1, int l2, int l3, int l4, int l5, long 
               l0 = l9 + 248L;
               l11 = 0L;
               L31: while (true) {
-               Words.put16(b, ((int) (l0 + 6L)) - 60720, (short) Long.divideUnsigned(l1 = (((l1 = (((l1 = ((l1 - ((l13 = Long.divideUnsigned(l1, 152587890625L)) * 152587890625L)) << 26L) | (l12 & 67108863L)) - ((l12 = Long.divideUnsigned(l1, 152587890625L)) * 152587890625L)) << 26L) | ((l6 >>> 16L) & 67108863L)) - ((l14 = Long.divideUnsigned(l1, 152587890625L)) * 152587890625L)) << 16L) | (l6 & 65535L), 1000000000000L));
-               Words.put16(b, ((int) (l0 + 4L)) - 60720, (short) ((int) ((((int) (l6 = Long.divideUnsigned(l1, 100000000L))) & 0xffffffffL) % 10000L)));
-               Words.put16(b, ((int) (l0 + 2L)) - 60720, (short) (l2 = (int) (((l3 = (int) (l1 - (l6 * 100000000L))) & 0xffffffffL) / 10000L)));
-               Words.put16(b, ((int) l0) - 60720, (short) (l3 - (l2 * 10000)));
+               Words.put16(b, ((int) (l0 + 6L)) - 60448, (short) Long.divideUnsigned(l1 = (((l1 = (((l1 = ((l1 - ((l13 = Long.divideUnsigned(l1, 152587890625L)) * 152587890625L)) << 26L) | (l12 & 67108863L)) - ((l12 = Long.divideUnsigned(l1, 152587890625L)) * 152587890625L)) << 26L) | ((l6 >>> 16L) & 67108863L)) - ((l14 = Long.divideUnsigned(l1, 152587890625L)) * 152587890625L)) << 16L) | (l6 & 65535L), 1000000000000L));
+               Words.put16(b, ((int) (l0 + 4L)) - 60448, (short) ((int) ((((int) (l6 = Long.divideUnsigned(l1, 100000000L))) & 0xffffffffL) % 10000L)));
+               Words.put16(b, ((int) (l0 + 2L)) - 60448, (short) (l2 = (int) (((l3 = (int) (l1 - (l6 * 100000000L))) & 0xffffffffL) / 10000L)));
+               Words.put16(b, ((int) l0) - 60448, (short) (l3 - (l2 * 10000)));
                l12 = ((l6 = (l1 = l13 << 52L) + (l14 + (l12 << 26L))) >>> 42L) | ((l13 = (l13 >>> 12L) + ((l6 + Long.MIN_VALUE < l1 + Long.MIN_VALUE) ? 1L : 0L)) << 22L);
                l1 = l13 >>> 4L;
                l0 = l0 + 8L;
@@ -6031,7 +7991,7 @@ static int f283(State m, long l0, long l1, int l2, int l3, int l4, int l5, long 
               if (l6 + Long.MIN_VALUE < -9223372036854765808L) { break L32; }
               l0 = (l9 + 248L) + (l11 << 1L);
               L33: while (true) {
-               Words.put16(b, ((int) l0) - 60720, (short) ((l1 = l6) - ((l6 = Long.divideUnsigned(l1, 10000L)) * 10000L)));
+               Words.put16(b, ((int) l0) - 60448, (short) ((l1 = l6) - ((l6 = Long.divideUnsigned(l1, 10000L)) * 10000L)));
                l0 = l0 + 2L;
                l11 = l11 + 1L;
                if (l1 + Long.MIN_VALUE > -9223372036754775809L) { continue L33; }
@@ -6046,10 +8006,10 @@ static int f283(State m, long l0, long l1, int l2, int l3, int l4, int l5, long 
               if (l11 == 0L) { break L34; }
               l12 = l9 + 248L;
               L35: while (true) {
-               Words.put32(b, ((int) ((l13 = (l9 + 13L) + l0) + -4L)) - 60720, Words.get32(b, ((int) (l1 + (((((l4 = (l3 = Words.get16(b, ((int) l12) - 60720) & 0xffff) - ((l2 = (int) ((l3 & 0xffffffffL) / 100L)) * 100)) - ((l4 = (int) (((l4 & 255) & 0xffffffffL) / 10L)) * 10)) << 2) & 0xffffffffL) & 252L))) - 60720));
-               Words.put32(b, ((int) (l13 + -7L)) - 60720, Words.get32(b, ((int) (l1 + ((l4 << 2) & 0xffffffffL))) - 60720));
-               Words.put32(b, ((int) (l13 + -10L)) - 60720, Words.get32(b, ((int) (l1 + ((((int) ((l2 & 0xffffffffL) % 10L)) << 2) & 0xffffffffL))) - 60720));
-               Words.put32(b, ((int) (l13 + -13L)) - 60720, Words.get32(b, ((int) (l1 + ((((int) ((l3 & 0xffffffffL) / 1000L)) << 2) & 0xffffffffL))) - 60720));
+               Words.put32(b, ((int) ((l13 = (l9 + 13L) + l0) + -4L)) - 60448, Words.get32(b, ((int) (l1 + (((((l4 = (l3 = Words.get16(b, ((int) l12) - 60448) & 0xffff) - ((l2 = (int) ((l3 & 0xffffffffL) / 100L)) * 100)) - ((l4 = (int) (((l4 & 255) & 0xffffffffL) / 10L)) * 10)) << 2) & 0xffffffffL) & 252L))) - 60448));
+               Words.put32(b, ((int) (l13 + -7L)) - 60448, Words.get32(b, ((int) (l1 + ((l4 << 2) & 0xffffffffL))) - 60448));
+               Words.put32(b, ((int) (l13 + -10L)) - 60448, Words.get32(b, ((int) (l1 + ((((int) ((l2 & 0xffffffffL) % 10L)) << 2) & 0xffffffffL))) - 60448));
+               Words.put32(b, ((int) (l13 + -13L)) - 60448, Words.get32(b, ((int) (l1 + ((((int) ((l3 & 0xffffffffL) / 1000L)) << 2) & 0xffffffffL))) - 60448));
                l12 = l12 + 2L;
                l0 = l0 + -12L;
                if ((l11 = l11 + -1L) != 0L) { continue L35; }
@@ -6060,14 +8020,14 @@ static int f283(State m, long l0, long l1, int l2, int l3, int l4, int l5, long 
              l3 = (int) l6;
              l6 = l9 + 9L;
              L36: while (true) {
-              Words.put32(b, ((int) (l6 + l0)) - 60720, Words.get32(b, ((int) (l1 + ((((l3 - ((l2 = (int) (((l3 & 65535) & 0xffffffffL) / 10L)) * 10)) << 2) & 0xffffffffL) & 65532L))) - 60720));
+              Words.put32(b, ((int) (l6 + l0)) - 60448, Words.get32(b, ((int) (l1 + ((((l3 - ((l2 = (int) (((l3 & 65535) & 0xffffffffL) / 10L)) * 10)) << 2) & 0xffffffffL) & 65532L))) - 60448));
               l0 = l0 + -3L;
               l3 = l2;
               if ((l11 = l11 + -1L) != 0L) { continue L36; }
               break L36;
              }
              if (l20 == 0) { break L22; }
-             Words.put32(b, ((int) (((l9 + 13L) + l0) + -4L)) - 60720, Words.get32(b, ((int) (l1 + 104L)) - 60720));
+             Words.put32(b, ((int) (((l9 + 13L) + l0) + -4L)) - 60448, Words.get32(b, ((int) (l1 + 104L)) - 60448));
              l0 = l0 + -3L;
              break L22;
             }
@@ -6076,18 +8036,18 @@ static int f283(State m, long l0, long l1, int l2, int l3, int l4, int l5, long 
             if ((t38 != 0 ? t37 : 0) != 0) { break L23; }
             if ((l16 & 255) == 0) { break L21; }
            }
-           Words.put32(b, ((int) l9) - 60470, 0);
-           b[((int) l9) - 60471] = (byte) l19;
-           b[((int) l9) - 60472] = (byte) l18;
-           Words.put16(b, ((int) l9) - 60466, (short) 0);
+           Words.put32(b, ((int) l9) - 60198, 0);
+           b[((int) l9) - 60199] = (byte) l19;
+           b[((int) l9) - 60200] = (byte) l18;
+           Words.put16(b, ((int) l9) - 60194, (short) 0);
            final int t39 = (int) l9;
            final long t40 = ((l3 = (l5 == 1) ? 1 : 0) != 0) ? 69676L : 69892L;
            final long t41 = l3 != 0 ? 69244L : 69460L;
            final int t42 = l4;
-           Words.put64(b, t39 - 60464, t42 != 0 ? t40 : t41);
+           Words.put64(b, t39 - 60192, t42 != 0 ? t40 : t41);
            l0 = Core2.f49(m, l9 + 13L, l9 + 248L, l16, l20, l6, l0);
           }
-          Words.put64(b, ((int) l8) - 60720, l1 = 235L - l0);
+          Words.put64(b, ((int) l8) - 60448, l1 = 235L - l0);
           l3 = 6;
           if (l7 + Long.MIN_VALUE < l1 + Long.MIN_VALUE) { break L1; }
           L43: {
@@ -6097,7 +8057,7 @@ static int f283(State m, long l0, long l1, int l2, int l3, int l4, int l5, long 
           l3 = 0;
           break L1;
          }
-         Words.put64(b, ((int) l8) - 60720, 0L);
+         Words.put64(b, ((int) l8) - 60448, 0L);
          l3 = (l1 > -1L) ? 3 : 4;
          break L1;
         }
@@ -6106,7 +8066,7 @@ static int f283(State m, long l0, long l1, int l2, int l3, int l4, int l5, long 
          final int t46 = (l1 + Long.MIN_VALUE <= (l6 = Words.get64(b, State.far((int) l6, 67896))) + Long.MIN_VALUE) ? 1 : 0;
          final int t47 = (l1 == l6) ? 1 : 0;
          if ((t47 != 0 ? t45 : t46) != 0) { break L44; }
-         Words.put64(b, ((int) l8) - 60720, 0L);
+         Words.put64(b, ((int) l8) - 60448, 0L);
          l3 = 7;
          break L1;
         }
@@ -6125,10 +8085,10 @@ static int f283(State m, long l0, long l1, int l2, int l3, int l4, int l5, long 
            m.fill((int) (l9 + 13L), 0, (int) 235L);
            L55: {
             if (l17 == 0) { break L55; }
-            Words.put16(b, ((int) l9) - 60456, (short) 0);
+            Words.put16(b, ((int) l9) - 60184, (short) 0);
             l6 = 0L;
-            Words.put64(b, ((int) l9) - 60464, 0L);
-            Words.put64(b, ((int) l9) - 60472, 0L);
+            Words.put64(b, ((int) l9) - 60192, 0L);
+            Words.put64(b, ((int) l9) - 60200, 0L);
             l5 = (l5 == 1) ? 1 : 0;
             L56: {
              if (l1 == 0L) { break L56; }
@@ -6137,10 +8097,10 @@ static int f283(State m, long l0, long l1, int l2, int l3, int l4, int l5, long 
              l1 = l9 + 248L;
              l6 = 0L;
              L57: while (true) {
-              Words.put16(b, ((int) (l1 + 6L)) - 60720, (short) Long.divideUnsigned(l0 = (((l12 = (((l11 = ((l11 - ((l13 = Long.divideUnsigned(l11, 152587890625L)) * 152587890625L)) << 26L) | (l12 & 67108863L)) - ((l11 = Long.divideUnsigned(l11, 152587890625L)) * 152587890625L)) << 26L) | ((l0 >>> 16L) & 67108863L)) - ((l12 = Long.divideUnsigned(l12, 152587890625L)) * 152587890625L)) << 16L) | (l0 & 65535L), 1000000000000L));
-              Words.put16(b, ((int) (l1 + 4L)) - 60720, (short) ((int) ((((int) (l14 = Long.divideUnsigned(l0, 100000000L))) & 0xffffffffL) % 10000L)));
-              Words.put16(b, ((int) (l1 + 2L)) - 60720, (short) (l2 = (int) (((l3 = (int) (l0 - (l14 * 100000000L))) & 0xffffffffL) / 10000L)));
-              Words.put16(b, ((int) l1) - 60720, (short) (l3 - (l2 * 10000)));
+              Words.put16(b, ((int) (l1 + 6L)) - 60448, (short) Long.divideUnsigned(l0 = (((l12 = (((l11 = ((l11 - ((l13 = Long.divideUnsigned(l11, 152587890625L)) * 152587890625L)) << 26L) | (l12 & 67108863L)) - ((l11 = Long.divideUnsigned(l11, 152587890625L)) * 152587890625L)) << 26L) | ((l0 >>> 16L) & 67108863L)) - ((l12 = Long.divideUnsigned(l12, 152587890625L)) * 152587890625L)) << 16L) | (l0 & 65535L), 1000000000000L));
+              Words.put16(b, ((int) (l1 + 4L)) - 60448, (short) ((int) ((((int) (l14 = Long.divideUnsigned(l0, 100000000L))) & 0xffffffffL) % 10000L)));
+              Words.put16(b, ((int) (l1 + 2L)) - 60448, (short) (l2 = (int) (((l3 = (int) (l0 - (l14 * 100000000L))) & 0xffffffffL) / 10000L)));
+              Words.put16(b, ((int) l1) - 60448, (short) (l3 - (l2 * 10000)));
               l12 = ((l0 = (l14 = l13 << 52L) + (l12 + (l11 << 26L))) >>> 42L) | ((l13 = (l13 >>> 12L) + ((l0 + Long.MIN_VALUE < l14 + Long.MIN_VALUE) ? 1L : 0L)) << 22L);
               l11 = l13 >>> 4L;
               l1 = l1 + 8L;
@@ -6155,7 +8115,7 @@ static int f283(State m, long l0, long l1, int l2, int l3, int l4, int l5, long 
              if (l0 + Long.MIN_VALUE < -9223372036854765808L) { break L58; }
              l1 = (l9 + 248L) + (l6 << 1L);
              L59: while (true) {
-              Words.put16(b, ((int) l1) - 60720, (short) ((l11 = l0) - ((l0 = Long.divideUnsigned(l11, 10000L)) * 10000L)));
+              Words.put16(b, ((int) l1) - 60448, (short) ((l11 = l0) - ((l0 = Long.divideUnsigned(l11, 10000L)) * 10000L)));
               l1 = l1 + 2L;
               l6 = l6 + 1L;
               if (l11 + Long.MIN_VALUE > -9223372036754775809L) { continue L59; }
@@ -6170,10 +8130,10 @@ static int f283(State m, long l0, long l1, int l2, int l3, int l4, int l5, long 
              if (l6 == 0L) { break L60; }
              l12 = l9 + 248L;
              L61: while (true) {
-              Words.put32(b, ((int) ((l13 = (l9 + 13L) + l1) + -4L)) - 60720, Words.get32(b, ((int) (l11 + (((((l4 = (l3 = Words.get16(b, ((int) l12) - 60720) & 0xffff) - ((l2 = (int) ((l3 & 0xffffffffL) / 100L)) * 100)) - ((l4 = (int) (((l4 & 255) & 0xffffffffL) / 10L)) * 10)) << 2) & 0xffffffffL) & 252L))) - 60720));
-              Words.put32(b, ((int) (l13 + -7L)) - 60720, Words.get32(b, ((int) (l11 + ((l4 << 2) & 0xffffffffL))) - 60720));
-              Words.put32(b, ((int) (l13 + -10L)) - 60720, Words.get32(b, ((int) (l11 + ((((int) ((l2 & 0xffffffffL) % 10L)) << 2) & 0xffffffffL))) - 60720));
-              Words.put32(b, ((int) (l13 + -13L)) - 60720, Words.get32(b, ((int) (l11 + ((((int) ((l3 & 0xffffffffL) / 1000L)) << 2) & 0xffffffffL))) - 60720));
+              Words.put32(b, ((int) ((l13 = (l9 + 13L) + l1) + -4L)) - 60448, Words.get32(b, ((int) (l11 + (((((l4 = (l3 = Words.get16(b, ((int) l12) - 60448) & 0xffff) - ((l2 = (int) ((l3 & 0xffffffffL) / 100L)) * 100)) - ((l4 = (int) (((l4 & 255) & 0xffffffffL) / 10L)) * 10)) << 2) & 0xffffffffL) & 252L))) - 60448));
+              Words.put32(b, ((int) (l13 + -7L)) - 60448, Words.get32(b, ((int) (l11 + ((l4 << 2) & 0xffffffffL))) - 60448));
+              Words.put32(b, ((int) (l13 + -10L)) - 60448, Words.get32(b, ((int) (l11 + ((((int) ((l2 & 0xffffffffL) % 10L)) << 2) & 0xffffffffL))) - 60448));
+              Words.put32(b, ((int) (l13 + -13L)) - 60448, Words.get32(b, ((int) (l11 + ((((int) ((l3 & 0xffffffffL) / 1000L)) << 2) & 0xffffffffL))) - 60448));
               l12 = l12 + 2L;
               l1 = l1 + -12L;
               if ((l6 = l6 + -1L) != 0L) { continue L61; }
@@ -6184,7 +8144,7 @@ static int f283(State m, long l0, long l1, int l2, int l3, int l4, int l5, long 
             l3 = (int) l0;
             l0 = l9 + 9L;
             L62: while (true) {
-             Words.put32(b, ((int) (l0 + l1)) - 60720, Words.get32(b, ((int) (l11 + ((((l3 - ((l2 = (int) (((l3 & 65535) & 0xffffffffL) / 10L)) * 10)) << 2) & 0xffffffffL) & 65532L))) - 60720));
+             Words.put32(b, ((int) (l0 + l1)) - 60448, Words.get32(b, ((int) (l11 + ((((l3 - ((l2 = (int) (((l3 & 65535) & 0xffffffffL) / 10L)) * 10)) << 2) & 0xffffffffL) & 65532L))) - 60448));
              l1 = l1 + -3L;
              l3 = l2;
              if ((l6 = l6 + -1L) != 0L) { continue L62; }
@@ -6196,18 +8156,18 @@ static int f283(State m, long l0, long l1, int l2, int l3, int l4, int l5, long 
            if ((t64 != 0 ? t63 : 0) != 0) { break L50; }
            if ((l16 & 255) == 0) { break L48; }
           }
-          Words.put32(b, ((int) l9) - 60470, 0);
-          b[((int) l9) - 60471] = (byte) l19;
-          b[((int) l9) - 60472] = (byte) l18;
-          Words.put16(b, ((int) l9) - 60466, (short) 0);
+          Words.put32(b, ((int) l9) - 60198, 0);
+          b[((int) l9) - 60199] = (byte) l19;
+          b[((int) l9) - 60200] = (byte) l18;
+          Words.put16(b, ((int) l9) - 60194, (short) 0);
           final int t65 = (int) l9;
           final long t66 = ((l3 = (l5 == 1) ? 1 : 0) != 0) ? 69676L : 69892L;
           final long t67 = l3 != 0 ? 69244L : 69460L;
           final int t68 = l4;
-          Words.put64(b, t65 - 60464, t68 != 0 ? t66 : t67);
+          Words.put64(b, t65 - 60192, t68 != 0 ? t66 : t67);
           l1 = Core2.f49(m, l9 + 13L, l9 + 248L, l16, 0, l0, l1);
          }
-         Words.put64(b, ((int) l8) - 60720, l0 = 235L - l1);
+         Words.put64(b, ((int) l8) - 60448, l0 = 235L - l1);
          l3 = 6;
          if (l7 + Long.MIN_VALUE < l0 + Long.MIN_VALUE) { break L1; }
          L69: {
@@ -6217,22 +8177,22 @@ static int f283(State m, long l0, long l1, int l2, int l3, int l4, int l5, long 
          l3 = 0;
          break L1;
         }
-        Words.put64(b, ((int) l8) - 60720, 0L);
+        Words.put64(b, ((int) l8) - 60448, 0L);
         l3 = 3;
         break L1;
        }
        throw State.trap();
       }
-      Words.put64(b, ((int) l8) - 60720, 0L);
+      Words.put64(b, ((int) l8) - 60448, 0L);
       break L2;
      }
-     Words.put64(b, ((int) l8) - 60720, 0L);
+     Words.put64(b, ((int) l8) - 60448, 0L);
      break L2;
     }
-    Words.put64(b, ((int) l8) - 60720, 0L);
+    Words.put64(b, ((int) l8) - 60448, 0L);
     break L2;
    }
-   Words.put64(b, ((int) l8) - 60720, 0L);
+   Words.put64(b, ((int) l8) - 60448, 0L);
   }
   l3 = 8;
  }
