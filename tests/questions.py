@@ -40,6 +40,7 @@ OF_CALLS = {
     "The new text": ["quantities_to_figures", "none"],
     "Whole, or not at all": ["quantities_to_figures", "none"],
     "Values of phrases": ["phrases"],
+    "Sums of money": ["text_to_figures", "none"],
     "Phrases in figures": ["text_to_figures", "none"],
     "Amounts below zero": ["read_signed_amount"],
     "Amounts as typed": ["read_typed_amount"],

@@ -189,6 +189,7 @@ VALUES = {
     PhraseKind.DURATION: duration_of,
     PhraseKind.HALF: decimal_of,
     PhraseKind.LENGTH: decimal_of,
+    PhraseKind.MONEY: decimal_of,
     PhraseKind.SCORE: lambda phrase: ":".join(map(str, phrase.value)),
     PhraseKind.RANGE: lambda phrase: "..".join(map(over, phrase.value)),
 }
