@@ -199,40 +199,14 @@ def code_in_figures(code: Code) -> Optional[str]:
     return "".join(" " if c == " " else "-" if c == "-" else digits_of(c) for c in code.text)
 
 
-Amount = NamedTuple("Amount", [("start", int), ("end", int), ("text", str), ("value", str), ("is_one_character", bool)])
-_N = "[零〇一二两三四五六七八九十百千万亿点]+"
-_J = "[一二两三四五六七八九]"
-AMOUNT = re.compile(
-    f"(?P<y>{_N})(?:块钱|块|元)(?:(?P<j>{_J})(?:毛钱|毛|角)(?:(?P<f>{_J})分?)?|零(?P<z>{_J})分?|(?P<b>{_J})(?![毛角分个只斤条件块元百千万一二三四五六七八九十点年月]))|(?P<m>{_J})[毛角](?:(?P<g>{_J})分?)?|(?P<k>{_N})块钱"
-)
-
-
-def amount_at(text: str, start: int) -> Optional[Amount]:
-    """A part of the rules of money: 三块五, 两毛五, 三元五角, 五块钱."""
-    if at(text, start - 1) in numbers.DIGITS or at(text, start - 1) in numbers.RANKS:
-        return None
-    found = AMOUNT.match(text, start)
-    if found is None:
-        return None
-    yuan = found["y"] or found["k"] or "零"
-    value = numbers.quantity(yuan)
-    if value is None or value.denominator != 1:
-        return None
-    jiao = found["j"] or found["b"] or found["m"]
-    fen = found["f"] or found["z"] or found["g"]
-    digits = lambda it: "0" if it is None else digits_of(it.replace("两", "二"))
-    decimals = (digits(jiao) + digits(fen)).rstrip("0")
-    return Amount(start, found.end(), found[0], str(value.numerator) + ("." + decimals if decimals else "") + "元", False)
-
-
-def text_to_figures(string: str, codes: bool = True, amounts: bool = False, **chosen: Any) -> str:
+def text_to_figures(string: str, codes: bool = True, **chosen: Any) -> str:
     """Numerals, phrases and codes in figures."""
     text, found = phrases.items_of(string)
     items: List[Any] = []
     place = 0
     starts = {it.start: it for it in found}
     while place < len(string):
-        item: Any = (code_at(string, place) if codes else None) or (amount_at(string, place) if amounts else None)
+        item: Any = code_at(string, place) if codes else None
         known = starts.get(place)
         if isinstance(item, Code) and known is not None and known.end > item.end:
             item = known
@@ -246,8 +220,6 @@ def text_to_figures(string: str, codes: bool = True, amounts: bool = False, **ch
     for it in items:
         if isinstance(it, Code):
             news.append(code_in_figures(it))
-        elif isinstance(it, Amount):
-            news.append(it.value)
         else:
             news.append(phrases.new_text(text, it, Options(**chosen)))
     return numbers.put_in_chains(text.line, items, news)
@@ -255,7 +227,7 @@ def text_to_figures(string: str, codes: bool = True, amounts: bool = False, **ch
 
 def from_speech(string: str) -> str:
     """Recognised speech in figures: as short as possible, with codes and amounts."""
-    return text_to_figures(string, codes=True, amounts=True, compact=True)
+    return text_to_figures(string, codes=True, compact=True)
 
 
 # ---- As it is spoken: signs as they are meant --------------------------------------------------
@@ -553,6 +525,10 @@ def speak(text: phrases.Text, item: Any, one: str) -> Optional[Spoken]:
             first = one_by_one(pieces[0], one) if len(pieces) == 4 else spelled(int(pieces[0]))
             return Spoken(item.start, item.end, "点".join([first] + [one_by_one(it, one) for it in pieces[1:]]))
         return Spoken(item.start, item.end, one_by_one(item.text, one))
+    if isinstance(item, Phrase) and item.kind == "money":
+        found = text.by_start[item.slots[0].start]
+        spoken = said_expression(text.line.text, found)
+        return spoken and Spoken(spoken.start, max(spoken.end, item.end), spoken.said + text.line.text[spoken.end : item.end])
     if isinstance(item, Phrase):
         said = said_phrase(text, item)
         if said is None:
