@@ -1,86 +1,209 @@
 """A reference model of codes in a text, of a text as it is spoken, and of the way back from recognised speech.
 
-It was written from the sections 'Codes in a text', 'A text as it is spoken' and 'From recognised
-speech' of docs/RULES.md, over the model of phrases in phrases.py. Amounts of money have rules of their own;
-the ones here are a small part of them, so that sentences can be scored.
+It follows the sections 'Codes in a text', 'A text as it is spoken' and 'From recognised speech' of
+docs/RULES.md, over the model of phrases in phrases.py. Its author wrote those rules too, after sentences
+and before there was code. Positions count characters.
 """
 
 import re
-from functools import lru_cache
-from typing import Any, Iterator, List, NamedTuple, Optional, Tuple, Union
+from fractions import Fraction
+from typing import Any, List, NamedTuple, Optional, Tuple
 
 import phrases
 import text as numbers
 from phrases import Phrase, Slot, ascii_of
-from text import Found, Options, Quantity, at, has_figure, is_figure, is_han, is_letter
+from text import Found, Options, at, has_figure, is_figure, is_han, is_letter
+
+LINKS = numbers.LINKS
+FIGURE = "[0-9０-９]"
+
+# ---- Words -----------------------------------------------------------------------------------
+
+# After one of these words a number is a code.
+WORDS_OF_CODES = """
+    电话 電話 手机 手機 座机 號碼 号码 热线 熱線 专线 專線 客服 传真 傳真 拨打 撥打 请拨 請撥 致电 致電 分机 分機 转 轉 区号 區號 验证码 驗證碼
+    校验码 提取码 取件码 取餐码 邀请码 动态码 识别码 邮政编码 密码 密碼 代码 代碼 邮编 郵編 编号 編號 单号 單號 订单 訂單 卡号 卡號 账号 帳號 帐号 尾号
+    尾號 学号 學號 工号 工號 票号 证号 證號 批号 批號 房号 房號 房间号 房間號 机号 機號 序列号 流水号 端口 端口号 后四位 末四位 版本号 车次 車次 QQ 群号 號碼為
+""".split()
+BEFORE_CODE = re.compile(f"(?:{'|'.join(WORDS_OF_CODES)})(?:设置?为|改?[为為]|是)?[：:；; ]?\\Z")
+CALLED = re.compile("[打拨撥叫]\\Z")
+EMERGENCIES = frozenset("110 112 114 119 120 122".split())
+SERVICES = frozenset("10000 10010 10086 12123 12306 12315 12333 12345 12348 12366 12388 95588".split())
+
+# Measure words. 两 is said before these, and before 万, 亿 and so on of course not.
+TWICE = frozenset(
+    "个個位名人口户戶家只隻头頭匹条條根支枝张張片块塊页頁本册冊份篇件套台臺辆輛架艘部间間项項种種样樣批对對双雙副次回场場遍趟轮輪天年周週岁歲晚夜小分秒元圆圓角毛米"
+    "公千克斤吨噸升里尺寸亩畝平立厘釐毫微海英美欧歐港倍瓶杯碗盒箱包袋桶罐勺颗顆粒滴朵棵株封枚款门門节節组組队隊道成度点點国國球室厅廳课課顿頓餐声聲句步站集把剂劑"
+)
+MEASURE_WORDS = TWICE | frozenset("月日号號楼樓级級期折层層章段班线線路时時百万萬亿億萬筆笔字行起例股手栋棟幢座日份年")
+NO_TWICE = re.compile("年[级級]|人[民称]|小[学學组組]|分之|家庭|部[门門]|本科|成都|国[道籍]|平方根|路")
+GAMES = "[领領]先|[战戰]?[胜勝]|[负負]|[击擊][败敗]|逆[转轉]|[获獲][胜勝]|淘汰|落[后後败敗]|[险險大完小][胜勝]|拿下|[战戰]平|横[扫掃]|力克|不[敌敵]|[惜]?[败敗]"
+SCORED = re.compile(GAMES)
+
+
+def is_counted(text: str, end: int) -> bool:
+    """A measure word is after a number; one blank may be between."""
+    return at(text, end + 1 if at(text, end) == " " else end) in MEASURE_WORDS
+
 
 # ---- Codes -----------------------------------------------------------------------------------
 
-# A digit of a code: a figure, or a Chinese digit or 幺; a code has digits of one kind.
-FIGURE, CHINESE = "[0-9０-９]", "[零〇一二三四五六七八九幺]"
-WORDS_OF_CODES = (
-    "电话 電話 手机 手機 手机号 手機號 座机 号码 號碼 热线 熱線 客服 传真 傳真 拨打 撥打 请拨 請撥 致电 致電 分机 分機 转 轉 "
-    "验证码 驗證碼 校验码 提取码 取件码 取餐码 邀请码 动态码 密码 密碼 代码 代碼 邮编 郵編 邮政编码 区号 識別碼 识别码 条码 "
-    "编号 編號 单号 單號 订单号 卡号 卡號 账号 帳號 帐号 尾号 尾號 学号 學號 工号 工號 票号 证号 證號 身份证号 车牌号 批号 房号 房间号 "
-    "序列号 流水号 发票号 端口 端口号 后四位 末四位 股票代码 版本号 工单号 航班号 车次 QQ QQ号 群号"
-).split()
-BEFORE_CODE = re.compile(f"(?:{'|'.join(WORDS_OF_CODES)})[：:; ；]?[是为為]?[：:; ；]?\\Z")
-CALLED = re.compile("[打拨叫]\\Z")
-WELL_KNOWN = "12306 12315 12345 12123 12333 12348 12366 12320 12329 12355 12388 10086 10010 10000 95588 95533 95555 96110".split()
-EMERGENCIES = "110 112 114 117 119 120 121 122".split()
-# After a number: a measure word. 两 is said before the first ones.
-TWICE = (
-    "个個位名人口户戶家只隻头頭匹条條根支枝张張片块塊页頁本册冊份篇件套台臺辆輛架艘部间間项項种種样樣批对對双雙副次回场場遍趟轮輪天年周週"
-    "岁歲晚夜小分秒元圆圓角毛米公千克斤吨噸升里尺寸亩畝平立厘釐毫微海英美欧歐港倍瓶杯碗盒箱包袋桶罐勺颗顆粒滴朵棵株封枚款门門节節组組队隊道"
-    "成度点點国國球室厅廳课課顿頓餐声聲句步站集把层層"
-)
-MEASURE_WORDS = TWICE + "月日号號楼樓级級期折章段班线線路时時百万萬亿億筆笔字行户架起例股手吋两兩匹票瓦伏安卡代后後比以"
-COUNTED = frozenset(MEASURE_WORDS)
-
 
 class Code(NamedTuple):
-    """A code, and the characters of its digits: `text` has its groups and points too."""
+    """A code. Of its kinds `version` has points, `bars` has bars that are spoken."""
 
     start: int
     end: int
     text: str
-    kind: str = "digits"  # digits, version
+    kind: str = "digits"
     is_one_character: bool = False
 
 
-def groups(digit: str) -> List[str]:
-    """The shapes of codes in groups: a mobile number, a landline, 400, a card."""
-    zero, one = ("[0０]", "[1１]") if digit == FIGURE else ("[零〇]", "[一幺]")
-    mobile = f"{one}{{D}}{{{{2}}}}([- ]?){{D}}{{{{4}}}}\\1{{D}}{{{{4}}}}".format(D=digit)
-    landline = f"{zero}{digit}{{2,3}}[- ]{digit}{{7,8}}"
-    service = f"[4８8四八]{zero}{zero}([- ]){digit}{{3,4}}\\1{digit}{{3,4}}"
-    card = f"{digit}{{4}}(?: {digit}{{4}}){{2,4}}(?: {digit}{{1,3}})?"
-    return [mobile, landline, service, card]
-
-
-SHAPES = {it: [re.compile(shape) for shape in groups(it)] for it in (FIGURE, CHINESE)}
-RUNS = {it: re.compile(f"{it}+") for it in (FIGURE, CHINESE)}
-POINTED = {FIGURE: re.compile(f"{FIGURE}+(?:\\.{FIGURE}+){{2,}}"), CHINESE: re.compile(f"[零〇一二三四五六七八九幺十]+(?:[点點]{CHINESE}+){{2,}}")}
-BESIDE = frozenset("_-./\\:=#@^*$&<+%％‰~～")
+def code_digit(c: str) -> str:
+    """The digit of a character of a code, in ASCII, or nothing."""
+    if c == "幺":
+        return "1"
+    if is_figure(c) or c in "零〇一二三四五六七八九":
+        return numbers.ascii_figures(c)
+    return ""
 
 
 def digits_of(text: str) -> str:
-    """The digits of a code in ASCII figures."""
-    return "".join("1" if c == "幺" else numbers.ascii_figures(c) for c in text if c == "幺" or c in numbers.DIGITS or is_figure(c))
+    return "".join(map(code_digit, text))
 
 
-def is_digit_of(kind: str, c: str) -> bool:
-    return re.fullmatch(kind, c) is not None
+def is_of_code(c: str, chinese: bool) -> bool:
+    return code_digit(c) != "" and is_figure(c) != chinese
 
 
-def touches(text: str, start: int, end: int) -> bool:
-    """A letter, a figure or a sign is directly beside."""
-    before, after, then = at(text, start - 1), at(text, end), at(text, end + 1)
-    if is_letter(before) or is_figure(before) or before in BESIDE:
-        return True
-    if after in ".-:~～":
+def run_end(text: str, start: int, chinese: bool) -> int:
+    while is_of_code(at(text, start), chinese):
+        start += 1
+    return start
+
+
+BESIDE = frozenset("_-./\\:=#@^*$&<+%％‰~～")
+
+
+def touches_before(text: str, start: int) -> bool:
+    c = at(text, start - 1)
+    return is_letter(c) or is_figure(c) or c in BESIDE
+
+
+def touches_after(text: str, end: int) -> bool:
+    c, then = at(text, end), at(text, end + 1)
+    if c in ".-:~～":
         return is_letter(then) or is_figure(then)
-    return is_letter(after) or is_figure(after) or after in "_/\\=#@^*$&<+%％‰"
+    return is_letter(c) or is_figure(c) or c in "_/\\=@^*$&<+%％‰"
+
+
+def groups_at(text: str, start: int, chinese: bool) -> List[Tuple[int, str]]:
+    """Stretches of digits from a place on, each with the sign after it: a blank, `-`, `.`, 杠 or 点."""
+    signs = "-杠 点點" if chinese else "-. "
+    found = []
+    end = run_end(text, start, chinese)
+    while True:
+        sign = at(text, end)
+        is_joined = sign in signs and is_of_code(at(text, end + 1), chinese)
+        found.append((end - start, sign if is_joined else ""))
+        if not is_joined:
+            return found
+        start, end = end + 1, run_end(text, end + 1, chinese)
+
+
+def end_of_groups(start: int, groups: List[Tuple[int, str]]) -> int:
+    return start + sum(length + len(sign) for length, sign in groups)
+
+
+def is_mobile(run: str) -> bool:
+    return re.fullmatch("1[3-9][0-9]{9}", digits_of(run)) is not None
+
+
+def has_shape_of_number(text: str, start: int, groups: List[Tuple[int, str]]) -> bool:
+    """The groups of a mobile number, a landline, 400 or 800, or a card."""
+    lengths = [length for length, _ in groups]
+    digits = digits_of(text[start : end_of_groups(start, groups)])
+    if len({sign for _, sign in groups[:-1]}) > 1 or groups[0][1] not in ("-", " "):
+        return False
+    if lengths == [3, 4, 4]:
+        return is_mobile(digits)
+    if len(lengths) == 2:
+        return digits[0] == "0" and lengths[0] in (3, 4) and lengths[1] in (7, 8)
+    if digits[:3] in ("400", "800"):
+        return lengths in ([3, 3, 4], [3, 4, 3])
+    return len(lengths) >= 3 and groups[0][1] == " " and all(it == 4 for it in lengths[:-1]) and lengths[-1] <= 4
+
+
+def is_after_word(text: str, start: int) -> bool:
+    return BEFORE_CODE.search(text[max(0, start - 12) : start]) is not None
+
+
+def is_date_like(digits: List[str]) -> bool:
+    """2026.1.15 may be a date."""
+    return len(digits) == 3 and len(digits[0]) == 4 and int(digits[1]) <= 12 and int(digits[2]) <= 31
+
+
+NO_VERSION = re.compile("[点點十百千万亿分刻半时時]|个|個")
+
+
+def pointed_at(text: str, start: int, chinese: bool) -> Optional[Code]:
+    """An address of four numbers, or a version of three."""
+    groups = groups_at(text, start, chinese)
+    ten = chinese and at(text, start) == "十"
+    points = "点點" if chinese else "."
+    if not 3 <= len(groups) <= 4 or any(sign not in points for _, sign in groups[:-1]) or ten:
+        return None
+    end = end_of_groups(start, groups)
+    written = text[start:end]
+    parts = [digits_of(it) for it in re.split("[.点點]", written)]
+    if any(len(it) > 4 for it in parts) or (len(parts) == 4 and any(int(it) > 255 for it in parts)):
+        return None
+    if chinese:
+        is_word = at(text, end - 1) == "一" and at(text, end) in "定直起样樣些下"
+        return None if NO_VERSION.match(text, end) or is_word else Code(start, end, written, "version")
+    is_free = not touches_before(text, start) or (at(text, start - 1) in "vV" and not is_letter(at(text, start - 2)))
+    return Code(start, end, written, "version") if is_free and not touches_after(text, end) and not is_date_like(parts) else None
+
+
+def grouped_at(text: str, start: int, chinese: bool) -> Optional[Code]:
+    """A number in groups, by its shape, or with bars after a word of codes."""
+    groups = groups_at(text, start, chinese)
+    if len(groups) < 2 or touches_before(text, start):
+        return None
+    end = end_of_groups(start, groups)
+    if touches_after(text, end):
+        return None
+    if has_shape_of_number(text, start, groups):
+        return Code(start, end, text[start:end])
+    has_bars = all(sign in "-杠" for _, sign in groups)
+    return Code(start, end, text[start:end], "bars") if has_bars and is_after_word(text, start) else None
+
+
+ROOM = re.compile("室|房|教室|病房|包[厢廂间間]|[号號]房|会议室|會議室|[国國省县縣]道|航班")
+BUILDING = re.compile("(?:[楼樓栋棟幢座]|单元|單元)\\Z")
+OF_YEAR = re.compile("[级級届屆款版]|[财財学學]年|[赛賽]季")
+
+
+def is_code_of_figures(text: str, start: int, end: int) -> bool:
+    """A stretch of figures, with nothing beside it that goes on, is a code."""
+    run, front = ascii_of(text[start:end]), text[max(0, start - 3) : start]
+    if is_mobile(run) or (run in SERVICES and not is_counted(text, end)):
+        return True
+    if run[0] == "0" and len(run) > 1:
+        return len(run) > 2 or at(text, end) not in "月日号號时時分秒点點元"
+    if run in EMERGENCIES and not is_counted(text, end):
+        return re.search("[打拨撥叫](?:1[0-9]{2}[或和、])?\\Z", text[max(0, start - 5) : start]) is not None
+    if 3 <= len(run) <= 4 and (ROOM.match(text, end) or (BUILDING.search(front) and not is_counted(text, end))):
+        return True
+    if len(run) == 3 and re.match("路(?![程上口])", text[end : end + 2]):
+        return True
+    if re.fullmatch("(?:19|20)[0-9]{2}", run) and (OF_YEAR.match(text, end) or numbers.is_in_title(numbers.Line(text), start)):
+        return True
+    if re.fullmatch("[056789][05]", run) and at(text, end) in "后後" and at(text, end + 1) not in "付实實再":
+        return at(text, start - 1) not in "减減共满滿付加"
+    if is_counted(text, end) or at(text, start - 1) in "¥￥$":
+        return False
+    return len(run) >= 7 or (len(run) >= 3 and is_after_word(text, start))
 
 
 def is_rising(run: str) -> bool:
@@ -88,186 +211,167 @@ def is_rising(run: str) -> bool:
     return all(a <= b for a, b in zip(values, values[1:]))
 
 
-def is_date_like(parts: List[str]) -> bool:
-    return len(parts) == 3 and len(parts[0]) == 4 and parts[0][0] in "12" and int(parts[1]) <= 12 and int(parts[2]) <= 31
+AFTER_NAME = re.compile("次|[号號]|航班|[高快]速|[国國]道|出口|[登检]|[检檢]票口|航站[楼樓]")
 
 
-def pointed_at(text: str, start: int, kind: str) -> Optional[Code]:
-    """An address, or a version with two points or more."""
-    found = POINTED[kind].match(text, start)
-    if found is None:
-        return None
-    if kind == CHINESE:
-        if at(text, found.end()) in "点點十百千万亿分刻半时" or re.match("一[定直起样下些]", text[found.end() - 1 :]):
-            return None
-        return Code(start, found.end(), found[0], "version")
-    if is_date_like(found[0].split(".")):
-        return None
-    is_free = not touches(text, start, found.end()) or (at(text, start - 1) in "vV" and not is_letter(at(text, start - 2)) and not touches("," + text[start:], 1, found.end() - start + 1))
-    return Code(start, found.end(), found[0], "version") if is_free else None
-
-
-def is_after_word(text: str, start: int) -> bool:
-    return BEFORE_CODE.search(text[max(0, start - 12) : start]) is not None
-
-
-def is_mobile(run: str) -> bool:
-    return re.fullmatch("1[3-9][0-9]{9}", digits_of(run)) is not None
-
-
-def is_counted(text: str, end: int) -> bool:
-    """A measure word is after a number; one blank may be between."""
-    return at(text, end + 1 if at(text, end) == " " else end) in COUNTED
-
-
-def is_code_of_figures(text: str, start: int, end: int) -> bool:
-    """A stretch of figures is a code."""
-    run, after = ascii_of(text[start:end]), text[end : end + 3]
-    if is_mobile(run):
-        return True
-    if run[0] == "0" and len(run) > 1 and at(text, end) not in "年月日时时分秒点":
-        return True
-    if run in WELL_KNOWN and not is_counted(text, end):
-        return True
-    if run in EMERGENCIES and (CALLED.search(text[:start]) or re.search("[打拨叫]1[12][0-9][或和、]\\Z", text[:start])):
-        return True
-    if len(run) >= 3 and is_after_word(text, start) and not is_counted(text, end):
-        return True
-    if len(run) in (3, 4) and (re.match("室|房(?!间)|房间|教室|病房|包[厢间]|国道|省道|县道|航班|号?会议室", after) or re.search("[楼樓栋棟幢]\\Z|单元\\Z", text[:start])) and not re.match("[元人]", after):
-        return True
-    if len(run) == 3 and re.match("路(?![程上口])", after):
-        return True
-    if re.fullmatch("(?:19|20)[0-9]{2}", run) and re.match("[级級届屆款版]|财年|学年|赛季|年", after):
-        return at(text, end) != "年"
-    if re.fullmatch("[056789][05]", run) and after[:1] in "后後" and at(text, start - 1) not in "减減共满滿付加":
-        return True
-    return len(run) >= 7 and not is_counted(text, end) and at(text, start - 1) not in "¥￥"
+def is_after_letters(text: str, start: int) -> bool:
+    """One to three capital letters are directly before, and no letter, figure or sign before these."""
+    i = start
+    while i > start - 4 and "A" <= at(text, i - 1) <= "Z":
+        i -= 1
+    return 1 <= start - i <= 3 and not is_letter(at(text, i - 1)) and not touches_before(text, i)
 
 
 def is_code_of_digits(text: str, start: int, end: int) -> bool:
-    """A stretch of Chinese digits and 幺 is a code."""
+    """A stretch of Chinese digits is a code."""
     run = text[start:end]
-    if is_after_word(text, start) and len(run) >= 3:
-        return True
-    if "幺" in run:
-        return len(run) >= 3
-    if is_mobile(run) or (run[0] in "零〇" and len(run) >= 3):
+    if is_letter(at(text, start - 1)):
+        return is_after_letters(text, start) and (len(run) >= 3 or AFTER_NAME.match(text, end) is not None)
+    if len(run) < 3:
+        return False
+    if "幺" in run or run[0] in "零〇" or is_mobile(run) or is_after_word(text, start):
         return True
     return len(run) >= 7 and not is_rising(run)
 
 
+def run_at(text: str, start: int, chinese: bool) -> Optional[Code]:
+    end = run_end(text, start, chinese)
+    if not chinese:
+        line = numbers.Line(text)
+        if any(at(text, i) in ",，" and numbers.comma_joins(line, i) for i in (start - 1, end)):
+            return None
+        if is_after_letters(text, start) and not touches_after(text, end):
+            return Code(start, end, text[start:end]) if end - start >= 3 else None
+        if touches_before(text, start) or touches_after(text, end):
+            return None
+        return Code(start, end, text[start:end]) if is_code_of_figures(text, start, end) else None
+    if at(text, end) in "点點年月十百千万萬亿億两兩廿" or is_letter(at(text, end)):
+        return None
+    return Code(start, end, text[start:end]) if is_code_of_digits(text, start, end) else None
+
+
 def code_at(text: str, start: int) -> Optional[Code]:
-    """The code at a place."""
-    kind = FIGURE if is_figure(at(text, start)) else CHINESE
-    if not is_digit_of(kind, at(text, start)) and at(text, start) != "十":
-        return None
+    """The code that begins at a place."""
     before = at(text, start - 1)
-    if is_figure(before) or (kind == CHINESE and (before in numbers.DIGITS or before in "幺十百千万亿点點")):
+    chinese = not is_figure(at(text, start))
+    if code_digit(at(text, start)) == "" or is_of_code(before, chinese):
         return None
-    pointed = pointed_at(text, start, kind)
-    if pointed is not None:
-        return pointed
-    for shape in SHAPES[kind]:
-        found = shape.match(text, start)
-        if found and not is_digit_of(kind, at(text, found.end())) and not touches(text, start, found.end()):
-            if shape is not SHAPES[kind][0] or is_mobile(found[0]):
-                return Code(start, found.end(), found[0])
-    found = RUNS[kind].match(text, start)
-    if found is None:
+    if chinese and before in "十百千万萬亿億点點第":
         return None
-    end = found.end()
-    if kind == FIGURE:
-        if touches(text, start, end) or at(text, start - 1) in ",，" and is_figure(at(text, start - 2)):
-            return None
-        if at(text, end) in "," and is_figure(at(text, end + 1)):
-            return None
-        return Code(start, end, found[0]) if is_code_of_figures(text, start, end) else None
-    if at(text, end) in "点點年月百千万萬亿億十两廿" or is_letter(at(text, end)) or is_letter(before):
-        return None
-    return Code(start, end, found[0]) if is_code_of_digits(text, start, end) else None
+    return pointed_at(text, start, chinese) or grouped_at(text, start, chinese) or run_at(text, start, chinese)
 
 
 # ---- In figures, with codes ------------------------------------------------------------------
+
+ADDRESSED = re.compile("[号號](?:楼|樓|院|线|線|柜|櫃|门|門|口|出口|窗|机|機|桌|床|车|車)|[单單]元|站[台臺]|[检檢]票口|登[机機]口|[诊診]室")
+BUILT = re.compile("[栋棟幢]")
+
+
+MEASURED = re.compile("分[钟鐘](?!热度|熱度)|公[里斤]|千克|[厘毫]米|毫[升克]|平方米|摄氏度|攝氏度")
+
+
+def single_at(text: str, start: int) -> Optional[Code]:
+    """One Chinese digit of an address or a measure, or of a key, as in 三号楼, 六栋一单元, 五公里."""
+    c, after = at(text, start), at(text, start + 1)
+    if c not in "零一二两三四五六七八九十" or at(text, start - 1) in numbers.DIGITS or at(text, start - 1) in numbers.RANKS:
+        return None
+    if at(text, start - 1) in "第这這那每几幾" or is_letter(at(text, start - 1)):
+        return None
+    is_built = BUILT.match(text, start + 1) and (c != "一" or code_digit(at(text, start + 2)) != "")
+    is_measured = c not in "零一" and MEASURED.match(text, start + 1) is not None
+    is_key = at(text, start - 1) == "按" and not is_han(after) and code_digit(after) == ""
+    if ADDRESSED.match(text, start + 1) or is_built or is_key or is_measured:
+        return Code(start, start + 1, c, "single", True)
+    return None
 
 
 def code_in_figures(code: Code) -> Optional[str]:
     if has_figure(code.text):
         return None
-    if code.kind == "version":
-        parts = re.split("[点點]", code.text)
-        return ".".join(str(numbers.read_by_itself(it)) if "十" in it else digits_of(it) for it in parts)
-    return "".join(" " if c == " " else "-" if c == "-" else digits_of(c) for c in code.text)
+    if code.kind == "single":
+        return "10" if code.text == "十" else numbers.ascii_figures(code.text)
+    signs = {"点": ".", "點": ".", "杠": "-", " ": " ", "-": "-"}
+    return "".join(signs[c] if c in signs else code_digit(c) for c in code.text)
+
+
+def items_with_codes(string: str) -> Tuple[phrases.Text, List[Any]]:
+    """The codes of a text, and its items that are in none."""
+    text, found = phrases.items_of(string)
+    starts = {it.start: it for it in found}
+    items: List[Any] = []
+    place = 0
+    while place < len(string):
+        item = code_at(string, place) or single_at(string, place)
+        known = starts.get(place)
+        if isinstance(item, Code) and isinstance(known, Phrase) and known.end > item.end:
+            item = None
+        item = item or known
+        if item is not None:
+            items.append(item)
+        place = place + 1 if item is None else item.end
+    return text, items
 
 
 def text_to_figures(string: str, codes: bool = True, **chosen: Any) -> str:
     """Numerals, phrases and codes in figures."""
-    text, found = phrases.items_of(string)
-    items: List[Any] = []
-    place = 0
-    starts = {it.start: it for it in found}
-    while place < len(string):
-        item: Any = code_at(string, place) if codes else None
-        known = starts.get(place)
-        if isinstance(item, Code) and known is not None and known.end > item.end:
-            item = known
-        item = item or known
-        if item is not None and not (items and item.start < items[-1].end):
-            items.append(item)
-            place = item.end
-        else:
-            place += 1
-    news = []
-    for it in items:
-        if isinstance(it, Code):
-            news.append(code_in_figures(it))
-        else:
-            news.append(phrases.new_text(text, it, Options(**chosen)))
+    if not codes:
+        return phrases.text_to_figures(string, **chosen)
+    text, items = items_with_codes(string)
+    options = Options(**chosen)
+    news = [code_in_figures(it) if isinstance(it, Code) else phrases.new_text(text, it, options) for it in items]
     return numbers.put_in_chains(text.line, items, news)
 
 
 def from_speech(string: str) -> str:
-    """Recognised speech in figures: as short as possible, with codes and amounts."""
-    return text_to_figures(string, codes=True, compact=True)
+    """Recognised speech in figures, with codes."""
+    return text_to_figures(string, codes=True)
 
 
 # ---- As it is spoken: signs as they are meant --------------------------------------------------
 
-# A measure in Latin letters, or a sign of one, and how it is spoken.
-MEASURES = {
-    it.split(":")[0]: it.split(":")[1]
-    for it in (
-        "kg:千克 g:克 mg:毫克 μg:微克 ug:微克 t:吨 km:千米 m:米 dm:分米 cm:厘米 mm:毫米 μm:微米 um:微米 nm:纳米 L:升 l:升 mL:毫升 ml:毫升 "
-        "s:秒 ms:毫秒 min:分钟 h:小时 Hz:赫兹 kHz:千赫兹 MHz:兆赫兹 GHz:吉赫兹 V:伏 kV:千伏 mV:毫伏 W:瓦 kW:千瓦 MW:兆瓦 GW:吉瓦 kWh:千瓦时 "
-        "mA:毫安 mAh:毫安时 Pa:帕 kPa:千帕 MPa:兆帕 hPa:百帕 kJ:千焦 kcal:千卡 dB:分贝 mmHg:毫米汞柱 Ω:欧姆 lx:勒克斯 "
-        "km/h:千米每小时 m/s:米每秒 mg/L:毫克每升 g/L:克每升 mmol/L:毫摩尔每升 μg/m³:微克每立方米 mg/kg:毫克每千克 kg/m³:千克每立方米 L/min:升每分钟 "
-        "㎡:平方米 m²:平方米 m2:平方米 m³:立方米 m3:立方米 km²:平方千米 km2:平方千米 cm²:平方厘米 cm³:立方厘米 ㎏:千克 ㎞:千米 ㎝:厘米 ㎜:毫米 "
-        "℃:摄氏度 °C:摄氏度 ℉:华氏度 °F:华氏度 °:度 K: M: G: T: B: KB: kB: MB: GB: TB: Mbps: Gbps: px: D: S: A: C:"
-    ).split()
-}
-LONGEST_FIRST = sorted(MEASURES, key=len, reverse=True)
-LINK_SIGNS = "-~～－–—〜"
-MEANT = re.compile(f"(?<={FIGURE})(?:[{TWICE}月日号號℃][\u4e00-\u9fff]{{0,2}}|:{FIGURE}{FIGURE}|：{FIGURE}{FIGURE}|半)([-−－])(?={FIGURE})")
+# A measure in Latin letters, or a sign of one, and how it is spoken; letters that stay are not named.
+MEASURES = dict(
+    it.split(":")
+    for it in """
+    kg:千克 g:克 mg:毫克 μg:微克 µg:微克 t:吨 km:千米 m:米 dm:分米 cm:厘米 mm:毫米 μm:微米 µm:微米 nm:纳米 L:升 l:升 mL:毫升 ml:毫升
+    s:秒 ms:毫秒 min:分钟 h:小时 Hz:赫兹 kHz:千赫兹 MHz:兆赫兹 GHz:吉赫兹 V:伏 kV:千伏 mV:毫伏 W:瓦 kW:千瓦 MW:兆瓦 GW:吉瓦
+    kWh:千瓦时 mA:毫安 mAh:毫安时 Pa:帕 hPa:百帕 kPa:千帕 MPa:兆帕 kJ:千焦 kcal:千卡 dB:分贝 mmHg:毫米汞柱 Ω:欧姆
+    km/h:千米每小时 m/s:米每秒 g/L:克每升 mg/L:毫克每升 mmol/L:毫摩尔每升 μmol/L:微摩尔每升 g/cm³:克每立方厘米
+    kg/m³:千克每立方米 μg/m³:微克每立方米 mg/m³:毫克每立方米 mg/kg:毫克每千克 L/min:升每分钟 ml/min:毫升每分钟
+    ㎡:平方米 m²:平方米 m³:立方米 km²:平方千米 cm²:平方厘米 cm³:立方厘米 ㎏:千克 ㎎:毫克 ㎞:千米 ㎝:厘米 ㎜:毫米
+    ℃:摄氏度 °C:摄氏度 ℉:华氏度 °F:华氏度 °:度
+    """.split()
+)
+# These are spoken as they are written.
+LETTERS = "KB kB MB GB TB PB Mbps Gbps px K M G T B".split()
+LONGEST_FIRST = sorted([*MEASURES, *LETTERS], key=len, reverse=True)
+DEGREES = ("摄氏度", "华氏度")
+
+UNIT = f"[{''.join(sorted(TWICE))}月日号號年时時][\u4e00-\u9fff]{{0,2}}|[A-Za-zμ]{{1,4}}|℃|°C|㎡|‰|半"
+BAR_AFTER_UNIT = re.compile(f"{FIGURE} ?(?:{UNIT})([-−－])(?={FIGURE})")
+BAR_AFTER_CLOCK = re.compile(f"{FIGURE}[:：]{FIGURE}{FIGURE}([-−－])")
 
 
 def as_meant(string: str) -> str:
-    """A colon that ends a label is no colon of a time, and a bar after a unit is no minus sign."""
+    """A colon after no figure and no letter is no colon of a time; a bar after a unit, and before a figure, and one
+    after a time is no minus sign. The new characters have as many bytes."""
     chars = list(string)
     for i, c in enumerate(chars):
         if c in ":：" and not is_figure(at(string, i - 1)) and not is_letter(at(string, i - 1)):
             chars[i] = ";" if c == ":" else "；"
-    for it in MEANT.finditer(string):
-        chars[it.start(1)] = "~" if it[1] == "-" else "～"
+    for pattern in (BAR_AFTER_UNIT, BAR_AFTER_CLOCK):
+        for it in pattern.finditer(string):
+            chars[it.start(1)] = "~" if it[1] == "-" else "～"
     return "".join(chars)
 
 
 # ---- Numbers as they are spoken --------------------------------------------------------------
 
 CHINESE_DIGITS = "零一二三四五六七八九"
-UNITS = ["", "十", "百", "千"]
 
 
 def spelled(number: int) -> str:
-    """`Spelling.spelling`, in the lower case of the simple script; by 万 and 亿 up to 10^16."""
+    """`Spelling.spelling`, in the lower case of the simple script."""
     if number < 10:
         return CHINESE_DIGITS[number]
     for exponent, unit in ((16, "京"), (8, "亿"), (4, "万"), (3, "千"), (2, "百"), (1, "十")):
@@ -289,72 +393,101 @@ def one_by_one(text: str, one: str = "一") -> str:
     return "".join(one if c == "1" else CHINESE_DIGITS[int(c)] for c in digits_of(text))
 
 
-def decimal(text: str) -> str:
-    """Figures, with commas and a point or without."""
-    whole, _, decimals = ascii_of(text.replace("．", ".")).replace(",", "").replace("，", "").partition(".")
+def decimal(figures: str) -> str:
+    """Figures in ASCII, with a point or without."""
+    whole, _, decimals = figures.partition(".")
     return spelled(int(whole)) + ("点" + one_by_one(decimals) if decimals else "")
 
 
-def with_two(said: str) -> str:
-    """两 for a 二 at the start before 千, 万 or 亿."""
-    return re.sub("^二(?=[千万亿])", "两", said)
+def with_two(said: str, before: str) -> str:
+    """两 for a 二 at the start before 千, 万 or 亿, but not after 第."""
+    return said if before == "第" else re.sub("^二(?=[千万亿])", "两", said)
 
 
-NUMBER = re.compile("([-−－]?)([0-9０-９,，]+(?:[.．][0-9０-９]+)?) ?(个?[百千万亿萬億]*)([%％‰]?)")
+NUMBER = re.compile("([0-9,]+(?:[.][0-9]+)?) ?([个個]?[百千万亿萬億兆]*) ?([%％‰]?)")
 
 
-def said_number(text: str, is_money: bool = False) -> Optional[str]:
-    """An expression in figures, without its sign."""
+def said_number(text: str, is_money: bool = False, before: str = "") -> Optional[str]:
+    """An expression in figures, without a sign, after a character."""
     quantity = numbers.quantity(text)
-    found = NUMBER.fullmatch(text.replace(" %", "%"))
-    if quantity is None:
+    if quantity is None or "分之" in text:
         return None
+    found = NUMBER.fullmatch(ascii_of(text).replace("．", ".").replace("，", ","))
     if found is None:  # by turns, as 1亿2000万
-        return with_two(spelled(quantity.numerator)) if quantity.denominator == 1 else None
-    _, figures, units, share = found.groups()
+        return with_two(spelled(quantity.numerator), before) if quantity.denominator == 1 else None
+    figures, units, share = found[1].replace(",", ""), found[2], found[3]
     if is_money and "." in figures:
         figures = figures.rstrip("0").rstrip(".")
     if share:
-        if decimal(figures) == "一百" and share != "‰":
-            return "百分之百"
-        return ("千" if share == "‰" else "百") + "分之" + decimal(figures) + units
+        said = decimal(figures) + units
+        return "百分之百" if said == "一百" and share != "‰" else ("千" if share == "‰" else "百") + "分之" + said
     said = decimal(figures) + units
-    if units:
-        again = numbers.quantity(said)
-        if again is None or again.numerator * quantity.denominator != quantity.numerator * again.denominator:
-            if quantity.numerator % quantity.denominator:
-                return None
-            said = spelled(quantity.numerator // quantity.denominator)
-    return with_two(said)
+    again = numbers.quantity(said)
+    if units and (again is None or phrases.ratio_of(again) != phrases.ratio_of(quantity)):
+        if quantity.numerator % quantity.denominator:
+            return None
+        said = spelled(quantity.numerator // quantity.denominator)
+    return with_two(said, before)
 
 
 def is_twice(text: str, start: int, end: int) -> bool:
     """2 is 两: before a measure word, and not after 第."""
     after = end + 1 if at(text, end) == " " else end
-    if at(text, start - 1) == "第" or at(text, after) not in TWICE:
-        return False
-    return not re.match("年[级級]|两|小[学组]|分之|[点點][0-9零一二三四五六七八九]|家[庭]|部[门分]|本[书]?[科]|成[都]", text[after:])
+    is_counted_from = re.search("(?:第|公元前?)\\Z", text[max(0, start - 3) : start])
+    return not is_counted_from and at(text, after) in TWICE and not NO_TWICE.match(text, after)
 
 
-# ---- Measures --------------------------------------------------------------------------------
+# ---- Measures, signs and links -----------------------------------------------------------------
 
 
 def measure_at(text: str, end: int) -> Optional[Tuple[int, str]]:
     """The measure after a number, after a blank or none: where it ends, and how it is spoken."""
     start = end + 1 if at(text, end) == " " else end
+    if at(text, end) == "#" and (is_han(at(text, end + 1)) or at(text, end + 1) == "、"):
+        return end + 1, "号"
     for it in LONGEST_FIRST:
-        if text.startswith(it, start):
-            last, after = start + len(it), at(text, start + len(it))
-            if is_letter(after) or is_figure(after) or after in "²³_" or (after in "/.-" and is_letter(at(text, last + 1))):
-                continue
-            said = MEASURES[it]
-            if start > end and (said == "" or len(it) == 1 and is_letter(it)):
-                return None
-            return last, said or text[end:last]
+        if not text.startswith(it, start):
+            continue
+        last = start + len(it)
+        after, then = at(text, last), at(text, last + 1)
+        if is_letter(after) or is_figure(after) or after in "²³_" or (after in "/.-" and is_letter(then)):
+            continue
+        if start > end and (len(it) == 1 and is_letter(it)):
+            return None
+        return last, MEASURES.get(it, text[end:last])
     return None
 
 
-# ---- Phrases as they are spoken --------------------------------------------------------------
+def is_spoken_letters(said: str) -> bool:
+    return said.strip() in LETTERS
+
+
+SIGNS = {"≥": "大于等于", "≤": "小于等于", "±": "正负", "≈": "约等于"}
+CURRENCIES = {"$": "美元", "＄": "美元", "€": "欧元", "£": "英镑"}
+LINKED = re.compile(f"((?:[{''.join(sorted(TWICE))}月日号號年时時半][\u4e00-\u9fff]{{0,2}})?)([×{LINKS}]|/(?=[\u4e00-\u9fff]))(?=[-−]?{FIGURE}|[\u4e00-\u9fff])")
+NEXT_DAY = re.compile("[次翌当當][日天]|第二天|[早上中下晚凌深]")
+
+
+def tail_at(text: str, end: int, is_of_day: bool, is_money: bool) -> Tuple[int, str]:
+    """After what is spoken, a unit and a sign: a link to another number is 到, × is 乘, and / before a measure
+    word is 每."""
+    found = LINKED.match(text, end)
+    if found is None or found[2] in "到至":
+        return end, ""
+    sign, after = found[2], at(text, found.end())
+    if sign == "/":
+        is_price = found[1] != "" or is_money or text[end - 1] in "元块圆㎡" or is_letter(at(text, end - 1))
+        return (found.end(), found[1] + "每") if is_price and after in MEASURE_WORDS | {"立", "吨", "亩"} else (end, "")
+    if sign == "×":
+        is_product = re.match(f"{FIGURE}+(?:[.]{FIGURE}+)?(?![0-9.= ^])", text[found.end() :])
+        return (found.end(), found[1] + "乘") if is_product else (end, "")
+    if is_figure(after) or after in "-−":
+        return (found.end(), found[1] + "到") if sign not in "-－" or is_of_day else (end, "")
+    is_next = is_of_day and NEXT_DAY.match(text, found.end()) and found[1] == ""
+    return (found.end(), "到") if is_next else (end, "")
+
+
+# ---- Pairs of figures --------------------------------------------------------------------------
 
 
 class Spoken(NamedTuple):
@@ -365,129 +498,242 @@ class Spoken(NamedTuple):
     said: str
 
 
+PAIR = re.compile(f"({FIGURE}{{1,4}})([-/:：])({FIGURE}{{1,4}})")
+IN_SCORES = re.compile("比分[為为是]?[;；]?[0-9:：、，和与 -]*\\Z")
+SHARED = re.compile("[的以左多]|(?:片|粒|杯|勺|个|个|袋|包)")
+
+
+def pair_at(text: str, start: int) -> Optional[Spoken]:
+    """Two stretches of figures with a sign between, by what is around them."""
+    found = PAIR.match(text, start)
+    if found is None or touches_before(text, start) or touches_after(text, found.end()) and not text.startswith("mmHg", found.end()):
+        return None
+    first, sign, second = int(ascii_of(found[1])), found[2], int(ascii_of(found[3]))
+    front, end = text[max(0, start - 20) : start], found.end()
+    between = None
+    if sign == "/":
+        is_half_day = phrases.HALF_DAY.match(text, end) is not None
+        if is_half_day and 1 <= first <= 12 and 1 <= second <= 31:
+            return Spoken(start, end, spelled(first) + "月" + spelled(second) + "日")
+        if text.startswith("mmHg", end) or text.startswith("毫米汞柱", end):
+            last = end + 4 if text.startswith("mmHg", end) else end
+            return Spoken(start, last, spelled(first) + "比" + spelled(second) + ("毫米汞柱" if last > end else ""))
+        is_share = SHARED.match(text, end) or re.search("[有中约約近超过過]\\Z", front)
+        if first < second and 2 <= second <= 10 and is_share and not front.endswith("第"):
+            return Spoken(start, end, spelled(second) + "分之" + spelled(first))
+        return None
+    lengths = (len(found[1]), len(found[3]))
+    is_years = re.fullmatch("(?:19|20)[0-9]{2}", ascii_of(found[1])) and lengths[1] in (2, 4)
+    if sign == "-" and is_years and re.match("[赛賽]季|[学學财財]年|年度", text[end:]):
+        return Spoken(start, end, one_by_one(found[1]) + "到" + one_by_one(found[3]))
+    if max(lengths) > 3:
+        return None
+    if SCORED.match(text, end) or IN_SCORES.search(front) or (sign != "-" and front.endswith("以")):
+        between = "比"
+    elif sign == "-" and front[-1:] in ("图", "圖", "表"):
+        between = "杠"
+    return None if between is None else Spoken(start, end, spelled(first) + between + spelled(second))
+
+
+# ---- Phrases as they are spoken --------------------------------------------------------------
+
+
+def said_year(text: phrases.Text, slot: Slot) -> str:
+    """Digit by digit, except the years of an era, and of more than two and less than four figures."""
+    head = text.line.text[: slot.start]
+    is_era = head.endswith(("民国", "民國")) or numbers.is_after_era(text.line, slot.start)
+    return spelled(int(ascii_of(slot.text))) if is_era or len(slot.text) not in (2, 4) else one_by_one(slot.text)
+
+
 def said_slot(text: phrases.Text, phrase: Phrase, slot: Slot) -> str:
-    figures = ascii_of(slot.text)
-    if not has_figure(slot.text) or not figures.isdigit():
+    """A slot with figures: a year and decimals digit by digit, any other as a number."""
+    if not has_figure(slot.text):
         return slot.text
-    after = text.at(slot.end)
+    if not ascii_of(slot.text).isdigit():
+        return said_number(slot.text) or slot.text
     if slot.letter in "Yy":
-        is_era = text.line.text[: slot.start].endswith(("民国", "民國")) or numbers.is_after_era(text.line, slot.start)
-        return one_by_one(figures) if not is_era and len(figures) in (2, 4) else spelled(int(figures))
+        return said_year(text, slot)
     if slot.letter == "F":
-        return one_by_one(figures)
-    zero = "零" if slot.letter in "mBsZX" and len(figures) == 2 and figures[0] == "0" and figures != "00" else ""
-    said = zero + spelled(int(figures))
-    if said == "二" and (slot.letter == "N" or (slot.letter == "H" and after in "点點")) and phrase.kind not in ("score",):
-        return "两"
+        return one_by_one(slot.text)
+    value = int(ascii_of(slot.text))
+    is_clock = slot.letter in "mBsZX" or (phrase.kind == "duration" and slot.letter in "MS")
+    zero = "零" if is_clock and 0 < value < 10 and len(slot.text) == 2 else ""
+    is_two = value == 2 and (slot.letter == "N" or (slot.letter == "H" and text.at(slot.end) in "点點"))
+    return zero + ("两" if is_two and phrase.kind != "score" else spelled(value))
+
+
+def said_clock(values: List[int], units: str) -> str:
+    """A time with colons: 十五点三十分, and for how long something takes 两小时十五分三十七秒."""
+    hour, minute, second = (values + [0])[:3]
+    said = ("两" if hour == 2 else spelled(hour)) + units
+    if minute or second:
+        said += ("零" if minute < 10 else "") + (spelled(minute) if minute else "") + "分"
+    if second:
+        said += ("零" if second < 10 else "") + spelled(second) + "秒"
     return said
 
 
-def said_clock(hour: int, minute: int, second: int) -> str:
-    said = ("两" if hour == 2 else spelled(hour)) + "点"
-    for value, unit in ((minute, "分"), (second, "秒")):
-        if value or (unit == "分" and second):
-            said += ("零" if value < 10 else "") + (spelled(value) if value else "") + unit
-    return said
+def is_length_of_time(text: phrases.Text, phrase: Phrase) -> bool:
+    head = text.line.text[max(0, phrase.start - 3) : phrase.start]
+    return text.line.text.startswith("的成绩", phrase.end) or re.search("(?:用时|成绩|时长|历时)[为是]?\\Z", head) is not None
 
 
-SCORED = re.compile("[领領]先|[战戰]?[胜勝]|[负負]|[击擊][败敗]|逆[转轉]|[获獲][胜勝]|[淘]汰|[落][后後败敗]|[险險大完][胜勝]|[拿][下]|[战戰]平")
-
-
-def is_scored(text: phrases.Text, phrase: Phrase) -> bool:
-    """15:21 is a score between words of games."""
-    head = text.line.text[: phrase.start]
-    return head.endswith(("比分", "以", "比分为", "比分是")) or SCORED.match(text.line.text, phrase.end) is not None
+def may_be_years(text: phrases.Text, phrase: Phrase) -> bool:
+    """1000年前 may be a number of years."""
+    is_year = phrase.kind == "date" and phrase.words == "年" and ascii_of(phrase.slots[0].text).endswith("00")
+    return is_year and text.at(phrase.end) in "前来來历歷间間"
 
 
 def said_phrase(text: phrases.Text, phrase: Phrase) -> Optional[str]:
-    if phrase.value is None or (phrase.is_doubtful and not numbers.is_in_title(text.line, phrase.start)):
+    if phrase.value is None or may_be_years(text, phrase):
         return None
-    values = [phrases.value_of(it) for it in phrase.slots] if phrase.kind != "range" else []
+    if phrase.kind == "range":
+        return said_range(text, phrase)
+    values = [phrases.value_of(it) for it in phrase.slots]
     lead = text.line.text[phrase.start : phrase.slots[0].start]
     if phrase.words in ("--", "//"):
         return one_by_one(phrase.slots[0].text) + "年" + spelled(values[1]) + "月" + spelled(values[2]) + "日"
     if phrase.kind == "time" and phrase.words[-1] in ":：":
-        if len(values) == 2 and is_scored(text, phrase):
-            return spelled(values[0]) + "比" + spelled(values[1])
-        hour, minute, second = (values + [0])[:3]
-        return lead + said_clock(hour, minute, second)
-    if phrase.kind == "score":
-        return spelled(values[0]) + "比" + spelled(values[1])
-    if phrase.kind == "range":
-        return said_range(text, phrase)
+        is_length = len(values) == 3 and is_length_of_time(text, phrase)
+        return lead + said_clock(values, "小时" if is_length else "点")
     pieces, end = [], phrase.start
     for slot in phrase.slots:
-        between = text.line.text[end : slot.start]
-        pieces += ["到" if between.strip() in LINK_SIGNS and between.strip() else between, said_slot(text, phrase, slot)]
+        pieces += [said_words(phrase, text.line.text[end : slot.start]), said_slot(text, phrase, slot)]
         end = slot.end
-    said = "".join(pieces) + text.line.text[end : phrase.end]
-    return re.sub(f"(?<=[月日号號])[{LINK_SIGNS}]", "到", said)
+    return "".join(pieces) + text.line.text[end : phrase.end]
+
+
+def said_words(phrase: Phrase, words: str) -> str:
+    """A colon of a score is 比; a link that is a sign is 到."""
+    if phrase.kind == "score" and words:
+        return "比"
+    return re.sub(f"[{LINKS}](?<![到至])", "到", words)
 
 
 def said_range(text: phrases.Text, phrase: Phrase) -> Optional[str]:
     low, high = phrase.slots
-    measure = measure_at(text.line.text, high.end)
     if phrase.words in "-－–—":
-        if not (measure or is_counted(text.line.text, high.end) or re.search("[%％‰万亿千百]", high.text)):
+        has_unit = re.search("[%％‰万亿千百]", high.text) or is_counted(text.line.text, high.end)
+        if not (has_unit or measure_at(text.line.text, high.end)):
             return None
     first = low.text
     if high.text[-1] in "%％‰" and low.text[-1] not in "%％‰":
         first += high.text[-1]
-    said = [said_number(first) if has_figure(low.text) else low.text, said_number(high.text) if has_figure(high.text) else high.text]
-    if None in said:
+    before = text.at(low.start - 1)
+    said = [said_number(it, before=before) if has_figure(it) else it for it in (first, high.text)]
+    if said[0] is None or said[1] is None:
         return None
     if said[0] == "二" and is_twice(text.line.text, low.start, high.end):
         said[0] = "两"
     return f"{said[0]}{phrase.words if phrase.words in '到至' else '到'}{said[1]}"
 
 
-# ---- The whole text --------------------------------------------------------------------------
+def said_money(text: phrases.Text, phrase: Phrase) -> Optional[str]:
+    """A sum of money: its sign is 元 after it."""
+    slot = phrase.slots[0]
+    line = text.line.text
+    if at(line, phrase.start - 1) in "$＄€£" or is_joined(line, phrase.start, phrase.end):
+        return None
+    said = said_number(slot.text, is_money=True) if has_figure(slot.text) else slot.text
+    if said is None:
+        return None
+    said = "两" if said == "二" and phrase.words != "small" else said
+    rest = "".join(one_by_one(c) if is_figure(c) else c for c in line[slot.end : phrase.end])
+    return said + ("" if phrase.words != "sign" or at(line, phrase.end) in "元块圆" else "元") + rest
 
 
-def is_left(text: str, start: int, end: int) -> bool:
-    """An expression is part of a name, an address or a formula."""
+# ---- Expressions as they are spoken ------------------------------------------------------------
+
+
+def is_joined(text: str, start: int, end: int) -> bool:
+    """A number is part of a name, an address or a formula."""
     before, beyond, after, then = at(text, start - 1), at(text, start - 2), at(text, end), at(text, end + 1)
-    if is_letter(before) or is_figure(before) or before in "_-./\\:=#@^*$&<+%％‰x幺":
+    if (is_letter(before) and not is_after_letters(text, start)) or is_figure(before) or before in "_-./\\:=#@^*&<+%％‰幺":
         return True
-    if before == " " and is_letter(beyond) and len(text[start:end]) > 2 and "." not in text[start:end]:
+    if is_letter(before) and (is_letter(after) or is_figure(after)):
         return True
-    if after in ".-:：" and (is_letter(then) or is_figure(then)):
+    if is_grouped(text, start) or is_grouped(text, end + 1):
         return True
-    return is_letter(after) or is_figure(after) or after in "_/\\=#@^*$&<+幺"
+    if before == " " and is_letter(beyond) and end - start > 2 and "." not in text[start:end]:
+        return True
+    if after in ".-:：":
+        return is_letter(then) or is_figure(then)
+    if "A" <= after <= "Z" and not (is_letter(then) or is_figure(then) or then in "_-/"):
+        return end - start > 2
+    return is_letter(after) or is_figure(after) or after in "_\\=#@^*$&<+幺" or (after == "/" and not is_han(then))
+
+
+def is_grouped(text: str, start: int) -> bool:
+    """Exactly three figures after a blank and a figure: 1 280."""
+    end = run_end(text, start, False)
+    return end - start == 3 and at(text, start - 1) == " " and is_figure(at(text, start - 2))
+
+
+def ends_in_degrees(text: str, end: int) -> bool:
+    """A measure of degrees is after a number, or after the number that it is linked to."""
+    measure = measure_at(text, end)
+    if measure is None and at(text, end) in LINKS:
+        other = re.compile(f"[-−]?{FIGURE}+(?:[.]{FIGURE}+)?").match(text, end + 1)
+        measure = measure_at(text, other.end()) if other else None
+        return measure[1] in DEGREES if measure else other is not None and at(text, other.end()) == "度"
+    return measure[1] in DEGREES if measure else at(text, end) == "度"
+
+
+def may_be_short_year(text: str, found: Found) -> bool:
+    """98年 may be a year, or a number of years."""
+    figures = ascii_of(found.text)
+    is_pair = figures.isdigit() and len(figures) == 2 and figures[0] in "6789" and figures[1] != "0"
+    return is_pair and re.match("年(?![级級期来來])", text[found.end : found.end + 2]) is not None
 
 
 def said_expression(text: str, found: Found) -> Optional[Spoken]:
     start, end = found.start, found.end
-    money = at(text, start - 1) in "¥￥" or found.text[:2] in ("-¥", "-￥")
     measure = measure_at(text, end) if found.text[-1] not in "%％‰" else None
     last, unit = measure or (end, "")
-    begin = start - 1 if at(text, start - 1) in "¥￥" else start
-    if is_left(text, begin, last):
+    if is_joined(text, start, last) or may_be_short_year(text, found):
         return None
-    body = re.sub("[¥￥]", "", found.text)
-    minus = body[0] in numbers.MINUS
-    if minus:
-        body = body[1:]
-    is_yuan = at(text, end) in "元块圆"
-    said = said_number(body, is_money=money or is_yuan)
-    if said is None or re.match("分之|又", text[end:]) or "分之" in body or "又" in body:
+    sign, body = numbers.signed(found.text)
+    if sign in ("+", "＋", "正"):
         return None
-    is_degree = unit in ("摄氏度", "华氏度") or (unit == "" and at(text, end) == "度")
-    if said == "二" and not minus and (is_twice(text, start, end) or (unit and not is_degree)) and at(text, start - 1) != "第":
-        said = "两"
-    if minus:
-        said = ("零下" if is_degree else "负") + said
-    if money:
-        return Spoken(begin, end, said + ("" if is_yuan else "元"))
-    return Spoken(start, last, said + unit)
+    currency = CURRENCIES.get(at(text, start - 1), "")
+    if currency and len(body) < 2 or "又" in body:
+        return None
+    said = said_number(body, is_money=bool(currency) or re.search("[¥￥]", found.text) is not None, before=at(text, start - 1))
+    if said is None:
+        return None
+    is_degree = ends_in_degrees(text, end)
+    if said == "二" and not sign and not currency:
+        is_measured = unit != "" and not is_degree and not is_spoken_letters(unit)
+        said = "两" if at(text, start - 1) != "第" and (is_twice(text, start, end) or is_measured) else said
+    if sign:
+        said = ("零下" if sign == "零下" or is_degree else "负") + said
+    if currency:
+        return Spoken(start - 1, end, said + currency)
+    return Spoken(start, last, said + ("元" if re.search("[¥￥]", found.text) else "") + unit)
 
 
-def tail_at(text: str, end: int, is_after_phrase: bool) -> Tuple[int, str]:
-    """A link to another number after a number and its unit, or a sign of times."""
-    found = re.compile(f"((?:[{TWICE}][\u4e00-\u9fff]{{0,2}})?)([{LINK_SIGNS}×])(?=[-−]?{FIGURE})").match(text, end)
-    if not found or (found[2] in "-－" and not is_after_phrase):
-        return end, ""
-    return found.end(), found[1] + ("乘" if found[2] == "×" else "到")
+# ---- The whole text --------------------------------------------------------------------------
+
+
+def said_code(code: Code, one: str) -> Spoken:
+    if code.kind == "version":
+        parts = re.split("[.]", code.text)
+        first = one_by_one(parts[0], one) if len(parts) == 4 else spelled(int(ascii_of(parts[0])))
+        return Spoken(code.start, code.end, "点".join([first] + [one_by_one(it, one) for it in parts[1:]]))
+    between = "杠" if code.kind == "bars" else ""
+    return Spoken(code.start, code.end, between.join(one_by_one(it, one) for it in re.split("[- ]", code.text)))
+
+
+def speak(text: phrases.Text, item: Any) -> Optional[Spoken]:
+    line = text.line.text
+    if isinstance(item, Found):
+        return said_expression(line, item)
+    said = said_money(text, item) if item.kind == "money" else said_phrase(text, item)
+    if said is None:
+        return None
+    measure = measure_at(line, item.end) if item.kind == "range" else None
+    last, unit = measure or (item.end, "")
+    return Spoken(item.start, last, said + unit)
 
 
 def spoken_parts(string: str, one: str = "一") -> Tuple[List[Spoken], List[Tuple[int, int]]]:
@@ -499,49 +745,33 @@ def spoken_parts(string: str, one: str = "一") -> Tuple[List[Spoken], List[Tupl
     left: List[Tuple[int, int]] = []
     place = 0
     while place < len(meant):
-        code = code_at(meant, place)
-        item: Any = code if code and has_figure(code.text) else starts.get(place)
-        if item is None:
-            place += 1
-            continue
-        spoken = None
-        if has_figure(item.text):
-            spoken = speak(text, item, one)
+        code, known = code_at(meant, place), starts.get(place)
+        spoken = pair_at(meant, place)
+        if spoken is None and code and has_figure(code.text):
+            spoken = said_code(code, one)
+        elif spoken is None and known is not None and has_figure(known.text):
+            spoken = speak(text, known)
             if spoken is None:
-                left.append((item.start, item.end))
+                left.append((known.start, known.end))
         if spoken is None:
-            place = max(item.end, place + 1)
+            place = max(place + 1, known.end if known else 0)
             continue
-        end, more = tail_at(meant, spoken.end, isinstance(item, Phrase) and item.kind in ("date", "time"))
-        parts.append(Spoken(spoken.start, end, spoken.said + more))
+        is_of_day = isinstance(known, Phrase) and known.kind in ("date", "time")
+        is_money = isinstance(known, Phrase) and known.kind == "money"
+        end, more = tail_at(meant, spoken.end, is_of_day, is_money)
+        sign = SIGNS.get(at(meant, spoken.start - 1), "")
+        parts.append(Spoken(spoken.start - (1 if sign else 0), end, sign + spoken.said + more))
         place = end
     return parts, left
 
 
-def speak(text: phrases.Text, item: Any, one: str) -> Optional[Spoken]:
-    if isinstance(item, Code):
-        if item.kind == "version":
-            pieces = item.text.split(".")
-            first = one_by_one(pieces[0], one) if len(pieces) == 4 else spelled(int(pieces[0]))
-            return Spoken(item.start, item.end, "点".join([first] + [one_by_one(it, one) for it in pieces[1:]]))
-        return Spoken(item.start, item.end, one_by_one(item.text, one))
-    if isinstance(item, Phrase) and item.kind == "money":
-        found = text.by_start[item.slots[0].start]
-        spoken = said_expression(text.line.text, found)
-        return spoken and Spoken(spoken.start, max(spoken.end, item.end), spoken.said + text.line.text[spoken.end : item.end])
-    if isinstance(item, Phrase):
-        said = said_phrase(text, item)
-        if said is None:
-            return None
-        measure = measure_at(text.line.text, item.end) if item.kind == "range" else None
-        return Spoken(item.start, measure[0] if measure else item.end, said + (measure[1] if measure else ""))
-    return said_expression(text.line.text, item)
+TRADITIONAL = str.maketrans("点两万亿负摄华时秒钟吨号约", "點兩萬億負攝華時秒鐘噸號約")
 
 
-def text_to_speech(string: str, one: str = "一") -> str:
+def text_to_speech(string: str, one: str = "一", is_traditional: bool = False) -> str:
     pieces, end = [], 0
     for it in spoken_parts(string, one)[0]:
-        pieces += [string[end : it.start], it.said]
+        pieces += [string[end : it.start], it.said.translate(TRADITIONAL) if is_traditional else it.said]
         end = it.end
     return "".join(pieces) + string[end:]
 
