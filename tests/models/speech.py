@@ -97,6 +97,9 @@ def touches_after(text: str, end: int) -> bool:
     return is_letter(c) or is_figure(c) or c in "_/\\=@^*$&<+%％‰"
 
 
+MOST_GROUPS = 8
+
+
 def groups_at(text: str, start: int, chinese: bool) -> List[Tuple[int, str]]:
     """Stretches of digits from a place on, each with the sign after it: a blank, `-`, `.`, 杠 or 点."""
     signs = "-杠 点點" if chinese else "-. "
@@ -106,7 +109,7 @@ def groups_at(text: str, start: int, chinese: bool) -> List[Tuple[int, str]]:
         sign = at(text, end)
         is_joined = sign in signs and is_of_code(at(text, end + 1), chinese)
         found.append((end - start, sign if is_joined else ""))
-        if not is_joined:
+        if not is_joined or len(found) == MOST_GROUPS:
             return found
         start, end = end + 1, run_end(text, end + 1, chinese)
 
@@ -168,7 +171,7 @@ def pointed_at(text: str, start: int, chinese: bool) -> Optional[Code]:
 def grouped_at(text: str, start: int, chinese: bool) -> Optional[Code]:
     """A number in groups, by its shape, or with bars after a word of codes."""
     groups = groups_at(text, start, chinese)
-    if len(groups) < 2 or touches_before(text, start):
+    if len(groups) < 2 or groups[-1][1] or touches_before(text, start):
         return None
     end = end_of_groups(start, groups)
     if touches_after(text, end):
@@ -623,6 +626,9 @@ def said_range(text: phrases.Text, phrase: Phrase) -> Optional[str]:
     said = [said_number(it, before=before) if has_figure(it) else it for it in (first, high.text)]
     if said[0] is None or said[1] is None:
         return None
+    units = phrases.shared_units(text.by_start[low.start], text.by_start[high.start])
+    if units and re.search("[百千]", said[0]):
+        said[0] += units
     if said[0] == "二" and is_twice(text.line.text, low.start, high.end):
         said[0] = "两"
     return f"{said[0]}{phrase.words if phrase.words in '到至' else '到'}{said[1]}"

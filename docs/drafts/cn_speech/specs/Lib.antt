@@ -1,0 +1,15 @@
+pub mod Words
+pub mod Digits
+pub mod Beside
+pub mod Groups
+pub mod CodeWords
+pub mod Codes
+pub mod CodesInFigures
+pub mod Counted
+pub mod Measures
+pub mod Meant
+pub mod Numbers
+pub mod Pairs
+pub mod SpokenPhrases
+pub mod SpokenItems
+pub mod Speech

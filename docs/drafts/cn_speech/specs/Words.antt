@@ -1,0 +1,27 @@
+-- Words at the start and at the end of a text.
+use Rattle.std.specs.Prelude.{ℕ, ◌==◌, ◌-◌, Bool, true, false, ◌&&◌, ◌||◌, List, [], ◌∷◌, length, reverse, drop, Option, Some, None, if◌then◌else◌}
+
+-- a text begins with a word
+abbrev pub begins_word : List ℕ → List ℕ → Bool
+begins_word [] text = true
+begins_word (c ∷ word) [] = false
+begins_word (c ∷ word) (d ∷ text) = c == d && begins_word word text
+
+-- a text begins with one of these words
+abbrev pub begins_any : List (List ℕ) → List ℕ → Bool
+begins_any [] text = false
+begins_any (word ∷ words) text = begins_word word text || begins_any words text
+
+-- the characters before a place, the nearest first, end with one of these words
+abbrev pub ends_any : List (List ℕ) → List ℕ → Bool
+ends_any [] front = false
+ends_any (word ∷ words) front = begins_word (reverse word) front || ends_any words front
+
+-- the text after a word, if it begins with that
+abbrev pub after_word : List ℕ → List ℕ → Option (List ℕ)
+after_word word text = if begins_word word text then Some (drop (length word) text) else None
+
+-- the characters before a word at their end, or all of them if there is none
+abbrev pub without_end : List ℕ → List ℕ → List ℕ
+without_end word front =
+    if begins_word (reverse word) front then drop (length word) front else front
