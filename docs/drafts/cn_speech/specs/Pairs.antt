@@ -108,6 +108,13 @@ both variant method word pair =
     whole_said variant method (number_of pair.first)
     ++ (word ++ whole_said variant method (number_of pair.second))
 
+-- blood pressure, with its measure in characters
+abbrev pub pressure_said : List ℕ → Pair → Option Spoken
+pressure_said text pair =
+    if begins_word (codes "mmHg") pair.rest
+    then Some (record { text = text ++ codes "毫米汞柱"; rest = drop 4 pair.rest })
+    else Some (record { text = text; rest = pair.rest })
+
 abbrev pub spoken : List ℕ → Pair → Option Spoken
 spoken text pair = Some (record { text = text; rest = pair.rest })
 
@@ -115,7 +122,7 @@ spoken text pair = Some (record { text = text; rest = pair.rest })
 abbrev pub slash_said : ChineseVariant → ChineseCountMethod → List ℕ → Pair → Option Spoken
 slash_said variant method front pair =
     if is_date pair then spoken (both variant method (codes "月") pair ++ codes "日") pair
-    else (if is_pressure pair then spoken (both variant method (codes "比") pair) pair
+    else (if is_pressure pair then pressure_said (both variant method (codes "比") pair) pair
     else (if is_share front pair
     then spoken (whole_said variant method (number_of pair.second)
     ++ (codes "分之" ++ whole_said variant method (number_of pair.first))) pair

@@ -106,13 +106,56 @@ item_with_figures wanted front text =
     option_and_then (λ item. if has_figure (characters_before text (rest_of item)) then Some item else None)
     (item_at wanted front text)
 
--- the part that begins with a text, if one does: the first of a pair, a code and an item
-abbrev pub part_at : Voice → One → Wanted → List ℕ → List ℕ → Option Part
-part_at voice one wanted front text =
+-- the part that begins with a text, without a sign before it: the first of a pair, a code and an item
+abbrev pub number_part : Voice → One → Wanted → List ℕ → List ℕ → Option Part
+number_part voice one wanted front text =
     option_or (option_map (λ s. said (with_tail false false s)) (pair_at voice.variant voice.method front text))
     (option_or (option_map (λ code. said (with_tail false false (code_spoken voice one code)))
     (code_with_figures front text))
     (option_map (item_part voice front text) (item_with_figures wanted front text)))
+
+-- what is said for a sign before a number
+abbrev pub sign_before : ℕ → Option (List ℕ)
+sign_before c =
+    if char_set_contains (codes "≥") c then Some (codes "大于等于")
+    else (if char_set_contains (codes "≤") c then Some (codes "小于等于")
+    else (if char_set_contains (codes "±") c then Some (codes "正负")
+    else (if char_set_contains (codes "≈") c then Some (codes "约等于") else None)))
+
+abbrev pub after_sign : List ℕ → Option Part → Option Part
+after_sign word (Some (said s)) = Some (said (record { text = word ++ s.text; rest = s.rest }))
+after_sign word other = None
+
+-- the name of a currency, which is said after its number
+abbrev pub currency : ℕ → Option (List ℕ)
+currency c =
+    if char_set_contains (codes "$＄") c then Some (codes "美元")
+    else (if char_set_contains (codes "€") c then Some (codes "欧元")
+    else (if char_set_contains (codes "£") c then Some (codes "英镑") else None))
+
+-- a number of two characters or more, and a name after it
+abbrev pub named : List ℕ → List ℕ → Spoken → Option Part
+named text name s =
+    if nat_le 2 (length text - length s.rest)
+    then Some (said (with_tail false true (record { text = s.text ++ name; rest = s.rest }))) else None
+
+abbrev pub currency_part : Voice → Wanted → List ℕ → List ℕ → List ℕ → Option Part
+currency_part voice wanted front text name =
+    option_and_then (λ item. option_and_then (named text name) (item_spoken voice front text item))
+    (item_with_figures wanted front text)
+
+-- a sign before a number, and the number
+abbrev pub signed_part : Voice → One → Wanted → List ℕ → List ℕ → Option Part
+signed_part voice one wanted front [] = None
+signed_part voice one wanted front (c ∷ text) =
+    option_or (option_and_then (λ word. after_sign word (number_part voice one wanted (c ∷ front) text))
+    (sign_before c))
+    (option_and_then (currency_part voice wanted (c ∷ front) text) (currency c))
+
+-- the part that begins with a text, if one does
+abbrev pub part_at : Voice → One → Wanted → List ℕ → List ℕ → Option Part
+part_at voice one wanted front text =
+    option_or (number_part voice one wanted front text) (signed_part voice one wanted front text)
 
 abbrev pub rest_of_part : Part → List ℕ
 rest_of_part (said s) = s.rest

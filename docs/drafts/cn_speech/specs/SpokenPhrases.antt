@@ -26,7 +26,7 @@ use Rattle.cn_speech.specs.Digits.{number_of}
 use Rattle.cn_speech.specs.Numbers.{one_by_one, whole_said, yi}
 use Rattle.cn_speech.specs.Words.{begins_any, ends_any}
 
--- how numbers are written: the script, the method, and its 两
+-- how numbers are written: the script, the method, and 两 in that script
 pub record Voice : Type 0 where
   pub variant : ChineseVariant
   pub method : ChineseCountMethod
@@ -52,23 +52,36 @@ year voice is_era figures =
     if not is_era && (length figures == 2 || length figures == 4)
     then one_by_one voice.variant yi figures else whole voice (number_of figures)
 
+-- how a phrase is: of an era, or a duration, whose minutes have 零 as those of a time do
+pub record Manner : Type 0 where
+  pub of_era : Bool
+  pub of_duration : Bool
+
+abbrev pub is_duration : Form → Bool
+is_duration form.HoursMinutesSeconds = true
+is_duration form.HoursMinutes = true
+is_duration form.MinutesSeconds = true
+is_duration other = false
+
 -- the figures of a slot as they are spoken, before this text
-abbrev pub figures_by : Voice → Bool → Shape → List ℕ → List ℕ → List ℕ
-figures_by voice is_era shape.Year figures rest = year voice is_era figures
-figures_by voice is_era shape.FullYear figures rest = year voice is_era figures
-figures_by voice is_era shape.EraYear figures rest = year voice is_era figures
-figures_by voice is_era shape.OneDigit figures rest = one_by_one voice.variant yi figures
-figures_by voice is_era shape.TwoDigits figures rest = one_by_one voice.variant yi figures
-figures_by voice is_era shape.Small figures rest = counted voice (number_of figures)
-figures_by voice is_era shape.Clock figures rest =
+abbrev pub figures_by : Voice → Manner → Shape → List ℕ → List ℕ → List ℕ
+figures_by voice manner shape.Year figures rest = year voice manner.of_era figures
+figures_by voice manner shape.FullYear figures rest = year voice manner.of_era figures
+figures_by voice manner shape.EraYear figures rest = year voice manner.of_era figures
+figures_by voice manner shape.OneDigit figures rest = one_by_one voice.variant yi figures
+figures_by voice manner shape.TwoDigits figures rest = one_by_one voice.variant yi figures
+figures_by voice manner shape.Small figures rest = counted voice (number_of figures)
+figures_by voice manner shape.Clock figures rest =
     if number_of figures == 2 && begins (λ c. char_set_contains (codes "点點") c) rest
     then voice.two else clock voice figures
-figures_by voice is_era shape figures rest = whole voice (number_of figures)
+figures_by voice manner shape.Count figures rest =
+    if manner.of_duration then clock voice figures else whole voice (number_of figures)
+figures_by voice manner shape figures rest = whole voice (number_of figures)
 
 -- the number of a slot; Chinese characters stay
-abbrev pub slot_said : Voice → Bool → Shape → List ℕ → List ℕ → List ℕ
-slot_said voice is_era shape number rest =
-    if list_any is_figure number then figures_by voice is_era shape number rest else number
+abbrev pub slot_said : Voice → Manner → Shape → List ℕ → List ℕ → List ℕ
+slot_said voice manner shape number rest =
+    if list_any is_figure number then figures_by voice manner shape number rest else number
 
 -- a word of a phrase: a link that is a sign is 到; others stay
 abbrev pub word_said : Word → List ℕ → List ℕ
@@ -78,20 +91,20 @@ word_said word.Colon written = codes "比"
 word_said other written = written
 
 -- a piece of a form, given what was read before it and after it
-abbrev pub piece_said : Voice → Bool → Piece → Reading → Reading → List ℕ
-piece_said voice is_era (Slot shape) reading next =
-    slot_said voice is_era shape
+abbrev pub piece_said : Voice → Manner → Piece → Reading → Reading → List ℕ
+piece_said voice manner (Slot shape) reading next =
+    slot_said voice manner shape
     (leading is_numeral (without_blank reading.after_figure reading.rest)) next.rest
-piece_said voice is_era (Fixed word) reading next =
+piece_said voice manner (Fixed word) reading next =
     word_said word (characters_before (without_blank reading.after_figure reading.rest) next.rest)
-piece_said voice is_era (NotBefore guard) reading next = []
-piece_said voice is_era End reading next = []
+piece_said voice manner (NotBefore guard) reading next = []
+piece_said voice manner End reading next = []
 
-abbrev pub pieces_said : Voice → Bool → List Piece → Reading → List ℕ
-pieces_said voice is_era [] reading = []
-pieces_said voice is_era (piece ∷ pieces) reading = elim (piece_read piece reading) [
+abbrev pub pieces_said : Voice → Manner → List Piece → Reading → List ℕ
+pieces_said voice manner [] reading = []
+pieces_said voice manner (piece ∷ pieces) reading = elim (piece_read piece reading) [
   | None ↦ []
-  | Some next ↦ piece_said voice is_era piece reading next ++ pieces_said voice is_era pieces next
+  | Some next ↦ piece_said voice manner piece reading next ++ pieces_said voice manner pieces next
 ]
 
 -- Y-M-D and Y/M/D as Y年M月D日
@@ -143,7 +156,9 @@ form_said voice front found text = elim found.form [
   | form.ColonMinute ↦ time_said voice (codes "点") found.numbers.second found.numbers.last 0
   | form.ColonSecond ↦ time_said voice (hours_word front found.rest (codes "点"))
       found.numbers.first found.numbers.second found.numbers.last
-  | other ↦ pieces_said voice (ends_era front) (pieces_of found.form) (reading_at text)
+  | other ↦ pieces_said voice
+      (record { of_era = ends_era front; of_duration = is_duration found.form })
+      (pieces_of found.form) (reading_at text)
 ]
 
 -- a phrase that begins with this text, if it has a value
