@@ -457,7 +457,7 @@ def measure_at(text: str, end: int) -> Optional[Tuple[int, str]]:
             continue
         if start > end and (len(it) == 1 and is_letter(it)):
             return None
-        return last, MEASURES.get(it, text[end:last])
+        return last, MEASURES.get(it, it)
     return None
 
 
@@ -638,7 +638,7 @@ def said_money(text: phrases.Text, phrase: Phrase) -> Optional[str]:
     """A sum of money: its sign is 元 after it."""
     slot = phrase.slots[0]
     line = text.line.text
-    if at(line, phrase.start - 1) in "$＄€£" or is_joined(line, phrase.start, phrase.end):
+    if at(line, phrase.start - 1) in "$＄€£" or is_joined(line, phrase.start, phrase.end, phrase.end):
         return None
     said = said_number(slot.text, is_money=True) if has_figure(slot.text) else slot.text
     if said is None:
@@ -651,12 +651,12 @@ def said_money(text: phrases.Text, phrase: Phrase) -> Optional[str]:
 # ---- Expressions as they are spoken ------------------------------------------------------------
 
 
-def is_joined(text: str, start: int, end: int) -> bool:
-    """A number is part of a name, an address or a formula."""
+def is_joined(text: str, start: int, end: int, number_end: int) -> bool:
+    """A number is part of a name, an address or a formula; `end` is that of its measure."""
     before, beyond, after, then = at(text, start - 1), at(text, start - 2), at(text, end), at(text, end + 1)
     if (is_letter(before) and not is_after_letters(text, start)) or is_figure(before) or before in "_-./\\:=#@^*&<+%％‰幺":
         return True
-    if is_letter(before) and (is_letter(after) or is_figure(after)):
+    if is_letter(before) and (is_letter(at(text, number_end)) or is_figure(at(text, number_end))):
         return True
     if is_grouped(text, start) or is_grouped(text, end + 1):
         return True
@@ -696,7 +696,7 @@ def said_expression(text: str, found: Found) -> Optional[Spoken]:
     start, end = found.start, found.end
     measure = measure_at(text, end) if found.text[-1] not in "%％‰" else None
     last, unit = measure or (end, "")
-    if is_joined(text, start, last) or may_be_short_year(text, found):
+    if is_joined(text, start, last, end) or may_be_short_year(text, found):
         return None
     sign, body = numbers.signed(found.text)
     if sign in ("+", "＋", "正"):

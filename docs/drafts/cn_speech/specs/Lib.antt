@@ -5,6 +5,7 @@ pub mod Groups
 pub mod CodeWords
 pub mod Codes
 pub mod CodesInFigures
+pub mod CodesInText
 pub mod Counted
 pub mod Measures
 pub mod Meant

@@ -89,10 +89,15 @@ pub data Part : Type 0 where
   said : Spoken → Part
   left : List ℕ → Part
 
--- an item of phrases: what is said for it, or what is left
+-- a unit ends what is said: a sum of money, or an item with a measure after it
+abbrev pub has_unit : Item → Spoken → Bool
+has_unit item s = is_money item || not (length s.rest == length (rest_of item))
+
+-- an item of phrases: what is said for it, or what is left; the number of a currency is not said alone
 abbrev pub item_part : Voice → List ℕ → List ℕ → Item → Part
 item_part voice front text item =
-    option_map_or (λ s. said (with_tail (is_of_day item) (is_money item) s)) (item_spoken voice front text item)
+    if begins (λ c. char_set_contains (codes "$＄€£") c) front then left (rest_of item)
+    else option_map_or (λ s. said (with_tail (is_of_day item) (has_unit item s) s)) (item_spoken voice front text item)
     (left (rest_of item))
 
 -- a code, if it has figures: one of Chinese characters is spoken as it is

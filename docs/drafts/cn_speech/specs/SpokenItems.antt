@@ -211,17 +211,24 @@ yuan_after form.Signed rest =
     if begins (λ c. char_set_contains (codes "元块圆") c) rest then [] else codes "元"
 yuan_after other rest = []
 
-abbrev pub yuan_said : Voice → List ℕ → Option (List ℕ)
-yuan_said voice number =
-    if has_figure number
-    then number_said voice.variant voice.method voice.two [] (trimmed number) else Some number
+abbrev pub is_small : MoneyForm → Bool
+is_small form.Small = true
+is_small other = false
+
+-- the number of a sum: 两 for 2 yuan, but 二 for 2 jiao
+abbrev pub yuan_said : Voice → MoneyForm → List ℕ → Option (List ℕ)
+yuan_said voice form number =
+    if length number == 1 && (number_of number == 2 && (has_figure number && not (is_small form)))
+    then Some voice.two
+    else (if has_figure number
+    then number_said voice.variant voice.method voice.two [] (trimmed number) else Some number)
 
 abbrev pub money_spoken : Voice → List ℕ → Money → Option Spoken
 money_spoken voice front m =
     if is_joined_before front (chars m.number.text) m.rest || is_joined_after (chars m.number.text) m.rest
     then None
     else option_map (λ text. before m.rest (text ++ (yuan_after m.form m.rest ++ parts_said voice (chars m.tail))))
-    (yuan_said voice (chars m.number.text))
+    (yuan_said voice m.form (chars m.number.text))
 
 -- ---- Codes
 
