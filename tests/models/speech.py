@@ -28,7 +28,9 @@ WORDS_OF_CODES = """
 BEFORE_CODE = re.compile(f"(?:{'|'.join(WORDS_OF_CODES)})(?:设置?为|改?[为為]|是)?[：:；; ]?\\Z")
 CALLED = re.compile("[打拨撥叫]\\Z")
 EMERGENCIES = frozenset("110 112 114 119 120 122".split())
-SERVICES = frozenset("10000 10010 10086 12123 12306 12315 12333 12345 12348 12366 12388 95588".split())
+SERVICES = frozenset(
+    "10000 10010 10086 12123 12306 12315 12333 12345 12348 12366 12388 95588".split()
+)
 
 # Measure words. 两 is said before these, and before 万, 亿 and so on of course not.
 TWICE = frozenset(
@@ -134,7 +136,12 @@ def has_shape_of_number(text: str, start: int, groups: List[Tuple[int, str]]) ->
         return digits[0] == "0" and lengths[0] in (3, 4) and lengths[1] in (7, 8)
     if digits[:3] in ("400", "800"):
         return lengths in ([3, 3, 4], [3, 4, 3])
-    return len(lengths) >= 3 and groups[0][1] == " " and all(it == 4 for it in lengths[:-1]) and lengths[-1] <= 4
+    return (
+        len(lengths) >= 3
+        and groups[0][1] == " "
+        and all(it == 4 for it in lengths[:-1])
+        and lengths[-1] <= 4
+    )
 
 
 def is_after_word(text: str, start: int) -> bool:
@@ -143,7 +150,9 @@ def is_after_word(text: str, start: int) -> bool:
 
 def is_date_like(digits: List[str]) -> bool:
     """2026.1.15 may be a date."""
-    return len(digits) == 3 and len(digits[0]) == 4 and int(digits[1]) <= 12 and int(digits[2]) <= 31
+    return (
+        len(digits) == 3 and len(digits[0]) == 4 and int(digits[1]) <= 12 and int(digits[2]) <= 31
+    )
 
 
 NO_VERSION = re.compile("[点點十百千万亿分刻半时時]|个|個")
@@ -163,9 +172,17 @@ def pointed_at(text: str, start: int, chinese: bool) -> Optional[Code]:
         return None
     if chinese:
         is_word = at(text, end - 1) == "一" and at(text, end) in "定直起样樣些下"
-        return None if NO_VERSION.match(text, end) or is_word else Code(start, end, written, "version")
-    is_free = not touches_before(text, start) or (at(text, start - 1) in "vV" and not is_letter(at(text, start - 2)))
-    return Code(start, end, written, "version") if is_free and not touches_after(text, end) and not is_date_like(parts) else None
+        return (
+            None if NO_VERSION.match(text, end) or is_word else Code(start, end, written, "version")
+        )
+    is_free = not touches_before(text, start) or (
+        at(text, start - 1) in "vV" and not is_letter(at(text, start - 2))
+    )
+    return (
+        Code(start, end, written, "version")
+        if is_free and not touches_after(text, end) and not is_date_like(parts)
+        else None
+    )
 
 
 def grouped_at(text: str, start: int, chinese: bool) -> Optional[Code]:
@@ -179,7 +196,11 @@ def grouped_at(text: str, start: int, chinese: bool) -> Optional[Code]:
     if has_shape_of_number(text, start, groups):
         return Code(start, end, text[start:end])
     has_bars = all(sign in "-杠" for _, sign in groups)
-    return Code(start, end, text[start:end], "bars") if has_bars and is_after_word(text, start) else None
+    return (
+        Code(start, end, text[start:end], "bars")
+        if has_bars and is_after_word(text, start)
+        else None
+    )
 
 
 ROOM = re.compile("室|房|教室|病房|包[厢廂间間]|[号號]房|会议室|會議室|[国國省县縣]道|航班")
@@ -195,14 +216,24 @@ def is_code_of_figures(text: str, start: int, end: int) -> bool:
     if run[0] == "0" and len(run) > 1:
         return len(run) > 2 or at(text, end) not in "月日号號时時分秒点點元"
     if run in EMERGENCIES and not is_counted(text, end):
-        return re.search("[打拨撥叫](?:1[0-9]{2}[或和、])?\\Z", text[max(0, start - 5) : start]) is not None
-    if 3 <= len(run) <= 4 and (ROOM.match(text, end) or (BUILDING.search(front) and not is_counted(text, end))):
+        return (
+            re.search("[打拨撥叫](?:1[0-9]{2}[或和、])?\\Z", text[max(0, start - 5) : start]) is not None
+        )
+    if 3 <= len(run) <= 4 and (
+        ROOM.match(text, end) or (BUILDING.search(front) and not is_counted(text, end))
+    ):
         return True
     if len(run) == 3 and re.match("路(?![程上口])", text[end : end + 2]):
         return True
-    if re.fullmatch("(?:19|20)[0-9]{2}", run) and (OF_YEAR.match(text, end) or numbers.is_in_title(numbers.Line(text), start)):
+    if re.fullmatch("(?:19|20)[0-9]{2}", run) and (
+        OF_YEAR.match(text, end) or numbers.is_in_title(numbers.Line(text), start)
+    ):
         return True
-    if re.fullmatch("[056789][05]", run) and at(text, end) in "后後" and at(text, end + 1) not in "付实實再":
+    if (
+        re.fullmatch("[056789][05]", run)
+        and at(text, end) in "后後"
+        and at(text, end + 1) not in "付实實再"
+    ):
         return at(text, start - 1) not in "减減共满滿付加"
     if is_counted(text, end) or at(text, start - 1) in "¥￥$":
         return False
@@ -229,7 +260,9 @@ def is_code_of_digits(text: str, start: int, end: int) -> bool:
     """A stretch of Chinese digits is a code."""
     run = text[start:end]
     if is_letter(at(text, start - 1)):
-        return is_after_letters(text, start) and (len(run) >= 3 or AFTER_NAME.match(text, end) is not None)
+        return is_after_letters(text, start) and (
+            len(run) >= 3 or AFTER_NAME.match(text, end) is not None
+        )
     if len(run) < 3:
         return False
     if "幺" in run or run[0] in "零〇" or is_mobile(run) or is_after_word(text, start):
@@ -261,12 +294,18 @@ def code_at(text: str, start: int) -> Optional[Code]:
         return None
     if chinese and before in "十百千万萬亿億点點第":
         return None
-    return pointed_at(text, start, chinese) or grouped_at(text, start, chinese) or run_at(text, start, chinese)
+    return (
+        pointed_at(text, start, chinese)
+        or grouped_at(text, start, chinese)
+        or run_at(text, start, chinese)
+    )
 
 
 # ---- In figures, with codes ------------------------------------------------------------------
 
-ADDRESSED = re.compile("[号號](?:楼|樓|院|线|線|柜|櫃|门|門|口|出口|窗|机|機|桌|床|车|車)|[单單]元|站[台臺]|[检檢]票口|登[机機]口|[诊診]室")
+ADDRESSED = re.compile(
+    "[号號](?:楼|樓|院|线|線|柜|櫃|门|門|口|出口|窗|机|機|桌|床|车|車)|[单單]元|站[台臺]|[检檢]票口|登[机機]口|[诊診]室"
+)
 BUILT = re.compile("[栋棟幢]")
 
 
@@ -276,7 +315,11 @@ MEASURED = re.compile("分[钟鐘](?!热度|熱度)|公[里斤]|千克|[厘毫]�
 def single_at(text: str, start: int) -> Optional[Code]:
     """One Chinese digit of an address or a measure, or of a key, as in 三号楼, 六栋一单元, 五公里."""
     c, after = at(text, start), at(text, start + 1)
-    if c not in "零一二两三四五六七八九十" or at(text, start - 1) in numbers.DIGITS or at(text, start - 1) in numbers.RANKS:
+    if (
+        c not in "零一二两三四五六七八九十"
+        or at(text, start - 1) in numbers.DIGITS
+        or at(text, start - 1) in numbers.RANKS
+    ):
         return None
     if at(text, start - 1) in "第这這那每几幾" or is_letter(at(text, start - 1)):
         return None
@@ -321,7 +364,10 @@ def text_to_figures(string: str, codes: bool = True, **chosen: Any) -> str:
         return phrases.text_to_figures(string, **chosen)
     text, items = items_with_codes(string)
     options = Options(**chosen)
-    news = [code_in_figures(it) if isinstance(it, Code) else phrases.new_text(text, it, options) for it in items]
+    news = [
+        code_in_figures(it) if isinstance(it, Code) else phrases.new_text(text, it, options)
+        for it in items
+    ]
     return numbers.put_in_chains(text.line, items, news)
 
 
@@ -423,7 +469,11 @@ def said_number(text: str, is_money: bool = False, before: str = "") -> Optional
         figures = figures.rstrip("0").rstrip(".")
     if share:
         said = decimal(figures) + units
-        return "百分之百" if said == "一百" and share != "‰" else ("千" if share == "‰" else "百") + "分之" + said
+        return (
+            "百分之百"
+            if said == "一百" and share != "‰"
+            else ("千" if share == "‰" else "百") + "分之" + said
+        )
     said = decimal(figures) + units
     again = numbers.quantity(said)
     if units and (again is None or phrases.ratio_of(again) != phrases.ratio_of(quantity)):
@@ -453,7 +503,12 @@ def measure_at(text: str, end: int) -> Optional[Tuple[int, str]]:
             continue
         last = start + len(it)
         after, then = at(text, last), at(text, last + 1)
-        if is_letter(after) or is_figure(after) or after in "²³_" or (after in "/.-" and is_letter(then)):
+        if (
+            is_letter(after)
+            or is_figure(after)
+            or after in "²³_"
+            or (after in "/.-" and is_letter(then))
+        ):
             continue
         if start > end and (len(it) == 1 and is_letter(it)):
             return None
@@ -467,7 +522,9 @@ def is_spoken_letters(said: str) -> bool:
 
 SIGNS = {"≥": "大于等于", "≤": "小于等于", "±": "正负", "≈": "约等于"}
 CURRENCIES = {"$": "美元", "＄": "美元", "€": "欧元", "£": "英镑"}
-LINKED = re.compile(f"((?:[{''.join(sorted(TWICE))}月日号號年时時半][\u4e00-\u9fff]{{0,2}})?)([×{LINKS}]|/(?=[\u4e00-\u9fff]))(?=[-−]?{FIGURE}|[\u4e00-\u9fff])")
+LINKED = re.compile(
+    f"((?:[{''.join(sorted(TWICE))}月日号號年时時半][\u4e00-\u9fff]{{0,2}})?)([×{LINKS}]|/(?=[\u4e00-\u9fff]))(?=[-−]?{FIGURE}|[\u4e00-\u9fff])"
+)
 NEXT_DAY = re.compile("[次翌当當][日天]|第二天|[早上中下晚凌深]")
 
 
@@ -479,8 +536,14 @@ def tail_at(text: str, end: int, is_of_day: bool, is_money: bool) -> Tuple[int, 
         return end, ""
     sign, after = found[2], at(text, found.end())
     if sign == "/":
-        is_price = found[1] != "" or is_money or text[end - 1] in "元块圆㎡" or is_letter(at(text, end - 1))
-        return (found.end(), found[1] + "每") if is_price and after in MEASURE_WORDS | {"立", "吨", "亩"} else (end, "")
+        is_price = (
+            found[1] != "" or is_money or text[end - 1] in "元块圆㎡" or is_letter(at(text, end - 1))
+        )
+        return (
+            (found.end(), found[1] + "每")
+            if is_price and after in MEASURE_WORDS | {"立", "吨", "亩"}
+            else (end, "")
+        )
     if sign == "×":
         is_product = re.match(f"{FIGURE}+(?:[.]{FIGURE}+)?(?![0-9.= ^])", text[found.end() :])
         return (found.end(), found[1] + "乘") if is_product else (end, "")
@@ -509,7 +572,12 @@ SHARED = re.compile("[的以左多]|(?:片|粒|杯|勺|个|个|袋|包)")
 def pair_at(text: str, start: int) -> Optional[Spoken]:
     """Two stretches of figures with a sign between, by what is around them."""
     found = PAIR.match(text, start)
-    if found is None or touches_before(text, start) or touches_after(text, found.end()) and not text.startswith("mmHg", found.end()):
+    if (
+        found is None
+        or touches_before(text, start)
+        or touches_after(text, found.end())
+        and not text.startswith("mmHg", found.end())
+    ):
         return None
     first, sign, second = int(ascii_of(found[1])), found[2], int(ascii_of(found[3]))
     front, end = text[max(0, start - 20) : start], found.end()
@@ -520,7 +588,9 @@ def pair_at(text: str, start: int) -> Optional[Spoken]:
             return Spoken(start, end, spelled(first) + "月" + spelled(second) + "日")
         if text.startswith("mmHg", end) or text.startswith("毫米汞柱", end):
             last = end + 4 if text.startswith("mmHg", end) else end
-            return Spoken(start, last, spelled(first) + "比" + spelled(second) + ("毫米汞柱" if last > end else ""))
+            return Spoken(
+                start, last, spelled(first) + "比" + spelled(second) + ("毫米汞柱" if last > end else "")
+            )
         is_share = SHARED.match(text, end) or re.search("[有中约約近超过過]\\Z", front)
         if first < second and 2 <= second <= 10 and is_share and not front.endswith("第"):
             return Spoken(start, end, spelled(second) + "分之" + spelled(first))
@@ -535,7 +605,9 @@ def pair_at(text: str, start: int) -> Optional[Spoken]:
         between = "比"
     elif sign == "-" and front[-1:] in ("图", "圖", "表"):
         between = "杠"
-    return None if between is None else Spoken(start, end, spelled(first) + between + spelled(second))
+    return (
+        None if between is None else Spoken(start, end, spelled(first) + between + spelled(second))
+    )
 
 
 # ---- Phrases as they are spoken --------------------------------------------------------------
@@ -545,7 +617,11 @@ def said_year(text: phrases.Text, slot: Slot) -> str:
     """Digit by digit, except the years of an era, and of more than two and less than four figures."""
     head = text.line.text[: slot.start]
     is_era = head.endswith(("民国", "民國")) or numbers.is_after_era(text.line, slot.start)
-    return spelled(int(ascii_of(slot.text))) if is_era or len(slot.text) not in (2, 4) else one_by_one(slot.text)
+    return (
+        spelled(int(ascii_of(slot.text)))
+        if is_era or len(slot.text) not in (2, 4)
+        else one_by_one(slot.text)
+    )
 
 
 def said_slot(text: phrases.Text, phrase: Phrase, slot: Slot) -> str:
@@ -561,7 +637,9 @@ def said_slot(text: phrases.Text, phrase: Phrase, slot: Slot) -> str:
     value = int(ascii_of(slot.text))
     is_clock = slot.letter in "mBsZX" or (phrase.kind == "duration" and slot.letter in "MS")
     zero = "零" if is_clock and 0 < value < 10 and len(slot.text) == 2 else ""
-    is_two = value == 2 and (slot.letter == "N" or (slot.letter == "H" and text.at(slot.end) in "点點"))
+    is_two = value == 2 and (
+        slot.letter == "N" or (slot.letter == "H" and text.at(slot.end) in "点點")
+    )
     return zero + ("两" if is_two and phrase.kind != "score" else spelled(value))
 
 
@@ -578,12 +656,19 @@ def said_clock(values: List[int], units: str) -> str:
 
 def is_length_of_time(text: phrases.Text, phrase: Phrase) -> bool:
     head = text.line.text[max(0, phrase.start - 3) : phrase.start]
-    return text.line.text.startswith("的成绩", phrase.end) or re.search("(?:用时|成绩|时长|历时)[为是]?\\Z", head) is not None
+    return (
+        text.line.text.startswith("的成绩", phrase.end)
+        or re.search("(?:用时|成绩|时长|历时)[为是]?\\Z", head) is not None
+    )
 
 
 def may_be_years(text: phrases.Text, phrase: Phrase) -> bool:
     """1000年前 may be a number of years."""
-    is_year = phrase.kind == "date" and phrase.words == "年" and ascii_of(phrase.slots[0].text).endswith("00")
+    is_year = (
+        phrase.kind == "date"
+        and phrase.words == "年"
+        and ascii_of(phrase.slots[0].text).endswith("00")
+    )
     return is_year and text.at(phrase.end) in "前来來历歷间間"
 
 
@@ -595,13 +680,23 @@ def said_phrase(text: phrases.Text, phrase: Phrase) -> Optional[str]:
     values = [phrases.value_of(it) for it in phrase.slots]
     lead = text.line.text[phrase.start : phrase.slots[0].start]
     if phrase.words in ("--", "//"):
-        return one_by_one(phrase.slots[0].text) + "年" + spelled(values[1]) + "月" + spelled(values[2]) + "日"
+        return (
+            one_by_one(phrase.slots[0].text)
+            + "年"
+            + spelled(values[1])
+            + "月"
+            + spelled(values[2])
+            + "日"
+        )
     if phrase.kind == "time" and phrase.words[-1] in ":：":
         is_length = len(values) == 3 and is_length_of_time(text, phrase)
         return lead + said_clock(values, "小时" if is_length else "点")
     pieces, end = [], phrase.start
     for slot in phrase.slots:
-        pieces += [said_words(phrase, text.line.text[end : slot.start]), said_slot(text, phrase, slot)]
+        pieces += [
+            said_words(phrase, text.line.text[end : slot.start]),
+            said_slot(text, phrase, slot),
+        ]
         end = slot.end
     return "".join(pieces) + text.line.text[end : phrase.end]
 
@@ -638,7 +733,9 @@ def said_money(text: phrases.Text, phrase: Phrase) -> Optional[str]:
     """A sum of money: its sign is 元 after it."""
     slot = phrase.slots[0]
     line = text.line.text
-    if at(line, phrase.start - 1) in "$＄€£" or is_joined(line, phrase.start, phrase.end, phrase.end):
+    if at(line, phrase.start - 1) in "$＄€£" or is_joined(
+        line, phrase.start, phrase.end, phrase.end
+    ):
         return None
     said = said_number(slot.text, is_money=True) if has_figure(slot.text) else slot.text
     if said is None:
@@ -653,8 +750,17 @@ def said_money(text: phrases.Text, phrase: Phrase) -> Optional[str]:
 
 def is_joined(text: str, start: int, end: int, number_end: int) -> bool:
     """A number is part of a name, an address or a formula; `end` is that of its measure."""
-    before, beyond, after, then = at(text, start - 1), at(text, start - 2), at(text, end), at(text, end + 1)
-    if (is_letter(before) and not is_after_letters(text, start)) or is_figure(before) or before in "_-./\\:=#@^*&<+%％‰幺":
+    before, beyond, after, then = (
+        at(text, start - 1),
+        at(text, start - 2),
+        at(text, end),
+        at(text, end + 1),
+    )
+    if (
+        (is_letter(before) and not is_after_letters(text, start))
+        or is_figure(before)
+        or before in "_-./\\:=#@^*&<+%％‰幺"
+    ):
         return True
     if is_letter(before) and (is_letter(at(text, number_end)) or is_figure(at(text, number_end))):
         return True
@@ -666,7 +772,12 @@ def is_joined(text: str, start: int, end: int, number_end: int) -> bool:
         return is_letter(then) or is_figure(then)
     if "A" <= after <= "Z" and not (is_letter(then) or is_figure(then) or then in "_-/"):
         return end - start > 2
-    return is_letter(after) or is_figure(after) or after in "_\\=#@^*$&<+幺" or (after == "/" and not is_han(then))
+    return (
+        is_letter(after)
+        or is_figure(after)
+        or after in "_\\=#@^*$&<+幺"
+        or (after == "/" and not is_han(then))
+    )
 
 
 def is_grouped(text: str, start: int) -> bool:
@@ -681,7 +792,9 @@ def ends_in_degrees(text: str, end: int) -> bool:
     if measure is None and at(text, end) in LINKS:
         other = re.compile(f"[-−]?{FIGURE}+(?:[.]{FIGURE}+)?").match(text, end + 1)
         measure = measure_at(text, other.end()) if other else None
-        return measure[1] in DEGREES if measure else other is not None and at(text, other.end()) == "度"
+        return (
+            measure[1] in DEGREES if measure else other is not None and at(text, other.end()) == "度"
+        )
     return measure[1] in DEGREES if measure else at(text, end) == "度"
 
 
@@ -704,13 +817,21 @@ def said_expression(text: str, found: Found) -> Optional[Spoken]:
     currency = CURRENCIES.get(at(text, start - 1), "")
     if currency and len(body) < 2 or "又" in body:
         return None
-    said = said_number(body, is_money=bool(currency) or re.search("[¥￥]", found.text) is not None, before=at(text, start - 1))
+    said = said_number(
+        body,
+        is_money=bool(currency) or re.search("[¥￥]", found.text) is not None,
+        before=at(text, start - 1),
+    )
     if said is None:
         return None
     is_degree = ends_in_degrees(text, end)
     if said == "二" and not sign and not currency:
         is_measured = unit != "" and not is_degree and not is_spoken_letters(unit)
-        said = "两" if at(text, start - 1) != "第" and (is_twice(text, start, end) or is_measured) else said
+        said = (
+            "两"
+            if at(text, start - 1) != "第" and (is_twice(text, start, end) or is_measured)
+            else said
+        )
     if sign:
         said = ("零下" if sign == "零下" or is_degree else "负") + said
     if currency:
@@ -725,9 +846,15 @@ def said_code(code: Code, one: str) -> Spoken:
     if code.kind == "version":
         parts = re.split("[.]", code.text)
         first = one_by_one(parts[0], one) if len(parts) == 4 else spelled(int(ascii_of(parts[0])))
-        return Spoken(code.start, code.end, "点".join([first] + [one_by_one(it, one) for it in parts[1:]]))
+        return Spoken(
+            code.start, code.end, "点".join([first] + [one_by_one(it, one) for it in parts[1:]])
+        )
     between = "杠" if code.kind == "bars" else ""
-    return Spoken(code.start, code.end, between.join(one_by_one(it, one) for it in re.split("[- ]", code.text)))
+    return Spoken(
+        code.start,
+        code.end,
+        between.join(one_by_one(it, one) for it in re.split("[- ]", code.text)),
+    )
 
 
 def speak(text: phrases.Text, item: Any) -> Optional[Spoken]:
@@ -777,7 +904,10 @@ TRADITIONAL = str.maketrans("点两万亿负摄华时秒钟吨号约", "點兩�
 def text_to_speech(string: str, one: str = "一", is_traditional: bool = False) -> str:
     pieces, end = [], 0
     for it in spoken_parts(string, one)[0]:
-        pieces += [string[end : it.start], it.said.translate(TRADITIONAL) if is_traditional else it.said]
+        pieces += [
+            string[end : it.start],
+            it.said.translate(TRADITIONAL) if is_traditional else it.said,
+        ]
         end = it.end
     return "".join(pieces) + string[end:]
 
