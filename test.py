@@ -58,7 +58,8 @@ separated by tabs. An answer is `ok` and the result of the call, or `err` and th
                                         or ?-1-5 without a year; a time 3:30:0 =15, as it is written
                                         and the hour of 24 or `?`; years, months and days 5..8; a
                                         duration 1:20:0; a half or a length 175/100; a score 3:2; a
-                                        range 3/1..5/1; and what is refused `-`
+                                        range 3/1..5/1; a sum of money 350/100; and what is refused,
+                                        or a sum that is no whole number of fen, `-`
     expected INPUT TEXT                 how many characters of a text begin an INPUT; `end` if it may
                                         end there; `space` if white space may come next; and the
                                         characters that may. `-` is in the place of the flags. INPUT

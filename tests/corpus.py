@@ -105,7 +105,7 @@ def in_words(kind, value):
 
 def is_meant(kind, value, meant):
     """Whether the value of a phrase is that of a sentence, whose unit is not compared for numbers."""
-    if kind not in ("half", "length", "range"):
+    if kind not in ("half", "length", "range", "money"):
         return in_words(kind, value) == meant
     numbers = [NUMBER.match(it) for it in meant.split("..")]
     return [it and value_of(it[0]) for it in numbers] == [Fraction(it) for it in value.split("..")]

@@ -18,7 +18,7 @@ static const char *const QUANTITY_FORMS[] = {"whole", "decimal", "percent", "fra
 static const char *const DOUBTS[] = {"none", "word", "digits", "term", "part", "time", "range"};
 static const char *const PHRASE_KINDS[] = {
     "expression", "date", "years", "months", "days", "time", "duration", "half", "length", "score",
-    "range",
+    "range", "money",
 };
 static const char *const PHRASE_STATES[] = {"certain", "doubtful", "refused"};
 /* The codes of flags, of options for replacing and of forms of an amount are added together. */
@@ -408,6 +408,15 @@ static void put_range(const char *text, const cn_phrase *range) {
     put_ratio(&high);
 }
 
+/* Writes a sum of money in yuan, or - if its fen are not known. */
+static void put_money(const cn_phrase *phrase) {
+    uint64_t fen = ((uint64_t)phrase->second << 32) + phrase->first;
+    if (phrase->third == 0)
+        putchar('-');
+    else
+        printf("%llu/100", (unsigned long long)fen);
+}
+
 /* Writes the value of a phrase that is not refused. */
 static void put_value(const char *text, const cn_phrase *phrase) {
     if (phrase->kind == CN_PHRASE_KIND_DATE)
@@ -422,6 +431,8 @@ static void put_value(const char *text, const cn_phrase *phrase) {
         put_length(phrase);
     else if (phrase->kind == CN_PHRASE_KIND_RANGE)
         put_range(text, phrase);
+    else if (phrase->kind == CN_PHRASE_KIND_MONEY)
+        put_money(phrase);
     else
         printf(phrase->kind == CN_PHRASE_KIND_SCORE ? "%u:%u" : "%u..%u", phrase->first,
                phrase->second);

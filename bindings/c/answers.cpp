@@ -215,6 +215,7 @@ std::string in_place(const std::string &text, Numbers runs, std::string (*shown_
 
 const char *const phrase_kinds[] = {
     "expression", "date", "years", "months", "days", "time", "duration", "half", "length", "score", "range",
+    "money",
 };
 const char *const phrase_states[] = {"certain", "doubtful", "refused"};
 

@@ -237,6 +237,9 @@ typedef enum cn_phrase_kind CN_OF_CODE {
     CN_PHRASE_KIND_SCORE = 9,
     /* From a quantity to another one. */
     CN_PHRASE_KIND_RANGE = 10,
+    /* A sum of money, as 三块五: the fen by their lower and their upper 32 bits, and 1; all 0 if
+     * they are no whole number below 10^18. */
+    CN_PHRASE_KIND_MONEY = 11,
 } cn_phrase_kind;
 
 /* What is known of a phrase. */
@@ -399,8 +402,8 @@ typedef enum cn_flag CN_OF_CODE {
 #define CN_EXPANDED 32u
 /* What is only figures becomes ASCII without commas and leading zeros: １,２８０ becomes 1280. */
 #define CN_CANONICAL 64u
-/* Dates, times and halves become as short as possible: 2026-01-05, 15:30, 1.5小时; only for
- * chinese_text_to_figures. */
+/* Dates, times, halves and sums of money become as short as possible: 2026-01-05, 15:30, 1.5小时,
+ * 3.5元; only for chinese_text_to_figures. */
 #define CN_COMPACT 128u
 
 /* How long the texts are that are written. These do not count the zero byte that cn_print,
@@ -601,7 +604,9 @@ uint32_t chinese_quantities_to_figures(const uint8_t *text, size_t text_length, 
  * - a duration: the hours, the minutes, the seconds;
  * - a half: the number without the half;
  * - a length: the number before its decimals, the decimals, and how many decimals there are;
- * - a score: the two numbers. */
+ * - a score: the two numbers;
+ * - a sum of money: the fen by their lower and their upper 32 bits, and 1; all 0 if they are no whole
+ *   number below 10^18. */
 typedef struct cn_phrase {
     size_t start;
     size_t end;

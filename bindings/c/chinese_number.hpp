@@ -74,6 +74,7 @@ enum class PhraseKind : std::uint32_t {
     years = CN_PHRASE_KIND_YEARS, months = CN_PHRASE_KIND_MONTHS, days = CN_PHRASE_KIND_DAYS,
     time = CN_PHRASE_KIND_TIME, duration = CN_PHRASE_KIND_DURATION, half = CN_PHRASE_KIND_HALF,
     length = CN_PHRASE_KIND_LENGTH, score = CN_PHRASE_KIND_SCORE, range = CN_PHRASE_KIND_RANGE,
+    money = CN_PHRASE_KIND_MONEY,
 };
 
 /* What is known of a phrase. */
@@ -749,7 +750,8 @@ struct ClockTime {
  * - time: a ClockTime;
  * - duration: seconds;
  * - half and length: a Quantity, 15/10 for 一个半小时, and 175/100 for 一米七五;
- * - range: a pair of quantities. */
+ * - range: a pair of quantities;
+ * - money: a Quantity of yuan, 350/100 for 三块五; none if it is no whole number of fen below 10^18. */
 using PhraseValue = std::variant<Date, PartialDate, std::pair<std::uint32_t, std::uint32_t>, ClockTime,
                                  std::chrono::seconds, Quantity, std::pair<Quantity, Quantity>>;
 
@@ -800,6 +802,14 @@ inline Quantity decimal_of(std::uint32_t whole, std::uint32_t decimals, std::uin
     return {cn_unsigned(whole * power + decimals), cn_unsigned(power), QuantityForm::decimal};
 }
 
+/* A sum of money in yuan, if its fen are known. */
+inline std::optional<PhraseValue> money_of(const cn_phrase &read) {
+    const std::uint64_t fen = (std::uint64_t(read.second) << 32) + read.first;
+    if (read.third == 0)
+        return std::nullopt;
+    return Quantity{cn_unsigned(fen), cn_unsigned(100), QuantityForm::decimal};
+}
+
 inline std::optional<PhraseValue> range_of(std::string_view text, const cn_phrase &read) {
     cn_quantity low, high;
     if (cn_read_range(text.data(), &read, &low, &high) != CN_DONE)
@@ -823,6 +833,8 @@ inline std::optional<PhraseValue> value_of(std::string_view text, const cn_phras
         return decimal_of(read.first, read.second, read.third);
     if (kind == PhraseKind::range)
         return range_of(text, read);
+    if (kind == PhraseKind::money)
+        return money_of(read);
     return std::pair(read.first, read.second);
 }
 

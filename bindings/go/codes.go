@@ -165,6 +165,9 @@ const (
 	PhraseKindScore PhraseKind = 9
 	// From a quantity to another one.
 	PhraseKindRange PhraseKind = 10
+	// A sum of money, as 三块五: the fen by their lower and their upper 32 bits, and 1; all 0 if they
+	// are no whole number below 10^18.
+	PhraseKindMoney PhraseKind = 11
 )
 
 // PhraseState is what is known of a phrase.
@@ -369,6 +372,7 @@ var wordsOfPhraseKind = []string{
 	"length",
 	"score",
 	"range",
+	"money",
 }
 
 // The words of PhraseState, in the order of the codes.

@@ -92,6 +92,7 @@ const VALUES = {
   length: exact,
   score: ([one, other]) => `${one}:${other}`,
   range: (ends) => fromTo(ends.map(exact)),
+  money: exact,
 };
 
 function phrases(text) {

@@ -156,10 +156,12 @@ export const DOUBTS = Object.freeze(/** @type {const} */ ([
  * are.
  * - 'score': two numbers that are compared.
  * - 'range': from a quantity to another one.
+ * - 'money': a sum of money, as 三块五: the fen by their lower and their upper 32 bits, and 1; all
+ * 0 if they are no whole number below 10^18.
  */
 export const PHRASE_KINDS = Object.freeze(/** @type {const} */ ([
   'expression', 'date', 'years', 'months', 'days', 'time', 'duration', 'half', 'length', 'score',
-  'range',
+  'range', 'money',
 ]));
 
 /**
@@ -368,7 +370,7 @@ const HAS = {
  * @typedef {{
  *   date: PartialDate, years: FirstAndLast, months: FirstAndLast, days: FirstAndLast,
  *   time: ClockTime, duration: Duration, half: Quantity, length: Quantity,
- *   score: [one: number, other: number], range: [low: Quantity, high: Quantity],
+ *   score: [one: number, other: number], range: [low: Quantity, high: Quantity], money: Quantity,
  * }} PhraseValues
  * @typedef {{ [Name in PhraseKind]: Phrase<Name> }[PhraseKind]} AnyPhrase
  * @typedef {{ charIndex: number, start: number, end: number }} Place
@@ -1501,7 +1503,8 @@ export class FoundQuantity extends Span {
  * - 'duration': { hours, minutes, seconds };
  * - 'half', 'length': a Quantity, 1.5 for 一个半小时 and 1.75 for 一米七五;
  * - 'score': the two numbers;
- * - 'range': the two Quantities, 30000 and 50000 for 三到五万.
+ * - 'range': the two Quantities, 30000 and 50000 for 三到五万;
+ * - 'money': a Quantity of yuan, 3.50 for 三块五; null if it is no whole number of fen below 10^18.
  *
  * @template {PhraseKind} Name
  */
@@ -1685,6 +1688,8 @@ const VALUES = {
   length: ([number, decimals, count]) => Quantity.decimal(number * 10 ** count + decimals, count),
   score: firstTwo,
   range: (_, half) => rangeAt(half),
+  money: ([low, high, isKnown]) =>
+    isKnown ? Quantity.decimal((BigInt(high >>> 0) << 32n) + BigInt(low >>> 0), 2) : null,
 };
 
 /** @param {number[]} numbers */

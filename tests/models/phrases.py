@@ -745,9 +745,7 @@ def range_at(text: Text, start: int) -> Optional[Phrase]:
 # ---- Sums of money ---------------------------------------------------------------------------
 
 DIGITS_OF_MONEY = frozenset("一二两兩三四五六七八九")
-PRICED = frozenset(
-    "斤个個公两兩克份张張条條件只隻瓶包箱盒本套台杯碗串双雙把枚颗顆粒根支袋片位人次天晚月年平方米尺度吨噸升桶筒盘盤捆束朵辆輛间間桌副对對罐小"
-)
+PRICED = frozenset("斤个個公两兩克份张張条條件只隻瓶包箱盒本套台杯碗串双雙把枚颗顆粒根支袋片位人次天晚月年平方米尺度吨噸升桶筒盘盤捆束朵辆輛间間桌副对對罐小")
 AFTER_OPEN = frozenset("的了吧啊呢吗嗎嘛呀哦啦哈咯")
 AFTER_OPEN_NOT_ONE = frozenset("就也都还還才每左以不够夠涨漲降到至和或与與及跟卖賣买買给給收找退付便太贵貴好行可拿起没沒是那这這很真算要然")
 NO_JIAO = frozenset("形星板铁鐵架尺旗洲债債恋戀区區巾毯豆线線衣地裤褲钉釘函茴楼樓亭帽梅枫楓鼎落度戏戲色球钢鋼龙龍鲨鯊羊")
@@ -785,7 +783,7 @@ def is_open(text: Text, end: int) -> bool:
         return is_free and text.at(end - 1) != "一"
     if is_figure(c) or is_chinese_digit(c) or is_letter(c) or c in "_%％‰":
         return False
-    return not (c in ".．,，" and is_figure(text.at(end + 1)))
+    return not (c in ".．," and is_figure(text.at(end - 1)) and is_figure(text.at(end + 1)))
 
 
 def ends_sum(text: Text, end: int, ends_with: str) -> bool:
@@ -802,7 +800,13 @@ def digit_value(c: str) -> int:
 
 
 # The forms after an E, the longest first: the groups of J and F, and the unit at the end, if any.
-AFTER_YUAN = ((PARTS, 1, 2, 3), (PARTS_OPEN, 1, 2, 0), (JIAO, 1, 0, 2), (FEN, 0, 1, 2), (KUAI_OPEN, 1, 0, 0))
+AFTER_YUAN = (
+    (PARTS, 1, 2, 3),
+    (PARTS_OPEN, 1, 2, 0),
+    (JIAO, 1, 0, 2),
+    (FEN, 0, 1, 2),
+    (KUAI_OPEN, 1, 0, 0),
+)
 AFTER_JIAO = ((JIAO_FEN, 1, 2), (JIAO_OPEN, 1, 0))
 
 
@@ -839,16 +843,16 @@ def after_yuan(text: Text, e: Found, start: int) -> Optional[Sum]:
     return found and (found.end(), "qian", 0, 0)
 
 
-def after_jiao(text: Text, e: Found) -> Optional[Sum]:
+def after_jiao(text: Text, e: Found, start: int) -> Optional[Sum]:
     """What is after a digit of jiao or fen."""
     if len(e.text) != 1 or not (is_figure(e.text) or e.text in DIGITS_OF_MONEY):
         return None
     value = digit_value(e.text)
     for pattern, fen, unit in AFTER_JIAO:
-        found = pattern.match(text.line.text, e.end)
+        found = pattern.match(text.line.text, start)
         if found and ends_sum(text, found.end(), "分" if unit else ""):
             return found.end(), "small", value, digit_value(found[fen])
-    found = SMALL.match(text.line.text, e.end)
+    found = SMALL.match(text.line.text, start)
     if found is None:
         return None
     is_fen = found[0][0] == "分"
@@ -877,16 +881,21 @@ def alone(text: Text, e: Found, start: int) -> Optional[Sum]:
 def money_after(text: Text, e: Found) -> Optional[Sum]:
     has_blank = has_figure(e.text) and text.at(e.end) == " "
     start = e.end + (1 if has_blank else 0)
-    return after_yuan(text, e, start) or after_jiao(text, e) or alone(text, e, start)
+    return after_yuan(text, e, start) or after_jiao(text, e, start) or alone(text, e, start)
 
 
 def is_money_doubtful(text: Text, phrase: Phrase, e: Found) -> bool:
     head = text.line.text[: phrase.start]
-    if numbers.is_in_title(text.line, phrase.start) or e.doubt in ("word", "digits", "term", "time"):
+    if numbers.is_in_title(text.line, phrase.start) or e.doubt in (
+        "word",
+        "digits",
+        "term",
+        "time",
+    ):
         return True
     if phrase.words == "kuai" or text.at(phrase.start - 1) in "$＄€£":
         return True
-    if phrase.words == "yuan" and len(e.text) == 1 and is_chinese_digit(e.text):
+    if phrase.words == "yuan" and e.text in DIGITS_OF_MONEY:
         return True
     if text.at(phrase.start - 1) in "币幣" and head[-3:-1] != "人民":
         return True
@@ -904,7 +913,7 @@ def money_at(text: Text, start: int) -> Optional[Phrase]:
     e = text.by_start.get(place)
     if e is None or (form == "sign" and not is_figure(e.text[0])) or not is_amount(text, e):
         return None
-    found = (e.end, "sign", 0, 0) if form == "sign" else money_after(text, e)
+    found: Optional[Sum] = (e.end, "sign", 0, 0) if form == "sign" else money_after(text, e)
     if found is None:
         return None
     end, form, jiao, fen = found
@@ -926,9 +935,9 @@ def new_money(text: Text, phrase: Phrase, options: Options) -> Optional[str]:
         return None if new is None else head + new + tail
     if phrase.is_doubtful and not options.doubtful:
         return None
-    has_parts = phrase.words == "small" or re.search("[角毛分]|[块塊]" + DIGIT, tail) is not None
-    if options.compact and has_parts:
-        assert isinstance(phrase.value, Fraction)
+    assert isinstance(phrase.value, Fraction)
+    yuan = 0 if phrase.words == "small" else ratio_of(quantity_of(e))
+    if options.compact and phrase.value > yuan:
         fen = phrase.value * 100
         decimals = f"{fen.numerator // 100}.{fen.numerator % 100:02}".rstrip("0").rstrip(".")
         return decimals + "元"

@@ -1078,6 +1078,7 @@ class Phrase:
     HALF, LENGTH: a Decimal, such as 1.5 for 一个半小时 and 1.75 for 一米七五.
     SCORE: the two numbers.
     RANGE: the two quantities.
+    MONEY: a Decimal of yuan, such as 3.5 for 三块五; None if that is no whole number of fen below 10^18.
 
     state is DOUBTFUL if the phrase may mean something else. If it is REFUSED, the value is None.
 
@@ -1122,6 +1123,10 @@ def _length_of(whole: int, decimals: int, places: int, _: int) -> Decimal:
     return Decimal(f"{whole}.{decimals:0{places}}")
 
 
+def _money_of(low: int, high: int, is_known: int, _: int) -> Optional[Decimal]:
+    return Decimal((high << 32) + low) / 100 if is_known else None
+
+
 def _pair_of(first: int, last: int, *_: int) -> Tuple[int, int]:
     return first, last
 
@@ -1130,7 +1135,7 @@ def _range_of(low: _library.Words, high: _library.Words) -> Tuple[Quantity, Quan
     return _quantity_of(low), _quantity_of(high)
 
 
-_VALUES: Dict[PhraseKind, Callable[..., _PhraseValue]] = {
+_VALUES: Dict[PhraseKind, Callable[..., Optional[_PhraseValue]]] = {
     PhraseKind.DATE: _date_of,
     PhraseKind.YEARS: _pair_of,
     PhraseKind.MONTHS: _pair_of,
@@ -1141,6 +1146,7 @@ _VALUES: Dict[PhraseKind, Callable[..., _PhraseValue]] = {
     PhraseKind.LENGTH: _length_of,
     PhraseKind.SCORE: _pair_of,
     PhraseKind.RANGE: _range_of,
+    PhraseKind.MONEY: _money_of,
 }
 
 

@@ -243,7 +243,9 @@ class PhraseKind(str, Enum):
     LENGTH: a number with decimals, as 一米七五: the number, the decimals, how many decimals there
     are.
     SCORE: two numbers that are compared.
-    RANGE: from a quantity to another one."""
+    RANGE: from a quantity to another one.
+    MONEY: a sum of money, as 三块五: the fen by their lower and their upper 32 bits, and 1; all 0
+    if they are no whole number below 10^18."""
 
     EXPRESSION = "expression"
     DATE = "date"
@@ -256,6 +258,7 @@ class PhraseKind(str, Enum):
     LENGTH = "length"
     SCORE = "score"
     RANGE = "range"
+    MONEY = "money"
 
 
 class PhraseState(str, Enum):

@@ -256,7 +256,9 @@ fn value(value: PhraseValue) -> String {
             let seconds = duration.as_secs();
             format!("{}:{}:{}", seconds / 3600, seconds / 60 % 60, seconds % 60)
         }
-        PhraseValue::Half(quantity) | PhraseValue::Length(quantity) => ratio(quantity),
+        PhraseValue::Half(quantity) | PhraseValue::Length(quantity) | PhraseValue::Money(quantity) => {
+            ratio(quantity)
+        }
         PhraseValue::Score(first, second) => format!("{first}:{second}"),
         PhraseValue::Range(low, high) => format!("{}..{}", ratio(low), ratio(high)),
         _ => String::from("another"),

@@ -188,6 +188,9 @@ pub enum PhraseKind {
     Score = 9,
     /// From a quantity to another one.
     Range = 10,
+    /// A sum of money, as 三块五: the fen by their lower and their upper 32 bits, and 1; all 0 if
+    /// they are no whole number below 10^18.
+    Money = 11,
 }
 
 /// What is known of a phrase.
@@ -260,9 +263,9 @@ impl Doubt {
 impl PhraseKind {
     /// All members, to find one by its code.
     #[rustfmt::skip]
-    pub(crate) const ALL: [Self; 11] = [
+    pub(crate) const ALL: [Self; 12] = [
         Self::Expression, Self::Date, Self::Years, Self::Months, Self::Days, Self::Time,
-        Self::Duration, Self::Half, Self::Length, Self::Score, Self::Range,
+        Self::Duration, Self::Half, Self::Length, Self::Score, Self::Range, Self::Money,
     ];
 }
 

@@ -185,6 +185,7 @@ pub use cn_phrase::put_text_in_figures;
 pub use cn_phrase::range::QuantityRange;
 pub use cn_phrase::range::range_of;
 pub use cn_phrase::text_to_figures;
+pub use cn_phrase::yuan_of_phrase;
 pub use cn_quantity::MisreadFault;
 pub use cn_quantity::Quantity;
 pub use cn_quantity::QuantityFault;

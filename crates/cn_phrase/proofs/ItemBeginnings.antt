@@ -1,15 +1,16 @@
 -- No item begins with a character that fails the quick test.
 use Rattle.std.proofs.Common.{◌≡◌, ℕ, false, List, [], ◌∷◌, codes, None, refl, ◌∙◌}
 use Rattle.cn_core.specs.Characters.{digit_of, rank_of}
-use Rattle.cn_core.specs.FigureCharacters.{is_figure}
+use Rattle.cn_core.specs.FigureCharacters.{is_figure, tens_of}
 use Rattle.cn_core.specs.Mark.{Mark, digit, unit, mark_of, other}
 use Rattle.cn_find.specs.declared.wanted.Wanted.{Wanted}
-use Rattle.cn_find.specs.Expressions.{expression_rule, is_extra}
+use Rattle.cn_find.specs.Expressions.{expression_rule, is_extra, is_tens}
 use Rattle.cn_find.specs.Spans.{run_after}
 use Rattle.cn_find.proofs.Extra.{neither, unmarked-belongs, usual_belongs}
 use Rattle.cn_find.proofs.Unwanted.{outside}
 use Rattle.cn_replace.specs.Pieces.{begins}
 use Rattle.cn_phrase.specs.Items.{item_rest}
+use Rattle.cn_phrase.specs.Money.{is_sign, money_at}
 use Rattle.cn_phrase.specs.Phrases.{phrase_at}
 use Rattle.cn_phrase.specs.Pieces.{is_numeral}
 use Rattle.cn_phrase.specs.Private.{is_marked, may_be_first, may_lead}
@@ -53,6 +54,17 @@ no-phrase front c ahead passed = rw (
   nothing_by_word front (c ∷ ahead) passed.no_lead,
 ) refl
 
+no-sign : (c : ℕ) → is_extra c ≡ false → is_sign c ≡ false
+unfolding is_sign is_extra is_tens tens_of
+no-sign c e = outside is_extra (codes "￥¥") c refl e
+
+no-sum : (wanted : Wanted) (front : List ℕ) (c : ℕ) (ahead : List ℕ) → IsPassed c
+    → money_at wanted front (c ∷ ahead) ≡ None
+no-sum wanted front c ahead passed = rw (
+  no-sign c passed.no_extra,
+  no-expression wanted front c ahead passed,
+) refl
+
 pub no_item_begins : (wanted : Wanted) (front text : List ℕ) → begins may_be_first text ≡ false
     → item_rest wanted front text ≡ None
 no_item_begins wanted front [] e = rw (
@@ -61,4 +73,8 @@ no_item_begins wanted front [] e = rw (
 ) refl
 no_item_begins wanted front (c ∷ ahead) e =
     let passed = IsPassed-of c e in
-    rw (no-phrase front c ahead passed, no-expression wanted front c ahead passed) refl
+    rw (
+      no-phrase front c ahead passed,
+      no-sum wanted front c ahead passed,
+      no-expression wanted front c ahead passed,
+    ) refl

@@ -15,6 +15,7 @@ use Rattle.cn_find.proofs.RunLaws.{found-is_run, scalars-end, scalars-start}
 use Rattle.cn_find.proofs.Runs.{first-span, next-character}
 use Rattle.cn_phrase.specs.Between.{part_between}
 use Rattle.cn_phrase.specs.Items.{expression, first_of, item_at, item_rest, items, items_after, rest_of, whole_phrase}
+use Rattle.cn_phrase.specs.Money.{Money, money_at}
 use Rattle.cn_phrase.specs.Phrases.{Found}
 use Rattle.cn_phrase.specs.Plain.{begins_no_phrase, has_no_phrase}
 use Rattle.cn_phrase.specs.Ranges.{Ends, range_at}
@@ -31,20 +32,24 @@ run-parts rule front (c ∷ ahead) = by (is_joined rule front c ahead) (run-part
   by true same = ap (λ l. c ∷ l) same
   by false same = refl
 
--- what there is of three things, if there is no first and no second
-only-last : (o : Option Found) (r : Option Ends) (run : Option (List ℕ)) → is_some o ≡ false
-    → is_some r ≡ false → option_map rest_of (first_of o r run) ≡ run
-only-last None None None e f = refl
-only-last None None (Some rest) e f = refl
-only-last None (Some ends) run e f = cc
-only-last (Some found) r run e f = cc
+-- what there is of four things, if there are not the first three
+only-last : (o : Option Found) (m : Option Money) (r : Option Ends) (run : Option (List ℕ))
+    → is_some o ≡ false → is_some m ≡ false → is_some r ≡ false
+    → option_map rest_of (first_of o m r run) ≡ run
+only-last None None None None d e f = refl
+only-last None None None (Some rest) d e f = refl
+only-last None None (Some ends) run d e f = cc
+only-last None (Some m) r run d e f = cc
+only-last (Some found) m r run d e f = cc
 
--- only the third of three things, if there is it alone
-only-third : (o : Option Found) (r : Option Ends) (rest : List ℕ) → is_some o ≡ false
-    → is_some r ≡ false → first_of o r (Some rest) ≡ Some (expression rest)
-only-third None None rest e f = refl
-only-third None (Some ends) rest e f = cc
-only-third (Some found) r rest e f = cc
+-- only the fourth of four things, if there is it alone
+only-fourth : (o : Option Found) (m : Option Money) (r : Option Ends) (rest : List ℕ)
+    → is_some o ≡ false → is_some m ≡ false → is_some r ≡ false
+    → first_of o m r (Some rest) ≡ Some (expression rest)
+only-fourth None None None rest d e f = refl
+only-fourth None None (Some ends) rest d e f = cc
+only-fourth None (Some m) r rest d e f = cc
+only-fourth (Some found) m r rest d e f = cc
 
 not-true : (b : Bool) → not b ≡ true → b ≡ false
 not-true false e = refl
@@ -54,31 +59,37 @@ module _ (wanted : Wanted) where
   abbrev rule : Rule
   rule = expression_rule wanted
 
-  -- without a phrase and a range, an item is an expression
+  -- without a phrase, a sum of money and a range, an item is an expression
   plain-rest : (front : List ℕ) (c : ℕ) (ahead : List ℕ)
       → begins_no_phrase wanted front (c ∷ ahead) ≡ true
       → item_rest wanted front (c ∷ ahead) ≡ run_after rule front (c ∷ ahead)
   plain-rest front c ahead plain =
-      only-last (whole_phrase wanted front (c ∷ ahead)) (range_at wanted front (c ∷ ahead))
-      (run_after rule front (c ∷ ahead))
+      only-last (whole_phrase wanted front (c ∷ ahead)) (money_at wanted front (c ∷ ahead))
+      (range_at wanted front (c ∷ ahead)) (run_after rule front (c ∷ ahead))
       (not-true _ (and-left _ _ plain)) (not-true _ (and-left _ _ (and-right _ _ plain)))
+      (not-true _ (and-left _ _ (and-right _ _ (and-right _ _ plain))))
 
   -- an expression begins here, if a character belongs to one
   plain-expression : (front : List ℕ) (c : ℕ) (ahead : List ℕ)
       → begins_no_phrase wanted front (c ∷ ahead) ≡ true → rule.belongs front c ahead ≡ true
       → item_at wanted front (c ∷ ahead) ≡ Some (expression (after_run rule front (c ∷ ahead)))
   plain-expression front c ahead plain here =
-      ap (first_of (whole_phrase wanted front (c ∷ ahead)) (range_at wanted front (c ∷ ahead))) begins
-      ∙ only-third (whole_phrase wanted front (c ∷ ahead)) (range_at wanted front (c ∷ ahead))
-      (after_run rule front (c ∷ ahead))
-      (not-true _ (and-left _ _ plain)) (not-true _ (and-left _ _ (and-right _ _ plain))) where
+      ap (first_of (whole_phrase wanted front (c ∷ ahead)) (money_at wanted front (c ∷ ahead))
+      (range_at wanted front (c ∷ ahead))) begins
+      ∙ only-fourth (whole_phrase wanted front (c ∷ ahead)) (money_at wanted front (c ∷ ahead))
+      (range_at wanted front (c ∷ ahead)) (after_run rule front (c ∷ ahead))
+      (not-true _ (and-left _ _ plain)) (not-true _ (and-left _ _ (and-right _ _ plain)))
+      (not-true _ (and-left _ _ (and-right _ _ (and-right _ _ plain)))) where
         begins : run_after rule front (c ∷ ahead) ≡ Some (after_run rule front (c ∷ ahead))
         begins = rw here refl
 
   plain-next : (front : List ℕ) (c : ℕ) (ahead : List ℕ)
       → begins_no_phrase wanted front (c ∷ ahead) ≡ true
       → begins_no_phrase wanted (c ∷ front) ahead ≡ true
-  plain-next front c ahead plain = and-right _ _ (and-right _ _ plain)
+  plain-next front c ahead plain =
+      and-right (not (is_some (range_at wanted front (c ∷ ahead)))) _
+      (and-right (not (is_some (money_at wanted front (c ∷ ahead)))) _
+      (and-right (not (is_some (whole_phrase wanted front (c ∷ ahead)))) _ plain))
 
   plain-after : (passed front rest : List ℕ) → begins_no_phrase wanted front (passed ++ rest) ≡ true
       → begins_no_phrase wanted (reverse_aux passed front) rest ≡ true

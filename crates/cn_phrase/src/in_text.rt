@@ -7,14 +7,15 @@ ghost use Rattle.cn_find.specs.Spans.{in_front, span_of, text_before};
 ghost use Rattle.cn_replace.specs.Chains.{IsPart};
 ghost use Rattle.cn_replace.specs.Pieces.{begins};
 ghost use Rattle.cn_replace.specs.Private.{PutsText};
-ghost use Rattle.cn_phrase.specs.InText.{follows_republic, is_doubtful, is_doubtful_end, is_half, is_minute, is_of_calendar, is_of_era, is_of_old_calendar, is_of_tenths, is_of_year, is_range_doubtful, may_be_decimal, is_phrase_included, is_range_included, is_short_half, is_short_while, item_holds, item_text, may_be_years, phrase_new, phrase_text, phrase_written, range_new, text_for_item, text_in_figures};
+ghost use Rattle.cn_phrase.specs.InText.{follows_republic, is_doubtful, is_half, is_minute, is_of_calendar, is_of_era, is_of_old_calendar, is_of_tenths, is_of_year, is_range_doubtful, may_be_decimal, is_phrase_included, is_range_included, is_short_half, is_short_while, item_holds, item_text, may_be_years, phrase_new, phrase_text, phrase_written, range_new, text_for_item, text_in_figures};
 ghost use Rattle.cn_phrase.specs.Items.{item_at, item_of};
 ghost use Rattle.cn_phrase.specs.Phrases.{found_of};
-ghost use Rattle.cn_phrase.specs.Ranges.{ends_of};
+ghost use Rattle.cn_phrase.specs.Ranges.{ends_of, is_doubtful_end};
 
 use crate::compact::{has_compact, put_compact};
 use crate::form::Form;
 use crate::items::{Item, item_at, next_item};
+use crate::money_text::put_money;
 use crate::phrase::{Lead, Match, begins_with, ends_with};
 use crate::piece::{Numeral, Progress};
 use crate::range::{Ends, put_range, range_of};
@@ -151,8 +152,8 @@ fn is_of_tenths(ends: Ends<'_>) -> bool
     begins_with(&['折', '成'], ends.high.after)
 }
 
-// Whether an end of a range may mean something else.
-fn is_doubtful_end(end: Found<'_>) -> bool
+/// Whether a number in a phrase, such as an end of a range, may mean something else.
+pub fn is_doubtful_end(end: Found<'_>) -> bool
     ensures { result ≡ is_doubtful_end (span_of end.entry) }
 {
     matches!(
@@ -311,6 +312,7 @@ impl InText {
         match item {
             None => Ok(false),
             Some(Item::Phrase(found)) => put_included(sink, figures, part.before, found, text),
+            Some(Item::Money(money)) => put_money(sink, self.replacement, part.before, money),
             Some(Item::Range(ends)) => put_range_included(sink, figures, ends),
             Some(Item::Expression(_)) => self.replacement.put_known(part, sink),
         }

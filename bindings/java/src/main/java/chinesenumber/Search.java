@@ -138,6 +138,8 @@ final class Search<T extends Found> {
                 return length(first, second, third);
             case RANGE:
                 return range(it, address);
+            case MONEY:
+                return third == 0 ? null : money(first, second);
             default:
                 return new Pair<>(first, second);
         }
@@ -159,6 +161,11 @@ final class Search<T extends Found> {
     private static Quantity length(int number, int decimals, int count) {
         BigInteger whole = BigInteger.valueOf(number & 0xffffffffL).multiply(BigInteger.TEN.pow(count));
         return Quantity.of(new BigDecimal(whole.add(BigInteger.valueOf(decimals & 0xffffffffL)), count));
+    }
+
+    /** A number of fen by its lower and its upper 32 bits, in yuan. */
+    private static Quantity money(int low, int high) {
+        return Quantity.of(BigDecimal.valueOf(((long) high << 32) + (low & 0xffffffffL), 2));
     }
 
     /**
