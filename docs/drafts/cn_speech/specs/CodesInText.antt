@@ -1,5 +1,5 @@
 -- A text with its codes, phrases and expressions in figures.
-use Rattle.std.specs.Prelude.{ℕ, zero, suc, ◌-◌, nat_lt, Bool, true, false, not, ◌&&◌, ◌||◌, List, [], ◌∷◌, ◌++◌, length, chars, Option, Some, None, is_some, if◌then◌else◌}
+use Rattle.std.specs.Prelude.{ℕ, nat_lt, Bool, true, false, not, ◌&&◌, ◌||◌, List, [], ◌∷◌, ◌++◌, length, chars, encode_utf8_all, Option, Some, None, is_some, if◌then◌else◌}
 use Rattle.std.specs.Option.{option_and_then, option_map, option_map_or, option_or}
 use Rattle.cn_core.specs.declared.method.ChineseCountMethod.{ChineseCountMethod}
 use Rattle.cn_core.specs.Characters.{digit_of, rank_of}
@@ -8,11 +8,14 @@ use Rattle.cn_find.specs.Spans.{Span, in_front}
 use Rattle.cn_replace.specs.declared.options.Figures.{Figures}
 use Rattle.cn_replace.specs.Chains.{in_chains}
 use Rattle.cn_replace.specs.Pieces.{begins}
-use Rattle.cn_phrase.specs.Between.{part_between}
+use Rattle.cn_phrase.specs.Between.{characters_before}
 use Rattle.cn_phrase.specs.InText.{item_holds, text_for_item}
-use Rattle.cn_phrase.specs.Items.{Item, phrase, money, range, expression, item_at, rest_of, still_passed}
-use Rattle.cn_speech.specs.Codes.{Code, code_at}
+use Rattle.cn_phrase.specs.Items.{Item, phrase, money, range, expression, item_at, rest_of}
+use Rattle.cn_speech.specs.declared.with_codes.Written.{Written as CodeWritten}
+use Rattle.cn_speech.specs.declared.with_codes.Written.TheVariants as written
+use Rattle.cn_speech.specs.Codes.{Code, code_at, code_of}
 use Rattle.cn_speech.specs.CodesInFigures.{code_text, is_single, single_text}
+use Rattle.cn_speech.specs.Parts.{parts_after}
 
 -- a number is directly before a place
 abbrev pub ends_number : List ℕ → Bool
@@ -29,12 +32,18 @@ single_at front (c ∷ rest) =
     if is_single front c rest && not (ends_number front)
     then Some (record { text = Some (single_text c); rest = rest }) else None
 
-abbrev pub written_code : Code → Written
-written_code code = record { text = code_text code; rest = code.rest }
+abbrev pub written_code : List ℕ → Code → Written
+written_code text code =
+    record { text = code_text (characters_before text code.rest); rest = code.rest }
+
+-- what a `Written` in the code is, with which this text begins
+abbrev pub written_of : List ℕ → CodeWritten → Written
+written_of text (written.Code code) = written_code text (code_of code)
+written_of text (written.Single c rest) = record { text = Some (single_text c); rest = chars rest.now }
 
 abbrev pub code_or_single : List ℕ → List ℕ → Option Written
 code_or_single front text =
-    option_or (option_map written_code (code_at front text)) (single_at front text)
+    option_or (option_map (written_code text) (code_at front text)) (single_at front text)
 
 -- a phrase, a sum of money or a range, which goes before a code that ends earlier
 abbrev pub is_phrase : Item → Bool
@@ -43,7 +52,9 @@ is_phrase other = true
 
 abbrev pub reaches_further : List ℕ → Option Item → Bool
 reaches_further rest None = false
-reaches_further rest (Some item) = is_phrase item && nat_lt (length (rest_of item)) (length rest)
+reaches_further rest (Some item) =
+    is_phrase item
+    && nat_lt (length (encode_utf8_all (rest_of item))) (length (encode_utf8_all rest))
 
 -- the code or single digit that begins with a text, unless a phrase there reaches further
 abbrev pub code_here : Wanted → List ℕ → List ℕ → Option Written
@@ -57,17 +68,9 @@ rest_here wanted front text =
     option_or (option_map (λ w. w.rest) (code_here wanted front text))
     (option_map rest_of (item_at wanted front text))
 
-abbrev pub span_here : List ℕ → List ℕ → Option (List ℕ) → List Span
-span_here front text None = []
-span_here front text (Some rest) = part_between front text rest ∷ []
-
--- the codes and items that begin among these characters, after the first `passed` of them
-abbrev pub spans_after : Wanted → ℕ → List ℕ → List ℕ → List Span
-spans_after wanted passed front [] = []
-spans_after wanted (suc passed) front (c ∷ ahead) = spans_after wanted passed (c ∷ front) ahead
-spans_after wanted zero front (c ∷ ahead) =
-    span_here front (c ∷ ahead) (rest_here wanted front (c ∷ ahead))
-    ++ spans_after wanted (still_passed ahead (rest_here wanted front (c ∷ ahead))) (c ∷ front) ahead
+-- the codes and items of a text
+abbrev pub coded_items : Wanted → List ℕ → List Span
+coded_items wanted bytes = parts_after (rest_here wanted) 0 [] (chars bytes)
 
 -- the code of a span, if it is one
 abbrev pub code_of_span : Wanted → Span → Option Written
@@ -87,4 +90,4 @@ span_holds method options wanted span =
 unfoldable pub text_with_codes : ChineseCountMethod → Figures → Wanted → List ℕ → List ℕ
 text_with_codes method options wanted bytes =
     in_chains (text_for_span method options wanted) (span_holds method options wanted) bytes
-    (spans_after wanted 0 [] (chars bytes))
+    (coded_items wanted bytes)

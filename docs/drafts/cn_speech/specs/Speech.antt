@@ -115,7 +115,7 @@ item_with_figures wanted front text =
 abbrev pub number_part : Voice → One → Wanted → List ℕ → List ℕ → Option Part
 number_part voice one wanted front text =
     option_or (option_map (λ s. said (with_tail false false s)) (pair_at voice.variant voice.method front text))
-    (option_or (option_map (λ code. said (with_tail false false (code_spoken voice one code)))
+    (option_or (option_map (λ code. said (with_tail false false (code_spoken voice one text code)))
     (code_with_figures front text))
     (option_map (item_part voice front text) (item_with_figures wanted front text)))
 

@@ -1,5 +1,5 @@
 -- Expressions, ranges, sums of money and codes as they are spoken.
-use Rattle.std.specs.Prelude.{ℕ, ◌==◌, ◌%◌, nat_le, Bool, true, false, not, ◌&&◌, ◌||◌, List, [], ◌∷◌, ◌++◌, length, drop, map, codes, chars, Option, Some, None, is_some, unwrap_or, if◌then◌else◌}
+use Rattle.std.specs.Prelude.{ℕ, ◌==◌, ◌%◌, nat_le, Bool, true, false, not, ◌&&◌, ◌||◌, List, [], ◌∷◌, ◌++◌, length, drop, filter, map, codes, chars, Option, Some, None, is_some, unwrap_or, if◌then◌else◌}
 use Rattle.std.specs.Char.{char_set_contains, is_ascii_alphabetic}
 use Rattle.std.specs.List.{list_any}
 use Rattle.std.specs.Option.{option_and_then, option_map, option_map_or, option_or}
@@ -17,10 +17,11 @@ use Rattle.cn_phrase.specs.Ranges.{Ends, is_link, range_of, shared_units}
 use Rattle.cn_replace.specs.KeptNumbers.{and_text}
 use Rattle.cn_replace.specs.Pieces.{after_leading, begins, is_letter_or_figure, is_unit_from, leading}
 use Rattle.cn_speech.specs.Beside.{follows_letters, is_capital}
-use Rattle.cn_speech.specs.Codes.{Code, CodeKind, barred, plain, pointed}
+use Rattle.cn_speech.specs.declared.code.CodeKind.{CodeKind}
+use Rattle.cn_speech.specs.declared.code.CodeKind.TheVariants.{Plain, Pointed, Barred}
+use Rattle.cn_speech.specs.Codes.{Code, is_point}
 use Rattle.cn_speech.specs.Counted.{begins_counted, is_two, without_blank}
 use Rattle.cn_speech.specs.Digits.{number_of}
-use Rattle.cn_speech.specs.Groups.{Group}
 use Rattle.cn_speech.specs.Measures.{Spoken, is_degrees, measure_at}
 use Rattle.cn_speech.specs.Numbers.{One, is_of_figures, number_said, one_by_one, trimmed, yi}
 use Rattle.cn_speech.specs.SpokenPhrases.{Voice, phrase_said, whole}
@@ -232,27 +233,39 @@ money_spoken voice front m =
 
 -- ---- Codes
 
--- the groups of a code, with a word between
-abbrev pub groups_said : Voice → One → List ℕ → List Group → List ℕ
-groups_said voice one between [] = []
-groups_said voice one between (group ∷ []) = one_by_one voice.variant one group.digits
-groups_said voice one between (group ∷ groups) =
-    one_by_one voice.variant one group.digits ++ (between ++ groups_said voice one between groups)
+-- a sign between the groups of a code as it is spoken
+abbrev pub between_groups : CodeKind → List ℕ
+between_groups Pointed = codes "点"
+between_groups Barred = codes "杠"
+between_groups Plain = []
+
+-- a character of a code: a figure by its name, or a sign
+abbrev pub character_said : Voice → One → CodeKind → ℕ → List ℕ
+character_said voice one kind c =
+    if is_figure c then one_by_one voice.variant one (c ∷ []) else between_groups kind
+
+abbrev pub characters_said : Voice → One → CodeKind → List ℕ → List ℕ
+characters_said voice one kind [] = []
+characters_said voice one kind (c ∷ written) =
+    character_said voice one kind c ++ characters_said voice one kind written
+
+-- a version has two points
+abbrev pub is_version : CodeKind → List ℕ → Bool
+is_version Pointed written = length (filter is_point written) == 2
+is_version other written = false
 
 -- the first number of a version with two points is a number: 十点五点七
-abbrev pub points_said : Voice → One → List Group → List ℕ
-points_said voice one (first ∷ second ∷ third ∷ []) =
-    whole voice (number_of first.digits)
-    ++ (codes "点" ++ groups_said voice one (codes "点") (second ∷ third ∷ []))
-points_said voice one groups = groups_said voice one (codes "点") groups
+abbrev pub code_said : Voice → One → CodeKind → List ℕ → List ℕ
+code_said voice one kind written =
+    if is_version kind written
+    then whole voice (number_of (leading is_figure written))
+    ++ characters_said voice one kind (after_leading is_figure written)
+    else characters_said voice one kind written
 
-abbrev pub code_said : Voice → One → CodeKind → List Group → List ℕ
-code_said voice one pointed groups = points_said voice one groups
-code_said voice one barred groups = groups_said voice one (codes "杠") groups
-code_said voice one plain groups = groups_said voice one [] groups
-
-abbrev pub code_spoken : Voice → One → Code → Spoken
-code_spoken voice one code = before code.rest (code_said voice one code.kind code.groups)
+-- the code with which a text begins
+abbrev pub code_spoken : Voice → One → List ℕ → Code → Spoken
+code_spoken voice one text code =
+    before code.rest (code_said voice one code.kind (characters_before text code.rest))
 
 -- ---- Items of phrases
 

@@ -1,5 +1,5 @@
 -- Words at the start and at the end of a text.
-use Rattle.std.specs.Prelude.{ℕ, ◌==◌, ◌-◌, Bool, true, false, ◌&&◌, ◌||◌, List, [], ◌∷◌, length, reverse, drop, Option, Some, None, if◌then◌else◌}
+use Rattle.std.specs.Prelude.{ℕ, ◌==◌, Bool, true, false, ◌&&◌, ◌||◌, List, [], ◌∷◌, length, reverse, drop, Option, Some, None, unwrap_or, if◌then◌else◌}
 
 -- a text begins with a word
 abbrev pub begins_word : List ℕ → List ℕ → Bool
@@ -21,7 +21,12 @@ ends_any (word ∷ words) front = begins_word (reverse word) front || ends_any w
 abbrev pub after_word : List ℕ → List ℕ → Option (List ℕ)
 after_word word text = if begins_word word text then Some (drop (length word) text) else None
 
--- the characters before a word at their end, or all of them if there is none
-abbrev pub without_end : List ℕ → List ℕ → List ℕ
-without_end word front =
-    if begins_word (reverse word) front then drop (length word) front else front
+-- the characters before a word that ends them
+abbrev pub before_word : List ℕ → List ℕ → Option (List ℕ)
+before_word word front = after_word (reverse word) front
+
+-- the characters before the first of these words that ends them, or all of them
+abbrev pub without_any : List (List ℕ) → List ℕ → List ℕ
+without_any [] front = front
+without_any (word ∷ words) front =
+    unwrap_or (before_word word front) (without_any words front)

@@ -1,8 +1,9 @@
 -- The digits of codes.
-use Rattle.std.specs.Prelude.{ℕ, ◌+◌, ◌*◌, nat_le, Bool, true, ◌&&◌, List, [], ◌∷◌, codes, Option, Some, None, unwrap_or, if◌then◌else◌}
+use Rattle.std.specs.Prelude.{ℕ, ◌+◌, ◌*◌, ◌==◌, nat_le, Bool, true, false, ◌&&◌, ◌||◌, List, [], ◌∷◌, codes, Option, Some, None, unwrap_or, if◌then◌else◌}
 use Rattle.std.specs.Char.{char_set_contains}
 use Rattle.cn_core.specs.Characters.{digit_of}
 use Rattle.cn_core.specs.FigureCharacters.{figure_of}
+use Rattle.cn_replace.specs.Pieces.{begins}
 
 -- the character is a Chinese digit of a code
 unfoldable pub is_chinese : ℕ → Bool
@@ -28,6 +29,22 @@ number_from value (c ∷ digits) = number_from (10 * value + value_of c) digits
 
 abbrev pub number_of : List ℕ → ℕ
 number_of digits = number_from 0 digits
+
+-- a run begins with the digits of a number, which is given in ASCII
+abbrev pub begins_number : List ℕ → List ℕ → Bool
+begins_number [] run = true
+begins_number (c ∷ number) [] = false
+begins_number (c ∷ number) (d ∷ run) = value_of c == value_of d && begins_number number run
+
+-- a run begins with one of these numbers
+abbrev pub begins_any_number : List (List ℕ) → List ℕ → Bool
+begins_any_number [] run = false
+begins_any_number (number ∷ numbers) run =
+    begins_number number run || begins_any_number numbers run
+
+-- the first digit is a zero
+abbrev pub begins_zero : List ℕ → Bool
+begins_zero run = begins (λ c. value_of c == 0) run
 
 -- each digit is at least the one before it, the first at least this one: 一二三四五六七
 abbrev pub rise_from : ℕ → List ℕ → Bool

@@ -1,6 +1,7 @@
 -- Measure words, by their first character.
-use Rattle.std.specs.Prelude.{ℕ, Bool, not, ◌&&◌, ◌||◌, ◌==◌, List, [], ◌∷◌, codes, if◌then◌else◌}
+use Rattle.std.specs.Prelude.{ℕ, Bool, not, ◌&&◌, ◌||◌, List, [], ◌∷◌, drop, codes, if◌then◌else◌}
 use Rattle.std.specs.Char.{char_set_contains}
+use Rattle.cn_find.specs.Belongs.{begins_with}
 use Rattle.cn_replace.specs.Pieces.{begins}
 use Rattle.cn_speech.specs.Words.{begins_any, ends_any}
 
@@ -16,11 +17,10 @@ is_counted c =
 
 -- a text without one blank at its start
 abbrev pub without_blank : List ℕ → List ℕ
-without_blank [] = []
-without_blank (c ∷ text) = if c == 32 then text else c ∷ text
+without_blank text = if begins_with (codes " ") text then drop 1 text else text
 
 -- a measure word is after a number; one blank may be between
-abbrev pub begins_counted : List ℕ → Bool
+unfoldable pub begins_counted : List ℕ → Bool
 begins_counted rest = begins is_counted (without_blank rest)
 
 -- words that begin as measure words do, and count no two
@@ -31,7 +31,7 @@ no_measures =
     ∷ codes "國道" ∷ codes "国籍" ∷ codes "國籍" ∷ codes "平方根" ∷ []
 
 -- 2 between these characters is 两
-abbrev pub is_two : List ℕ → List ℕ → Bool
+unfoldable pub is_two : List ℕ → List ℕ → Bool
 is_two front rest =
     begins is_counted_by_two (without_blank rest)
     && (not (begins_any no_measures (without_blank rest))

@@ -1,0 +1,3 @@
+pub mod CodeExamples
+pub mod GroupsRead
+pub mod Sums

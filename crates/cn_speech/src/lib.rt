@@ -1,0 +1,14 @@
+//! Codes in a text, such as telephone numbers and addresses, and their digits in figures.
+#![tactic(auto)]
+
+mod beside;
+pub mod code;
+mod code_words;
+mod counted;
+mod digits;
+mod groups;
+pub mod in_figures;
+mod signs;
+mod words;
+
+pub use code::{Code, CodeKind, code_at};
