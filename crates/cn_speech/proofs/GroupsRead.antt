@@ -1,7 +1,6 @@
 -- Groups that are read one after the other.
-use Rattle.std.proofs.Common.{◌≡◌, ℕ, zero, suc, ◌+◌, ◌<◌, ◌≤◌, Bool, true, false, Option, is_some, List, [], ◌∷◌, ◌++◌, length, take, drop, map, set, chars, refl, sym, ap, ◌∙◌, arith, absurd, append_assoc, append-nil}
+use Rattle.std.proofs.Common.{◌≡◌, ℕ, zero, suc, ◌+◌, ◌<◌, ◌≤◌, Bool, true, false, is_some, List, [], ◌∷◌, ◌++◌, length, take, drop, map, set, chars, refl, sym, ap, subst, ◌∙◌, arith, append_assoc}
 use Rattle.std.proofs.lemmas.List.{map-append, take_more_set}
-use Rattle.cn_replace.specs.Pieces.{after_leading}
 use Rattle.cn_speech.specs.declared.groups.Group.{Group as CodeGroup}
 use Rattle.cn_speech.specs.Groups.{Group, group_at, group_of, groups_within}
 
@@ -57,11 +56,13 @@ module _ (is_digit is_sign : ℕ → Bool) where
   }
 
   pub read-more : (all : List Group) (list : List CodeGroup) (count : ℕ) (g : CodeGroup)
-      (left : List ℕ) → GroupsRead is_digit is_sign all list count left → count < 9
+      (left next : List ℕ) → GroupsRead is_digit is_sign all list count left → count < 9
       → length list ≡ 9 → group_of g ≡ group_at is_digit is_sign left → is_some g.sign ≡ true
-      → GroupsRead is_digit is_sign all (set list count g) (count + 1) (drop 1 (chars g.rest.now))
-  read-more all list count g left read within size e some =
-      more-at all list count read.more g left read.most within size read.same e some
+      → next ≡ drop 1 (chars g.rest.now)
+      → GroupsRead is_digit is_sign all (set list count g) (count + 1) next
+  read-more all list count g left next read within size e some is =
+      subst (GroupsRead is_digit is_sign all (set list count g) (count + 1)) (sym is)
+      (more-at all list count read.more g left read.most within size read.same e some)
 
   last-at : (all : List Group) (list : List CodeGroup) (count more : ℕ) (g : CodeGroup)
       (left : List ℕ) → count + more ≡ 9 → count < 9 → length list ≡ 9
@@ -80,17 +81,3 @@ module _ (is_digit is_sign : ℕ → Bool) where
       → map group_of (take (count + 1) (set list count g)) ≡ all
   read-last all list count g left read within size e none =
       last-at all list count read.more g left read.most within size read.same e none
-
-  all-at : (all : List Group) (list : List CodeGroup) (count more : ℕ) (left : List ℕ)
-      → count + more ≡ 9 → 9 ≤ count
-      → all ≡ map group_of (take count list) ++ groups_within more is_digit is_sign left
-      → map group_of (take count list) ≡ all
-  all-at all list count zero left most full same =
-      sym (same ∙ append-nil (map group_of (take count list)))
-  all-at all list count (suc more) left most full same = absurd (omega arith)
-
-  pub read-all : (all : List Group) (list : List CodeGroup) (count : ℕ) (left : List ℕ)
-      → GroupsRead is_digit is_sign all list count left → 9 ≤ count
-      → map group_of (take count list) ≡ all
-  read-all all list count left read full =
-      all-at all list count read.more left read.most full read.same

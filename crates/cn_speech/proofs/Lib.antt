@@ -1,3 +1,4 @@
 pub mod CodeExamples
 pub mod GroupsRead
 pub mod Sums
+pub mod WordsWritten

@@ -1,5 +1,6 @@
 -- The number of digits is at least that of those before them.
-use Rattle.std.proofs.Common.{◌≡◌, ℕ, ◌+◌, ◌*◌, ◌<◌, ◌≤◌, nat_le, Bool, false, List, [], ◌∷◌, arith, sym, ap, ◌∙◌}
+use Rattle.std.proofs.Common.{◌≡◌, ℕ, ◌+◌, ◌*◌, ◌<◌, ◌≤◌, nat_le, false, List, [], ◌∷◌, sym, arith}
+use Rattle.std.proofs.lemmas.Bool.{lt-leb}
 use Rattle.cn_speech.specs.Digits.{number_from, value_of}
 
 pub number-above : (value : ℕ) (digits : List ℕ) → value ≤ number_from value digits
@@ -8,7 +9,7 @@ number-above value (c ∷ digits) =
     omega (arith, number-above (10 * value + value_of c) digits)
 
 -- digits whose first ones are a number above another one
-pub too-great : (most value : ℕ) (all : ℕ) (digits : List ℕ) → all ≡ number_from value digits
-    → most < value → most < all
+pub too-great : (most value all : ℕ) (digits : List ℕ) → all ≡ number_from value digits
+    → most < value → false ≡ nat_le all most
 too-great most value all digits same great =
-    omega (arith, number-above value digits, same, great)
+    sym (lt-leb all most (omega (arith, number-above value digits, same, great)))

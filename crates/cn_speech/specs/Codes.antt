@@ -11,9 +11,9 @@ use Rattle.cn_speech.specs.declared.code.Code.{Code as CodeCode}
 use Rattle.cn_speech.specs.declared.code.CodeKind.{CodeKind}
 use Rattle.cn_speech.specs.declared.code.CodeKind.TheVariants.{Plain, Pointed, Barred}
 use Rattle.cn_speech.specs.Beside.{follows_letters, touches_after, touches_before}
-use Rattle.cn_speech.specs.CodeWords.{begins_after_name, begins_of_year, begins_room, begins_route, follows_building, follows_word, is_called, is_generation, is_service}
+use Rattle.cn_speech.specs.CodeWords.{begins_after_name, begins_century, begins_of_year, begins_room, begins_route, follows_building, follows_word, is_called, is_generation, is_service}
 use Rattle.cn_speech.specs.Counted.{begins_counted}
-use Rattle.cn_speech.specs.Digits.{begins_any_number, begins_zero, is_chinese, is_yao, number_of, rise_from}
+use Rattle.cn_speech.specs.Digits.{begins_zero, is_chinese, is_yao, number_of, rise_from}
 use Rattle.cn_speech.specs.Groups.{Group, after_groups, are_fours, groups_of, have_signs, is_hotline, is_landline, is_mobile, is_mobile_in_groups}
 
 -- a code: plain digits, numbers with points between, or groups with bars between that are said; and the
@@ -61,11 +61,14 @@ are_enough groups = length groups == 3 || (length groups == 4 && are_bytes group
 abbrev pub are_pointed : List Group → Bool
 are_pointed groups = have_signs is_point groups && (are_short groups && are_enough groups)
 
+-- a month and a day
+unfoldable pub may_be_day : List ℕ → List ℕ → Bool
+may_be_day month day = nat_le (number_of month) 12 && nat_le (number_of day) 31
+
 -- a year, a month and a day: 2026.1.15
 abbrev pub may_be_date : List Group → Bool
 may_be_date (year ∷ month ∷ day ∷ []) =
-    length year.digits == 4
-    && (nat_le (number_of month.digits) 12 && nat_le (number_of day.digits) 31)
+    length year.digits == 4 && may_be_day month.digits day.digits
 may_be_date groups = false
 
 -- v or V is directly before a place, and no letter before it
@@ -133,7 +136,7 @@ is_room front run rest =
 
 abbrev pub is_year : List ℕ → List ℕ → List ℕ → Bool
 is_year front run rest =
-    (length run == 4 && begins_any_number (codes "19" ∷ codes "20" ∷ []) run)
+    (length run == 4 && begins_century run)
     && (begins_of_year rest || is_title_open 40 front)
 
 -- no measure word is after a number, and no sign of money before it

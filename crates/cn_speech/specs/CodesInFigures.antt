@@ -1,5 +1,5 @@
 -- A code of Chinese characters in figures.
-use Rattle.std.specs.Prelude.{ℕ, Bool, true, false, not, ◌&&◌, ◌||◌, List, [], ◌∷◌, ◌++◌, take, drop, codes, Option, Some, None, if◌then◌else◌}
+use Rattle.std.specs.Prelude.{ℕ, Bool, not, ◌&&◌, ◌||◌, List, [], ◌∷◌, ◌++◌, take, drop, codes, Option, Some, None, if◌then◌else◌}
 use Rattle.std.specs.Char.{char_set_contains, encode_utf8, is_ascii_alphabetic}
 use Rattle.std.specs.List.{list_any}
 use Rattle.cn_core.specs.Characters.{digit_of}
@@ -30,23 +30,36 @@ abbrev pub code_text : List ℕ → Option (List ℕ)
 code_text written =
     if list_any is_figure written then None else Some (code_characters written)
 
--- words before which one digit belongs to an address
-unfoldable pub begins_addressed : List ℕ → Bool
-begins_addressed rest =
-    begins_any
-    (codes "号楼" ∷ codes "號樓" ∷ codes "号院" ∷ codes "號院" ∷ codes "号线" ∷ codes "號線" ∷ codes "号柜" ∷ codes "號櫃"
+abbrev pub addressed : List (List ℕ)
+addressed =
+    codes "号楼" ∷ codes "號樓" ∷ codes "号院" ∷ codes "號院" ∷ codes "号线" ∷ codes "號線" ∷ codes "号柜" ∷ codes "號櫃"
     ∷ codes "号门" ∷ codes "號門" ∷ codes "号口" ∷ codes "號口" ∷ codes "号出口" ∷ codes "號出口" ∷ codes "号窗"
     ∷ codes "號窗" ∷ codes "号机" ∷ codes "號機" ∷ codes "号桌" ∷ codes "號桌" ∷ codes "号床" ∷ codes "號床"
     ∷ codes "号车" ∷ codes "號車" ∷ codes "单元" ∷ codes "單元" ∷ codes "站台" ∷ codes "站臺" ∷ codes "检票口"
-    ∷ codes "檢票口" ∷ codes "登机口" ∷ codes "登機口" ∷ codes "诊室" ∷ codes "診室" ∷ []) rest
+    ∷ codes "檢票口" ∷ codes "登机口" ∷ codes "登機口" ∷ codes "诊室" ∷ codes "診室" ∷ []
+
+-- words before which one digit belongs to an address
+unfoldable pub begins_addressed : List ℕ → Bool
+begins_addressed rest = begins_any addressed rest
+
+abbrev pub measured : List (List ℕ)
+measured =
+    codes "分钟" ∷ codes "分鐘" ∷ codes "公里" ∷ codes "公斤" ∷ codes "千克" ∷ codes "厘米" ∷ codes "毫米"
+    ∷ codes "毫升" ∷ codes "毫克" ∷ codes "平方米" ∷ codes "摄氏度" ∷ codes "攝氏度" ∷ []
+
+unfoldable pub begins_unit : List ℕ → Bool
+begins_unit rest = begins_any measured rest
+
+-- short fame: 三分钟热度
+abbrev pub fame : List (List ℕ)
+fame = codes "分钟热度" ∷ codes "分鐘熱度" ∷ []
+
+unfoldable pub begins_fame : List ℕ → Bool
+begins_fame rest = begins_any fame rest
 
 -- measures before which one digit is written
 unfoldable pub begins_measured : List ℕ → Bool
-begins_measured rest =
-    begins_any
-    (codes "分钟" ∷ codes "分鐘" ∷ codes "公里" ∷ codes "公斤" ∷ codes "千克" ∷ codes "厘米" ∷ codes "毫米"
-    ∷ codes "毫升" ∷ codes "毫克" ∷ codes "平方米" ∷ codes "摄氏度" ∷ codes "攝氏度" ∷ []) rest
-    && not (begins_any (codes "分钟热度" ∷ codes "分鐘熱度" ∷ []) rest)
+begins_measured rest = begins_unit rest && not (begins_fame rest)
 
 -- 栋, but after 一 only if a digit follows: 一栋楼 is one building
 unfoldable pub is_building : ℕ → List ℕ → Bool

@@ -60,11 +60,13 @@ are [] [] = true
 are (a ∷ rest) (b ∷ others) = a == b && are rest others
 are rest others = false
 
--- digits of a mobile telephone: the first is 1, the second 3 to 9
-abbrev pub begins_mobile : List ℕ → Bool
-begins_mobile run =
-    begins_any_number
-    (codes "13" ∷ codes "14" ∷ codes "15" ∷ codes "16" ∷ codes "17" ∷ codes "18" ∷ codes "19" ∷ []) run
+-- how numbers of mobile telephones begin
+abbrev pub mobiles : List (List ℕ)
+mobiles =
+    codes "13" ∷ codes "14" ∷ codes "15" ∷ codes "16" ∷ codes "17" ∷ codes "18" ∷ codes "19" ∷ []
+
+unfoldable pub begins_mobile : List ℕ → Bool
+begins_mobile run = begins_any_number mobiles run
 
 -- its eleven digits in one run
 unfoldable pub is_mobile : List ℕ → Bool
@@ -84,11 +86,17 @@ is_landline (area ∷ number ∷ []) =
     && (length number.digits == 7 || length number.digits == 8))
 is_landline groups = false
 
+abbrev pub hotlines : List (List ℕ)
+hotlines = codes "400" ∷ codes "800" ∷ []
+
+unfoldable pub begins_hotline : List ℕ → Bool
+begins_hotline run = begins_any_number hotlines run
+
 -- a number that begins with 400 or 800, in groups of 3, 3 and 4 digits, or 3, 4 and 3
 unfoldable pub is_hotline : List Group → Bool
 is_hotline [] = false
 is_hotline (area ∷ groups) =
-    begins_any_number (codes "400" ∷ codes "800" ∷ []) area.digits
+    begins_hotline area.digits
     && (are (lengths (area ∷ groups)) (3 ∷ 3 ∷ 4 ∷ []) || are (lengths (area ∷ groups)) (3 ∷ 4 ∷ 3 ∷ []))
 
 -- a card: groups of four digits, the last of at most four

@@ -1,7 +1,7 @@
 // What is directly beside a number, and makes it a part of a name, an address or a formula.
 ghost use Rattle.std.specs.Prelude.{◌≡◌, chars, length, nat_le};
 ghost use Rattle.cn_find.specs.Spans.{in_front};
-ghost use Rattle.cn_replace.specs.Pieces.{after_leading, begins, is_letter_or_figure, leading};
+ghost use Rattle.cn_replace.specs.Pieces.{after_leading, leading};
 ghost use Rattle.cn_speech.specs.Beside.{follows_letters, is_bridge, is_capital, is_sign_after, is_sign_before, touches_after, touches_before};
 
 use cn_core::split_first_char;
@@ -26,7 +26,8 @@ fn is_sign_before(c: char) -> bool
 {
     is_one_of(
         &[
-            '_', '-', '.', '/', '\\', ':', '=', '#', '@', '^', '*', '$', '&', '<', '+', '%', '％', '‰', '~', '～',
+            '_', '-', '.', '/', '\\', ':', '=', '#', '@', '^', '*', '$', '&', '<', '+', '%', '％',
+            '‰', '~', '～',
         ],
         c,
     )

@@ -2,18 +2,17 @@
 ghost use Rattle.std.specs.Prelude.{◌≡◌, chars, map};
 ghost use Rattle.std.specs.Option.{option_map};
 ghost use Rattle.cn_find.specs.Spans.{in_front};
-ghost use Rattle.cn_speech.specs.Codes.{are_bytes, are_digits, are_enough, are_pointed, are_short, code_at, code_by, code_of, ends_numeral, ends_with_one, follows_version, groups_code, has_comma, have_shape, is_card, is_code_of_figures, is_digits, is_figures, is_grouped, is_long, is_name, is_numbered, is_of_zero, is_part_of_date, is_pointed, is_pointed_chinese, is_pointed_figures, is_room, is_run, is_telephone, is_uncounted, is_whole, is_year, kind_of_groups, may_be_date, run_code};
+ghost use Rattle.cn_speech.specs.Codes.{are_bytes, are_digits, are_enough, are_pointed, are_short, code_at, code_by, code_of, ends_numeral, ends_with_one, follows_version, groups_code, has_comma, have_shape, is_card, is_code_of_figures, is_digits, is_figures, is_grouped, is_long, is_name, is_numbered, is_of_zero, is_part_of_date, is_pointed, is_pointed_chinese, is_pointed_figures, is_room, is_run, is_telephone, is_uncounted, is_whole, is_year, kind_of_groups, may_be_date, may_be_day, run_code};
 ghost use Rattle.cn_speech.specs.Groups.{group_of};
 
 use crate::beside::{follows_letters, touches_after, touches_before};
 use crate::code_words::{
-    begins_after_name, begins_of_year, begins_room, begins_route, follows_building, follows_word,
-    is_called, is_generation, is_service,
+    begins_after_name, begins_century, begins_of_year, begins_room, begins_route, follows_building,
+    follows_word, is_called, is_generation, is_service,
 };
 use crate::counted::begins_counted;
 use crate::digits::{
-    Chinese, Yao, begins_any_number, begins_zero, do_rise, has_at_least, has_at_most, has_count,
-    is_at_most,
+    Chinese, Yao, begins_zero, do_rise, has_at_least, has_at_most, has_count, is_at_most,
 };
 use crate::groups::{
     Group, after_groups, are_fours, have_signs, is_hotline, is_landline, is_mobile,
@@ -42,7 +41,6 @@ pub struct Code<'a> {
     /// The text after it.
     pub rest: &'a str,
 }
-
 
 // ---- Points
 
@@ -94,6 +92,14 @@ fn are_pointed(groups: &[Group<'_>]) -> bool
     have_signs(Point, groups) && are_short(groups) && are_enough(groups)
 }
 
+// Whether two numbers may be a month and a day.
+#[tactic(auto, unfolding(crate::specs::Codes::may_be_day))]
+fn may_be_day(month: &str, day: &str) -> bool
+    ensures { result ≡ may_be_day (chars month.now) (chars day.now) }
+{
+    is_at_most(12, month) && is_at_most(31, day)
+}
+
 // Whether groups may be a year, a month and a day: 2026.1.15.
 fn may_be_date(groups: &[Group<'_>]) -> bool
     ensures { result ≡ may_be_date (map group_of groups.now) }
@@ -107,10 +113,7 @@ fn may_be_date(groups: &[Group<'_>]) -> bool
     let Some((day, more)) = days.split_first() else {
         return false;
     };
-    more.is_empty()
-        && has_count(4, year.digits)
-        && is_at_most(12, month.digits)
-        && is_at_most(31, day.digits)
+    more.is_empty() && has_count(4, year.digits) && may_be_day(month.digits, day.digits)
 }
 
 // Whether v or V ends a text, and no letter is before it.
@@ -138,8 +141,7 @@ fn is_pointed_chinese(groups: &[Group<'_>], rest: &str) -> bool
             '点', '點', '十', '百', '千', '万', '亿', '分', '刻', '半', '时', '時', '个', '個',
         ],
         rest,
-    ) && !(ends_with_one(groups)
-        && begins_with(&['定', '直', '起', '样', '樣', '些', '下'], rest))
+    ) && !(ends_with_one(groups) && begins_with(&['定', '直', '起', '样', '樣', '些', '下'], rest))
 }
 
 // Whether groups are an address or a version.
@@ -238,9 +240,7 @@ fn is_room(before: &str, run: &str, rest: &str) -> bool
 fn is_year(before: &str, run: &str, rest: &str) -> bool
     ensures { result ≡ is_year (in_front before.now) (chars run.now) (chars rest.now) }
 {
-    has_count(4, run)
-        && begins_any_number(&["19", "20"], run)
-        && (begins_of_year(rest) || is_title_open(before))
+    has_count(4, run) && begins_century(run) && (begins_of_year(rest) || is_title_open(before))
 }
 
 // Whether no measure word is after a number, and no sign of money before it.
@@ -254,8 +254,7 @@ fn is_uncounted(before: &str, rest: &str) -> bool
 fn is_telephone(before: &str, run: &str, rest: &str) -> bool
     ensures { result ≡ is_telephone (in_front before.now) (chars run.now) (chars rest.now) }
 {
-    is_mobile(run)
-        || (!begins_counted(rest) && (is_service(run) || is_called(before, run)))
+    is_mobile(run) || (!begins_counted(rest) && (is_service(run) || is_called(before, run)))
 }
 
 // Whether a run is the number of a room, a route, a year or a generation.
@@ -425,10 +424,7 @@ fn code_by<'a, D: CharTest, S: CharTest>(
 fn ends_numeral(before: &str) -> bool
     ensures { result ≡ ends_numeral (in_front before.now) }
 {
-    ends_with(
-        &['十', '百', '千', '万', '萬', '亿', '億', '点', '點', '第'],
-        before,
-    )
+    ends_with(&['十', '百', '千', '万', '萬', '亿', '億', '点', '點', '第'], before)
 }
 
 /// The code with which a text begins, after another text; `None` if it begins with none.

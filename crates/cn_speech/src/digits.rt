@@ -1,5 +1,5 @@
 // The digits of codes.
-ghost use Rattle.std.specs.Prelude.{◌≡◌, ◌<◌, ◌==◌, ◌^◌, chars, length, map, nat_le};
+ghost use Rattle.std.specs.Prelude.{◌≡◌, ◌==◌, chars, length, map, nat_le};
 ghost use Rattle.cn_speech.specs.Digits.{begins_any_number, begins_number, begins_zero, code_digit, is_chinese, is_yao, number_of, rise_from, value_of};
 
 use cn_core::{digit_of, figure_of, split_first_char};
@@ -55,7 +55,11 @@ fn code_digit(c: char) -> Option<u8>
     if is_yao(c) {
         return Some(1);
     }
-    if is_chinese(c) { digit_of(c) } else { figure_of(c) }
+    if is_chinese(c) {
+        digit_of(c)
+    } else {
+        figure_of(c)
+    }
 }
 
 /// The value of a character that is a digit of a code: 1 for 幺, 0 for any other character.

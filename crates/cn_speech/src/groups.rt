@@ -1,9 +1,7 @@
 // Runs of digits with a sign between, such as 010-62345678 and 192.168.1.1.
-ghost use Rattle.std.specs.Prelude.{◌≡◌, ◌≤◌, ◌==◌, ◌∷◌, chars, length, map, nat_le, take};
-ghost use Rattle.std.specs.List.{list_all};
+ghost use Rattle.std.specs.Prelude.{◌≡◌, ◌≤◌, true, chars, length, map, take};
 ghost use Rattle.std.specs.Option.{option_map_or};
-ghost use Rattle.cn_replace.specs.Pieces.{after_leading};
-ghost use Rattle.cn_speech.specs.Groups.{after_groups, are, are_fours, begins_mobile, group_at, group_of, groups_of, have_signs, is_landline, is_mobile, is_mobile_in_groups, is_hotline, lengths, sign_of};
+ghost use Rattle.cn_speech.specs.Groups.{after_groups, are, are_fours, begins_hotline, begins_mobile, group_at, group_of, groups_of, have_signs, is_landline, is_mobile, is_mobile_in_groups, is_hotline, lengths, sign_of};
 
 use crate::digits::{begins_any_number, begins_zero, has_at_most, has_count};
 use crate::words::without_first;
@@ -55,6 +53,7 @@ pub fn read_groups<'a, D: CharTest, S: CharTest>(
     list: &mut [Group<'a>; 9],
 ) -> usize
     ensures count { result ≤ 9 }
+    ensures size { length list.new ≡ 9 }
     ensures groups { map group_of (take result list.new)
         ≡ groups_of (D.test digit) (S.test sign) (chars text.now) }
 {
@@ -158,6 +157,13 @@ pub fn is_landline(groups: &[Group<'_>]) -> bool
         && (has_count(7, number.digits) || has_count(8, number.digits))
 }
 
+// Whether a run begins with 400 or 800.
+fn begins_hotline(run: &str) -> bool
+    ensures { result ≡ begins_hotline (chars run.now) }
+{
+    begins_any_number(&["400", "800"], run)
+}
+
 /// Whether groups are a number that begins with 400 or 800: 400-820-8820.
 #[tactic(auto, unfolding(crate::specs::Groups::is_hotline))]
 pub fn is_hotline(groups: &[Group<'_>]) -> bool
@@ -165,8 +171,7 @@ pub fn is_hotline(groups: &[Group<'_>]) -> bool
 {
     match groups.split_first() {
         Some((area, _)) => {
-            begins_any_number(&["400", "800"], area.digits)
-                && (are(groups, &[3, 3, 4]) || are(groups, &[3, 4, 3]))
+            begins_hotline(area.digits) && (are(groups, &[3, 3, 4]) || are(groups, &[3, 4, 3]))
         }
         None => false,
     }

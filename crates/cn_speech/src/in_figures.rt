@@ -1,9 +1,9 @@
 // A code of Chinese characters in figures.
-ghost use Rattle.std.specs.Prelude.{◌≡◌, chars, codes, drop, take, IfOk, OnOk};
+ghost use Rattle.std.specs.Prelude.{◌≡◌, chars, IfOk, OnOk};
 ghost use Rattle.cn_find.specs.Expressions.{is_han};
 ghost use Rattle.cn_find.specs.Spans.{in_front};
 ghost use Rattle.cn_replace.specs.Private.{PutsText};
-ghost use Rattle.cn_speech.specs.CodesInFigures.{begins_addressed, begins_measured, code_character, code_characters, code_text, digit_text, figure, is_alone, is_building, is_key, is_measured, is_single, single_text};
+ghost use Rattle.cn_speech.specs.CodesInFigures.{begins_addressed, begins_fame, begins_measured, begins_unit, code_character, code_characters, code_text, figure, is_alone, is_building, is_key, is_measured, is_single, single_text};
 
 use crate::digits::{Chinese, is_chinese, value_of};
 use crate::signs::{Bar, Point};
@@ -74,19 +74,78 @@ pub fn put_code<S: Sink>(sink: &mut S, written: &str) -> Result<bool, S::Error>
 }
 
 // Whether a text begins with a word before which one digit belongs to an address.
-#[tactic(auto, unfolding(crate::specs::CodesInFigures::begins_addressed))]
 fn begins_addressed(text: &str) -> bool
     ensures { result ≡ begins_addressed (chars text.now) }
 {
     begins_any(
         &[
-            "号楼", "號樓", "号院", "號院", "号线", "號線", "号柜", "號櫃", "号门", "號門", "号口",
-            "號口", "号出口", "號出口", "号窗", "號窗", "号机", "號機", "号桌", "號桌", "号床",
-            "號床", "号车", "號車", "单元", "單元", "站台", "站臺", "检票口", "檢票口", "登机口",
-            "登機口", "诊室", "診室",
+            "号楼",
+            "號樓",
+            "号院",
+            "號院",
+            "号线",
+            "號線",
+            "号柜",
+            "號櫃",
+            "号门",
+            "號門",
+            "号口",
+            "號口",
+            "号出口",
+            "號出口",
+            "号窗",
+            "號窗",
+            "号机",
+            "號機",
+            "号桌",
+            "號桌",
+            "号床",
+            "號床",
+            "号车",
+            "號車",
+            "单元",
+            "單元",
+            "站台",
+            "站臺",
+            "检票口",
+            "檢票口",
+            "登机口",
+            "登機口",
+            "诊室",
+            "診室",
         ],
         text,
     )
+}
+
+// Whether a text begins with a measure.
+fn begins_unit(text: &str) -> bool
+    ensures { result ≡ begins_unit (chars text.now) }
+{
+    begins_any(
+        &[
+            "分钟",
+            "分鐘",
+            "公里",
+            "公斤",
+            "千克",
+            "厘米",
+            "毫米",
+            "毫升",
+            "毫克",
+            "平方米",
+            "摄氏度",
+            "攝氏度",
+        ],
+        text,
+    )
+}
+
+// Whether a text begins with 分钟热度, as in 三分钟热度.
+fn begins_fame(text: &str) -> bool
+    ensures { result ≡ begins_fame (chars text.now) }
+{
+    begins_any(&["分钟热度", "分鐘熱度"], text)
 }
 
 // Whether a text begins with a measure before which one digit is written.
@@ -94,13 +153,7 @@ fn begins_addressed(text: &str) -> bool
 fn begins_measured(text: &str) -> bool
     ensures { result ≡ begins_measured (chars text.now) }
 {
-    begins_any(
-        &[
-            "分钟", "分鐘", "公里", "公斤", "千克", "厘米", "毫米", "毫升", "毫克", "平方米",
-            "摄氏度", "攝氏度",
-        ],
-        text,
-    ) && !begins_any(&["分钟热度", "分鐘熱度"], text)
+    begins_unit(text) && !begins_fame(text)
 }
 
 // Whether a text begins with 栋; after 一 a digit follows.
@@ -139,9 +192,7 @@ fn is_alone(before: &str, c: char) -> bool
     ensures { result ≡ is_alone (in_front before.now) c }
 {
     is_one_of(
-        &[
-            '零', '一', '二', '两', '三', '四', '五', '六', '七', '八', '九', '十',
-        ],
+        &['零', '一', '二', '两', '三', '四', '五', '六', '七', '八', '九', '十'],
         c,
     ) && !ends(Letter, before)
         && !ends_with(&['第', '这', '這', '那', '每', '几', '幾'], before)

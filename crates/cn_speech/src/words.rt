@@ -2,7 +2,7 @@
 ghost use Rattle.std.specs.Prelude.{◌≡◌, chars, drop, map};
 ghost use Rattle.std.specs.Option.{option_map};
 ghost use Rattle.cn_find.specs.Spans.{in_front};
-ghost use Rattle.cn_speech.specs.Words.{after_word, before_word, begins_any, begins_word, ends_any, without_any};
+ghost use Rattle.cn_speech.specs.Words.{after_word, begins_any, begins_word, ends_any, without_any};
 
 use cn_core::split_first_char;
 use cn_replace::pieces::split_nearest;

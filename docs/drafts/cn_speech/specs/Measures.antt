@@ -1,11 +1,14 @@
 -- Measures in Latin letters and signs, and how they are spoken.
-use Rattle.std.specs.Prelude.{ℕ, Bool, false, not, ◌&&◌, ◌||◌, ◌==◌, List, [], ◌∷◌, length, drop, codes, Option, Some, None, if◌then◌else◌}
+use Rattle.std.specs.Prelude.{ℕ, Bool, false, ◌&&◌, ◌||◌, ◌==◌, List, [], ◌∷◌, length, chars, codes, Option, Some, None, if◌then◌else◌}
 use Rattle.std.specs.Char.{char_set_contains, is_ascii_alphabetic}
-use Rattle.std.specs.Option.{option_or}
+use Rattle.std.specs.Option.{option_and_then, option_map, option_or}
+use Rattle.cn_find.specs.Belongs.{begins_with}
 use Rattle.cn_find.specs.Expressions.{is_han}
 use Rattle.cn_replace.specs.Pieces.{begins, is_letter_or_figure}
+use Rattle.cn_speech.specs.declared.measures.Measure.{Measure as CodeMeasure}
+use Rattle.cn_speech.specs.declared.measures.Row.{Row}
 use Rattle.cn_speech.specs.Counted.{without_blank}
-use Rattle.cn_speech.specs.Words.{begins_word}
+use Rattle.cn_speech.specs.Words.{after_word, begins_word}
 
 -- a measure: how it is written, and how it is spoken
 pub record Measure : Type 0 where
@@ -75,37 +78,47 @@ goes_on (c ∷ rest) =
 abbrev pub is_letter : List ℕ → Bool
 is_letter written = length written == 1 && begins is_ascii_alphabetic written
 
--- a measure with which a text begins, after a blank or not
-abbrev pub is_there : Bool → Measure → List ℕ → Bool
-is_there after_blank m text =
-    begins_word m.written text
-    && (not (goes_on (drop (length m.written) text)) && not (after_blank && is_letter m.written))
+-- the text after a measure with which a text begins, after a blank or not
+abbrev pub after_measure : Bool → List ℕ → List ℕ → Option (List ℕ)
+after_measure after_blank written text =
+    option_and_then (λ rest.
+    if goes_on rest || (after_blank && is_letter written) then None else Some rest)
+    (after_word written text)
 
 -- what is spoken for a measure, and the text after it
 pub record Spoken : Type 0 where
   pub text : List ℕ
   pub rest : List ℕ
 
+-- what a `Row` and a `Measure` in the code are
+abbrev pub measure_of : Row → Measure
+measure_of row = measure (chars row.written.now) (chars row.spoken.now)
+
+abbrev pub spoken_of : CodeMeasure → Spoken
+spoken_of m = record { text = chars m.spoken.now; rest = chars m.rest.now }
+
+-- the first of these measures with which a text begins
 abbrev pub first_measure : Bool → List Measure → List ℕ → Option Spoken
 first_measure after_blank [] text = None
 first_measure after_blank (m ∷ others) text =
-    if is_there after_blank m text
-    then Some (record { text = m.spoken; rest = drop (length m.written) text })
-    else first_measure after_blank others text
+    option_or
+    (option_map (λ rest. record { text = m.spoken; rest = rest })
+    (after_measure after_blank m.written text))
+    (first_measure after_blank others text)
 
 -- 12#楼, 12#、15#楼
 abbrev pub number_sign : List ℕ → Option Spoken
 number_sign [] = None
 number_sign (c ∷ rest) =
     if char_set_contains (codes "#") c
-    && begins (λ d. is_han d || char_set_contains (codes "、") d) rest
+    && (begins is_han rest || begins_with (codes "、") rest)
     then Some (record { text = codes "号"; rest = rest }) else None
 
 -- the measure after a number, after a blank or none
 abbrev pub measure_at : List ℕ → Option Spoken
 measure_at text =
     option_or (number_sign text)
-    (first_measure (begins (λ c. c == 32) text) measures (without_blank text))
+    (first_measure (begins_with (codes " ") text) measures (without_blank text))
 
 -- the measure is one of degrees, before which 2 is 二 and a minus sign 零下
 abbrev pub is_degrees : List ℕ → Bool

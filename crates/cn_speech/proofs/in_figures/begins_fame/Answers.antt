@@ -1,0 +1,10 @@
+use Rattle.std.proofs.Common.{ap, refl, chars, ◌∙◌}
+use Rattle.std.specs.Char.{encode_utf8}
+use Rattle.cn_speech.specs.CodesInFigures.{begins_fame, fame}
+use Rattle.cn_speech.specs.Words.{begins_any}
+use Rattle.cn_speech.proofs.WordsWritten.{words-are}
+use Rattle.cn_speech.proofs.in_figures.begins_fame.Goals as goal
+
+pub returns : goal.returns
+unfolding encode_utf8 begins_fame
+returns c = c.begins_any.ensures ∙ ap (λ l. begins_any l (chars c.args.text.now)) (words-are fame refl)
