@@ -2,3 +2,6 @@ pub mod CodeExamples
 pub mod GroupsRead
 pub mod Sums
 pub mod WordsWritten
+pub mod PartsFound
+pub mod CodeLeaves
+pub mod HereLeaves

@@ -6,3 +6,5 @@ pub mod CodeWords
 pub mod Counted
 pub mod Codes
 pub mod CodesInFigures
+pub mod Parts
+pub mod CodesInText

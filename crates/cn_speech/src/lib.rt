@@ -9,6 +9,7 @@ mod digits;
 mod groups;
 pub mod in_figures;
 mod signs;
+pub mod with_codes;
 mod words;
 
 pub use code::{Code, CodeKind, code_at};

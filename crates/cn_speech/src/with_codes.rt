@@ -1,0 +1,146 @@
+// A text with its codes, phrases and expressions in figures.
+ghost use Rattle.std.specs.Prelude.{◌≡◌, ◌++◌, ◌∷◌, [], chars, encode_utf8_all, length, nat_lt, IfSome, MatchOption};
+ghost use Rattle.std.specs.Option.{option_map};
+ghost use Rattle.cn_find.specs.Spans.{IsPartOf, in_front, span_of, text_before};
+ghost use Rattle.cn_phrase.specs.Items.{item_of};
+ghost use Rattle.cn_speech.specs.CodesInText.{code_here, code_or_single, ends_number, is_phrase, reaches_further, rest_here, single_at, written_of};
+ghost use Rattle.cn_speech.specs.Parts.{parts_left};
+
+use crate::code::{Code, code_at};
+use crate::in_figures::is_single;
+use cn_core::{digit_of, split_first_char, unit_of};
+use cn_find::{Found, Wanted, text_before};
+use cn_phrase::items::{Item, item_at};
+use cn_replace::pieces::split_nearest;
+
+/// What is written in figures and is no phrase.
+#[derive(Debug, Copy, Clone)]
+pub enum Written<'a> {
+    /// A code.
+    Code(Code<'a>),
+    /// A single digit, such as the 三 of 三号楼, and the text after it.
+    Single(char, &'a str),
+}
+
+impl<'a> Written<'a> {
+    // The text after it.
+    fn rest(self, text: &str) -> &'a str
+        ensures { chars result.now ≡ (written_of (chars text.now) self.entry).rest }
+    {
+        match self {
+            Written::Code(code) => code.rest,
+            Written::Single(_, rest) => rest,
+        }
+    }
+}
+
+// Whether a number is at the end of a text.
+fn ends_number(before: &str) -> bool
+    ensures { result ≡ ends_number (in_front before.now) }
+{
+    match split_nearest(before) {
+        Some((c, _)) => digit_of(c).is_some() || unit_of(c).is_some(),
+        None => false,
+    }
+}
+
+// The single digit with which a text begins.
+fn single_at<'a>(before: &str, text: &'a str) -> Option<Written<'a>>
+    ensures { option_map (written_of (chars text.now)) result
+        ≡ single_at (in_front before.now) (chars text.now) }
+{
+    let (c, rest) = split_first_char(text)?;
+    if is_single(before, c, rest) && !ends_number(before) {
+        Some(Written::Single(c, rest))
+    } else {
+        None
+    }
+}
+
+// The code or single digit with which a text begins.
+fn code_or_single<'a>(before: &str, text: &'a str) -> Option<Written<'a>>
+    ensures { option_map (written_of (chars text.now)) result
+        ≡ code_or_single (in_front before.now) (chars text.now) }
+{
+    match code_at(before, text) {
+        Some(code) => Some(Written::Code(code)),
+        None => single_at(before, text),
+    }
+}
+
+fn is_phrase(item: Item<'_>) -> bool
+    ensures { result ≡ is_phrase (item_of item.entry) }
+{
+    !matches!(item, Item::Expression(_))
+}
+
+// Whether a text is shorter than another one.
+fn is_shorter(text: &str, other: &str) -> bool
+    ensures { result ≡ nat_lt (length (encode_utf8_all (chars text.now)))
+        (length (encode_utf8_all (chars other.now))) }
+{
+    text.len() < other.len()
+}
+
+// Whether a phrase ends after a code.
+fn reaches_further(rest: &str, item: Option<Item<'_>>) -> bool
+    ensures { result ≡ reaches_further (chars rest.now) (option_map item_of item.entry) }
+{
+    match item {
+        Some(item) => is_phrase(item) && is_shorter(item.rest(), rest),
+        None => false,
+    }
+}
+
+// The code or single digit that begins with a suffix of a text, unless a phrase there reaches further.
+fn code_here<'a>(whole: &'a str, ahead: &'a str, wanted: Wanted) -> Option<Written<'a>>
+    requires { text_before whole.now ahead.now ++ ahead.now ≡ whole.now }
+    ensures { option_map (written_of (chars ahead.now)) result ≡ code_here wanted
+        (in_front (text_before whole.now ahead.now)) (chars ahead.now) }
+{
+    let written = code_or_single(text_before(whole, ahead), ahead)?;
+    if reaches_further(written.rest(ahead), item_at(whole, ahead, wanted)) {
+        None
+    } else {
+        Some(written)
+    }
+}
+
+// The text after the code or the item that begins with a suffix of a text.
+fn rest_here<'a>(whole: &'a str, ahead: &'a str, wanted: Wanted) -> Option<&'a str>
+    requires { text_before whole.now ahead.now ++ ahead.now ≡ whole.now }
+    ensures { option_map (λ rest. chars rest.now) result ≡ rest_here wanted
+        (in_front (text_before whole.now ahead.now)) (chars ahead.now) }
+{
+    if let Some(written) = code_here(whole, ahead, wanted) {
+        return Some(written.rest(ahead));
+    }
+    match item_at(whole, ahead, wanted) {
+        Some(item) => Some(item.rest()),
+        None => None,
+    }
+}
+
+// The first code or item of a suffix of a text.
+fn next_part<'a>(whole: &'a str, rest: &'a str, wanted: Wanted) -> Option<Found<'a>>
+    requires { text_before whole.now rest.now ++ rest.now ≡ whole.now }
+    ensures parts { MatchOption result (parts_left (rest_here wanted) whole.now rest.now ≡ [])
+        (λ found. parts_left (rest_here wanted) whole.now rest.now
+        ≡ span_of found ∷ parts_left (rest_here wanted) whole.now found.after.now) }
+    ensures ends { IfSome result
+        (λ found. text_before whole.now found.after.now ++ found.after.now ≡ whole.now) }
+    ensures part { IfSome result (λ found. IsPartOf whole.now rest.now (span_of found)) }
+{
+    let mut ahead = rest;
+    'searching: while let Some((_, others)) = split_first_char(ahead) {
+        if let Some(after) = rest_here(whole, ahead, wanted) {
+            return Some(Found {
+                before: text_before(whole, ahead),
+                text: text_before(ahead, after),
+                after,
+            });
+        }
+        ahead = others;
+    }
+    None
+}
