@@ -1,15 +1,13 @@
 -- A code is at the start of a text, and something is left of it.
-use Rattle.std.proofs.Common.{◌≡◌, ℕ, zero, suc, ◌<◌, Bool, true, false, ◌&&◌, List, [], ◌∷◌, length, drop, Option, Some, None, IfSome, is_some, option_map, not, refl, ap, arith, length-append, if◌then◌else◌}
-use Rattle.std.specs.Option.{option_or}
+use Rattle.std.proofs.Common.{◌≡◌, ℕ, zero, suc, Bool, true, false, ◌&&◌, List, [], ◌∷◌, length, drop, Option, Some, None, IfSome, is_some, option_map, not, refl, ap, arith, length-append, if◌then◌else◌}
 use Rattle.cn_core.proofs.Fronts.{and-right}
 use Rattle.cn_core.specs.FigureCharacters.{is_figure}
 use Rattle.cn_replace.specs.Pieces.{after_leading, begins, leading}
-use Rattle.cn_phrase.specs.Suffix.{EndsWith}
 use Rattle.cn_phrase.proofs.ItemSteps.{Leaves}
 use Rattle.cn_phrase.proofs.Suffixes.{Ends-again, Ends-leading, if-or}
 use Rattle.cn_speech.specs.declared.code.CodeKind.{CodeKind}
 use Rattle.cn_speech.specs.declared.code.CodeKind.TheVariants.{Plain}
-use Rattle.cn_speech.specs.Codes.{Code, code_at, code_by, ends_numeral, groups_code, is_between_chinese, is_between_figures, is_run, kind_of_groups, run_code}
+use Rattle.cn_speech.specs.Codes.{Code, code_at, code_by, ends_numeral, is_between_chinese, is_between_figures, is_run, run_code}
 use Rattle.cn_speech.specs.Digits.{is_chinese}
 use Rattle.cn_speech.specs.Groups.{after_groups, groups_of, groups_within, sign_of}
 
@@ -57,11 +55,11 @@ module _ (is_digit is_sign : ℕ → Bool) where
       → Leaves text (after_groups (groups_within (suc more) is_digit is_sign text) text)
   groups-leave zero text e =
       last (is_some (sign_of is_digit is_sign (after_leading is_digit text))) (leading-leaves is_digit text e)
-      where
-        last : (b : Bool) → Leaves text (after_leading is_digit text)
-            → Leaves text (after_groups (if b then [] else []) (after_leading is_digit text))
-        last true h = h
-        last false h = h
+    where
+      last : (b : Bool) → Leaves text (after_leading is_digit text)
+          → Leaves text (after_groups (if b then [] else []) (after_leading is_digit text))
+      last true h = h
+      last false h = h
   groups-leave (suc more) text e =
       after-run (suc more) text (after_leading is_digit text) (leading-leaves is_digit text e)
       (λ t h. groups-leave more t h) (is_some (sign_of is_digit is_sign (after_leading is_digit text))) refl

@@ -10,7 +10,7 @@ use Rattle.cn_replace.specs.Chains.{in_chains}
 use Rattle.cn_replace.specs.Pieces.{begins}
 use Rattle.cn_phrase.specs.Between.{characters_before}
 use Rattle.cn_phrase.specs.InText.{item_holds, text_for_item}
-use Rattle.cn_phrase.specs.Items.{Item, phrase, money, range, expression, item_at, rest_of}
+use Rattle.cn_phrase.specs.Items.{Item, expression, item_at, rest_of}
 use Rattle.cn_speech.specs.declared.with_codes.Written.{Written as CodeWritten}
 use Rattle.cn_speech.specs.declared.with_codes.Written.TheVariants as written
 use Rattle.cn_speech.specs.Codes.{Code, code_at, code_of}
@@ -40,6 +40,11 @@ written_code text code =
 abbrev pub written_of : List ℕ → CodeWritten → Written
 written_of text (written.Code code) = written_code text (code_of code)
 written_of text (written.Single c rest) = record { text = Some (single_text c); rest = chars rest.now }
+
+-- the new text of a `Written` with these characters
+abbrev pub written_new : CodeWritten → List ℕ → Option (List ℕ)
+written_new (written.Code code) characters = code_text characters
+written_new (written.Single c rest) characters = Some (single_text c)
 
 abbrev pub code_or_single : List ℕ → List ℕ → Option Written
 code_or_single front text =

@@ -1,8 +1,7 @@
 // A code of Chinese characters in figures.
-ghost use Rattle.std.specs.Prelude.{◌≡◌, chars, IfOk, OnOk};
+ghost use Rattle.std.specs.Prelude.{◌≡◌, [], chars, is_some, unwrap_or, IfOk, OnOk};
 ghost use Rattle.cn_find.specs.Expressions.{is_han};
 ghost use Rattle.cn_find.specs.Spans.{in_front};
-ghost use Rattle.cn_replace.specs.Private.{PutsText};
 ghost use Rattle.cn_speech.specs.CodesInFigures.{begins_addressed, begins_fame, begins_measured, begins_unit, code_character, code_characters, code_text, figure, is_alone, is_building, is_key, is_measured, is_single, single_text};
 
 use crate::digits::{Chinese, is_chinese, value_of};
@@ -62,9 +61,12 @@ fn put_characters<S: Sink>(sink: &mut S, written: &str) -> Result<(), S::Error>
     Ok(())
 }
 
-/// Writes the new text of a code, and returns whether it has one: a code with figures stays.
+/// Writes the new text of a code, and returns whether it has one: a code with figures stays, and nothing is
+/// written.
 pub fn put_code<S: Sink>(sink: &mut S, written: &str) -> Result<bool, S::Error>
-    ensures { IfOk result (PutsText S.took sink.old sink.new (code_text (chars written.now))) }
+    ensures variant { IfOk result (λ is_new. is_new ≡ is_some (code_text (chars written.now))) }
+    ensures text { OnOk result
+        (S.took sink.old sink.new (unwrap_or (code_text (chars written.now)) [])) }
 {
     if any(Figure, written) {
         return Ok(false);

@@ -1,16 +1,18 @@
 // A text with its codes, phrases and expressions in figures.
-ghost use Rattle.std.specs.Prelude.{◌≡◌, ◌++◌, ◌∷◌, [], chars, encode_utf8_all, length, nat_lt, IfSome, MatchOption};
+ghost use Rattle.std.specs.Prelude.{◌≡◌, ◌++◌, ◌∷◌, [], chars, encode_utf8_all, is_some, length, nat_lt, unwrap_or, IfOk, IfSome, MatchOption, OnOk};
 ghost use Rattle.std.specs.Option.{option_map};
 ghost use Rattle.cn_find.specs.Spans.{IsPartOf, in_front, span_of, text_before};
 ghost use Rattle.cn_phrase.specs.Items.{item_of};
-ghost use Rattle.cn_speech.specs.CodesInText.{code_here, code_or_single, ends_number, is_phrase, reaches_further, rest_here, single_at, written_of};
+ghost use Rattle.cn_replace.specs.Chains.{IsPart};
+ghost use Rattle.cn_speech.specs.CodesInText.{code_here, code_of_span, code_or_single, ends_number, is_phrase, reaches_further, rest_here, single_at, written_new, written_of};
 ghost use Rattle.cn_speech.specs.Parts.{parts_left};
 
 use crate::code::{Code, code_at};
-use crate::in_figures::is_single;
+use crate::in_figures::{is_single, put_code, single_text};
 use cn_core::{digit_of, split_first_char, unit_of};
 use cn_find::{Found, Wanted, text_before};
 use cn_phrase::items::{Item, item_at};
+use cn_replace::Sink;
 use cn_replace::pieces::split_nearest;
 
 /// What is written in figures and is no phrase.
@@ -143,4 +145,43 @@ fn next_part<'a>(whole: &'a str, rest: &'a str, wanted: Wanted) -> Option<Found<
         ahead = others;
     }
     None
+}
+
+// The text that begins with a part of a text.
+fn text_from<'a>(whole: &'a str, part: Found<'_>) -> &'a str
+    requires { IsPart whole.now (span_of part) }
+    ensures text { result.now ≡ part.entry.text.now ++ part.entry.after.now }
+    ensures before { text_before whole.now result.now ≡ part.entry.before.now }
+    ensures end { text_before whole.now result.now ++ result.now ≡ whole.now }
+{
+    let (_, text) = whole.split_at(part.before.len());
+    text
+}
+
+// The code or single digit that a part of a text is, if it is one.
+fn code_for<'a>(whole: &'a str, part: Found<'_>, wanted: Wanted) -> Option<Written<'a>>
+    requires { IsPart whole.now (span_of part) }
+    ensures { option_map (written_of (chars (part.entry.text.now ++ part.entry.after.now))) result
+        ≡ code_of_span wanted (span_of part.entry) }
+{
+    code_here(whole, text_from(whole, part), wanted)
+}
+
+// Writes the new text of a code or a single digit with these characters, and returns whether it has one.
+fn put_written<S: Sink>(
+    sink: &mut S,
+    written: Written<'_>,
+    characters: &str,
+) -> Result<bool, S::Error>
+    ensures variant { IfOk result (λ is_new. is_new ≡ is_some (written_new written.entry (chars characters.now))) }
+    ensures text { OnOk result (S.took sink.old sink.new
+        (unwrap_or (written_new written.entry (chars characters.now)) [])) }
+{
+    match written {
+        Written::Code(_) => put_code(sink, characters),
+        Written::Single(c, _) => {
+            sink.put(single_text(c))?;
+            Ok(true)
+        }
+    }
 }
