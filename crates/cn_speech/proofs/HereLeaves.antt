@@ -7,7 +7,7 @@ use Rattle.cn_phrase.proofs.ItemSteps.{Leaves, item-leaves}
 use Rattle.cn_phrase.proofs.Suffixes.{if-or}
 use Rattle.cn_speech.specs.Codes.{Code, code_at}
 use Rattle.cn_speech.specs.CodesInText.{Written, code_here, code_or_single, ends_number, reaches_further, rest_here, single_at, written_code}
-use Rattle.cn_speech.specs.CodesInFigures.{is_single, single_text}
+use Rattle.cn_speech.specs.CodesInFigures.{is_single}
 use Rattle.cn_speech.proofs.CodeLeaves.{code-leaves}
 use Rattle.cn_speech.proofs.PartsFound.{AllLeave}
 
@@ -15,23 +15,23 @@ single-leaves : (front text : List ℕ)
     → IfSome {T = Written} (single_at front text) (λ w. Leaves text w.rest)
 single-leaves front [] = tt
 single-leaves front (c ∷ rest) =
-    by (is_single front c rest && not (ends_number front)) (Some (single_text c)) where
-      by : (b : Bool) (text : Option (List ℕ))
-          → IfSome {T = Written} (if b then Some (record { text = text; rest = rest }) else None)
+    by (is_single front c rest && not (ends_number front)) (Some c) where
+      by : (b : Bool) (single : Option ℕ)
+          → IfSome {T = Written} (if b then Some (record { single = single; rest = rest }) else None)
           (λ w. Leaves (c ∷ rest) w.rest)
-      by true text = ((c ∷ [], refl), omega arith)
-      by false text = tt
+      by true single = ((c ∷ [], refl), omega arith)
+      by false single = tt
 
 written-leaves : (text : List ℕ) (o : Option Code)
     → IfSome {T = Code} o (λ code. Leaves text code.rest)
-    → IfSome {T = Written} (option_map (written_code text) o) (λ w. Leaves text w.rest)
+    → IfSome {T = Written} (option_map written_code o) (λ w. Leaves text w.rest)
 written-leaves text None h = tt
 written-leaves text (Some code) h = h
 
 or-leaves : (front text : List ℕ)
     → IfSome {T = Written} (code_or_single front text) (λ w. Leaves text w.rest)
 or-leaves front text =
-    if-or (λ (w : Written). Leaves text w.rest) (option_map (written_code text) (code_at front text))
+    if-or (λ (w : Written). Leaves text w.rest) (option_map written_code (code_at front text))
     (single_at front text) (written-leaves text (code_at front text) (code-leaves front text))
     (single-leaves front text)
 

@@ -21,34 +21,33 @@ use Rattle.cn_speech.specs.Parts.{parts_after}
 abbrev pub ends_number : List ℕ → Bool
 ends_number front = begins (λ c. is_some (digit_of c) || is_some (rank_of c)) front
 
--- the new text of a code or a single digit with which a text begins, and the text after it
+-- a code, or a single digit, with which a text begins, and the text after it
 pub record Written : Type 0 where
-  pub text : Option (List ℕ)
+  pub single : Option ℕ
   pub rest : List ℕ
 
 abbrev pub single_at : List ℕ → List ℕ → Option Written
 single_at front [] = None
 single_at front (c ∷ rest) =
     if is_single front c rest && not (ends_number front)
-    then Some (record { text = Some (single_text c); rest = rest }) else None
+    then Some (record { single = Some c; rest = rest }) else None
 
-abbrev pub written_code : List ℕ → Code → Written
-written_code text code =
-    record { text = code_text (characters_before text code.rest); rest = code.rest }
+abbrev pub written_code : Code → Written
+written_code code = record { single = None; rest = code.rest }
 
--- what a `Written` in the code is, with which this text begins
-abbrev pub written_of : List ℕ → CodeWritten → Written
-written_of text (written.Code code) = written_code text (code_of code)
-written_of text (written.Single c rest) = record { text = Some (single_text c); rest = chars rest.now }
+-- what a `Written` in the code is
+abbrev pub written_of : CodeWritten → Written
+written_of (written.Code code) = written_code (code_of code)
+written_of (written.Single c rest) = record { single = Some c; rest = chars rest.now }
 
--- the new text of a `Written` with these characters
-abbrev pub written_new : CodeWritten → List ℕ → Option (List ℕ)
-written_new (written.Code code) characters = code_text characters
-written_new (written.Single c rest) characters = Some (single_text c)
+-- the new text of a code with these characters, or of a single digit
+abbrev pub new_text : Written → List ℕ → Option (List ℕ)
+new_text w characters =
+    option_map_or (λ c. Some (single_text c)) w.single (code_text characters)
 
 abbrev pub code_or_single : List ℕ → List ℕ → Option Written
 code_or_single front text =
-    option_or (option_map (written_code text) (code_at front text)) (single_at front text)
+    option_or (option_map written_code (code_at front text)) (single_at front text)
 
 -- a phrase, a sum of money or a range, which goes before a code that ends earlier
 abbrev pub is_phrase : Item → Bool
@@ -84,7 +83,7 @@ code_of_span wanted span = code_here wanted (in_front span.before) (chars (span.
 -- the new text of a code or an item
 unfoldable pub text_for_span : ChineseCountMethod → Figures → Wanted → Span → Option (List ℕ)
 text_for_span method options wanted span =
-    option_map_or (λ w. w.text) (code_of_span wanted span) (text_for_item method options wanted span)
+    option_map_or (λ w. new_text w (chars span.text)) (code_of_span wanted span) (text_for_item method options wanted span)
 
 -- a code holds no neighbour
 unfoldable pub span_holds : ChineseCountMethod → Figures → Wanted → Span → Bool

@@ -4,15 +4,16 @@ ghost use Rattle.std.specs.Option.{option_map};
 ghost use Rattle.cn_find.specs.Spans.{IsPartOf, in_front, span_of, text_before};
 ghost use Rattle.cn_phrase.specs.Items.{item_of};
 ghost use Rattle.cn_replace.specs.Chains.{IsPart};
-ghost use Rattle.cn_speech.specs.CodesInText.{code_here, code_of_span, code_or_single, ends_number, is_phrase, reaches_further, rest_here, single_at, written_new, written_of};
+ghost use Rattle.cn_speech.specs.CodesInText.{code_here, code_of_span, code_or_single, ends_number, is_phrase, reaches_further, rest_here, single_at, new_text, written_of};
 ghost use Rattle.cn_speech.specs.Parts.{parts_left};
 
 use crate::code::{Code, code_at};
 use crate::in_figures::{is_single, put_code, single_text};
 use cn_core::{digit_of, split_first_char, unit_of};
 use cn_find::{Found, Wanted, text_before};
+use cn_phrase::InText;
 use cn_phrase::items::{Item, item_at};
-use cn_replace::Sink;
+use cn_replace::{Rewriting, Sink};
 use cn_replace::pieces::split_nearest;
 
 /// What is written in figures and is no phrase.
@@ -26,8 +27,8 @@ pub enum Written<'a> {
 
 impl<'a> Written<'a> {
     // The text after it.
-    fn rest(self, text: &str) -> &'a str
-        ensures { chars result.now ≡ (written_of (chars text.now) self.entry).rest }
+    fn rest(self) -> &'a str
+        ensures { chars result.now ≡ (written_of self.entry).rest }
     {
         match self {
             Written::Code(code) => code.rest,
@@ -48,7 +49,7 @@ fn ends_number(before: &str) -> bool
 
 // The single digit with which a text begins.
 fn single_at<'a>(before: &str, text: &'a str) -> Option<Written<'a>>
-    ensures { option_map (written_of (chars text.now)) result
+    ensures { option_map written_of result
         ≡ single_at (in_front before.now) (chars text.now) }
 {
     let (c, rest) = split_first_char(text)?;
@@ -61,7 +62,7 @@ fn single_at<'a>(before: &str, text: &'a str) -> Option<Written<'a>>
 
 // The code or single digit with which a text begins.
 fn code_or_single<'a>(before: &str, text: &'a str) -> Option<Written<'a>>
-    ensures { option_map (written_of (chars text.now)) result
+    ensures { option_map written_of result
         ≡ code_or_single (in_front before.now) (chars text.now) }
 {
     match code_at(before, text) {
@@ -97,11 +98,11 @@ fn reaches_further(rest: &str, item: Option<Item<'_>>) -> bool
 // The code or single digit that begins with a suffix of a text, unless a phrase there reaches further.
 fn code_here<'a>(whole: &'a str, ahead: &'a str, wanted: Wanted) -> Option<Written<'a>>
     requires { text_before whole.now ahead.now ++ ahead.now ≡ whole.now }
-    ensures { option_map (written_of (chars ahead.now)) result ≡ code_here wanted
+    ensures { option_map written_of result ≡ code_here wanted
         (in_front (text_before whole.now ahead.now)) (chars ahead.now) }
 {
     let written = code_or_single(text_before(whole, ahead), ahead)?;
-    if reaches_further(written.rest(ahead), item_at(whole, ahead, wanted)) {
+    if reaches_further(written.rest(), item_at(whole, ahead, wanted)) {
         None
     } else {
         Some(written)
@@ -115,7 +116,7 @@ fn rest_here<'a>(whole: &'a str, ahead: &'a str, wanted: Wanted) -> Option<&'a s
         (in_front (text_before whole.now ahead.now)) (chars ahead.now) }
 {
     if let Some(written) = code_here(whole, ahead, wanted) {
-        return Some(written.rest(ahead));
+        return Some(written.rest());
     }
     match item_at(whole, ahead, wanted) {
         Some(item) => Some(item.rest()),
@@ -161,7 +162,7 @@ fn text_from<'a>(whole: &'a str, part: Found<'_>) -> &'a str
 // The code or single digit that a part of a text is, if it is one.
 fn code_for<'a>(whole: &'a str, part: Found<'_>, wanted: Wanted) -> Option<Written<'a>>
     requires { IsPart whole.now (span_of part) }
-    ensures { option_map (written_of (chars (part.entry.text.now ++ part.entry.after.now))) result
+    ensures { option_map written_of result
         ≡ code_of_span wanted (span_of part.entry) }
 {
     code_here(whole, text_from(whole, part), wanted)
@@ -173,15 +174,56 @@ fn put_written<S: Sink>(
     written: Written<'_>,
     characters: &str,
 ) -> Result<bool, S::Error>
-    ensures variant { IfOk result (λ is_new. is_new ≡ is_some (written_new written.entry (chars characters.now))) }
+    ensures variant { IfOk result (λ is_new. is_new
+        ≡ is_some (new_text (written_of written.entry) (chars characters.now))) }
     ensures text { OnOk result (S.took sink.old sink.new
-        (unwrap_or (written_new written.entry (chars characters.now)) [])) }
+        (unwrap_or (new_text (written_of written.entry) (chars characters.now)) [])) }
 {
     match written {
         Written::Code(_) => put_code(sink, characters),
         Written::Single(c, _) => {
             sink.put(single_text(c))?;
             Ok(true)
+        }
+    }
+}
+
+/// The codes, phrases and expressions of a text, which are written in figures.
+#[derive(Debug, Copy, Clone)]
+pub struct WithCodes {
+    pub items: InText,
+}
+
+impl Rewriting for WithCodes {
+    ghost use Rattle.cn_speech.specs.CodesInText.{rest_here, span_holds, text_for_span};
+    ghost use Rattle.cn_speech.specs.Parts.{parts_left};
+
+    ghost left = { λ t. parts_left (rest_here t.items.wanted) };
+
+    ghost new = { λ t. text_for_span t.items.replacement.method t.items.replacement.figures t.items.wanted };
+
+    ghost holds = { λ t. span_holds t.items.replacement.method t.items.replacement.figures t.items.wanted };
+
+    fn next<'a>(self, whole: &'a str, rest: &'a str) -> Option<Found<'a>> {
+        next_part(whole, rest, self.items.wanted)
+    }
+
+    #[tactic(auto, unfolding(crate::specs::CodesInText::span_holds))]
+    fn holds_others(self, whole: &str, part: Found<'_>) -> bool {
+        code_for(whole, part, self.items.wanted).is_none()
+            && self.items.holds_others(whole, part)
+    }
+
+    #[tactic(auto, unfolding(crate::specs::CodesInText::text_for_span))]
+    fn put_new<S: Sink>(
+        self,
+        sink: &mut S,
+        whole: &str,
+        part: Found<'_>,
+    ) -> Result<bool, S::Error> {
+        match code_for(whole, part, self.items.wanted) {
+            Some(written) => put_written(sink, written, part.text),
+            None => self.items.put_new(sink, whole, part),
         }
     }
 }
