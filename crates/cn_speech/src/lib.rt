@@ -13,3 +13,4 @@ pub mod with_codes;
 mod words;
 
 pub use code::{Code, CodeKind, code_at};
+pub use with_codes::{WithCodes, text_to_figures};

@@ -1,20 +1,22 @@
 // A text with its codes, phrases and expressions in figures.
-ghost use Rattle.std.specs.Prelude.{◌≡◌, ◌++◌, ◌∷◌, [], chars, encode_utf8_all, is_some, length, nat_lt, unwrap_or, IfOk, IfSome, MatchOption, OnOk};
+ghost use Rattle.std.specs.Prelude.{◌≡◌, ◌++◌, ◌∷◌, [], chars, encode_utf8_all, is_some, length, nat_lt, string_bytes, unwrap_or, IfOk, IfSome, MatchOption, OnOk};
 ghost use Rattle.std.specs.Option.{option_map};
 ghost use Rattle.cn_find.specs.Spans.{IsPartOf, in_front, span_of, text_before};
 ghost use Rattle.cn_phrase.specs.Items.{item_of};
 ghost use Rattle.cn_replace.specs.Chains.{IsPart};
-ghost use Rattle.cn_speech.specs.CodesInText.{code_here, code_of_span, code_or_single, ends_number, is_phrase, reaches_further, rest_here, single_at, new_text, written_of};
+ghost use Rattle.cn_speech.specs.CodesInText.{code_here, code_of_span, code_or_single, ends_number, is_phrase, reaches_further, rest_here, single_at, new_text, text_with_codes, written_of};
 ghost use Rattle.cn_speech.specs.Parts.{parts_left};
 
 use crate::code::{Code, code_at};
 use crate::in_figures::{is_single, put_code, single_text};
-use cn_core::{digit_of, split_first_char, unit_of};
+use cn_core::{ChineseCountMethod, digit_of, split_first_char, unit_of};
 use cn_find::{Found, Wanted, text_before};
 use cn_phrase::InText;
 use cn_phrase::items::{Item, item_at};
-use cn_replace::{Rewriting, Sink};
+use cn_replace::chains::put_in_chains;
 use cn_replace::pieces::split_nearest;
+use cn_replace::{Figures, InFigures, Rewriting, Sink};
+use std::alloc::{AllocError, Global};
 
 /// What is written in figures and is no phrase.
 #[derive(Debug, Copy, Clone)]
@@ -210,8 +212,7 @@ impl Rewriting for WithCodes {
 
     #[tactic(auto, unfolding(crate::specs::CodesInText::span_holds))]
     fn holds_others(self, whole: &str, part: Found<'_>) -> bool {
-        code_for(whole, part, self.items.wanted).is_none()
-            && self.items.holds_others(whole, part)
+        code_for(whole, part, self.items.wanted).is_none() && self.items.holds_others(whole, part)
     }
 
     #[tactic(auto, unfolding(crate::specs::CodesInText::text_for_span))]
@@ -226,4 +227,42 @@ impl Rewriting for WithCodes {
             None => self.items.put_new(sink, whole, part),
         }
     }
+}
+
+// Writes a text with its codes, phrases and expressions in figures.
+fn put_text<S: Sink>(sink: &mut S, text: &str, with_codes: WithCodes) -> Result<(), S::Error>
+    ensures { OnOk result (S.took sink.old sink.new (text_with_codes
+        with_codes.items.replacement.method with_codes.items.replacement.figures
+        with_codes.items.wanted text.now)) }
+{
+    put_in_chains(sink, text, with_codes)
+}
+
+/// Returns the text with its codes, dates, times, durations, ranges and quantities in figures. The rules
+/// are those of docs/RULES.md, "Codes in a text".
+///
+/// ```text
+/// text_to_figures(alloc, "打幺幺零，三点半到六栋一单元", Wanted::EVERYDAY,
+///     ChineseCountMethod::TenThousand, Figures::DEFAULT)
+///     == Ok("打110，3点半到6栋1单元")
+/// ```
+///
+/// The error means that memory ran out; memory is requested as the text grows.
+pub fn text_to_figures(
+    alloc: Global,
+    text: &str,
+    wanted: Wanted,
+    method: ChineseCountMethod,
+    figures: Figures,
+) -> Result<String, AllocError>
+    ensures { IfOk result (λ new. string_bytes new ≡ text_with_codes method figures wanted text.now) }
+{
+    let mut new = String::with_capacity(alloc, text.len())?;
+    let replacement = InFigures { method, figures };
+    let items = InText {
+        wanted,
+        replacement,
+    };
+    put_text(&mut new, text, WithCodes { items })?;
+    Ok(new)
 }
