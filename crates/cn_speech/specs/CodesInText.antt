@@ -8,7 +8,6 @@ use Rattle.cn_find.specs.Spans.{Span, in_front}
 use Rattle.cn_replace.specs.declared.options.Figures.{Figures}
 use Rattle.cn_replace.specs.Chains.{in_chains}
 use Rattle.cn_replace.specs.Pieces.{begins}
-use Rattle.cn_phrase.specs.Between.{characters_before}
 use Rattle.cn_phrase.specs.InText.{item_holds, text_for_item}
 use Rattle.cn_phrase.specs.Items.{Item, expression, item_at, rest_of}
 use Rattle.cn_speech.specs.declared.with_codes.Written.{Written as CodeWritten}

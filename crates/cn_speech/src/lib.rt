@@ -1,4 +1,4 @@
-//! Codes in a text, such as telephone numbers and addresses, and their digits in figures.
+//! Codes in a text, such as telephone numbers and addresses, and a text with its codes in figures.
 #![tactic(auto)]
 
 mod beside;
