@@ -116,14 +116,13 @@ bytes-more start at end rows row old bytes new was e f l put_now =
     ∙ put old start (texts rows) row.text room
     ∙ ap (λ b. take start old ++ b ++ drop (start + length b) old) (sym (texts-more rows row))
 
-pub statuses-more : (rows : List Row) (row : Row) (old statuses : List ℕ) (n : ℕ)
-    → statuses ≡ map (λ (row : Row). row.status) rows ++ drop n old → length rows ≡ n → n < length old
-    → set statuses n row.status
-    ≡ map (λ (row : Row). row.status) (rows ++ row ∷ []) ++ drop (n + 1) old
-statuses-more rows row old statuses n was same l =
-    ap (λ xs. set xs n row.status) was
-    ∙ filled (map (λ (row : Row). row.status) rows) old n row.status (length-map rows (λ (row : Row). row.status) ∙ same) l
-    ∙ ap (λ xs. xs ++ drop (n + 1) old) (sym (map-append _ rows (row ∷ [])))
+pub mapped-more : {A B : Type 0} (f : A → B) (xs : List A) (x : A) (old now : List B) (n : ℕ)
+    → now ≡ map f xs ++ drop n old → length xs ≡ n → n < length old
+    → set now n (f x) ≡ map f (xs ++ x ∷ []) ++ drop (n + 1) old
+mapped-more f xs x old now n was same l =
+    ap (λ ys. set ys n (f x)) was
+    ∙ filled (map f xs) old n (f x) (length-map xs f ∙ same) l
+    ∙ ap (λ ys. ys ++ drop (n + 1) old) (sym (map-append f xs (x ∷ [])))
 
 -- the row after these does not fit
 pub no_room : (start at room : ℕ) (rows : List Row) (row : Row) → at ≡ start + length (texts rows)

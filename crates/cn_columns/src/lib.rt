@@ -7,6 +7,8 @@
 
 mod bitmap;
 mod printing;
+mod reading;
 
 pub use bitmap::Presence;
 pub use printing::{Printed, RowPrinter, count_rows, print_rows};
+pub use reading::{RowReader, Told, Unread, read_rows};

@@ -1,7 +1,7 @@
 use Rattle.std.proofs.Common.{◌≡◌, ◌+◌, ◌-◌, ◌++◌, ◌∷◌, [], List, ℕ, min, length, take, sym, ap, ◌∙◌, arith, length-take-le}
 use Rattle.std.proofs.lemmas.List.{take-take}
 use Rattle.cn_columns.specs.Columns.{Row, rows_of}
-use Rattle.cn_columns.proofs.Rows.{bytes-more, end-more, length-rows, next, no_room, offsets-more, statuses-more}
+use Rattle.cn_columns.proofs.Rows.{bytes-more, end-more, length-rows, mapped-more, next, no_room, offsets-more}
 use Rattle.cn_columns.proofs.printing.print_rows.Goals as goal
 
 pub printing-preserved : goal.printing-preserved
@@ -21,7 +21,7 @@ printing-preserved g c =
       λ _. omega (arith, c.in-Some.ensures.1),
       offsets-more _ _ (take n rows) row _ _ n c.printing.invariant.3 done (omega arith) (omega (arith, c.printing.invariant.1, c.in-Some.ensures.0)),
       bytes-more _ _ _ (take n rows) row _ _ _ c.printing.invariant.4 c.printing.invariant.1 c.in-Some.ensures.0 (omega (arith, c.in-Some.ensures.1)) c.in-Some.ensures.2,
-      statuses-more (take n rows) row _ _ n c.printing.invariant.5 done (omega arith),
+      mapped-more (λ (it : Row). it.status) (take n rows) row _ _ n c.printing.invariant.5 done (omega arith),
     )
 
 pub returns-in_default : goal.returns-in_default
