@@ -13,23 +13,21 @@ pub struct Printed<'a> {
 }
 
 /// What prints the rows of a column, given a value for each.
-pub trait RowPrinter: Copy {
-    type Value: Copy;
-
+pub trait RowPrinter<V: Copy>: Copy {
     type Scratch;
 
     // The row of a value.
-    ghost row_of: { Self → Self.Value → Row };
+    ghost row_of: { Self → V → Row };
 
     /// Prints a row, with some memory to work in.
-    fn print(self, value: Self::Value, scratch: &mut Self::Scratch) -> Printed<'_>
+    fn print(self, value: V, scratch: &mut Self::Scratch) -> Printed<'_>
         ensures { record { status = result.status; text = result.text.now } ≡ row_of self value };
 }
 
 // Prints a row; if it is missing, it is an empty text with the status of missing rows.
-fn print_row<'a, P: RowPrinter>(
+fn print_row<'a, V: Copy, P: RowPrinter<V>>(
     printer: P,
-    value: P::Value,
+    value: V,
     is_present: bool,
     missing: u32,
     scratch: &'a mut P::Scratch,
@@ -74,9 +72,9 @@ pub fn count_rows(values: usize, offsets: usize, statuses: usize) -> usize
 /// Prints rows, one text after another, from byte `offsets[0]` of the buffer on, until a text does
 /// not fit, and returns how many rows these are. Writes of each its end to the offsets and its
 /// status to the statuses. Nothing else changes.
-pub fn print_rows<P: RowPrinter>(
+pub fn print_rows<V: Copy, P: RowPrinter<V>>(
     printer: P,
-    values: &[P::Value],
+    values: &[V],
     presence: Presence<'_>,
     missing: u32,
     scratch: &mut P::Scratch,

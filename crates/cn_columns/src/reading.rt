@@ -23,14 +23,12 @@ pub struct Unread<V> {
 }
 
 /// What reads the rows of a column.
-pub trait RowReader: Copy {
-    type Value: Copy;
-
+pub trait RowReader<V: Copy>: Copy {
     // What is told of a text: a status and a value.
-    ghost tells: { Self → List ℕ → ℕ → Self.Value → Type 0 };
+    ghost tells: { Self → List ℕ → ℕ → V → Type 0 };
 
     /// Reads the text of a row.
-    fn read(self, text: &[u8]) -> Told<Self::Value>
+    fn read(self, text: &[u8]) -> Told<V>
         ensures { tells self text.now result.status result.value };
 }
 
@@ -48,14 +46,14 @@ fn text_between(texts: &[u8], start: u64, end: u64) -> Option<&[u8]>
 
 // Reads a row, given its offsets and whether it is present.
 #[inline(always)]
-fn read_row<R: RowReader>(
+fn read_row<V: Copy, R: RowReader<V>>(
     reader: R,
     texts: &[u8],
     start: u64,
     end: u64,
     is_present: bool,
-    unread: Unread<R::Value>,
-) -> Told<R::Value>
+    unread: Unread<V>,
+) -> Told<V>
     ensures { IsRowRead (R.tells reader) (text_between texts.now start end) is_present unread.value
         unread.missing unread.outside result.status result.value }
 {
@@ -81,13 +79,13 @@ fn read_row<R: RowReader>(
 
 /// Reads each row of a column of texts, and writes what is told of it: its value and its status.
 /// There are as many rows as the shortest of the arrays has. Nothing else changes.
-pub fn read_rows<R: RowReader>(
+pub fn read_rows<V: Copy, R: RowReader<V>>(
     reader: R,
     texts: &[u8],
     offsets: &[u64],
     presence: Presence<'_>,
-    unread: Unread<R::Value>,
-    values: &mut [R::Value],
+    unread: Unread<V>,
+    values: &mut [V],
     statuses: &mut [u32],
 )
     ensures { IsRead (R.tells reader) texts.now offsets.now presence.entry.bitmap.now

@@ -9,20 +9,19 @@ reading-init g c = ([], omega arith, refl, tt, refl, refl)
 
 pub reading-preserved : goal.reading-preserved
 reading-preserved g c =
-    let rows : List (Told g.row.R-Value.Denot) = c.reading.invariant.0 in
-    let next : Told g.row.R-Value.Denot = record { status = c.read_row-told.result.status; value = c.read_row-told.result.value } in
-    let told : ℕ → Told g.row.R-Value.Denot → Type 0 =
+    let rows : List (Told g.row.V.Denot) = c.reading.invariant.0 in
+    let next : Told g.row.V.Denot = record { status = c.read_row-told.result.status; value = c.read_row-told.result.value } in
+    let told : ℕ → Told g.row.V.Denot → Type 0 =
     IsColumnRowRead (g.R.RowReader.tells c.args.reader) c.args.texts.now c.args.offsets.now c.args.presence.bitmap.now c.args.presence.first c.args.unread.value c.args.unread.missing c.args.unread.outside in
     let many : length rows ≡ c.reading.row = c.reading.invariant.2 in
     let at : c.reading.row ≡ 0 + length rows = omega (arith, many) in
-    let here : told c.reading.row next = rw (← c.has-is_present.ensures) c.read_row-told.ensures in
-    (
+    let here : told c.reading.row next = rw (← c.has-is_present.ensures) c.read_row-told.ensures in (
       rows ++ next ∷ [],
       omega arith,
       omega (arith, length-append rows (next ∷ []), many),
       each-more told 0 rows next c.reading.invariant.3 (subst (λ n. told n next) at here),
-      mapped-more (λ (row : Told g.row.R-Value.Denot). row.value) rows next _ _ c.reading.row c.reading.invariant.4 many (omega arith),
-      mapped-more (λ (row : Told g.row.R-Value.Denot). row.status) rows next _ _ c.reading.row c.reading.invariant.5 many (omega arith),
+      mapped-more (λ (row : Told g.row.V.Denot). row.value) rows next _ _ c.reading.row c.reading.invariant.4 many (omega arith),
+      mapped-more (λ (row : Told g.row.V.Denot). row.status) rows next _ _ c.reading.row c.reading.invariant.5 many (omega arith),
     )
 
 pub returns : goal.returns
