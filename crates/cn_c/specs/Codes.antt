@@ -245,6 +245,10 @@ CN_UNKNOWN = 8
 abbrev pub CN_UNFINISHED : ℕ
 CN_UNFINISHED = 9
 
+-- a row of a column is missing
+abbrev pub CN_NONE : ℕ
+CN_NONE = 10
+
 -- there is no such date
 abbrev pub CN_NOT_A_DATE : ℕ
 CN_NOT_A_DATE = 11

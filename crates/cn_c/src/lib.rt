@@ -7,9 +7,12 @@
 #![tactic(auto)]
 
 mod amount;
+mod amount_column;
 mod amount_form;
 mod codes;
+mod column;
 mod date;
+mod date_column;
 mod explain;
 mod finding;
 mod flags;
@@ -18,6 +21,7 @@ pub mod laws;
 mod line;
 mod message;
 mod number;
+mod number_column;
 mod phrases;
 mod printing;
 mod quantity;
@@ -33,7 +37,9 @@ mod typed_amount;
 mod version;
 
 pub use amount::{Amount, chinese_amount_print, chinese_amount_read};
+pub use amount_column::{chinese_amounts_print_column, chinese_amounts_read_column};
 pub use date::{Date, chinese_date_print, chinese_date_read};
+pub use date_column::{Day, chinese_dates_print_column, chinese_dates_read_column};
 pub use explain::{chinese_number_explain, chinese_quantity_explain};
 pub use finding::{
     Span, chinese_number_find, chinese_number_find_utf8, chinese_quantity_find,
@@ -45,6 +51,10 @@ pub use message::{
     chinese_input_message, chinese_number_message, chinese_quantity_message, chinese_status_message,
 };
 pub use number::Number;
+pub use number_column::{
+    chinese_numbers_print_column, chinese_numbers_read_column, chinese_wide_numbers_print_column,
+    chinese_wide_numbers_read_column,
+};
 pub use phrases::{Phrase, chinese_phrase_find, chinese_phrase_find_utf8, chinese_range_read};
 pub use printing::chinese_number_print;
 pub use quantity::{Quantity, chinese_quantity_read};
