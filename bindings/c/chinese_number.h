@@ -347,7 +347,8 @@ typedef enum cn_status CN_OF_CODE {
     /* When reading, finding or replacing, the bytes are not UTF-8; when finding, also: the
      * search starts neither at a character nor at the end of the text. */
     CN_NOT_UTF8 = 5,
-    /* When writing or replacing, the text has more bytes than the buffer. */
+    /* When writing or replacing, the text has more bytes than the buffer; when reading a column,
+     * the offsets of the row are not those of a text. */
     CN_NO_ROOM = 6,
     /* When writing, the type does not hold the number. */
     CN_NOT_HELD = 7,
@@ -357,7 +358,8 @@ typedef enum cn_status CN_OF_CODE {
     /* When reading an amount, figures or a date, the text is not one, but more text can make it
      * one. */
     CN_UNFINISHED = 9,
-    /* When finding the next number or quantity, there is no further one in the text. */
+    /* When finding the next number or quantity, there is no further one in the text; in a
+     * column, the row is missing. */
     CN_NONE = 10,
     /* When writing a date, the date does not exist. */
     CN_NOT_A_DATE = 11,

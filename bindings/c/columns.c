@@ -1,7 +1,7 @@
 /* columns [ROWS [ROUNDS]]: prints and reads columns of numbers, amounts and dates, and compares each
  * row with what the call for one value answers, and a column that is cut by small buffers with one that
- * is not. With ROUNDS the program also prints the time of a row and that of the call for one value, in
- * the best of this many rounds. */
+ * is not. With ROUNDS the program instead prints the time of a row and that of the call for one value,
+ * in the best of this many rounds. */
 #include "chinese_number.h"
 
 #include <stdio.h>
@@ -32,11 +32,11 @@ static void expect(int holds, const char *what, size_t row) {
 }
 
 /* What a column is of. */
-typedef enum of { NUMBERS, WIDE_NUMBERS, AMOUNTS, DATES } of;
+enum { NUMBERS, WIDE_NUMBERS, AMOUNTS, DATES };
 
 /* A column and the choices for its texts. */
 typedef struct column {
-    of what;
+    int what;
     size_t rows;
     uint32_t kind, way, script, letter_case, form;
     const uint64_t *numbers;
@@ -55,17 +55,23 @@ typedef struct texts {
     size_t room;
 } texts;
 
-enum { UNTOUCHED = 0xA5, MOST = 240 };
+/* What is in memory that no call wrote. */
+#define UNTOUCHED 0xA5
+#define NEVER UINT64_C(0xA5A5A5A5A5A5A5A5)
+#define MOST 240
 
-static void *room_for(size_t count, size_t bytes) {
-    void *room = malloc(count * bytes + 1);
+static void *untouched(size_t bytes) {
+    void *room = malloc(bytes + 1);
     if (room == NULL)
         exit(2);
-    return memset(room, UNTOUCHED, count * bytes + 1);
+    return memset(room, UNTOUCHED, bytes + 1);
 }
 
+/* Memory for so many values of a type. */
+#define ROOM_FOR(type, count) CN_AS(type *, untouched((count) * sizeof(type)))
+
 static texts new_texts(size_t rows, size_t room) {
-    texts t = {room_for(rows + 2, sizeof(uint64_t)), room_for(room + 1, 1), room_for(rows + 1, sizeof(uint32_t)), room};
+    texts t = {ROOM_FOR(uint64_t, rows + 2), ROOM_FOR(uint8_t, room + 1), ROOM_FOR(uint32_t, rows + 1), room};
     t.offsets[0] = 0;
     return t;
 }
@@ -101,7 +107,7 @@ static uint32_t print_from(const column *c, size_t from, texts *t, size_t room, 
 
 /* The halves of a number of 64 bits. */
 static cn_number widened(const column *c, size_t row) {
-    return c->kind >= CN_I8 ? cn_signed((int64_t)c->numbers[row]) : cn_unsigned(c->numbers[row]);
+    return c->kind >= CN_I8 ? cn_signed(CN_AS(int64_t, c->numbers[row])) : cn_unsigned(c->numbers[row]);
 }
 
 /* What the call for one value answers. */
@@ -144,7 +150,7 @@ static void compare(const column *c, const texts *t) {
 
 /* Prints with a buffer that grows only when a text does not fit, and compares with the whole. */
 static void cut(const column *c, const texts *whole) {
-    texts t = new_texts(c->rows, (size_t)whole->offsets[c->rows]);
+    texts t = new_texts(c->rows, CN_AS(size_t, whole->offsets[c->rows]));
     size_t from = 0, done, room = 0;
     uint32_t status;
     while ((status = print_from(c, from, &t, room, &done)) == CN_NO_ROOM) {
@@ -152,23 +158,23 @@ static void cut(const column *c, const texts *whole) {
         expect(from < c->rows, "CN_NO_ROOM after the last row", from);
         expect(t.bytes[t.offsets[from]] == UNTOUCHED, "a byte after the last text", from);
         expect(room < whole->offsets[from + 1], "CN_NO_ROOM for a text that fits", from);
-        room = (size_t)whole->offsets[from + 1] + (size_t)(some() >> 9) % 50;
+        room = CN_AS(size_t, whole->offsets[from + 1]) + CN_AS(size_t, some() >> 9) % 50;
         if (room > t.room)
             room = t.room;
     }
     expect(status == CN_DONE && from + done == c->rows, "the end", from);
     expect(memcmp(t.offsets, whole->offsets, (c->rows + 2) * sizeof(uint64_t)) == 0, "offsets", 0);
     expect(memcmp(t.statuses, whole->statuses, (c->rows + 1) * sizeof(uint32_t)) == 0, "statuses", 0);
-    expect(memcmp(t.bytes, whole->bytes, (size_t)whole->offsets[c->rows]) == 0, "bytes", 0);
+    expect(memcmp(t.bytes, whole->bytes, CN_AS(size_t, whole->offsets[c->rows])) == 0, "bytes", 0);
     free_texts(&t);
 }
 
 /* Reads numbers back, and compares each row with what the call for one text answers. */
 static void read_back(const column *c, const texts *t) {
-    size_t rows = c->rows, length = (size_t)t->offsets[rows];
-    cn_number *wide = room_for(rows + 1, sizeof *wide);
-    uint64_t *numbers = room_for(rows + 1, sizeof *numbers);
-    uint32_t *statuses = room_for(rows + 1, sizeof *statuses), *same = room_for(rows + 1, sizeof *same);
+    size_t rows = c->rows, length = CN_AS(size_t, t->offsets[rows]);
+    cn_number *wide = ROOM_FOR(cn_number, rows + 1);
+    uint64_t *numbers = ROOM_FOR(uint64_t, rows + 1);
+    uint32_t *statuses = ROOM_FOR(uint32_t, rows + 1), *same = ROOM_FOR(uint32_t, rows + 1);
     uint32_t status = chinese_numbers_read_column(t->bytes, length, t->offsets, rows + 1, c->bitmap, c->bitmap_length,
                                                   c->first, c->kind, c->way, numbers, rows, statuses, rows);
     expect(status == CN_DONE, "reading", 0);
@@ -179,7 +185,7 @@ static void read_back(const column *c, const texts *t) {
         cn_reading reading = {{0, 0}, 0, 0};
         status = CN_NONE;
         if (is_present(c, row))
-            status = chinese_number_read(t->bytes + t->offsets[row], (size_t)(t->offsets[row + 1] - t->offsets[row]),
+            status = chinese_number_read(t->bytes + t->offsets[row], CN_AS(size_t, t->offsets[row + 1] - t->offsets[row]),
                                          c->kind, c->way, &reading);
         expect(statuses[row] == status, "status when reading", row);
         expect(numbers[row] == reading.number.low && wide[row].low == reading.number.low
@@ -194,10 +200,10 @@ static void read_back(const column *c, const texts *t) {
 
 /* Reads amounts and dates back. */
 static void read_others_back(const column *c, const texts *t) {
-    size_t rows = c->rows, length = (size_t)t->offsets[rows];
-    int64_t *amounts = room_for(rows + 1, sizeof *amounts);
-    cn_day *days = room_for(rows + 1, sizeof *days);
-    uint32_t *statuses = room_for(rows + 1, sizeof *statuses), status;
+    size_t rows = c->rows, length = CN_AS(size_t, t->offsets[rows]);
+    int64_t *amounts = ROOM_FOR(int64_t, rows + 1);
+    cn_day *days = ROOM_FOR(cn_day, rows + 1);
+    uint32_t *statuses = ROOM_FOR(uint32_t, rows + 1), status;
     if (c->what == AMOUNTS)
         status = chinese_amounts_read_column(t->bytes, length, t->offsets, rows + 1, c->bitmap, c->bitmap_length,
                                              c->first, CN_TYPED_SIGNED_AMOUNT, amounts, rows, statuses, rows);
@@ -223,9 +229,8 @@ static void try_column(const column *c) {
     texts t = new_texts(c->rows, c->rows * CN_MOST_BYTES);
     uint32_t status = print_from(c, 0, &t, t.room, &done);
     expect(status == CN_DONE && done == c->rows, "printing", done);
-    bytes = (size_t)t.offsets[c->rows];
-    expect(t.bytes[bytes] == UNTOUCHED && ((uint8_t *)(t.offsets + c->rows + 1))[0] == UNTOUCHED
-               && ((uint8_t *)(t.statuses + c->rows))[0] == UNTOUCHED,
+    bytes = CN_AS(size_t, t.offsets[c->rows]);
+    expect(t.bytes[bytes] == UNTOUCHED && t.offsets[c->rows + 1] == NEVER && CN_AS(uint32_t, NEVER) == t.statuses[c->rows],
            "an end", c->rows);
     compare(c, &t);
     cut(c, &t);
@@ -241,6 +246,7 @@ static void try_mistakes(void) {
     uint64_t values[2] = {1, 2}, offsets[3] = {0, 7, 3}, bad[3] = {0, 4, 2};
     uint32_t statuses[2] = {70, 71};
     uint8_t bytes[3] = {0xE4, 0xB8, 0x80}, none = 0;
+    int64_t amounts[2] = {3, 4};
     size_t done = 9;
     uint32_t status = chinese_numbers_print_column(values, 2, &none, 0, 0, CN_I64, CN_ANY, 2, CN_LOWER, offsets, 3,
                                                    bytes, 3, statuses, 2, &done);
@@ -254,21 +260,19 @@ static void try_mistakes(void) {
     status = chinese_numbers_print_column(values, 2, &none, 0, 0, CN_I64, CN_ANY, CN_SIMPLIFIED, CN_LOWER, offsets, 3,
                                           bytes, 3, statuses, 2, &done);
     expect(status == CN_NO_ROOM && done == 0, "an offset beyond the buffer", 0);
-    status = chinese_amounts_read_column(bytes, 3, bad, 3, &none, 0, 0, CN_DATE, (int64_t *)values, 2, statuses, 2);
+    status = chinese_amounts_read_column(bytes, 3, bad, 3, &none, 0, 0, CN_DATE, amounts, 2, statuses, 2);
     expect(status == CN_UNKNOWN, "an input that is no amount", 0);
 }
 
 static double seconds(void) {
-    struct timespec now;
-    timespec_get(&now, TIME_UTC);
-    return (double)now.tv_sec + (double)now.tv_nsec / 1e9;
+    return CN_AS(double, clock()) / CLOCKS_PER_SEC;
 }
 
 /* The times of a row in nanoseconds: in a column, and by the call for one value into one buffer. */
 static void measure(const column *c, const char *what, int rounds) {
     double best[4] = {1e9, 1e9, 1e9, 1e9};
     texts t = new_texts(c->rows, c->rows * CN_MOST_BYTES);
-    uint64_t *numbers = room_for(c->rows, sizeof *numbers);
+    uint64_t *numbers = ROOM_FOR(uint64_t, c->rows);
     for (int round = 0; round < rounds; round++) {
         double times[5];
         size_t done, at = 0, length;
@@ -283,12 +287,12 @@ static void measure(const column *c, const char *what, int rounds) {
         times[2] = seconds();
         if (c->what == NUMBERS) {
             for (size_t row = 0; row < c->rows; row++) {
-                t.statuses[row] = chinese_number_read(t.bytes + t.offsets[row], (size_t)(t.offsets[row + 1] - t.offsets[row]),
+                t.statuses[row] = chinese_number_read(t.bytes + t.offsets[row], CN_AS(size_t, t.offsets[row + 1] - t.offsets[row]),
                                                       c->kind, c->way, &reading);
                 numbers[row] = reading.number.low;
             }
             times[3] = seconds();
-            chinese_numbers_read_column(t.bytes, (size_t)t.offsets[c->rows], t.offsets, c->rows + 1, c->bitmap, 0, 0, c->kind,
+            chinese_numbers_read_column(t.bytes, CN_AS(size_t, t.offsets[c->rows]), t.offsets, c->rows + 1, c->bitmap, 0, 0, c->kind,
                                         c->way, numbers, c->rows, t.statuses, c->rows);
             times[4] = seconds();
         }
@@ -298,41 +302,41 @@ static void measure(const column *c, const char *what, int rounds) {
     }
     for (int i = 0; i < (c->what == NUMBERS ? 4 : 2); i += 2)
         printf("%s, %s: a row %.1f ns, the call for one value %.1f ns: %.2f\n", what, i == 0 ? "printing" : "reading",
-               best[i + 1] / (double)c->rows * 1e9, best[i] / (double)c->rows * 1e9, best[i + 1] / best[i]);
+               best[i + 1] / CN_AS(double, c->rows) * 1e9, best[i] / CN_AS(double, c->rows) * 1e9, best[i + 1] / best[i]);
     free(numbers);
     free_texts(&t);
 }
 
 int main(int count, char **arguments) {
-    size_t rows = count > 1 ? (size_t)strtoul(arguments[1], NULL, 10) : 1000;
+    size_t rows = count > 1 ? CN_AS(size_t, strtoul(arguments[1], NULL, 10)) : 1000;
     int rounds = count > 2 ? atoi(arguments[2]) : 0;
-    uint64_t *numbers = room_for(rows, sizeof *numbers);
-    cn_number *wide = room_for(rows, sizeof *wide);
-    int64_t *amounts = room_for(rows, sizeof *amounts);
-    cn_day *days = room_for(rows, sizeof *days);
-    uint8_t *bitmap = room_for(rows / 8 + 1, 1);
+    uint64_t *numbers = ROOM_FOR(uint64_t, rows);
+    cn_number *wide = ROOM_FOR(cn_number, rows);
+    int64_t *amounts = ROOM_FOR(int64_t, rows);
+    cn_day *days = ROOM_FOR(cn_day, rows);
+    uint8_t *bitmap = ROOM_FOR(uint8_t, rows / 8 + 1);
     for (size_t row = 0; row < rows; row++) {
         numbers[row] = some_short();
         wide[row].low = some_short();
         wide[row].high = (some() & 4) != 0 ? 0 : some_short();
-        amounts[row] = (int64_t)some_short() / ((some() & 4) != 0 ? -8 : 9);
-        days[row].year = (uint32_t)(some() >> 8) % 10010;
-        days[row].month = (uint32_t)(some() >> 8) % 14;
-        days[row].day = (uint32_t)(some() >> 8) % 33;
-        bitmap[row / 8] = (uint8_t)(some() >> 5 | some() >> 9);
+        amounts[row] = CN_AS(int64_t, some_short()) / ((some() & 4) != 0 ? -8 : 9);
+        days[row].year = CN_AS(uint32_t, some() >> 8) % 10010;
+        days[row].month = CN_AS(uint32_t, some() >> 8) % 14;
+        days[row].day = CN_AS(uint32_t, some() >> 8) % 33;
+        bitmap[row / 8] = CN_AS(uint8_t, some() >> 5 | some() >> 9);
     }
     column c = {NUMBERS, rows, 0, 0, 0, 0, 0, numbers, wide, amounts, days, bitmap, 0, 0};
-    for (int what = NUMBERS; what <= DATES; what++)
+    for (int what = NUMBERS; what <= DATES && rounds == 0; what++)
         for (uint32_t kind = CN_U8; kind <= (what <= WIDE_NUMBERS ? CN_I128 : CN_U16); kind++)
             for (uint32_t way = CN_DIGITS; way <= (what <= WIDE_NUMBERS ? CN_ANY : CN_LOW); way++) {
-                c.what = (of)what;
+                c.what = what;
                 c.kind = kind;
                 c.way = way;
-                c.script = (uint32_t)(some() >> 11) % 2;
-                c.letter_case = (uint32_t)(some() >> 11) % 2;
-                c.form = (uint32_t)(some() >> 11) % 16;
+                c.script = CN_AS(uint32_t, some() >> 11) % 2;
+                c.letter_case = CN_AS(uint32_t, some() >> 11) % 2;
+                c.form = CN_AS(uint32_t, some() >> 11) % 16;
                 c.bitmap_length = kind % 3 == 0 ? 0 : rows / 8;
-                c.first = kind % 3 == 2 ? (size_t)(some() >> 11) % 20 : 0;
+                c.first = kind % 3 == 2 ? CN_AS(size_t, some() >> 11) % 20 : 0;
                 try_column(&c);
             }
     try_mistakes();
@@ -344,7 +348,7 @@ int main(int count, char **arguments) {
     c.form = CN_PLAIN;
     static const char *const NAMES[] = {"numbers", "wide numbers", "amounts", "dates"};
     for (int what = NUMBERS; what <= DATES && rounds > 0; what++) {
-        c.what = (of)what;
+        c.what = what;
         if (what == WIDE_NUMBERS)
             c.kind = CN_U128;
         measure(&c, NAMES[what], rounds);

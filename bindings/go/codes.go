@@ -288,7 +288,8 @@ const (
 	// When reading, finding or replacing, the bytes are not UTF-8; when finding, also: the search
 	// starts neither at a character nor at the end of the text.
 	NotUTF8 Status = 5
-	// When writing or replacing, the text has more bytes than the buffer.
+	// When writing or replacing, the text has more bytes than the buffer; when reading a column,
+	// the offsets of the row are not those of a text.
 	NoRoom Status = 6
 	// When writing, the type does not hold the number.
 	NotHeld Status = 7
@@ -298,7 +299,8 @@ const (
 	// When reading an amount, figures or a date, the text is not one, but more text can make it
 	// one.
 	Unfinished Status = 9
-	// When finding the next number or quantity, there is no further one in the text.
+	// When finding the next number or quantity, there is no further one in the text; in a column,
+	// the row is missing.
 	None Status = 10
 	// When writing a date, the date does not exist.
 	NotADate Status = 11

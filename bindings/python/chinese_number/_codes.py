@@ -370,13 +370,15 @@ class Status(Enum):
     amount, it is -10^18 fen or less.
     NOT_UTF8: when reading, finding or replacing, the bytes are not UTF-8; when finding, also:
     the search starts neither at a character nor at the end of the text.
-    NO_ROOM: when writing or replacing, the text has more bytes than the buffer.
+    NO_ROOM: when writing or replacing, the text has more bytes than the buffer; when reading a
+    column, the offsets of the row are not those of a text.
     NOT_HELD: when writing, the type does not hold the number.
     UNKNOWN: a code names no type, way, script, case, form, unit, option, input, language or
     status; DIGITS is not a method.
     UNFINISHED: when reading an amount, figures or a date, the text is not one, but more text can
     make it one.
-    NONE: when finding the next number or quantity, there is no further one in the text.
+    NONE: when finding the next number or quantity, there is no further one in the text; in a
+    column, the row is missing.
     NOT_A_DATE: when writing a date, the date does not exist.
     NOT_A_QUANTITY: when writing a quantity, the denominator is 0."""
 

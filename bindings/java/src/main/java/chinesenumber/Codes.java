@@ -27,6 +27,7 @@ final class Codes {
     static final int MOST_SIGNED_AMOUNT_BYTES = 129;
     static final int MOST_DATE_BYTES = 39;
     static final int MOST_MESSAGE_BYTES = 512;
+    static final int MOST_ANSWER_BYTES = 256;
 
     static final String EMPTY_TEXT = "a chinese number cannot be empty";
     static final String INCORRECT_TEXT = "the chinese number is incorrect";
