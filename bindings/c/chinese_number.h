@@ -19,9 +19,10 @@
  * - No pointer is NULL, not even for an empty text, buffer or array. (cn_.. accept NULL for a text
  *   or a buffer of length 0.)
  * - A text and a buffer have as many bytes as their length says, and an array has `most` spans or
- *   phrases: at most PTRDIFF_MAX bytes.
+ *   phrases, or as many values as its length says: at most PTRDIFF_MAX bytes.
  * - What a call writes (the buffer `room`, *length, *reading, *quantity, *low, *high, the spans, the
- *   phrases, *count) does not overlap any other argument.
+ *   phrases, *count; of a column the offsets, values and statuses that it writes, and *done) does not
+ *   overlap any other argument.
  * - Nothing else writes to the arguments before the call returns.
  *
  * All names begin with chinese_, cn_ or CN_. */
