@@ -6,6 +6,7 @@
 #![tactic(auto)]
 
 mod bitmap;
+pub mod laws;
 mod printing;
 mod reading;
 
