@@ -523,8 +523,10 @@ typedef struct texts {
 /* Some rows of a column whose text begins early or late in its buffer. */
 static void begin_texts(run *r, texts *c) {
     memset(c, 7, sizeof *c);
-    for (size_t i = 0; i < sizeof c->bitmap; i++)
-        c->bitmap[i] = (uint8_t)(some(r) >> 7 | some(r) >> 9);
+    for (size_t i = 0; i < sizeof c->bitmap; i++) {
+        uint64_t bits = some(r);
+        c->bitmap[i] = (uint8_t)(bits >> 7 | bits >> 29);
+    }
     c->bitmap_length = below(r, sizeof c->bitmap + 1);
     c->first = below(r, 20);
     c->rows = below(r, ROWS + 1);
@@ -544,10 +546,12 @@ static void add_texts(run *r, uint32_t status, size_t done, const texts *c) {
 
 /* Changes an offset or a byte, usually not. */
 static void spoil(run *r, texts *c) {
-    if (below(r, 4) == 0)
-        c->offsets[below(r, ROWS + 1)] = below(r, 3) == 0 ? some(r) : below(r, COLUMN_BYTES);
-    if (below(r, 4) == 0)
-        c->bytes[below(r, COLUMN_BYTES)] = (uint8_t)some(r);
+    size_t row = below(r, 4 * ROWS), at = below(r, 4 * COLUMN_BYTES);
+    uint64_t word = some(r);
+    if (row <= ROWS)
+        c->offsets[row] = word % 3 == 0 ? word : word % COLUMN_BYTES;
+    if (at < COLUMN_BYTES)
+        c->bytes[at] = (uint8_t)(word >> 20);
 }
 
 static void add_values(run *r, uint32_t status, const uint64_t *words, size_t count,
@@ -600,8 +604,10 @@ static void try_amounts_column(run *r) {
     size_t done = 9;
     uint32_t script = code(r, 2), form = code(r, 16), input = code(r, CN_FIGURES + 1), status;
     begin_texts(r, &c);
-    for (size_t i = 0; i < ROWS; i++)
-        fen[i] = (int64_t)some(r) / ((int64_t)1 << below(r, 63));
+    for (size_t i = 0; i < ROWS; i++) {
+        int64_t any = (int64_t)some(r);
+        fen[i] = any / ((int64_t)1 << below(r, 63));
+    }
     status = chinese_amounts_print_column(fen, c.rows, c.bitmap, c.bitmap_length, c.first, script, form, c.offsets,
                                           ROWS + 1, c.bytes, sizeof c.bytes, c.statuses, ROWS, &done);
     add_texts(r, status, done, &c);
