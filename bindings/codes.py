@@ -113,7 +113,8 @@ LANGUAGES = {
         prefixed=("input", "doubt", "fault", "phrase_kind", "phrase_state"),
     ),
     "java": Language(
-        *("/** ", " * ", " */", "{@link {Type}#{NAME}}", "{@link ChineseNumbers#{camel}}")
+        *("/** ", " * ", " */", "{@link {Type}#{NAME}}", "{@link ChineseNumbers#{camel}}"),
+        types={"unit": "NumeralUnit"},  # Kotlin has a Unit
     ),
     "python": Language('"""', "", '"""', "{NAME}", "{name}", "{NAME}: {text}."),
     "js": JAVASCRIPT,
@@ -177,6 +178,10 @@ def named(language, group, name):
     return f"{group}_{own}" if group in language.prefixed and name != none_of(group) else own
 
 
+def type_of(language, group):
+    return language.types.get(group, pascal(group))
+
+
 def in_c(group, name):
     return named(LANGUAGES["c"], group, name).upper()
 
@@ -232,7 +237,7 @@ class Writer:
         self.texts = {it.name: it.text for it in groups["text"].rows}
 
     def names(self, group):
-        own = self.language.types.get(group, pascal(group))
+        own = type_of(self.language, group)
         return {"group": group, "GROUP": group.upper(), "Type": own}
 
     def of_row(self, group, row):
@@ -321,17 +326,19 @@ def files(groups):
     for names, part in parts_of(read(TOP / "bindings/codes.in"), "=== ")[1]:
         name, pattern = names.split()
         head, all_blocks = parts_of(part, "--- ")
-        for path, blocks in places(pattern, all_blocks):
+        for path, blocks in places(LANGUAGES[name], pattern, all_blocks):
             made = "\n".join(Writer(name, groups).blocks(blocks))
             yield file_of(path, head, made)
 
 
-def places(path, blocks):
+def places(language, path, blocks):
     """The files of a path, each with its blocks: with {Type} in the path, a file for each group."""
     if "{Type}" not in path:
         return [(path, blocks)]
     groups = [(it, template) for names, template in blocks for it in names.split()]
-    return [(fill(path, {"Type": pascal(it)}), [(it, template)]) for it, template in groups]
+    return [
+        (fill(path, {"Type": type_of(language, it)}), [(it, template)]) for it, template in groups
+    ]
 
 
 def file_of(path, head, made):

@@ -176,7 +176,7 @@ def built(archive, by):
         shown, of_archive = answers(folder / "chinese_number.c"), answers(archive)
     if shown != of_archive:
         stop(f"the C source shows {shown}, and the archive {of_archive}")
-    told = {
+    record = {
         "what": WHAT,
         "sources": sources,
         "tools": by,
@@ -184,13 +184,13 @@ def built(archive, by):
         "answers": shown,
         "sha256": sums_of(files),
     }
-    return {**files, PROVENANCE: provenance_of(told, files)}
+    return {**files, PROVENANCE: provenance_of(record, files)}
 
 
-def provenance_of(told, files):
+def provenance_of(record, files):
     """The bytes of PROVENANCE.json."""
-    told = {**told, "what": WHAT, "java": sum_of_java(files)}
-    return f"{json.dumps(told, ensure_ascii=False, indent=2)}\n".encode()
+    record = {**record, "what": WHAT, "java": sum_of_java(files)}
+    return f"{json.dumps(record, ensure_ascii=False, indent=2)}\n".encode()
 
 
 def make():
@@ -242,29 +242,29 @@ def copies():
     write({**files, PROVENANCE: provenance_of(provenance(), files)})
 
 
-def faults(told):
-    if told.get("sources") != sum_of_sources():
+def faults(record):
+    if record.get("sources") != sum_of_sources():
         yield "the sources are not those that dist/ was made of"
     files = files_of(made_here())
-    named = told.get("sha256", {})
+    named = record.get("sha256", {})
     for name, it in sums_of({path: found(path) for path in files}).items():
         if it != named.get(name):
             yield f"dist/{name} has not the sum that {PROVENANCE} names"
     for path, data in files.items():
         if found(path) != data:
             yield f"{path} is not as made of {COPIES.get(path, 'its originals')}"
-    if told.get("java") != sum_of_java(classes_here()):
+    if record.get("java") != sum_of_java(classes_here()):
         yield f"{JAVA} has other classes than dist.py made by core.py: run `dist.py copies`"
 
 
 def check():
     """The contents of PROVENANCE.json. Stops if a check fails."""
-    told = provenance()
-    wrong = list(faults(told))
+    record = provenance()
+    wrong = list(faults(record))
     if wrong:
         stop("\ndist: ".join([*wrong, REMEDY]))
-    print(f"dist: made of the sources {told['sources']}, and as {PROVENANCE} names it")
-    return told
+    print(f"dist: made of the sources {record['sources']}, and as {PROVENANCE} names it")
+    return record
 
 
 def compare_bytes(files):
@@ -274,17 +274,17 @@ def compare_bytes(files):
     print("dist: made again, each byte is the same")
 
 
-def compare_answers(archive, told, why):
+def compare_answers(archive, record, why):
     for library in (archive, TOP / "dist/chinese_number.c"):
         shown = answers(library)
-        if shown != told["answers"]:
-            stop(f"{library} shows {shown}, and {PROVENANCE} names {told['answers']}: {REMEDY}")
+        if shown != record["answers"]:
+            stop(f"{library} shows {shown}, and {PROVENANCE} names {record['answers']}: {REMEDY}")
     print(f"dist: not made again, since {why}; the archive and the C source show {shown}")
 
 
 def again(archive):
-    told, by = check(), tools()
-    named = told["tools"]
+    record, by = check(), tools()
+    named = record["tools"]
     if not archive.is_file():
         stop(f"there is no {archive}: `bash bindings/archive.sh {archive.parent}` makes it")
     if logic_of(by["toolchain"]) != logic_of(named["toolchain"]):
@@ -293,7 +293,7 @@ def again(archive):
         f"{named[it]} made it, and here is {by[it] or 'none'}" for it in by if by[it] != named[it]
     ]
     if others:
-        compare_answers(archive, told, "; ".join(others))
+        compare_answers(archive, record, "; ".join(others))
     else:
         compare_bytes(built(archive, by))
 

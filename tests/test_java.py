@@ -8,7 +8,7 @@ from pathlib import Path
 
 import pytest
 
-from questions import wrong_answers
+from questions import lines, wrong_answers
 from running import ENVIRONMENT, TOP, fail, needs, once, run, write
 
 JAVA, OWN = TOP / "bindings/java", TOP / "tests/java"
@@ -21,8 +21,13 @@ import wasm
 
 HEADER = (TOP / "bindings/c/chinese_number.h").read_text(encoding="utf-8")
 MODULE = (TOP / "dist/chinese-number.32.wasm").read_bytes()
-# How the virtual machine runs the code: with both compilers, with the first one, and with none.
-MODES = {"as usual": (), "C1": ("-XX:TieredStopAtLevel=1",), "no compiler": ("-Xint",)}
+# How the virtual machine runs the code: with both compilers, with the first one, and with none; and
+# how many rounds of threads there are.
+MODES = {
+    "as usual": ("8",),
+    "C1": ("2", "-XX:TieredStopAtLevel=1"),
+    "no compiler": ("1", "-Xint"),
+}
 BRIEF = ("-XX:TieredStopAtLevel=1", "-XX:+UseSerialGC", "-Dfile.encoding=UTF-8")
 
 
@@ -48,14 +53,21 @@ def test_answers(classes):
     assert wrong_answers(lambda asked: java(classes, "Answers", stdin=asked)) == []
 
 
+def test_lines(classes):
+    rows = list(lines())
+    asked = "".join(f"{line}\n" for _, line, _ in rows)
+    assert java(classes, "Limits", "lines", stdin=asked).splitlines() == [it[2] for it in rows]
+
+
 @pytest.mark.parametrize("mode", MODES)
 def test_limits(classes, mode):
-    rounds = "1" if mode == "no compiler" else "20"
-    java(classes, "Limits", rounds, mode=("-Xmx300m", *MODES[mode]), wanted="")
+    rounds, *words = MODES[mode]
+    java(classes, "Limits", rounds, mode=("-Xmx300m", *words), wanted="")
 
 
-# An example in a comment, and its value.
-EXAMPLE = re.compile(r"\{@code ([^}]*)\} is ([^\s,;]+?)[.,]?(?: |$)", re.M)
+# An example in a comment, and its value; and one in the comment of the class, in a line.
+IN_LINE = re.compile(r"^ \* ([a-z]\w*\(.*\)) {2,}()(\S+)$", re.M)
+EXAMPLE = re.compile(r"\{@code ([^}]*)\} is (?:\{@code ([^}]*)\}|([^\s,;]+?)[.,]?(?: |$))", re.M)
 EXAMPLES = """\
 import static chinesenumber.ChineseNumbers.*;
 import chinesenumber.*;
@@ -71,16 +83,44 @@ class Examples {{
 
 
 def test_examples(classes, tmp_path):
-    """Each call has an example in its comment, with its value."""
-    text = (JAVA / "src/main/java/chinesenumber/ChineseNumbers.java").read_text(encoding="utf-8")
+    """Each call has an example in its comment, with its value; the classes have more."""
+    folder = JAVA / "src/main/java/chinesenumber"
+    text, *others = [
+        (folder / f"{it}.java").read_text("utf-8")
+        for it in ("ChineseNumbers", "Quantity", "Repair")
+    ]
     comments = re.findall(r"/\*\*((?:(?!\*/).)*)\*/\s+public static (?!final)", text, re.S)
     found = [EXAMPLE.search(re.sub(r"\s+\*? *", " ", it)) for it in comments]
     assert None not in found and len(found) > 50
+    more = EXAMPLE.finditer(re.sub(r"\s+\*? *", " ", "".join(others)))
+    found += [*IN_LINE.finditer(text), *more]
+    assert len(found) == len(comments) + 7 + 6
     calls = "".join(f"        System.out.println({it[1]});\n" for it in found)
     write(tmp_path / "Examples.java", EXAMPLES.format(calls))
     words = ("javac", *build_jar.BRIEF, "-encoding", "UTF-8", "-cp", classes, "-d", tmp_path)
     run(*words, "Examples.java", cwd=tmp_path)
-    assert java(f"{classes}:{tmp_path}", "Examples") == "".join(f"{it[2]}\n" for it in found)
+    assert java(f"{classes}:{tmp_path}", "Examples") == "".join(
+        f"{it[2] or it[3]}\n" for it in found
+    )
+
+
+FROM_KOTLIN = """\
+(120, 十万五千)
+壹佰貳拾
+壹仟肆佰零玖元伍角整
+15:30
+占百分之十二点五
+INCORRECT 3 第3个字“贰”前缺“零”。
+text
+"""
+
+
+@pytest.mark.by_hand
+def test_kotlin(classes, tmp_path):
+    needs("kotlinc")
+    words = ("-cp", classes, OWN / "Use.kt", "-include-runtime", "-d", "use.jar")
+    run("kotlinc", *words, cwd=tmp_path)
+    assert java(f"{classes}:{tmp_path}/use.jar", "UseKt") == FROM_KOTLIN
 
 
 # The parameters of the calls, and how many of what a pointer leads to there are.
@@ -174,6 +214,20 @@ def test_refused(tmp_path, text):
     needs("wat2wasm")
     with pytest.raises(SystemExit, match=REFUSED[text]):
         core.classes(module_of(tmp_path, AROUND.format(text)))
+
+
+def test_unknown_refused():
+    """Each instruction and each section that is not known is refused; each that is known is written."""
+    for code in {*range(256), *range(0xFC00, 0xFC20)} - {0xFC, *wasm.NAMES}:
+        data = bytes([code] if code < 256 else [0xFC, code & 0xFF])
+        with pytest.raises(SystemExit, match=f"the instruction {code:#x} is not known"):
+            wasm.nodes_of(wasm.Bytes(data + b"\x0b"))
+    for kind in {*range(256)} - {*wasm.Module.SECTIONS}:
+        with pytest.raises(SystemExit, match=f"a section of the kind {kind} is not known"):
+            wasm.Module(MODULE[:8] + bytes([kind, 0]))
+    writers, families = core.Method.WRITERS, core.Method.FAMILIES
+    for name in {*wasm.NAMES.values()} - {"end", *writers}:
+        assert core.FAMILY.match(name)[1] in families
 
 
 def test_large_method_refused(tmp_path):

@@ -80,7 +80,8 @@ extern "C" {
 
 /* Made by bindings/codes.py, from here .. */
 
-/* The integer type that a number must fit. */
+/* The integer type that a number must fit: of u8 a number is from 0 to 255, of i8 from -128 to
+ * 127. */
 typedef enum cn_kind CN_OF_CODE {
     CN_U8 = 0,
     CN_U16 = 1,
@@ -211,13 +212,13 @@ typedef enum cn_doubt CN_OF_CODE {
     CN_DOUBT_RANGE = 6,
 } cn_doubt;
 
-/* What an item of a text is: an expression that is in no phrase, or a phrase of a kind. The
- * numbers of a phrase that follow here are called first, second, third and fourth where a
- * language has no type of its own for them. */
+/* What an item of a text is: an expression that is in no phrase, or a phrase of a kind. What is
+ * in brackets are the numbers first, second, third and fourth of a phrase, where a language has
+ * no type of its own for its value. */
 typedef enum cn_phrase_kind CN_OF_CODE {
     /* An expression in no phrase. */
     CN_PHRASE_KIND_EXPRESSION = 0,
-    /* A date or a part of one: the year, the month, the day. */
+    /* A date or a part of one (the year, the month, the day). */
     CN_PHRASE_KIND_DATE = 1,
     /* From a year to another one. */
     CN_PHRASE_KIND_YEARS = 2,
@@ -225,13 +226,13 @@ typedef enum cn_phrase_kind CN_OF_CODE {
     CN_PHRASE_KIND_MONTHS = 3,
     /* From a day to another one of the same month. */
     CN_PHRASE_KIND_DAYS = 4,
-    /* A time of day: the hour as it is written, the minute, the second, the hour of 24. */
+    /* A time of day (the hour as it is written, the minute, the second, the hour of 24). */
     CN_PHRASE_KIND_TIME = 5,
-    /* Hours, minutes and seconds. */
+    /* A duration (hours, minutes and seconds). */
     CN_PHRASE_KIND_DURATION = 6,
-    /* A number and a half: the number without the half. */
+    /* A number and a half, as 一个半小时 (the number without the half). */
     CN_PHRASE_KIND_HALF = 7,
-    /* A number with decimals, as 一米七五: the number, the decimals, how many decimals there are. */
+    /* A number with decimals, as 一米七五 (the number, the decimals, how many decimals there are). */
     CN_PHRASE_KIND_LENGTH = 8,
     /* Two numbers that are compared. */
     CN_PHRASE_KIND_SCORE = 9,

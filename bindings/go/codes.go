@@ -2,7 +2,8 @@
 
 package chinesenumber
 
-// kind is the integer type that a number must fit.
+// kind is the integer type that a number must fit: of u8 a number is from 0 to 255, of i8 from
+// -128 to 127.
 type kind uint32
 
 const u8 kind = 0
@@ -138,14 +139,14 @@ const (
 )
 
 // PhraseKind is what an item of a text is: an expression that is in no phrase, or a phrase of a
-// kind. The numbers of a phrase that follow here are called first, second, third and fourth
-// where a language has no type of its own for them.
+// kind. What is in brackets are the numbers first, second, third and fourth of a phrase, where a
+// language has no type of its own for its value.
 type PhraseKind uint32
 
 const (
 	// An expression in no phrase.
 	PhraseKindExpression PhraseKind = 0
-	// A date or a part of one: the year, the month, the day.
+	// A date or a part of one (the year, the month, the day).
 	PhraseKindDate PhraseKind = 1
 	// From a year to another one.
 	PhraseKindYears PhraseKind = 2
@@ -153,13 +154,13 @@ const (
 	PhraseKindMonths PhraseKind = 3
 	// From a day to another one of the same month.
 	PhraseKindDays PhraseKind = 4
-	// A time of day: the hour as it is written, the minute, the second, the hour of 24.
+	// A time of day (the hour as it is written, the minute, the second, the hour of 24).
 	PhraseKindTime PhraseKind = 5
-	// Hours, minutes and seconds.
+	// A duration (hours, minutes and seconds).
 	PhraseKindDuration PhraseKind = 6
-	// A number and a half: the number without the half.
+	// A number and a half, as 一个半小时 (the number without the half).
 	PhraseKindHalf PhraseKind = 7
-	// A number with decimals, as 一米七五: the number, the decimals, how many decimals there are.
+	// A number with decimals, as 一米七五 (the number, the decimals, how many decimals there are).
 	PhraseKindLength PhraseKind = 8
 	// Two numbers that are compared.
 	PhraseKindScore PhraseKind = 9

@@ -12,13 +12,14 @@ class Example {
         System.out.println(toChinese(120, style)); // 壹佰貳拾
 
         System.out.println(yuanToChinese(new BigDecimal("1409.50"))); // 壹仟肆佰零玖元伍角整
-        System.out.println(fenToYuan(chineseToAmount("壹仟肆佰零玖元伍角"))); // 1409.50
+        System.out.println(chineseToYuan("壹仟肆佰零玖元伍角")); // 1409.50
         System.out.println(dateToChinese(LocalDate.of(2026, 1, 15))); // 贰零贰陆年零壹月壹拾伍日
         try {
             chineseToAmount("壹佰贰元整");
         } catch (ChineseNumberException refusal) {
             System.out.println(refusal.status() + " " + refusal.index()); // INCORRECT 3
             System.out.println(refusal.messageIn(Locale.SIMPLIFIED_CHINESE)); // 第3个字“贰”前缺“零”。
+            System.out.println(refusal.repair().get().applyTo("壹佰贰元整")); // 壹佰零贰元整
         }
 
         System.out.println(toQuantity("3.5万").toFigures()); // 35000

@@ -27,8 +27,8 @@ NAMES = {int(code, 16): name for code, name in zip(NAMES[::2], NAMES[1::2])}
 WITH_INDEX = {"br", "br_if", "call", *(it for it in NAMES.values() if it[:5] in ("local", "globa"))}
 NO_RESULT = 0x40
 
-# An instruction: its name, what stands with it, of a block its instructions, and how many bytes of
-# the module it has with these.
+# An instruction: its name, its operands, of a block its instructions, and how many bytes of the
+# module it has with these.
 Node = namedtuple("Node", "name given body size", defaults=(None, None, 0))
 Function = namedtuple("Function", "parameters result locals nodes size")
 Global = namedtuple("Global", "kind changes value")
@@ -94,7 +94,7 @@ def name_at(code):
 
 
 def given(code, name):
-    """What stands with an instruction that is no block."""
+    """The operands of an instruction that is no block."""
     if name in WITH_INDEX:
         return code.number()
     if name.endswith(".const"):

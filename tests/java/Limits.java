@@ -17,6 +17,7 @@ import java.net.URLClassLoader;
 import java.time.LocalDate;
 import java.time.LocalTime;
 import java.util.Arrays;
+import java.util.HashSet;
 import java.util.List;
 import java.util.Locale;
 import java.util.Random;
@@ -25,15 +26,16 @@ import java.util.concurrent.Executors;
 import java.util.concurrent.atomic.AtomicReference;
 import java.util.function.Function;
 import java.util.stream.Collectors;
+import java.util.stream.Stream;
 
 /**
  * Tests of the Java binding beside its answers. The argument is how many rounds of threads there
- * are.
+ * are, or {@code lines} for the answer to each line of the input.
  */
 public final class Limits {
     private static final List<String> PARAMETERS = Arrays.asList("text", "way", "kind", "number",
         "style", "yuan", "form", "date", "script", "method", "wanted", "options", "replacement",
-        "input", "locale", "status");
+        "input", "locale", "status", "line");
 
     private static void same(Object found, Object wanted) {
         if (!found.equals(wanted)) {
@@ -65,11 +67,42 @@ public final class Limits {
         same(fenToYuan(140950), new BigDecimal("1409.50"));
         same(fenToYuan(chineseToAmount("壹拾伍元整")), new BigDecimal("15.00"));
         refused(() -> yuanToChinese(new BigDecimal("-15")), Status.TOO_SMALL);
-        refused(() -> yuanToFen(new BigDecimal("1E+16")), Status.TOO_LARGE);
-        refused(() -> yuanToFen(new BigDecimal("1E+1000000000")), Status.TOO_LARGE);
-        refused(() -> yuanToFen(new BigDecimal("1E-1000000000")), Status.INCORRECT);
         refused(() -> yuanToFen(new BigDecimal(0.1)), Status.INCORRECT);
         same(refusal(() -> yuanToFen(new BigDecimal("15.005"))).charIndex(), 5);
+        same(chineseToYuan("壹拾伍元伍角"), new BigDecimal("15.50"));
+        same(chineseToSignedYuan("负壹拾伍元整"), new BigDecimal("-15.00"));
+        same(chineseToYuanAsTyped("⊗ 人民币：壹拾 伍元整"), new BigDecimal("15.00"));
+        same(chineseToSignedYuanAsTyped("⊗（负数）壹拾伍元整"), new BigDecimal("-15.00"));
+    }
+
+    /** All amounts are refused like the same figures in a text, of any size and scale. */
+    private static void refusedYuan() {
+        String large = refusal(() -> yuanToFen("10000000000000000")).messageIn(Locale.CHINA);
+        char[] figures = new char[101];
+        Arrays.fill(figures, '9');
+        String nines = new String(figures);
+        for (String sign : new String[] {"", "-"}) {
+            for (String it : new String[] {"1E+16", "1E+17", "1E+99", "1E+101", "1E+2147483647",
+                "100E+2147483646", nines}) {
+                ChineseNumberException refusal = refusal(() -> yuanToFen(new BigDecimal(sign + it)));
+                same(refusal.status(), Status.TOO_LARGE);
+                same(refusal.messageIn(Locale.CHINA), large);
+            }
+            for (String it : new String[] {"1E-3", "1E-100", "1E-101", "1E-2147483647",
+                "0." + nines, "10000000000000000.005", nines + ".005", nines + "." + nines}) {
+                ChineseNumberException refusal = refusal(() -> yuanToFen(new BigDecimal(sign + it)));
+                same(refusal.status(), Status.INCORRECT);
+                same(refusal.messageIn(Locale.ENGLISH).contains("At most two decimals"), true);
+            }
+            ChineseNumberException third = refusal(() -> yuanToFen(new BigDecimal(sign + "1E-3")));
+            same(third.charIndex(), 4 + sign.length());
+        }
+        same(yuanToFen(new BigDecimal("0E+2147483647")), 0L);
+        same(yuanToFen(new BigDecimal("0E-2147483647")), 0L);
+        same(yuanToFen(new BigDecimal("15.5").setScale(1000)), 1550L);
+        same(yuanToFen(new BigDecimal("15E+2")), 150_000L);
+        BigDecimal least = new BigDecimal(BigInteger.TEN, Integer.MIN_VALUE);
+        refused(() -> yuanToFen(least), Status.TOO_LARGE);
     }
 
     private static void numbers() {
@@ -108,6 +141,9 @@ public final class Limits {
         same(toQuantity("3.5").toWhole().isPresent(), false);
         same(toQuantity("12.5%").toBigDecimal(), new BigDecimal("0.125"));
         refused(() -> Quantity.ofFraction(1, 0), Status.NOT_A_QUANTITY);
+        refused(() -> Quantity.ofFraction(1, -3), Status.NOT_A_QUANTITY);
+        same(toQuantity("3.10").toBigDecimal(), new BigDecimal("3.1"));
+        refused(() -> toQuantity(Quantity.ofFraction(1, 3).toFigures()), Status.INCORRECT);
         refused(() -> Quantity.of(new BigDecimal("1E-1000000000")), Status.NOT_HELD);
         refused(() -> Quantity.of(new BigDecimal("1E+1000000000")), Status.NOT_HELD);
     }
@@ -140,11 +176,30 @@ public final class Limits {
             many.append("二十三，");
         }
         same(findNumbers(many).count(), 70L);
+        TextOptions upper = TextOptions.DEFAULT.withWanted(Wanted.DEFAULT.withUpper());
+        same(textToFigures("壹佰", upper), "100");
         TextOptions compact = TextOptions.DEFAULT.withCompact();
         same(textToFigures("二零二六年一月五日下午三点半", compact), "2026-01-05 15:30");
         illegal(() -> quantitiesToFigures("一", compact), "quantitiesToFigures has no option compact");
         illegal(() -> replaceQuantities("一", it -> "", compact), "replaceQuantities has no option compact");
         illegal(() -> TextOptions.DEFAULT.withMethod(Way.DIGITS), "DIGITS is no method of quantities");
+    }
+
+    private static void lines() {
+        same(answerLine("print u128 naive traditional lower 123"), "ok 一二三");
+        same(answerLine(new StringBuilder("read u8 any")), "bad line");
+        same(answerLine("read u64 naive \ud800"), "err the chinese number is incorrect (position: 0)");
+        char[] zeros = new char[200_000];
+        Arrays.fill(zeros, '零');
+        same(answerLine("read u128 naive " + new String(zeros) + "五"), "ok 5");
+    }
+
+    private static void answerLines() throws Exception {
+        StringBuilder answers = new StringBuilder();
+        for (String line : new String(System.in.readAllBytes(), "UTF-8").split("\n")) {
+            answers.append(answerLine(line)).append('\n');
+        }
+        System.out.write(answers.toString().getBytes("UTF-8"));
     }
 
     private static void illegal(Runnable call, String wanted) {
@@ -159,21 +214,97 @@ public final class Limits {
 
     private static void messages() throws Exception {
         ChineseNumberException refusal = refusal(() -> chineseToAmount("壹佰贰元整"));
-        ByteArrayOutputStream bytes = new ByteArrayOutputStream();
-        new ObjectOutputStream(bytes).writeObject(refusal);
-        Object read = new ObjectInputStream(new ByteArrayInputStream(bytes.toByteArray())).readObject();
-        ChineseNumberException again = (ChineseNumberException) read;
+        ChineseNumberException again = (ChineseNumberException) copy(refusal);
         same(again.messageIn(Locale.CHINA), "第3个字“贰”前缺“零”。");
-        same(again.messageIn(Locale.TAIWAN), again.messageIn(Locale.forLanguageTag("zh-Hant-CN")));
-        same(again.messageIn(Locale.CHINESE), again.messageIn(Locale.forLanguageTag("zh-Hans-HK")));
-        same(again.messageIn(Locale.FRENCH), again.messageIn(Locale.ENGLISH));
-        same(again.repair().get().toString(), "INSERT 2 零");
+        same(again.repair().get().toString(), "INSERT 零 at index 2 (charIndex 2)");
         same(again.expected().get().charIndex(), 3);
         same(again.fault().isPresent(), false);
         same(refusal(() -> toNumber("一百十")).fault().get(), Fault.UNITS);
         same(refusal(() -> toQuantity("零分之一")).fault().get(), Fault.DENOMINATOR);
         same(refusal(() -> toChinese(BigInteger.ONE.shiftLeft(200))).messageIn(Locale.ENGLISH),
             statusMessage(Status.NOT_HELD, Locale.US));
+    }
+
+    private static void locales() {
+        String[] tags = {"zh zh-CN zh-SG zh-Hans zh-Hans-HK cmn cmn-Hans-TW yue-CN yue-Hans yue-Hans-HK",
+            "zh-TW zh-HK zh-MO zh-Hant zh-Hant-HK zh-Hant-CN cmn-Hant cmn-TW"
+                + " yue yue-HK yue-Hant-CN zh-yue",
+            "en fr ja und de-CN"};
+        String[] messages = {"缺少数字。", "缺少數字。", numberMessage("", Locale.ENGLISH)};
+        for (int at = 0; at < tags.length; at++) {
+            for (String tag : tags[at].split(" ")) {
+                same(tag + numberMessage("", Locale.forLanguageTag(tag)), tag + messages[at]);
+            }
+        }
+    }
+
+    private static void repairs() {
+        same(inputRepair("壹佰贰元整", Input.AMOUNT).get().applyTo("壹佰贰元整"), "壹佰零贰元整");
+        String pair = "壹佰零贰元😀整";
+        Repair deleted = inputRepair(pair, Input.AMOUNT).get();
+        same(deleted.toString(), "DELETE at index 5 (charIndex 5)");
+        same(deleted.applyTo(new StringBuilder(pair)), "壹佰零贰元整");
+        same(inputRepair("壹百元整", Input.AMOUNT).get().applyTo("壹百元整"), "壹佰元整");
+        for (String text : new String[] {"", "壹佰零贰元"}) {
+            try {
+                deleted.applyTo(text);
+                throw new AssertionError("a repair outside of the text");
+            } catch (IndexOutOfBoundsException error) {
+                continue;
+            }
+        }
+        try {
+            deleted.applyTo(null);
+            throw new AssertionError("a repair of null");
+        } catch (NullPointerException error) {
+            same(error.getMessage(), "text");
+        }
+    }
+
+    private static Object copy(Object it) throws Exception {
+        ByteArrayOutputStream bytes = new ByteArrayOutputStream();
+        new ObjectOutputStream(bytes).writeObject(it);
+        return new ObjectInputStream(new ByteArrayInputStream(bytes.toByteArray())).readObject();
+    }
+
+    /** Objects of several classes, each unlike all others. */
+    private static List<Object> values() {
+        Stream<Object> own = Stream.of(Style.DEFAULT, Style.DEFAULT.withWay(Way.LOW),
+            Style.DEFAULT.withScript(Script.TRADITIONAL), Style.DEFAULT.withCase(Case.UPPER),
+            AmountForm.DEFAULT, AmountForm.DEFAULT.withCurrency().withBracketedSign(),
+            TextOptions.DEFAULT, TextOptions.DEFAULT.withAbout().withCompact(),
+            TextOptions.DEFAULT.withMethod(Way.LOW), Wanted.DEFAULT, Wanted.DEFAULT.withUpper(),
+            TextOptions.DEFAULT.withWanted(Wanted.DEFAULT.withUpper()),
+            Wanted.DEFAULT.withGreatest(NumeralUnit.JING), Quantity.of(5),
+            Quantity.ofFraction(1, 2), Quantity.ofFraction(2, 4),
+            inputRepair("壹佰贰元整", Input.AMOUNT).get(), inputRepair("壹佰x元整", Input.AMOUNT).get());
+        Stream<Object> found = findPhrases("一月五日三点半，24点，三到五万元").map(it -> it.value().get());
+        return Stream.concat(own, found).collect(Collectors.toList());
+    }
+
+    private static void equality() throws Exception {
+        List<Object> all = values();
+        List<Object> again = values();
+        String text = "一月五日，五十，五十，三点半";
+        List<Object> found = Stream.of(findNumbers(text), findQuantities(text), findPhrases(text))
+            .flatMap(it -> it).collect(Collectors.toList());
+        same(found, Stream.of(findNumbers(text), findQuantities(text), findPhrases(text))
+            .flatMap(it -> it).collect(Collectors.toList()));
+        for (int at = 0; at < all.size(); at++) {
+            same(copy(all.get(at)), all.get(at));
+            same(all.get(at).hashCode(), again.get(at).hashCode());
+            same(all.indexOf(again.get(at)), at);
+            same(all.get(at).equals(null), false);
+        }
+        // The quantities 五十 are found by two of the calls.
+        same(new HashSet<>(found).size(), found.size() - 2);
+        same(inputExpected("壹佰", Input.AMOUNT), inputExpected("壹佰", Input.AMOUNT));
+        same(inputExpected("壹佰", Input.AMOUNT).equals(inputExpected("壹", Input.AMOUNT)), false);
+        same(Style.DEFAULT.toString(), "Style[ANY, SIMPLIFIED, LOWER]");
+        same(AmountForm.DEFAULT.withCurrency().withBracketedSign().toString(),
+            "AmountForm[SIMPLIFIED, [currency, bracketedSign]]");
+        same(TextOptions.DEFAULT.withAbout().withCompact().toString(),
+            "TextOptions[Wanted[lower, ZHAO], ANY, [about, compact]]");
     }
 
     /** Each argument of each call is refused by its name if it is null. */
@@ -276,7 +407,7 @@ public final class Limits {
     }
 
     /**
-     * Four million characters are searched, some of them rewritten; then no room for them is kept.
+     * Four million characters are searched, some of them rewritten; then their memory is free.
      */
     private static void longText() {
         String part = "市值三点五亿元，占12.5%。";
@@ -295,6 +426,10 @@ public final class Limits {
     }
 
     public static void main(String[] words) throws Exception {
+        if (words[0].equals("lines")) {
+            answerLines();
+            return;
+        }
         int rounds = Integer.parseInt(words[0]);
         yuan();
         numbers();
@@ -302,7 +437,12 @@ public final class Limits {
         quantities();
         places();
         texts();
+        lines();
+        refusedYuan();
         messages();
+        locales();
+        repairs();
+        equality();
         nulls();
         threads(rounds);
         unloaded();

@@ -14,21 +14,21 @@ import java.util.Map;
 
 /**
  * Makes the calls of the module that same.c asks for through calls.c: of each the name, the count
- * of the arguments, and these: a number, or how many bytes there are behind a pointer, and these
- * bytes. The answer is the status and all these bytes.
+ * of the arguments, and these: a number, or how many bytes a pointer leads to, and these bytes. The
+ * answer is the status and all these bytes.
  */
 public final class Same extends State {
-    private static final int ROOM = 1 << 17;
-    private static final int FIRST_LENT = (HEAP + 15) / 16 * 16;
+    private static final int MEMORY = 1 << 17;
+    private static final int FIRST_ADDRESS = (HEAP + 15) / 16 * 16;
 
     private final DataInputStream in =
         new DataInputStream(new BufferedInputStream(System.in, 1 << 16));
     private final OutputStream out = new FileOutputStream(FileDescriptor.out);
     private final Map<String, Method> calls = new HashMap<>();
-    private final ByteBuffer answer = ByteBuffer.allocate(ROOM).order(ByteOrder.LITTLE_ENDIAN);
+    private final ByteBuffer answer = ByteBuffer.allocate(MEMORY).order(ByteOrder.LITTLE_ENDIAN);
 
     private Same() {
-        super(ROOM);
+        super(MEMORY);
         for (Method it : Core.class.getDeclaredMethods()) {
             calls.put(it.getName(), it);
         }
@@ -47,7 +47,7 @@ public final class Same extends State {
         int[] starts = new int[count];
         int[] sizes = new int[count];
         given[0] = this;
-        int free = FIRST_LENT;
+        int free = FIRST_ADDRESS;
         for (int at = 0; at < count; at++) {
             boolean isPointer = in.read() == 1;
             long value = number();

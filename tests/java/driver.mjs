@@ -6,7 +6,7 @@ const ARGUMENTS = [
 ];
 const FIRST = 65536;
 
-// A sum of 64 bits of the bytes behind the stack.
+// A sum of 64 bits of the bytes after the stack.
 function sumOf(bytes) {
   let low = 0, high = 0;
   for (let at = FIRST; at < bytes.length; at++) {

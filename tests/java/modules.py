@@ -82,7 +82,7 @@ class Function:
         return text.format(int=self.value("i32", depth), long=self.value("i64", depth))
 
     def place(self, depth):
-        """An address in the constants, behind them or in the function's frame: an offset, a value."""
+        """An address in the constants, after them or in the function's frame: an offset, a value."""
         near = f"(i32.and {self.value('i32', depth)} (i32.const 255))"
         frame = "(i32.wrap_i64 (local.get $frame))"
         return self.one(

@@ -54,7 +54,7 @@ public final class Answers {
         CALLS.put("read", w -> toBigInteger(w[3], way(w[2]), of(Kind.class, w[1])));
         CALLS.put("print",
             w -> toChinese(new BigInteger(w[5]), style(w[2], w[3], w[4]), of(Kind.class, w[1])));
-        CALLS.put("find", w -> inPlace(w[1], findNumbers(w[1]), it -> told(it::bigInteger)));
+        CALLS.put("find", w -> inPlace(w[1], findNumbers(w[1]), it -> outcome(it::bigInteger)));
         CALLS.put("flags", w -> inPlace(w[1], findNumbers(w[1]), Answers::flags));
         CALLS.put("explain", w -> word(explainNumber(w[3], way(w[2]), of(Kind.class, w[1]))));
     }
@@ -76,7 +76,7 @@ public final class Answers {
     private static void addQuantities() {
         CALLS.put("read_quantity", w -> shown(toQuantity(w[2], way(w[1]))));
         CALLS.put("find_quantities",
-            w -> inPlace(w[1], findQuantities(w[1]), it -> told(() -> shown(it.quantity()))));
+            w -> inPlace(w[1], findQuantities(w[1]), it -> outcome(() -> shown(it.quantity()))));
         CALLS.put("doubts", w -> inPlace(w[1], findQuantities(w[1]), it -> word(it.doubt())));
         CALLS.put("print_quantity", w -> quantity(w[4]).toChinese(style(w[1], w[2], w[3])));
         CALLS.put("quantity_figures", w -> quantity(w[1]).toFigures());
@@ -154,7 +154,7 @@ public final class Answers {
         return new Quantity(new BigInteger(parts[0]), denominator, of(QuantityForm.class, parts[2]));
     }
 
-    // What was answered, in words.
+    // Results in words.
 
     private static String word(Enum<?> it) {
         return it.name().toLowerCase(Locale.ROOT);
@@ -205,8 +205,8 @@ public final class Answers {
             long seconds = ((Duration) value).getSeconds();
             return seconds / 3600 + ":" + seconds / 60 % 60 + ":" + seconds % 60;
         }
-        if (value instanceof Pair) {
-            Pair<?> both = (Pair<?>) value;
+        if (value instanceof ValuePair) {
+            ValuePair<?> both = (ValuePair<?>) value;
             String between = it.kind() == PhraseKind.SCORE ? ":" : "..";
             return exactOf(both.first()) + between + exactOf(both.second());
         }
@@ -237,19 +237,20 @@ public final class Answers {
         return quantity.form() == QuantityForm.FRACTION ? found.text() : quantity.toChinese();
     }
 
-    /** The text, with what is told of everything found in its place. */
+    /** The text, with a description of everything found in its place. */
     private static <T extends Found> String inPlace(String text, Stream<T> all,
-        Function<T, String> tell) {
-        StringBuilder done = new StringBuilder();
-        int at = 0;
+        Function<T, String> describe) {
+        StringBuilder replaced = new StringBuilder();
+        int end = 0;
         for (T found : all.collect(Collectors.toList())) {
-            done.append(text, at, found.start()).append('[').append(tell.apply(found)).append(']');
-            at = found.end();
+            replaced.append(text, end, found.start()).append('[').append(describe.apply(found));
+            replaced.append(']');
+            end = found.end();
         }
-        return done.append(text, at, text.length()).toString();
+        return replaced.append(text, end, text.length()).toString();
     }
 
-    private static String told(Supplier<Object> call) {
+    private static String outcome(Supplier<Object> call) {
         try {
             return "ok " + call.get();
         } catch (ChineseNumberException refusal) {
@@ -263,7 +264,7 @@ public final class Answers {
         BufferedReader lines = new BufferedReader(in);
         for (String line = lines.readLine(); line != null; line = lines.readLine()) {
             String[] words = line.split("\t", -1);
-            out.print(told(() -> CALLS.get(words[0]).answer(words)) + "\n");
+            out.print(outcome(() -> CALLS.get(words[0]).answer(words)) + "\n");
         }
         out.flush();
     }

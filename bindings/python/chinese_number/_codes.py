@@ -95,7 +95,8 @@ _LanguageWord = Literal[
 
 
 class Kind(str, Enum):
-    """The integer type that a number must fit."""
+    """The integer type that a number must fit: of u8 a number is from 0 to 255, of i8 from -128 to
+    127."""
 
     U8 = "u8"
     U16 = "u16"
@@ -228,20 +229,20 @@ class Doubt(str, Enum):
 
 
 class PhraseKind(str, Enum):
-    """What an item of a text is: an expression that is in no phrase, or a phrase of a kind. The
-    numbers of a phrase that follow here are called first, second, third and fourth where a
-    language has no type of its own for them.
+    """What an item of a text is: an expression that is in no phrase, or a phrase of a kind. What is
+    in brackets are the numbers first, second, third and fourth of a phrase, where a language has
+    no type of its own for its value.
 
     EXPRESSION: an expression in no phrase.
-    DATE: a date or a part of one: the year, the month, the day.
+    DATE: a date or a part of one (the year, the month, the day).
     YEARS: from a year to another one.
     MONTHS: from a month to another one of the same year.
     DAYS: from a day to another one of the same month.
-    TIME: a time of day: the hour as it is written, the minute, the second, the hour of 24.
-    DURATION: hours, minutes and seconds.
-    HALF: a number and a half: the number without the half.
-    LENGTH: a number with decimals, as 一米七五: the number, the decimals, how many decimals there
-    are.
+    TIME: a time of day (the hour as it is written, the minute, the second, the hour of 24).
+    DURATION: a duration (hours, minutes and seconds).
+    HALF: a number and a half, as 一个半小时 (the number without the half).
+    LENGTH: a number with decimals, as 一米七五 (the number, the decimals, how many decimals there
+    are).
     SCORE: two numbers that are compared.
     RANGE: from a quantity to another one."""
 

@@ -3,7 +3,8 @@
 #![allow(dead_code, reason = "each feature has its own, and some statuses never occur")]
 #![allow(clippy::unreadable_literal, reason = "a code is as in the other languages")]
 
-/// The integer type that a number must fit.
+/// The integer type that a number must fit: of u8 a number is from 0 to 255, of i8 from -128 to
+/// 127.
 #[derive(Debug, Copy, Clone, Eq, PartialEq, Hash)]
 pub enum Kind {
     U8 = 0,
@@ -160,15 +161,15 @@ pub enum Doubt {
     Range = 6,
 }
 
-/// What an item of a text is: an expression that is in no phrase, or a phrase of a kind. The
-/// numbers of a phrase that follow here are called first, second, third and fourth where a
-/// language has no type of its own for them.
+/// What an item of a text is: an expression that is in no phrase, or a phrase of a kind. What is
+/// in brackets are the numbers first, second, third and fourth of a phrase, where a language has
+/// no type of its own for its value.
 #[non_exhaustive]
 #[derive(Debug, Copy, Clone, Eq, PartialEq, Hash)]
 pub enum PhraseKind {
     /// An expression in no phrase.
     Expression = 0,
-    /// A date or a part of one: the year, the month, the day.
+    /// A date or a part of one (the year, the month, the day).
     Date = 1,
     /// From a year to another one.
     Years = 2,
@@ -176,13 +177,13 @@ pub enum PhraseKind {
     Months = 3,
     /// From a day to another one of the same month.
     Days = 4,
-    /// A time of day: the hour as it is written, the minute, the second, the hour of 24.
+    /// A time of day (the hour as it is written, the minute, the second, the hour of 24).
     Time = 5,
-    /// Hours, minutes and seconds.
+    /// A duration (hours, minutes and seconds).
     Duration = 6,
-    /// A number and a half: the number without the half.
+    /// A number and a half, as 一个半小时 (the number without the half).
     Half = 7,
-    /// A number with decimals, as 一米七五: the number, the decimals, how many decimals there are.
+    /// A number with decimals, as 一米七五 (the number, the decimals, how many decimals there are).
     Length = 8,
     /// Two numbers that are compared.
     Score = 9,

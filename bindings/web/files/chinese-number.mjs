@@ -31,7 +31,8 @@ export const VERSION = '0.1.0';
 // Made by bindings/codes.py, from here ..
 
 /**
- * The integer type that a number must fit.
+ * The integer type that a number must fit: of u8 a number is from 0 to 255, of i8 from -128 to
+ * 127.
  */
 export const KINDS = Object.freeze(/** @type {const} */ ([
   'u8', 'u16', 'u32', 'u64', 'u128', 'i8', 'i16', 'i32', 'i64', 'i128',
@@ -140,20 +141,20 @@ export const DOUBTS = Object.freeze(/** @type {const} */ ([
 ]));
 
 /**
- * What an item of a text is: an expression that is in no phrase, or a phrase of a kind. The
- * numbers of a phrase that follow here are called first, second, third and fourth where a
- * language has no type of its own for them.
+ * What an item of a text is: an expression that is in no phrase, or a phrase of a kind. What is
+ * in brackets are the numbers first, second, third and fourth of a phrase, where a language has
+ * no type of its own for its value.
  *
  * - 'expression': an expression in no phrase.
- * - 'date': a date or a part of one: the year, the month, the day.
+ * - 'date': a date or a part of one (the year, the month, the day).
  * - 'years': from a year to another one.
  * - 'months': from a month to another one of the same year.
  * - 'days': from a day to another one of the same month.
- * - 'time': a time of day: the hour as it is written, the minute, the second, the hour of 24.
- * - 'duration': hours, minutes and seconds.
- * - 'half': a number and a half: the number without the half.
- * - 'length': a number with decimals, as 一米七五: the number, the decimals, how many decimals there
- * are.
+ * - 'time': a time of day (the hour as it is written, the minute, the second, the hour of 24).
+ * - 'duration': a duration (hours, minutes and seconds).
+ * - 'half': a number and a half, as 一个半小时 (the number without the half).
+ * - 'length': a number with decimals, as 一米七五 (the number, the decimals, how many decimals there
+ * are).
  * - 'score': two numbers that are compared.
  * - 'range': from a quantity to another one.
  */

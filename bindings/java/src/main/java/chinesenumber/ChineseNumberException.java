@@ -16,6 +16,9 @@ import java.util.Optional;
  *     refusal.messageIn(Locale.SIMPLIFIED_CHINESE);      // 第3个字“贰”前缺“零”。
  * }
  * }</pre>
+ *
+ * <p>It keeps the refused text, also when it is serialized, so that messages and repairs can be
+ * composed later.
  */
 public final class ChineseNumberException extends IllegalArgumentException {
     private static final long serialVersionUID = 1;
@@ -24,10 +27,10 @@ public final class ChineseNumberException extends IllegalArgumentException {
     private final int charIndex;
     private final int index;
     /** Null if no text was read. */
-    private final Source source;
+    private final ReadText readText;
 
-    ChineseNumberException(Status status, Source source, int charIndex, int index) {
-        this(status, textOf(status, source, charIndex), source, charIndex, index);
+    ChineseNumberException(Status status, ReadText readText, int charIndex, int index) {
+        this(status, textOf(status, readText, charIndex), readText, charIndex, index);
     }
 
     /** The refusal of what cannot be written, or is too large to be read. */
@@ -35,22 +38,23 @@ public final class ChineseNumberException extends IllegalArgumentException {
         this(status, text, null, -1, -1);
     }
 
-    private ChineseNumberException(Status status, String text, Source source, int charIndex, int index) {
+    private ChineseNumberException(Status status, String text, ReadText readText, int charIndex,
+        int index) {
         super(text);
         this.status = status;
-        this.source = source;
+        this.readText = readText;
         this.charIndex = charIndex;
         this.index = index;
     }
 
-    private static String textOf(Status status, Source source, int charIndex) {
-        boolean isDate = source.input == Input.DATE;
+    private static String textOf(Status status, ReadText readText, int charIndex) {
+        boolean isDate = readText.input == Input.DATE;
         switch (status) {
             case EMPTY:
                 return Codes.EMPTY_TEXT;
             case INCORRECT:
                 String ofInput = isDate ? Codes.DATE_INCORRECT_TEXT : Codes.AMOUNT_INCORRECT_TEXT;
-                String text = source.input == null ? Codes.INCORRECT_TEXT : ofInput;
+                String text = readText.input == null ? Codes.INCORRECT_TEXT : ofInput;
                 return text + " (position: " + charIndex + ")";
             case UNFINISHED:
                 return isDate ? Codes.DATE_UNFINISHED_TEXT : Codes.AMOUNT_UNFINISHED_TEXT;
@@ -97,40 +101,48 @@ public final class ChineseNumberException extends IllegalArgumentException {
 
     /**
      * The message for the person who typed the text: why it is refused, and how it can be repaired
-     * if a change of one character does that. If no text was read, it says what the status means.
+     * if a change of one character does that. If no text was read, as by {@code yuanToChinese(new
+     * BigDecimal("-15"))}, it says what the status means, without a place.
      *
-     * <p>Chinese locales have messages in simplified or traditional characters, all others in
-     * English. The message is composed by each call.
+     * <p>The language is that of {@link ChineseNumbers#inputMessage}. The message is composed by
+     * each call.
      */
     public String messageIn(Locale locale) {
         Objects.requireNonNull(locale, "locale");
-        return source == null ? ChineseNumbers.statusMessage(status, locale) : source.message(locale);
-    }
-
-    /** What may come next in the text that was to be an amount, a date or figures. */
-    public Optional<Expected> expected() {
-        return input().map(it -> ChineseNumbers.inputExpected(source.text, it));
+        return readText == null
+            ? ChineseNumbers.statusMessage(status, locale) : readText.message(locale);
     }
 
     /**
-     * The change that repairs the text that was to be an amount, a date or figures, if there is
-     * one.
+     * What may come next in the text, as {@link ChineseNumbers#inputExpected} says it; empty if it
+     * was not read as an amount, a date or figures.
+     */
+    public Optional<Expected> expected() {
+        return input().map(it -> ChineseNumbers.inputExpected(readText.text, it));
+    }
+
+    /**
+     * A change that repairs the text, as {@link ChineseNumbers#inputRepair} finds it; empty if none
+     * is found, or if the text was not read as an amount, a date or figures.
      */
     public Optional<Repair> repair() {
-        return input().flatMap(it -> ChineseNumbers.inputRepair(source.text, it));
+        return input().flatMap(it -> ChineseNumbers.inputRepair(readText.text, it));
     }
 
     private Optional<Input> input() {
-        return source == null ? Optional.empty() : Optional.ofNullable(source.input);
+        return readText == null ? Optional.empty() : Optional.ofNullable(readText.input);
     }
 
-    /** Why the text is no number or quantity: {@link Fault#TWO_READINGS} for 一百五万. */
+    /**
+     * Why the text is no number or quantity: {@link Fault#TWO_READINGS} for 一百五万; empty if it was
+     * read as something else.
+     */
     public Optional<Fault> fault() {
-        if (source == null || source.input != null) {
+        if (readText == null || readText.input != null) {
             return Optional.empty();
         }
-        return source.kind != null
-            ? ChineseNumbers.explainNumber(source.text, source.way, source.kind)
-            : ChineseNumbers.explainQuantity(source.text, source.way);
+        return readText.kind != null
+            ? ChineseNumbers.explainNumber(readText.text, readText.way, readText.kind)
+            : ChineseNumbers.explainQuantity(readText.text, readText.way);
     }
 }

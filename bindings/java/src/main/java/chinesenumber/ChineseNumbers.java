@@ -1,13 +1,14 @@
 package chinesenumber;
 
-import static chinesenumber.Machine.LENGTH;
-import static chinesenumber.Machine.SPANS;
-import static chinesenumber.Machine.TEXT;
-import static chinesenumber.Machine.TOLD;
+import static chinesenumber.Instance.LENGTH;
+import static chinesenumber.Instance.RESULT;
+import static chinesenumber.Instance.SPANS;
+import static chinesenumber.Instance.TEXT;
 import static java.util.Objects.requireNonNull;
 
 import java.math.BigDecimal;
 import java.math.BigInteger;
+import java.math.RoundingMode;
 import java.time.LocalDate;
 import java.util.Arrays;
 import java.util.HashSet;
@@ -34,19 +35,25 @@ import java.util.stream.Stream;
  *
  * <p>Any number of threads may call at once. No argument and no result is null; a null argument is
  * refused by a {@link NullPointerException} that names it. What cannot be read or written is
- * refused by a {@link ChineseNumberException}. Half of a surrogate pair is a character that is in
- * no numeral.
+ * refused by a {@link ChineseNumberException}. An unpaired surrogate is a character that is in no
+ * numeral. A text of more than about 700 million {@code char}s is refused by an {@link
+ * IllegalArgumentException}.
  */
 public final class ChineseNumbers {
-    /** The version of the library. */
-    public static final String VERSION = "0.1.0";
-
+    private static final String VERSION = "0.1.0";
     private static final int MOST_PLACES = 17;
     private static final int MOST_SCALE = 100;
+    /** Chinese, and Mandarin and Cantonese by their own codes. */
+    private static final Set<String> CHINESE = new HashSet<>(Arrays.asList("zh", "cmn", "yue"));
     /** Where Chinese is written in traditional characters. */
     private static final Set<String> TRADITIONAL = new HashSet<>(Arrays.asList("TW", "HK", "MO"));
 
     private ChineseNumbers() {}
+
+    /** The version of the library: {@code version()} is 0.1.0. */
+    public static String version() {
+        return VERSION;
+    }
 
     // Numbers.
 
@@ -60,20 +67,34 @@ public final class ChineseNumbers {
         return toNumber(text, Way.ANY);
     }
 
-    /** Reads a numeral by a way: {@code toNumber("一二〇", Way.DIGITS)} is 120. */
+    /**
+     * Reads a numeral by a way: {@code toNumber("一二〇", Way.DIGITS)} is 120.
+     *
+     * @throws ChineseNumberException if the text is no numeral by this way, or a {@code long} does
+     *     not hold its number
+     */
     public static long toNumber(CharSequence text, Way way) {
-        Machine it = read(text, way, Kind.I64);
-        long number = it.words(TOLD);
-        it.give();
+        Instance instance = read(text, way, Kind.I64);
+        long number = instance.getLong(RESULT);
+        instance.release();
         return number;
     }
 
-    /** Reads a numeral of up to 128 bits: {@code toBigInteger("一京")} is 10000000000000000. */
+    /**
+     * Reads a numeral of up to 128 bits: {@code toBigInteger("一京")} is 10000000000000000.
+     *
+     * @throws ChineseNumberException if the text is no numeral, or its number has more bits
+     */
     public static BigInteger toBigInteger(CharSequence text) {
         return toBigInteger(text, Way.ANY);
     }
 
-    /** Reads a numeral by a way: {@code toBigInteger("一兆", Way.MIDDLE)} is 10000000000000000. */
+    /**
+     * Reads a numeral by a way: {@code toBigInteger("一兆", Way.MIDDLE)} is 10000000000000000.
+     *
+     * @throws ChineseNumberException if the text is no numeral by this way, or its number has more
+     *     than 128 bits
+     */
     public static BigInteger toBigInteger(CharSequence text, Way way) {
         return toBigInteger(text, way, Kind.I128);
     }
@@ -85,21 +106,22 @@ public final class ChineseNumbers {
      * @throws ChineseNumberException if the text is no numeral, or its number does not fit
      */
     public static BigInteger toBigInteger(CharSequence text, Way way, Kind kind) {
-        Machine it = read(text, way, kind);
-        BigInteger number = it.whole(TOLD, isSigned(kind));
-        it.give();
+        Instance instance = read(text, way, kind);
+        BigInteger number = instance.getInteger(RESULT, isSigned(kind));
+        instance.release();
         return number;
     }
 
-    private static Machine read(CharSequence text, Way way, Kind kind) {
-        int codeOfWay = requireNonNull(way, "way").ordinal();
-        int codeOfKind = requireNonNull(kind, "kind").ordinal();
-        Machine it = Machine.of(text);
-        int status = Core.chinese_number_read_utf8(it, TEXT, it.length, codeOfKind, codeOfWay, TOLD);
+    private static Instance read(CharSequence text, Way way, Kind kind) {
+        int wayCode = requireNonNull(way, "way").ordinal();
+        int kindCode = requireNonNull(kind, "kind").ordinal();
+        Instance instance = Instance.with(text);
+        int status = Core.chinese_number_read_utf8(instance, TEXT, instance.textBytes, kindCode,
+            wayCode, RESULT);
         if (status != 0) {
-            throw it.refusal(status, Source.of(text, way, kind), TOLD + 16);
+            throw instance.refusal(status, ReadText.of(text, way, kind), RESULT + 16);
         }
-        return it;
+        return instance;
     }
 
     private static boolean isSigned(Kind kind) {
@@ -121,7 +143,11 @@ public final class ChineseNumbers {
         return print(number, number >> 63, Kind.I64, style);
     }
 
-    /** Writes a number of up to 128 bits: {@code toChinese(BigInteger.TEN.pow(12))} is 一万亿. */
+    /**
+     * Writes a number of up to 128 bits: {@code toChinese(BigInteger.TEN.pow(12))} is 一万亿.
+     *
+     * @throws ChineseNumberException if the number has more bits
+     */
     public static String toChinese(BigInteger number) {
         return toChinese(number, Style.DEFAULT);
     }
@@ -129,6 +155,9 @@ public final class ChineseNumbers {
     /**
      * Writes a number of up to 128 bits in a style: {@code toChinese(BigInteger.TEN.pow(12),
      * Style.DEFAULT.withScript(Script.TRADITIONAL))} is 一兆.
+     *
+     * @throws ChineseNumberException if the number has more bits, or {@link Way#LOW} cannot write
+     *     it
      */
     public static String toChinese(BigInteger number, Style style) {
         return toChinese(number, style, Kind.I128);
@@ -143,45 +172,51 @@ public final class ChineseNumbers {
      */
     public static String toChinese(BigInteger number, Style style, Kind kind) {
         requireNonNull(kind, "kind");
-        held(requireNonNull(number, "number"), kind);
+        requireFits(requireNonNull(number, "number"), kind);
         return print(number.longValue(), number.shiftRight(64).longValue(), kind, style);
     }
 
-    /** The number, if its halves have the bits of it for a type. */
-    static BigInteger held(BigInteger number, Kind kind) {
-        boolean isHeld = isSigned(kind)
+    /** The number, if it fits the 128 bits in which the module takes one of a type. */
+    static BigInteger requireFits(BigInteger number, Kind kind) {
+        boolean fits = isSigned(kind)
             ? number.bitLength() < 128 : number.signum() >= 0 && number.bitLength() <= 128;
-        if (!isHeld) {
-            throw notHeld(kind);
+        if (!fits) {
+            throw doesNotFit(kind);
         }
         return number;
     }
 
-    static ChineseNumberException notHeld(Kind kind) {
+    static ChineseNumberException doesNotFit(Kind kind) {
         String text = kind.name().toLowerCase(Locale.ROOT) + " does not hold the number";
         return new ChineseNumberException(Status.NOT_HELD, text);
     }
 
     private static String print(long low, long high, Kind kind, Style style) {
         requireNonNull(style, "style");
-        Machine it = Machine.take();
-        int status = Core.chinese_number_print(it, low, high, kind.ordinal(), style.way.ordinal(),
-            style.script.ordinal(), style.letterCase.ordinal(), TEXT, Codes.MOST_BYTES, LENGTH);
+        Instance instance = Instance.acquire();
+        int status = Core.chinese_number_print(instance, low, high, kind.ordinal(),
+            style.way.ordinal(), style.script.ordinal(), style.letterCase.ordinal(), TEXT,
+            Codes.MOST_BYTES, LENGTH);
         if (status == Status.NOT_HELD.ordinal()) {
-            it.give();
-            throw notHeld(kind);
+            instance.release();
+            throw doesNotFit(kind);
         }
-        return printed(it, status);
+        return printed(instance, status);
     }
 
-    /** What was printed, or the refusal of it. */
-    static String printed(Machine it, int code) {
+    /** The text that was printed at {@code TEXT}. Throws if the status is a refusal. */
+    static String printed(Instance instance, int code) {
+        requireDone(instance, code);
+        return instance.printed(TEXT);
+    }
+
+    /** Releases the instance and throws if the status of what was written is a refusal. */
+    static void requireDone(Instance instance, int code) {
         if (code != 0) {
-            it.give();
+            instance.release();
             Status status = Status.values()[code];
             throw new ChineseNumberException(status, ChineseNumberException.textOf(status));
         }
-        return it.printed(TEXT);
     }
 
     // Amounts of money.
@@ -200,6 +235,8 @@ public final class ChineseNumbers {
     /**
      * Writes an amount of money in a form: {@code yuanToChinese(new BigDecimal("15"),
      * AmountForm.DEFAULT.withCurrency())} is 人民币壹拾伍元整.
+     *
+     * @throws ChineseNumberException as {@link #yuanToChinese(BigDecimal)} does
      */
     public static String yuanToChinese(BigDecimal yuan, AmountForm form) {
         return amountToChinese(yuanToFen(yuan), form);
@@ -208,6 +245,8 @@ public final class ChineseNumbers {
     /**
      * Writes an amount that may be negative, as on a red invoice: {@code signedYuanToChinese(new
      * BigDecimal("-15"))} is 负壹拾伍元整.
+     *
+     * @throws ChineseNumberException as {@link #yuanToFen(BigDecimal)} does
      */
     public static String signedYuanToChinese(BigDecimal yuan) {
         return signedAmountToChinese(yuanToFen(yuan));
@@ -216,12 +255,18 @@ public final class ChineseNumbers {
     /**
      * Writes an amount that may be negative in a form: {@code signedYuanToChinese(new
      * BigDecimal("-15"), AmountForm.DEFAULT.withBracketedSign())} is （负数）壹拾伍元整.
+     *
+     * @throws ChineseNumberException as {@link #yuanToFen(BigDecimal)} does
      */
     public static String signedYuanToChinese(BigDecimal yuan, AmountForm form) {
         return signedAmountToChinese(yuanToFen(yuan), form);
     }
 
-    /** Writes an amount of fen, hundredths of a yuan: {@code amountToChinese(1500)} is 壹拾伍元整. */
+    /**
+     * Writes an amount of fen, hundredths of a yuan: {@code amountToChinese(1500)} is 壹拾伍元整.
+     *
+     * @throws ChineseNumberException if the amount is below zero, or 10^18 fen or more
+     */
     public static String amountToChinese(long fen) {
         return amountToChinese(fen, AmountForm.DEFAULT);
     }
@@ -238,14 +283,16 @@ public final class ChineseNumbers {
             throw new ChineseNumberException(Status.TOO_SMALL,
                 Codes.TOO_SMALL_TEXT + ": the calls for signed amounts write those below zero");
         }
-        Machine it = Machine.take();
-        int status = Core.chinese_amount_print(it, fen, form.script.ordinal(), form.flags, TEXT,
-            Codes.MOST_AMOUNT_BYTES, LENGTH);
-        return printed(it, status);
+        Instance instance = Instance.acquire();
+        int status = Core.chinese_amount_print(instance, fen, form.script.ordinal(), form.flags,
+            TEXT, Codes.MOST_AMOUNT_BYTES, LENGTH);
+        return printed(instance, status);
     }
 
     /**
      * Writes an amount of fen that may be negative: {@code signedAmountToChinese(-1500)} is 负壹拾伍元整.
+     *
+     * @throws ChineseNumberException if the amount is 10^18 fen or more, or -10^18 or less
      */
     public static String signedAmountToChinese(long fen) {
         return signedAmountToChinese(fen, AmountForm.DEFAULT);
@@ -259,50 +306,89 @@ public final class ChineseNumbers {
      */
     public static String signedAmountToChinese(long fen, AmountForm form) {
         requireNonNull(form, "form");
-        Machine it = Machine.take();
-        int status = Core.chinese_signed_amount_print(it, fen, form.script.ordinal(), form.flags, TEXT,
-            Codes.MOST_SIGNED_AMOUNT_BYTES, LENGTH);
-        return printed(it, status);
+        Instance instance = Instance.acquire();
+        int status = Core.chinese_signed_amount_print(instance, fen, form.script.ordinal(),
+            form.flags, TEXT, Codes.MOST_SIGNED_AMOUNT_BYTES, LENGTH);
+        return printed(instance, status);
     }
 
     /**
      * Reads an amount of money in capitals, in fen: {@code chineseToAmount("壹拾伍元整")} is 1500.
-     * {@link #fenToYuan} makes 15.00 of it.
+     * {@link #chineseToYuan} reads it in yuan.
      *
      * @throws ChineseNumberException if the text is no amount; white space is refused like any
      *     other character
      */
     public static long chineseToAmount(CharSequence text) {
-        Machine it = Machine.of(text);
-        int status = Core.chinese_amount_read(it, TEXT, it.length, TOLD);
-        return fen(it, status, text, Input.AMOUNT);
+        return readFen(Core::chinese_amount_read, text, Input.AMOUNT);
     }
 
-    /** Reads an amount that may be negative: {@code chineseToSignedAmount("负壹拾伍元整")} is -1500. */
+    /**
+     * Reads an amount that may be negative: {@code chineseToSignedAmount("负壹拾伍元整")} is -1500.
+     *
+     * @throws ChineseNumberException if the text is no such amount
+     */
     public static long chineseToSignedAmount(CharSequence text) {
-        Machine it = Machine.of(text);
-        int status = Core.chinese_signed_amount_read(it, TEXT, it.length, TOLD);
-        return fen(it, status, text, Input.SIGNED_AMOUNT);
+        return readFen(Core::chinese_signed_amount_read, text, Input.SIGNED_AMOUNT);
     }
 
     /**
      * Reads an amount as people type it, with white space, ⊗ or a colon after 人民币: {@code
      * chineseToAmountAsTyped("⊗ 人民币：壹拾 伍元整")} is 1500.
+     *
+     * @throws ChineseNumberException if the text is no such amount
      */
     public static long chineseToAmountAsTyped(CharSequence text) {
-        Machine it = Machine.of(text);
-        int status = Core.chinese_typed_amount_read(it, TEXT, it.length, TOLD);
-        return fen(it, status, text, Input.TYPED_AMOUNT);
+        return readFen(Core::chinese_typed_amount_read, text, Input.TYPED_AMOUNT);
     }
 
     /**
      * Reads an amount that may be negative, as people type it or copy it from an invoice: {@code
      * chineseToSignedAmountAsTyped("⊗（负数）壹拾伍元整")} is -1500.
+     *
+     * @throws ChineseNumberException if the text is no such amount
      */
     public static long chineseToSignedAmountAsTyped(CharSequence text) {
-        Machine it = Machine.of(text);
-        int status = Core.chinese_typed_signed_amount_read(it, TEXT, it.length, TOLD);
-        return fen(it, status, text, Input.TYPED_SIGNED_AMOUNT);
+        return readFen(Core::chinese_typed_signed_amount_read, text, Input.TYPED_SIGNED_AMOUNT);
+    }
+
+    /**
+     * Reads an amount of money in capitals, in yuan: {@code chineseToYuan("壹拾伍元伍角")} is 15.50.
+     *
+     * @throws ChineseNumberException as {@link #chineseToAmount} does
+     */
+    public static BigDecimal chineseToYuan(CharSequence text) {
+        return fenToYuan(chineseToAmount(text));
+    }
+
+    /**
+     * Reads an amount that may be negative, in yuan: {@code chineseToSignedYuan("负壹拾伍元整")} is
+     * -15.00.
+     *
+     * @throws ChineseNumberException as {@link #chineseToSignedAmount} does
+     */
+    public static BigDecimal chineseToSignedYuan(CharSequence text) {
+        return fenToYuan(chineseToSignedAmount(text));
+    }
+
+    /**
+     * Reads an amount as people type it, in yuan: {@code chineseToYuanAsTyped("⊗ 人民币：壹拾 伍元整")} is
+     * 15.00.
+     *
+     * @throws ChineseNumberException as {@link #chineseToAmountAsTyped} does
+     */
+    public static BigDecimal chineseToYuanAsTyped(CharSequence text) {
+        return fenToYuan(chineseToAmountAsTyped(text));
+    }
+
+    /**
+     * Reads an amount that may be negative, as people type it or copy it from an invoice, in yuan:
+     * {@code chineseToSignedYuanAsTyped("⊗（负数）壹拾伍元整")} is -15.00.
+     *
+     * @throws ChineseNumberException as {@link #chineseToSignedAmountAsTyped} does
+     */
+    public static BigDecimal chineseToSignedYuanAsTyped(CharSequence text) {
+        return fenToYuan(chineseToSignedAmountAsTyped(text));
     }
 
     /**
@@ -312,24 +398,38 @@ public final class ChineseNumbers {
      *     on either side of zero
      */
     public static long yuanToFen(CharSequence text) {
-        Machine it = Machine.of(text);
-        int status = Core.chinese_figures_read(it, TEXT, it.length, TOLD);
-        return fen(it, status, text, Input.FIGURES);
+        return readFen(Core::chinese_figures_read, text, Input.FIGURES);
     }
 
     /**
      * The fen of an amount in yuan, exactly: {@code yuanToFen(new BigDecimal("15.5"))} is 1550.
      *
      * @throws ChineseNumberException as for the same figures in a text: if the amount has parts of
-     *     a fen, or is too large
+     *     a fen, or is too large. The place of a refusal counts in {@code
+     *     yuan.stripTrailingZeros().toPlainString()}, of which up to 100 decimals are looked at.
      */
     public static long yuanToFen(BigDecimal yuan) {
-        BigDecimal exact = requireNonNull(yuan, "yuan").stripTrailingZeros();
-        if ((long) exact.precision() - exact.scale() > MOST_PLACES) {
-            throw new ChineseNumberException(Status.TOO_LARGE, Codes.TOO_LARGE_TEXT);
+        return yuanToFen(plain(requireNonNull(yuan, "yuan")));
+    }
+
+    /**
+     * The amount in plain figures. Where these could take all memory, as for 1E+1000000000 and
+     * 1E-1000000000, they are those of another amount, which is refused for the same reason: one
+     * that is too large, or the first decimals and a 1 after them.
+     */
+    private static String plain(BigDecimal yuan) {
+        BigDecimal sign = BigDecimal.valueOf(yuan.signum());
+        if (yuan.scale() < -MOST_SCALE) {
+            return sign.scaleByPowerOfTen(MOST_PLACES).toPlainString();
         }
-        // In plain figures 1E-1000000000 would take all memory.
-        return yuanToFen(exact.scale() > MOST_SCALE ? exact.toString() : exact.toPlainString());
+        BigDecimal exact = yuan.stripTrailingZeros();
+        if (exact.scale() <= MOST_SCALE) {
+            return exact.toPlainString();
+        }
+        boolean isTiny = exact.precision() < exact.scale() - MOST_SCALE;
+        BigDecimal first =
+            isTiny ? BigDecimal.ZERO : exact.setScale(MOST_SCALE, RoundingMode.DOWN);
+        return first.add(sign.scaleByPowerOfTen(-MOST_SCALE - 1)).toPlainString();
     }
 
     /** The yuan of an amount in fen: {@code fenToYuan(140950)} is 1409.50. */
@@ -337,12 +437,19 @@ public final class ChineseNumbers {
         return BigDecimal.valueOf(fen, 2);
     }
 
-    private static long fen(Machine it, int status, CharSequence text, Input input) {
+    /** A call of the module that reads an amount. */
+    private interface AmountReader {
+        int read(State module, long text, long textBytes, long result);
+    }
+
+    private static long readFen(AmountReader reader, CharSequence text, Input input) {
+        Instance instance = Instance.with(text);
+        int status = reader.read(instance, TEXT, instance.textBytes, RESULT);
         if (status != 0) {
-            throw it.refusal(status, Source.of(text, input), TOLD + 8);
+            throw instance.refusal(status, ReadText.of(text, input), RESULT + 8);
         }
-        long fen = it.words(TOLD);
-        it.give();
+        long fen = instance.getLong(RESULT);
+        instance.release();
         return fen;
     }
 
@@ -351,6 +458,8 @@ public final class ChineseNumbers {
     /**
      * Writes a date in capitals, as on a cheque: {@code dateToChinese(LocalDate.of(2026, 1, 15))}
      * is 贰零贰陆年零壹月壹拾伍日.
+     *
+     * @throws ChineseNumberException if the year is not from 1 to 9999
      */
     public static String dateToChinese(LocalDate date) {
         return dateToChinese(date, Script.SIMPLIFIED);
@@ -365,10 +474,10 @@ public final class ChineseNumbers {
     public static String dateToChinese(LocalDate date, Script script) {
         requireNonNull(date, "date");
         int code = requireNonNull(script, "script").ordinal();
-        Machine it = Machine.take();
-        int status = Core.chinese_date_print(it, date.getYear(), date.getMonthValue(),
+        Instance instance = Instance.acquire();
+        int status = Core.chinese_date_print(instance, date.getYear(), date.getMonthValue(),
             date.getDayOfMonth(), code, TEXT, Codes.MOST_DATE_BYTES, LENGTH);
-        return printed(it, status);
+        return printed(instance, status);
     }
 
     /**
@@ -377,13 +486,15 @@ public final class ChineseNumbers {
      * @throws ChineseNumberException if the text is no date
      */
     public static LocalDate chineseToDate(CharSequence text) {
-        Machine it = Machine.of(text);
-        int status = Core.chinese_date_read(it, TEXT, it.length, TOLD);
+        Instance instance = Instance.with(text);
+        int status = Core.chinese_date_read(instance, TEXT, instance.textBytes, RESULT);
         if (status != 0) {
-            throw it.refusal(status, Source.of(text, Input.DATE), TOLD + 16);
+            throw instance.refusal(status, ReadText.of(text, Input.DATE), RESULT + 16);
         }
-        LocalDate date = LocalDate.of(it.word(TOLD), it.word(TOLD + 4), it.word(TOLD + 8));
-        it.give();
+        int year = instance.getInt(RESULT);
+        int month = instance.getInt(RESULT + 4);
+        LocalDate date = LocalDate.of(year, month, instance.getInt(RESULT + 8));
+        instance.release();
         return date;
     }
 
@@ -402,20 +513,24 @@ public final class ChineseNumbers {
     /**
      * Reads an exact quantity by a method, which is not {@link Way#DIGITS}: {@code toQuantity("一兆",
      * Way.MIDDLE)} is 10000000000000000.
+     *
+     * @throws ChineseNumberException if the text is no quantity by this method, or its numbers are
+     *     too large
+     * @throws IllegalArgumentException for {@link Way#DIGITS}
      */
     public static Quantity toQuantity(CharSequence text, Way method) {
         int code = method(method).ordinal();
-        Machine it = Machine.of(text);
-        int status = Core.chinese_quantity_read(it, TEXT, it.length, code, TOLD);
+        Instance instance = Instance.with(text);
+        int status = Core.chinese_quantity_read(instance, TEXT, instance.textBytes, code, RESULT);
         if (status != 0) {
-            throw it.refusal(status, Source.of(text, method), TOLD + 40);
+            throw instance.refusal(status, ReadText.of(text, method), RESULT + 40);
         }
-        Quantity quantity = it.quantity(TOLD);
-        it.give();
+        Quantity quantity = instance.getQuantity(RESULT);
+        instance.release();
         return quantity;
     }
 
-    /** A way that is a method of quantities. */
+    /** The way, unless it is none by which quantities are read and written. */
     static Way method(Way method) {
         if (requireNonNull(method, "method") == Way.DIGITS) {
             throw new IllegalArgumentException("DIGITS is no method of quantities");
@@ -423,7 +538,7 @@ public final class ChineseNumbers {
         return method;
     }
 
-    // What is found in a text.
+    // Finding numbers, quantities and phrases in a text.
 
     /**
      * Finds the numbers of a text: {@code
@@ -440,7 +555,7 @@ public final class ChineseNumbers {
      * Wanted.DEFAULT.withUpper()).count()} is 1.
      */
     public static Stream<FoundNumber> findNumbers(CharSequence text, Wanted wanted) {
-        return Search.NUMBERS.in(text, wanted).stream();
+        return Search.NUMBERS.findAll(text, wanted).stream();
     }
 
     /**
@@ -453,10 +568,10 @@ public final class ChineseNumbers {
 
     /**
      * Finds the expressions of a text that have the wanted characters: {@code findQuantities("一京",
-     * Wanted.DEFAULT.withGreatest(Unit.JING)).count()} is 1.
+     * Wanted.DEFAULT.withGreatest(NumeralUnit.JING)).count()} is 1.
      */
     public static Stream<FoundQuantity> findQuantities(CharSequence text, Wanted wanted) {
-        return Search.QUANTITIES.in(text, wanted).stream();
+        return Search.QUANTITIES.findAll(text, wanted).stream();
     }
 
     /**
@@ -473,10 +588,10 @@ public final class ChineseNumbers {
      * {@code findPhrases("三到五万元", Wanted.DEFAULT).count()} is 1.
      */
     public static Stream<Found> findPhrases(CharSequence text, Wanted wanted) {
-        return Search.PHRASES.in(text, wanted).stream();
+        return Search.PHRASES.findAll(text, wanted).stream();
     }
 
-    /** What a call returns, or nothing if it refuses a text. */
+    /** What a call returns; empty if the call refuses a text. */
     static <T> Optional<T> unlessRefused(Supplier<T> call) {
         try {
             return Optional.of(call.get());
@@ -485,7 +600,7 @@ public final class ChineseNumbers {
         }
     }
 
-    // Texts that are rewritten.
+    // Rewriting texts.
 
     /**
      * Rewrites a text in figures, as an editor does, with its dates, times, ranges and other
@@ -501,7 +616,8 @@ public final class ChineseNumbers {
      * without that option.
      */
     public static String textToFigures(CharSequence text, TextOptions options) {
-        return Figures.written(Core::chinese_text_to_figures, text, requireNonNull(options, "options"));
+        requireNonNull(options, "options");
+        return Figures.written(Core::chinese_text_to_figures, text, options);
     }
 
     /**
@@ -534,10 +650,12 @@ public final class ChineseNumbers {
 
     /**
      * Replaces the expressions of a text that the options include and the method reads: {@code
-     * replaceQuantities("三百多", it -> "300", TextOptions.DEFAULT.withAbout())} is 300多. To keep one
-     * the function returns its {@link Found#text}.
+     * replaceQuantities("三百多", it -> "300", TextOptions.DEFAULT.withAbout())} is 300多. To keep an
+     * expression, the function returns its {@link Found#text}.
      *
-     * @throws IllegalArgumentException for the options of texts in figures
+     * @throws IllegalArgumentException for the options {@link TextOptions#withExpanded}, {@link
+     *     TextOptions#withCanonical} and {@link TextOptions#withCompact}
+     * @throws NullPointerException also if the function returns null
      */
     public static String replaceQuantities(CharSequence text,
         Function<? super FoundQuantity, String> replacement, TextOptions options) {
@@ -545,19 +663,23 @@ public final class ChineseNumbers {
         int others = Codes.EXPANDED | Codes.CANONICAL | Codes.COMPACT;
         requireNonNull(options, "options").refuse(others, "replaceQuantities");
         StringBuilder replaced = new StringBuilder();
-        int at = 0;
-        for (FoundQuantity found : Search.QUANTITIES.in(text, options.wanted)) {
-            if (options.has(found) && unlessRefused(() -> found.quantity(options.method)).isPresent()) {
+        int end = 0;
+        for (FoundQuantity found : Search.QUANTITIES.findAll(text, options.wanted)) {
+            if (options.include(found) && isRead(found, options.method)) {
                 String other = replacement.apply(found);
                 requireNonNull(other, "the text that replacement returned");
-                replaced.append(text, at, found.start()).append(other);
-                at = found.end();
+                replaced.append(text, end, found.start()).append(other);
+                end = found.end();
             }
         }
-        return replaced.append(text, at, text.length()).toString();
+        return replaced.append(text, end, text.length()).toString();
     }
 
-    // What may follow a text, and why it is refused.
+    private static boolean isRead(FoundQuantity found, Way method) {
+        return unlessRefused(() -> found.quantity(method)).isPresent();
+    }
+
+    // Help with a text that is refused.
 
     /**
      * Says what may come next in a text, for example to offer keys: {@code inputExpected("壹佰",
@@ -565,88 +687,92 @@ public final class ChineseNumbers {
      */
     public static Expected inputExpected(CharSequence text, Input input) {
         int code = requireNonNull(input, "input").ordinal();
-        Machine it = Machine.of(text);
-        Core.chinese_input_expected(it, TEXT, it.length, code, SPANS);
-        Expected expected = new Expected(it, SPANS);
-        it.give();
+        Instance instance = Instance.with(text);
+        Core.chinese_input_expected(instance, TEXT, instance.textBytes, code, SPANS);
+        Expected expected = new Expected(instance, SPANS);
+        instance.release();
         return expected;
     }
 
     /**
-     * Finds one change of a text after which it goes on past its wrong character: {@code
-     * inputRepair("壹佰贰元整", Input.AMOUNT).get().character()} is 零. Nothing if the text is right, or
-     * if no change is found. Only a person can say that the change is what was meant.
+     * Finds one change of a text that makes its wrong character right: {@code
+     * inputRepair("壹佰贰元整", Input.AMOUNT).get().character()} is 零. Empty if the text is right, or if
+     * no change is found. Only a person can say whether the change is what was meant.
      */
     public static Optional<Repair> inputRepair(CharSequence text, Input input) {
         int code = requireNonNull(input, "input").ordinal();
-        Machine it = Machine.of(text);
-        Core.chinese_input_repair(it, TEXT, it.length, code, TOLD);
-        boolean isKnown = it.word(TOLD + 16) != 0;
-        Optional<Repair> repair = isKnown ? Optional.of(new Repair(it, TOLD)) : Optional.empty();
-        it.give();
-        return repair;
+        Instance instance = Instance.with(text);
+        Core.chinese_input_repair(instance, TEXT, instance.textBytes, code, RESULT);
+        boolean isKnown = instance.getInt(RESULT + 16) != 0;
+        Repair repair = isKnown ? new Repair(instance, RESULT) : null;
+        instance.release();
+        return Optional.ofNullable(repair);
     }
 
     /**
      * Says why {@link #toBigInteger(CharSequence)} refuses a text: {@code
-     * explainNumber("一百十").get()} is UNITS.
+     * explainNumber("一百十").get()} is UNITS. Empty if it reads the text.
      */
     public static Optional<Fault> explainNumber(CharSequence text) {
         return explainNumber(text, Way.ANY, Kind.I128);
     }
 
     /**
-     * Says why a text is no numeral by a way whose number fits a type; nothing if it is: {@code
-     * explainNumber("三百", Way.ANY, Kind.U8).get()} is TOO_LARGE.
+     * Says why {@link #toBigInteger(CharSequence, Way, Kind)} refuses a text: {@code
+     * explainNumber("三百", Way.ANY, Kind.U8).get()} is TOO_LARGE. Empty if it reads the text.
      */
     public static Optional<Fault> explainNumber(CharSequence text, Way way, Kind kind) {
-        int codeOfWay = requireNonNull(way, "way").ordinal();
-        int codeOfKind = requireNonNull(kind, "kind").ordinal();
-        Machine it = Machine.of(text);
-        Core.chinese_number_explain(it, TEXT, it.length, codeOfKind, codeOfWay, TOLD);
-        return fault(it);
+        int wayCode = requireNonNull(way, "way").ordinal();
+        int kindCode = requireNonNull(kind, "kind").ordinal();
+        Instance instance = Instance.with(text);
+        Core.chinese_number_explain(instance, TEXT, instance.textBytes, kindCode, wayCode, RESULT);
+        return fault(instance);
     }
 
     /**
      * Says why {@link #toQuantity(CharSequence)} refuses a text: {@code
-     * explainQuantity("零分之一").get()} is DENOMINATOR.
+     * explainQuantity("零分之一").get()} is DENOMINATOR. Empty if it reads the text.
      */
     public static Optional<Fault> explainQuantity(CharSequence text) {
         return explainQuantity(text, Way.ANY);
     }
 
     /**
-     * Says why a text is no quantity by a method; nothing if it is: {@code explainQuantity("一百五万",
-     * Way.TEN_THOUSAND).get()} is TWO_READINGS.
+     * Says why {@link #toQuantity(CharSequence, Way)} refuses a text: {@code
+     * explainQuantity("一百五万", Way.TEN_THOUSAND).get()} is TWO_READINGS. Empty if it reads the text.
+     *
+     * @throws IllegalArgumentException for {@link Way#DIGITS}
      */
     public static Optional<Fault> explainQuantity(CharSequence text, Way method) {
         int code = method(method).ordinal();
-        Machine it = Machine.of(text);
-        Core.chinese_quantity_explain(it, TEXT, it.length, code, TOLD);
-        return fault(it);
+        Instance instance = Instance.with(text);
+        Core.chinese_quantity_explain(instance, TEXT, instance.textBytes, code, RESULT);
+        return fault(instance);
     }
 
-    private static Optional<Fault> fault(Machine it) {
-        int code = it.word(TOLD);
-        it.give();
+    private static Optional<Fault> fault(Instance instance) {
+        int code = instance.getInt(RESULT);
+        instance.release();
         return code == 0 ? Optional.empty() : Optional.of(Fault.values()[code - 1]);
     }
 
     // Messages for a person.
 
     /**
-     * The message for the person who typed a text that is to be an input: why it is not, with the
-     * repair if there is one. {@code inputMessage("壹佰贰元整", Input.AMOUNT, Locale.CHINA)} is
+     * The message for the person who typed a text, for example an amount: why it is refused, with a
+     * repair if one is found. {@code inputMessage("壹佰贰元整", Input.AMOUNT, Locale.CHINA)} is
      * 第3个字“贰”前缺“零”。 It is empty if the text is right.
+     *
+     * <p>The languages {@code zh}, {@code cmn} and {@code yue} have messages in Chinese, any other
+     * in English. Traditional characters are those of the script {@code Hant} and, where the locale
+     * names neither {@code Hant} nor {@code Hans}, of the countries TW, HK and MO, and of {@code
+     * yue} except in CN.
      */
     public static String inputMessage(CharSequence text, Input input, Locale locale) {
-        int code = requireNonNull(input, "input").ordinal();
+        int inputCode = requireNonNull(input, "input").ordinal();
         int language = language(locale);
-        Machine it = Machine.of(text, Codes.MOST_MESSAGE_BYTES);
-        int room = TEXT + it.length;
-        Core.chinese_input_message(it, TEXT, it.length, code, language, room,
-            Codes.MOST_MESSAGE_BYTES, LENGTH);
-        return it.printed(room);
+        return message(text, (instance, buffer) -> Core.chinese_input_message(instance, TEXT,
+            instance.textBytes, inputCode, language, buffer, Codes.MOST_MESSAGE_BYTES, LENGTH));
     }
 
     /**
@@ -662,14 +788,12 @@ public final class ChineseNumbers {
      * {@code numberMessage("二百五十六", Locale.CHINA, Way.ANY, Kind.U8)} is 数值太大。
      */
     public static String numberMessage(CharSequence text, Locale locale, Way way, Kind kind) {
-        int codeOfWay = requireNonNull(way, "way").ordinal();
-        int codeOfKind = requireNonNull(kind, "kind").ordinal();
+        int wayCode = requireNonNull(way, "way").ordinal();
+        int kindCode = requireNonNull(kind, "kind").ordinal();
         int language = language(locale);
-        Machine it = Machine.of(text, Codes.MOST_MESSAGE_BYTES);
-        int room = TEXT + it.length;
-        Core.chinese_number_message(it, TEXT, it.length, codeOfKind, codeOfWay, language, room,
-            Codes.MOST_MESSAGE_BYTES, LENGTH);
-        return it.printed(room);
+        return message(text, (instance, buffer) -> Core.chinese_number_message(instance, TEXT,
+            instance.textBytes, kindCode, wayCode, language, buffer, Codes.MOST_MESSAGE_BYTES,
+            LENGTH));
     }
 
     /**
@@ -683,37 +807,67 @@ public final class ChineseNumbers {
     /**
      * The message for a text that {@link #toQuantity(CharSequence, Way)} refuses, likewise: {@code
      * quantityMessage("", Locale.TAIWAN, Way.MIDDLE)} is 缺少數字。
+     *
+     * @throws IllegalArgumentException for {@link Way#DIGITS}
      */
     public static String quantityMessage(CharSequence text, Locale locale, Way method) {
-        int code = method(method).ordinal();
+        int methodCode = method(method).ordinal();
         int language = language(locale);
-        Machine it = Machine.of(text, Codes.MOST_MESSAGE_BYTES);
-        int room = TEXT + it.length;
-        Core.chinese_quantity_message(it, TEXT, it.length, code, language, room,
-            Codes.MOST_MESSAGE_BYTES, LENGTH);
-        return it.printed(room);
+        return message(text, (instance, buffer) -> Core.chinese_quantity_message(instance, TEXT,
+            instance.textBytes, methodCode, language, buffer, Codes.MOST_MESSAGE_BYTES, LENGTH));
+    }
+
+    /** A call of the module that writes a message on a text at an address. */
+    private interface MessageWriter {
+        int write(Instance instance, int buffer);
+    }
+
+    private static String message(CharSequence text, MessageWriter writer) {
+        Instance instance = Instance.with(text, Codes.MOST_MESSAGE_BYTES);
+        writer.write(instance, instance.buffer());
+        return instance.printed(instance.buffer());
     }
 
     /**
-     * What a status means, for a person whose number is too large to be written, for example:
-     * {@code statusMessage(Status.TOO_LARGE, Locale.CHINA)} is 数值太大。
+     * What a status means, for example for a person whose number is too large to be written: {@code
+     * statusMessage(Status.TOO_LARGE, Locale.CHINA)} is 数值太大。 Empty for {@link Status#DONE}.
      */
     public static String statusMessage(Status status, Locale locale) {
         int code = requireNonNull(status, "status").ordinal();
         int language = language(locale);
-        Machine it = Machine.take();
-        Core.chinese_status_message(it, code, language, TEXT, Codes.MOST_MESSAGE_BYTES, LENGTH);
-        return it.printed(TEXT);
+        Instance instance = Instance.acquire();
+        Core.chinese_status_message(instance, code, language, TEXT, Codes.MOST_MESSAGE_BYTES,
+            LENGTH);
+        return instance.printed(TEXT);
     }
 
     /** The code of the language for a locale. */
     private static int language(Locale locale) {
-        if (!requireNonNull(locale, "locale").getLanguage().equals("zh")) {
+        String name = requireNonNull(locale, "locale").getLanguage();
+        if (!CHINESE.contains(name)) {
             return Language.ENGLISH.ordinal();
         }
         String script = locale.getScript();
-        boolean isTraditional =
-            script.isEmpty() ? TRADITIONAL.contains(locale.getCountry()) : script.equals("Hant");
-        return (isTraditional ? Language.TRADITIONAL_CHINESE : Language.SIMPLIFIED_CHINESE).ordinal();
+        String country = locale.getCountry();
+        boolean isUsual =
+            name.equals("yue") ? !country.equals("CN") : TRADITIONAL.contains(country);
+        boolean isTraditional = script.equals("Hant") || isUsual && !script.equals("Hans");
+        Language chinese =
+            isTraditional ? Language.TRADITIONAL_CHINESE : Language.SIMPLIFIED_CHINESE;
+        return chinese.ordinal();
+    }
+
+    // Lines.
+
+    /**
+     * Answers a line as the program {@code numeral} does: {@code answerLine("print u8 naive simple
+     * lower 12")} is {@code ok 一二}. What is no question has the answer {@code bad line}. The page
+     * docs/RULES.md of the repository defines questions and answers.
+     */
+    public static String answerLine(CharSequence line) {
+        Instance instance = Instance.with(requireNonNull(line, "line"), Codes.MOST_ANSWER_BYTES);
+        Core.chinese_number_answer_line(instance, TEXT, instance.textBytes, instance.buffer(),
+            Codes.MOST_ANSWER_BYTES, LENGTH);
+        return instance.printed(instance.buffer());
     }
 }

@@ -1,7 +1,7 @@
 package chinesenumber;
 
-import static chinesenumber.Machine.LENGTH;
-import static chinesenumber.Machine.TEXT;
+import static chinesenumber.Instance.LENGTH;
+import static chinesenumber.Instance.TEXT;
 import static java.util.Objects.requireNonNull;
 
 /** Writes texts in figures by a call of the module. */
@@ -10,37 +10,38 @@ final class Figures {
 
     private Figures() {}
 
-    /** A call that writes a new text into the room after the text. */
+    /** A call of the module that writes a new text into a buffer. */
     interface Call {
-        int write(State m, long text, long length, int upper, int greatest, int method, int flags,
-            long room, long bytes, long count);
+        int write(State module, long text, long textBytes, int upper, int greatest, int method,
+            int flags, long buffer, long bufferBytes, long length);
     }
 
     static String written(Call call, CharSequence text, TextOptions options) {
-        // Figures seldom have more bytes than what they replace. If they do, the call says how many.
-        long room = 3L * requireNonNull(text, "text").length() + Codes.MOST_FIGURES_BYTES;
+        // The new text seldom has more bytes than the old one. If so, the call says how many.
+        long bufferBytes = 3L * requireNonNull(text, "text").length() + Codes.MOST_FIGURES_BYTES;
         while (true) {
-            Machine it = Machine.of(text, room);
-            int at = TEXT + it.length;
-            int status = call.write(it, TEXT, it.length, options.wanted.upper,
-                options.wanted.greatest.ordinal(), options.method.ordinal(), options.flags, at, room, LENGTH);
-            if (status == 0) {
-                return withHalves(it.printed(at), text);
+            Instance instance = Instance.with(text, bufferBytes);
+            int status = call.write(instance, TEXT, instance.textBytes, options.wanted.upper(),
+                options.wanted.greatest.ordinal(), options.method.ordinal(), options.flags,
+                instance.buffer(), bufferBytes, LENGTH);
+            if (status != Status.NO_ROOM.ordinal()) {
+                ChineseNumbers.requireDone(instance, status);
+                return withSurrogates(instance.printed(instance.buffer()), text);
             }
-            room = it.words(LENGTH);
-            it.give();
+            bufferBytes = instance.getLong(LENGTH);
+            instance.release();
         }
     }
 
     /**
-     * Puts the halves of surrogate pairs back, which are U+FFFD in the new text. No expression has
-     * one, so those of the new text and of the text are the same, in order.
+     * Restores unpaired surrogates, which are U+FFFD in the new text. No expression has one, so
+     * those of the new text and of the text are the same, in order.
      */
-    private static String withHalves(String anew, CharSequence text) {
-        if (anew.indexOf(REPLACEMENT) < 0) {
-            return anew;
+    private static String withSurrogates(String written, CharSequence text) {
+        if (written.indexOf(REPLACEMENT) < 0) {
+            return written;
         }
-        StringBuilder all = new StringBuilder(anew);
+        StringBuilder restored = new StringBuilder(written);
         int at = 0;
         for (int index = 0; index < text.length(); index++) {
             char unit = text.charAt(index);
@@ -49,10 +50,10 @@ final class Figures {
             if (isPair) {
                 index++;
             } else if (Character.isSurrogate(unit) || unit == REPLACEMENT) {
-                at = all.indexOf("\ufffd", at);
-                all.setCharAt(at++, unit);
+                at = restored.indexOf("\ufffd", at);
+                restored.setCharAt(at++, unit);
             }
         }
-        return all.toString();
+        return restored.toString();
     }
 }

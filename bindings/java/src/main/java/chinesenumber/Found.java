@@ -1,9 +1,17 @@
 package chinesenumber;
 
+import static java.util.Objects.requireNonNull;
+
+import java.util.Arrays;
+import java.util.List;
 import java.util.Optional;
 
-/** What is found in a text: a {@link FoundNumber}, a {@link FoundQuantity} or a {@link Phrase}. */
-public abstract class Found {
+/**
+ * What is found in a text: a {@link FoundNumber}, a {@link FoundQuantity} or a {@link Phrase}. Two
+ * are equal if they are of one class, at the same place, and have the same text and all that is
+ * known of it.
+ */
+public abstract class Found extends Value {
     private final Place place;
     final int flags;
 
@@ -12,17 +20,17 @@ public abstract class Found {
         this.flags = flags;
     }
 
-    /** Its own text. */
+    /** The part of the text that was found. */
     public final String text() {
         return place.text;
     }
 
-    /** Where it starts in the {@code CharSequence}, as {@code subSequence} takes it. */
+    /** The index of its start in the {@code CharSequence}, as {@code subSequence} takes it. */
     public final int start() {
         return place.start;
     }
 
-    /** Where it ends, likewise. */
+    /** The index after its end, likewise. */
     public final int end() {
         return place.start + place.text.length();
     }
@@ -37,7 +45,7 @@ public abstract class Found {
         return place.charStart + place.text.codePointCount(0, place.text.length());
     }
 
-    /** Whether it continues on neither side: 二十三 of 第二十三回 stands alone, 4 of A4 does not. */
+    /** Whether it stands alone, as 二十三 of 第二十三回 does and 4 of A4 does not. */
     public final boolean standsAlone() {
         return has(Codes.STANDS_ALONE);
     }
@@ -64,16 +72,22 @@ public abstract class Found {
      * with its year.
      */
     public final <T> Optional<T> value(Class<T> type) {
-        java.util.Objects.requireNonNull(type, "type");
+        requireNonNull(type, "type");
         return value().filter(type::isInstance).map(type::cast);
     }
 
+    @Override
+    List<?> parts() {
+        return Arrays.asList(place.text, place.start, place.charStart, flags);
+    }
+
+    /** Its text. */
     @Override
     public String toString() {
         return text();
     }
 
-    /** Where something is in a text. */
+    /** A place in a text: its own text, and where this starts in UTF-16 and in characters. */
     static final class Place {
         final String text;
         final int start;

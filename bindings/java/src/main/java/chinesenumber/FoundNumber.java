@@ -1,5 +1,7 @@
 package chinesenumber;
 
+import static java.util.Objects.requireNonNull;
+
 import java.math.BigInteger;
 import java.util.Optional;
 
@@ -15,21 +17,32 @@ public final class FoundNumber extends Found {
     }
 
     /**
-     * The number, read as {@link ChineseNumbers#toNumber} does: plain digits as such, anything else
-     * by {@link Way#TEN_THOUSAND}. A place of a refusal counts within its own text.
+     * The number, as {@link ChineseNumbers#toNumber} reads it: plain digits as such, anything else
+     * by {@link Way#TEN_THOUSAND}. The place of a refusal counts from the start of its own text.
+     *
+     * @throws ChineseNumberException if its text is refused, such as 百 in 百分之五十, or a {@code long}
+     *     does not hold the number
      */
     public long number() {
         return ChineseNumbers.toNumber(text(), way(Way.ANY));
     }
 
-    /** The number, as {@link ChineseNumbers#toBigInteger} reads it, likewise. */
+    /**
+     * The number, as {@link ChineseNumbers#toBigInteger} reads it, likewise.
+     *
+     * @throws ChineseNumberException if its text is refused
+     */
     public BigInteger bigInteger() {
         return bigInteger(Way.ANY);
     }
 
-    /** The number, where anything but plain digits is read by a way. */
+    /**
+     * The number, where anything but plain digits is read by a way.
+     *
+     * @throws ChineseNumberException if its text is refused
+     */
     public BigInteger bigInteger(Way way) {
-        java.util.Objects.requireNonNull(way, "way");
+        requireNonNull(way, "way");
         return ChineseNumbers.toBigInteger(text(), way(way));
     }
 
@@ -37,7 +50,7 @@ public final class FoundNumber extends Found {
         return isPlain() ? Way.DIGITS : way == Way.ANY ? Way.TEN_THOUSAND : way;
     }
 
-    /** The number, or nothing if its text is refused, such as 百 in 百分之五十. */
+    /** The number; empty if its text is refused, such as 百 in 百分之五十. */
     @Override
     public Optional<BigInteger> value() {
         return ChineseNumbers.unlessRefused(this::bigInteger);

@@ -5,7 +5,7 @@ import java.util.Optional;
 /** An expression in a text, as {@link ChineseNumbers#findQuantities} finds it. */
 public final class FoundQuantity extends Found {
     private static final Doubt[] DOUBTS = Doubt.values();
-    /** The flags above these are the code of a doubt, which is 0 for none. */
+    /** The higher bits are the code of a doubt, which is 0 for none. */
     private static final int BITS_OF_FLAGS = 4;
 
     FoundQuantity(Place place, int flags) {
@@ -21,19 +21,26 @@ public final class FoundQuantity extends Found {
     }
 
     /**
-     * The quantity, as {@link ChineseNumbers#toQuantity} reads it. A place of a refusal counts
-     * within its own text.
+     * The quantity, as {@link ChineseNumbers#toQuantity} reads it. The place of a refusal counts
+     * from the start of its own text.
+     *
+     * @throws ChineseNumberException if its text is refused, such as 五六十
      */
     public Quantity quantity() {
         return quantity(Way.ANY);
     }
 
-    /** The quantity, read by a method. */
+    /**
+     * The quantity, read by a method.
+     *
+     * @throws ChineseNumberException if its text is refused
+     * @throws IllegalArgumentException for {@link Way#DIGITS}
+     */
     public Quantity quantity(Way method) {
         return ChineseNumbers.toQuantity(text(), method);
     }
 
-    /** The quantity, or nothing if its text is refused, such as 五六十. */
+    /** The quantity; empty if its text is refused, such as 五六十. */
     @Override
     public Optional<Quantity> value() {
         return ChineseNumbers.unlessRefused(this::quantity);

@@ -1,9 +1,13 @@
 package chinesenumber;
 
+import java.io.Serializable;
+import java.util.Arrays;
+import java.util.List;
 import java.util.OptionalInt;
 
-/** A date without a year, a month or a day, or with a year below 1000: 一月五日, 民国一一五年三月. */
-public final class PartialDate {
+/** A date without a year, a month or a day, or with a year below 1000: 一月五日, 999年3月5日. */
+public final class PartialDate extends Value implements Serializable {
+    private static final long serialVersionUID = 1;
     private static final int YEAR_GIVEN = 1;
     private static final int MONTH_GIVEN = 2;
     private static final int DAY_GIVEN = 4;
@@ -41,13 +45,8 @@ public final class PartialDate {
     }
 
     @Override
-    public boolean equals(Object other) {
-        return other instanceof PartialDate && toString().equals(other.toString());
-    }
-
-    @Override
-    public int hashCode() {
-        return toString().hashCode();
+    List<?> parts() {
+        return Arrays.asList(year(), month(), day());
     }
 
     /** The date in a form such as 2026-1-? and ?-1-5. */

@@ -1,5 +1,7 @@
 package chinesenumber;
 
+import java.util.Arrays;
+import java.util.List;
 import java.util.Optional;
 
 /**
@@ -15,9 +17,9 @@ import java.util.Optional;
  * the day is not known, as for 三点半;
  * <li>of a duration: a {@link java.time.Duration};
  * <li>of a half or a length: a {@link Quantity}, 1.5 for 一个半小时 and 1.75 for 一米七五;
- * <li>of years, months or days: a {@link Pair} of the first and the last as {@code Integer}s, of a
- * score of the two numbers;
- * <li>of a range: a {@link Pair} of quantities, 30000 and 50000 for 三到五万.
+ * <li>of years, months or days: a {@link ValuePair} of the first and the last as {@code Integer}s,
+ * of a score of the two numbers;
+ * <li>of a range: a {@link ValuePair} of quantities, 30000 and 50000 for 三到五万.
  * </ul>
  */
 public final class Phrase extends Found {
@@ -43,9 +45,14 @@ public final class Phrase extends Found {
         return state;
     }
 
-    /** What it means, or nothing if it is {@link PhraseState#REFUSED}, as 二月三十日 is. */
+    /** What it means; empty if it is {@link PhraseState#REFUSED}, as 二月三十日 is. */
     @Override
     public Optional<?> value() {
         return Optional.ofNullable(value);
+    }
+
+    @Override
+    List<?> parts() {
+        return Arrays.asList(super.parts(), kind, state, value);
     }
 }

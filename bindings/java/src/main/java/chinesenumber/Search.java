@@ -1,50 +1,47 @@
 package chinesenumber;
 
-import static chinesenumber.Machine.HIGH;
-import static chinesenumber.Machine.LENGTH;
-import static chinesenumber.Machine.MOST_SPANS;
-import static chinesenumber.Machine.PHRASE_BYTES;
-import static chinesenumber.Machine.SPANS;
-import static chinesenumber.Machine.SPAN_BYTES;
-import static chinesenumber.Machine.TEXT;
-import static chinesenumber.Machine.TOLD;
+import static chinesenumber.Instance.LENGTH;
+import static chinesenumber.Instance.MOST_SPANS;
+import static chinesenumber.Instance.PHRASE_BYTES;
+import static chinesenumber.Instance.RESULT;
+import static chinesenumber.Instance.SECOND_RESULT;
+import static chinesenumber.Instance.SPANS;
+import static chinesenumber.Instance.SPAN_BYTES;
+import static chinesenumber.Instance.TEXT;
 import static java.util.Objects.requireNonNull;
 
 import java.math.BigDecimal;
-import java.math.BigInteger;
 import java.time.Duration;
 import java.time.LocalDate;
 import java.time.LocalTime;
 import java.util.ArrayList;
 import java.util.List;
-import java.util.OptionalInt;
 
 /**
- * A search of a text. It searches all of the text at once, since the machine is lent to one call.
+ * A search of a text, which is searched to its end at once, since an instance serves one call.
  */
 final class Search<T extends Found> {
     private static final PhraseKind[] KINDS = PhraseKind.values();
     private static final PhraseState[] STATES = PhraseState.values();
-    private static final int NO_HOUR = 255;
     private static final int LEAST_YEAR = 1000;
 
-    /** A search of the module: it writes up to so many spans or phrases from a byte on. */
+    /** A call of the module that writes up to {@code most} spans or phrases, and their count. */
     interface Call {
-        int find(State m, long text, long length, long from, int upper, int greatest, long spans,
-            long most, long count);
+        int find(State module, long text, long textBytes, long from, int upper, int greatest,
+            long spans, long most, long count);
     }
 
-    /** What reads what was found, which begins at an address. */
+    /** Makes an object of the span or the phrase at an address. */
     interface Reader<T> {
-        T read(Machine it, int address, Found.Place place);
+        T read(Instance instance, int address, Found.Place place);
     }
 
     static final Search<FoundNumber> NUMBERS = new Search<>(
         Core::chinese_number_find_utf8, SPAN_BYTES,
-        (it, address, place) -> new FoundNumber(place, it.word(address + 16)));
+        (instance, address, place) -> new FoundNumber(place, instance.getInt(address + 16)));
     static final Search<FoundQuantity> QUANTITIES = new Search<>(
         Core::chinese_quantity_find_utf8, SPAN_BYTES,
-        (it, address, place) -> new FoundQuantity(place, it.word(address + 16)));
+        (instance, address, place) -> new FoundQuantity(place, instance.getInt(address + 16)));
     static final Search<Found> PHRASES = new Search<>(
         Core::chinese_phrase_find_utf8, PHRASE_BYTES, Search::phrase);
 
@@ -58,73 +55,76 @@ final class Search<T extends Found> {
         this.reader = reader;
     }
 
-    List<T> in(CharSequence text, Wanted wanted) {
-        int upper = requireNonNull(wanted, "wanted").upper;
+    List<T> findAll(CharSequence text, Wanted wanted) {
+        int upper = requireNonNull(wanted, "wanted").upper();
         int greatest = wanted.greatest.ordinal();
-        Machine it = Machine.of(text);
+        Instance instance = Instance.with(text);
         List<T> all = new ArrayList<>();
-        Cursor cursor = new Cursor(it, text);
+        Cursor cursor = new Cursor(instance, text);
         int count;
         do {
-            call.find(it, TEXT, it.length, cursor.from, upper, greatest, SPANS, MOST_SPANS, LENGTH);
-            count = it.word(LENGTH);
+            call.find(instance, TEXT, instance.textBytes, cursor.byteIndex, upper, greatest, SPANS,
+                MOST_SPANS, LENGTH);
+            count = instance.getInt(LENGTH);
             for (int at = 0; at < count; at++) {
                 int address = SPANS + at * bytes;
-                all.add(reader.read(it, address, cursor.place(it.word(address), it.word(address + 8))));
+                Found.Place place =
+                    cursor.place(instance.getInt(address), instance.getInt(address + 8));
+                all.add(reader.read(instance, address, place));
             }
         } while (count == MOST_SPANS);
-        it.give();
+        instance.release();
         return all;
     }
 
-    /** How far the text was searched, in bytes, in units of UTF-16 and in characters. */
+    /** How far the text was searched, in bytes, in UTF-16 and in characters. */
     private static final class Cursor {
-        private final Machine it;
+        private final Instance instance;
         private final CharSequence text;
-        private int from;
+        private int byteIndex;
         private int index;
-        private int characters;
+        private int charIndex;
 
-        Cursor(Machine it, CharSequence text) {
-            this.it = it;
+        Cursor(Instance instance, CharSequence text) {
+            this.instance = instance;
             this.text = text;
         }
 
-        /** Goes on to the end of what is between two bytes. */
-        Found.Place place(int start, int end) {
-            goTo(start);
-            int first = index;
-            int charStart = characters;
-            goTo(end);
-            return new Found.Place(text.subSequence(first, index).toString(), first, charStart);
+        /** The place of what is between two bytes; the cursor moves to its end. */
+        Found.Place place(int startByte, int endByte) {
+            moveTo(startByte);
+            int start = index;
+            int charStart = charIndex;
+            moveTo(endByte);
+            return new Found.Place(text.subSequence(start, index).toString(), start, charStart);
         }
 
-        private void goTo(int end) {
-            while (from < end) {
-                int count = it.bytesOf(from);
-                from += count;
+        private void moveTo(int endByte) {
+            while (byteIndex < endByte) {
+                int count = instance.bytesOfCharacter(byteIndex);
+                byteIndex += count;
                 index += count == 4 ? 2 : 1;
-                characters++;
+                charIndex++;
             }
         }
     }
 
-    private static Found phrase(Machine it, int address, Found.Place place) {
-        PhraseKind kind = KINDS[it.word(address + 24)];
-        PhraseState state = STATES[it.word(address + 28)];
-        int flags = it.word(address + 32);
+    private static Found phrase(Instance instance, int address, Found.Place place) {
+        PhraseKind kind = KINDS[instance.getInt(address + 24)];
+        PhraseState state = STATES[instance.getInt(address + 28)];
+        int flags = instance.getInt(address + 32);
         if (kind == PhraseKind.EXPRESSION) {
             return new FoundQuantity(place, flags);
         }
-        Object value = state == PhraseState.REFUSED ? null : value(it, address, kind);
+        Object value = state == PhraseState.REFUSED ? null : value(instance, address, kind);
         return new Phrase(place, flags, kind, state, value);
     }
 
-    private static Object value(Machine it, int address, PhraseKind kind) {
-        int first = it.word(address + 36);
-        int second = it.word(address + 40);
-        int third = it.word(address + 44);
-        int fourth = it.word(address + 48);
+    private static Object value(Instance instance, int address, PhraseKind kind) {
+        int first = instance.getInt(address + 36);
+        int second = instance.getInt(address + 40);
+        int third = instance.getInt(address + 44);
+        int fourth = instance.getInt(address + 48);
         switch (kind) {
             case DATE:
                 return date(first, second, third, fourth);
@@ -137,9 +137,9 @@ final class Search<T extends Found> {
             case LENGTH:
                 return length(first, second, third);
             case RANGE:
-                return range(it, address);
+                return range(instance, address);
             default:
-                return new Pair<>(first, second);
+                return new ValuePair<>(first, second);
         }
     }
 
@@ -152,25 +152,24 @@ final class Search<T extends Found> {
         if (hourOfDay < 24) {
             return LocalTime.of(hourOfDay, minute, second);
         }
-        OptionalInt known = hourOfDay == NO_HOUR ? OptionalInt.empty() : OptionalInt.of(hourOfDay);
-        return new ClockTime(hour, minute, second, known);
+        return new ClockTime(hour, minute, second, hourOfDay);
     }
 
     private static Quantity length(int number, int decimals, int count) {
-        BigInteger whole = BigInteger.valueOf(number & 0xffffffffL).multiply(BigInteger.TEN.pow(count));
-        return Quantity.of(new BigDecimal(whole.add(BigInteger.valueOf(decimals & 0xffffffffL)), count));
+        BigDecimal whole = new BigDecimal(number & 0xffffffffL).setScale(count);
+        return Quantity.of(whole.add(BigDecimal.valueOf(decimals & 0xffffffffL, count)));
     }
 
     /**
-     * The two quantities of a range, whose ends are before and after its link, which is one
-     * character.
+     * The two quantities of a range, which are before and after its link, one character.
      */
-    private static Pair<Quantity> range(Machine it, int address) {
-        int start = it.word(address);
-        int end = it.word(address + 8);
-        int split = it.word(address + 16);
-        int second = start + split + it.bytesOf(start + split);
-        Core.chinese_range_read(it, TEXT + start, split, TEXT + second, end - second, TOLD, HIGH);
-        return new Pair<>(it.quantity(TOLD), it.quantity(HIGH));
+    private static ValuePair<Quantity> range(Instance instance, int address) {
+        int start = instance.getInt(address);
+        int end = instance.getInt(address + 8);
+        int split = instance.getInt(address + 16);
+        int second = start + split + instance.bytesOfCharacter(start + split);
+        Core.chinese_range_read(instance, TEXT + start, split, TEXT + second, end - second, RESULT,
+            SECOND_RESULT);
+        return new ValuePair<>(instance.getQuantity(RESULT), instance.getQuantity(SECOND_RESULT));
     }
 }

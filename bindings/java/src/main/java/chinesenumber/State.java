@@ -6,8 +6,9 @@ import java.util.Base64;
 
 /**
  * What changes during a call: the module's memory and globals. The memory begins at the address
- * BASE: the end of the stack, the constants, and what is lent to the module from HEAP on. An access
- * outside of it ends the call by an IndexOutOfBoundsException.
+ * BASE with the part of the stack that the module can use; then come the constants, and from HEAP on
+ * the arguments and results of calls. An access outside of it ends the call by an
+ * IndexOutOfBoundsException.
  */
 abstract class State {
     static final int BASE = 60720;
@@ -17,7 +18,7 @@ abstract class State {
     byte[] bytes;
     long g0 = 65536L;
     int g1 = 0;
-    /** What parts of functions hand back: a result, and the variables that they write. */
+    /** What parts of functions return: a result, and the variables that they write. */
     int intResult;
     long longResult;
     final long[] kept = new long[25];
@@ -28,10 +29,10 @@ abstract class State {
     }
 
     static IllegalStateException trap() {
-        return new IllegalStateException("the module has trapped");
+        return new IllegalStateException("a fault of this library: the module has trapped");
     }
 
-    /** Where an address plus an offset above BASE is, by their exact sum. */
+    /** The index of an address plus an offset above BASE, by their exact sum. */
     static int far(int address, int offset) {
         long at = (address & 0xffffffffL) + offset - BASE;
         if (at != (int) at) {

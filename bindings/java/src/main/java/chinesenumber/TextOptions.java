@@ -2,11 +2,20 @@ package chinesenumber;
 
 import static java.util.Objects.requireNonNull;
 
+import java.io.Serializable;
+import java.util.Arrays;
+import java.util.List;
+
 /**
  * What is rewritten in a text, and how. With {@code TextOptions.DEFAULT.withExpanded()} 三千五百亿
  * becomes 350000000000.
  */
-public final class TextOptions {
+public final class TextOptions extends Value implements Serializable {
+    private static final long serialVersionUID = 1;
+    /** The names of the flags, from the lowest one; the first two are no options. */
+    private static final String[] NAMES = {"", "", "about", "oneCharacter", "doubtful", "expanded",
+        "canonical", "compact"};
+
     /**
      * What {@link Wanted#DEFAULT} finds, read by {@link Way#ANY}, but nothing that is approximate,
      * one Chinese character or doubtful.
@@ -23,44 +32,50 @@ public final class TextOptions {
         this.flags = flags;
     }
 
-    /** The same for other characters. */
+    /** Finds another set of characters: with {@link Wanted#withUpper} 壹佰 becomes 100. */
     public TextOptions withWanted(Wanted wanted) {
         return new TextOptions(wanted, method, flags);
     }
 
-    /** The same by another method, which is not {@link Way#DIGITS}. */
+    /** Reads by another method, which is not {@link Way#DIGITS}. */
     public TextOptions withMethod(Way method) {
         return new TextOptions(wanted, method, flags);
     }
 
-    /** The same with approximate numbers: 三百多 becomes 300多. */
+    /** Rewrites approximate numbers too: 三百多 becomes 300多. */
     public TextOptions withAbout() {
         return with(Codes.ABOUT);
     }
 
-    /** The same with what is one Chinese character: 一般 becomes 1般. */
+    /** Rewrites single Chinese characters too: 一般 becomes 1般. */
     public TextOptions withOneCharacter() {
         return with(Codes.ONE_CHARACTER);
     }
 
-    /** The same with what is doubtful, except with {@link Doubt#PART}: 五一 becomes 51. */
+    /** Rewrites what is doubtful too, except with {@link Doubt#PART}: 五一 becomes 51. */
     public TextOptions withDoubtful() {
         return with(Codes.DOUBTFUL);
     }
 
-    /** The same with 万, 亿 and so on written out, of texts in figures only. */
+    /**
+     * Writes all figures of a number instead of 万, 亿 or 兆: 三千五百亿 becomes 350000000000. Only the
+     * calls that rewrite a text in figures have this option.
+     */
     public TextOptions withExpanded() {
         return with(Codes.EXPANDED);
     }
 
-    /** The same with figures in ASCII, without commas and leading zeros: 1,280 becomes 1280. */
+    /**
+     * Rewrites figures too, in ASCII, without commas and leading zeros: 1,280 becomes 1280. Only
+     * the calls that rewrite a text in figures have this option.
+     */
     public TextOptions withCanonical() {
         return with(Codes.CANONICAL);
     }
 
     /**
-     * The same with dates, times and halves as short as possible, of {@link
-     * ChineseNumbers#textToFigures} only: 2026-01-05 15:30, 1.5小时.
+     * Writes dates, times and halves as short as possible: 2026-01-05 15:30, 1.5小时. Only {@link
+     * ChineseNumbers#textToFigures} has this option.
      */
     public TextOptions withCompact() {
         return with(Codes.COMPACT);
@@ -74,20 +89,24 @@ public final class TextOptions {
     void refuse(int others, String call) {
         int refused = flags & others;
         if (refused != 0) {
-            String name = (refused & Codes.COMPACT) != 0 ? "compact"
-                : (refused & Codes.EXPANDED) != 0 ? "expanded" : "canonical";
-            throw new IllegalArgumentException(call + " has no option " + name);
+            String names = String.join(", ", names(refused, NAMES));
+            throw new IllegalArgumentException(call + " has no option " + names);
         }
     }
 
     /** Whether an expression is among those that are replaced. */
-    boolean has(FoundQuantity found) {
+    boolean include(FoundQuantity found) {
         int missing = found.flags & (Codes.ABOUT | Codes.ONE_CHARACTER) & ~flags;
-        boolean isDoubtKnown = found.doubt().map(this::has).orElse(true);
-        return missing == 0 && isDoubtKnown;
+        boolean isDoubtIncluded = found.doubt().map(this::include).orElse(true);
+        return missing == 0 && isDoubtIncluded;
     }
 
-    private boolean has(Doubt doubt) {
+    private boolean include(Doubt doubt) {
         return doubt != Doubt.PART && (flags & Codes.DOUBTFUL) != 0;
+    }
+
+    @Override
+    List<?> parts() {
+        return Arrays.asList(wanted, method, names(flags, NAMES));
     }
 }

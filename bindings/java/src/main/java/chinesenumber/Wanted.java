@@ -2,26 +2,41 @@ package chinesenumber;
 
 import static java.util.Objects.requireNonNull;
 
+import java.io.Serializable;
+import java.util.Arrays;
+import java.util.List;
+
 /** Which characters a search looks for: the digits, and the units up to the greatest one. */
-public final class Wanted {
-    /** The lower case, and units up to {@link Unit#ZHAO}, as in everyday sentences. */
-    public static final Wanted DEFAULT = new Wanted(0, Unit.ZHAO);
+public final class Wanted extends Value implements Serializable {
+    private static final long serialVersionUID = 1;
+    /** The lower case, and units up to {@link NumeralUnit#ZHAO}, as in everyday sentences. */
+    public static final Wanted DEFAULT = new Wanted(false, NumeralUnit.ZHAO);
 
-    final int upper;
-    final Unit greatest;
+    final boolean isUpper;
+    final NumeralUnit greatest;
 
-    private Wanted(int upper, Unit greatest) {
-        this.upper = upper;
+    private Wanted(boolean isUpper, NumeralUnit greatest) {
+        this.isUpper = isUpper;
         this.greatest = requireNonNull(greatest, "greatest");
     }
 
-    /** The same with the characters that only cheques have, such as 參 and 陸. */
+    /** Finds the characters that only cheques have too, such as 參 and 陸. */
     public Wanted withUpper() {
-        return new Wanted(1, greatest);
+        return new Wanted(true, greatest);
     }
 
-    /** The same with units up to another one. */
-    public Wanted withGreatest(Unit greatest) {
-        return new Wanted(upper, greatest);
+    /** Finds units up to another one: {@link NumeralUnit#JING} for 一京. */
+    public Wanted withGreatest(NumeralUnit greatest) {
+        return new Wanted(isUpper, greatest);
+    }
+
+    /** The code of the case. */
+    int upper() {
+        return isUpper ? 1 : 0;
+    }
+
+    @Override
+    List<?> parts() {
+        return Arrays.asList(isUpper ? "upper" : "lower", greatest);
     }
 }

@@ -2,9 +2,9 @@
 package chinesenumber;
 
 /** A unit; each is greater than the one before. A search takes the greatest one that it looks
- * for: {@link Unit#ZHAO} is the one to use, since in sentences greater ones nearly always mean
- * something else. */
-public enum Unit {
+ * for: {@link NumeralUnit#ZHAO} is the one to use, since in sentences greater ones nearly always
+ * mean something else. */
+public enum NumeralUnit {
     /** 個, 个 */
     GE,
     /** 十, 拾 */

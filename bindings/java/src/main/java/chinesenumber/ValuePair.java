@@ -1,15 +1,21 @@
 package chinesenumber;
 
+import java.io.Serializable;
+import java.util.Arrays;
+import java.util.List;
+
 /**
  * Two values of a phrase, such as the first and the last year of 2020至2025年.
  *
  * @param <T> an {@code Integer}, or a {@link Quantity} for a range
  */
-public final class Pair<T> {
+public final class ValuePair<T extends Serializable> extends Value implements Serializable {
+    private static final long serialVersionUID = 1;
+
     private final T first;
     private final T second;
 
-    Pair(T first, T second) {
+    ValuePair(T first, T second) {
         this.first = first;
         this.second = second;
     }
@@ -25,14 +31,8 @@ public final class Pair<T> {
     }
 
     @Override
-    public boolean equals(Object other) {
-        return other instanceof Pair && first.equals(((Pair<?>) other).first)
-            && second.equals(((Pair<?>) other).second);
-    }
-
-    @Override
-    public int hashCode() {
-        return 31 * first.hashCode() + second.hashCode();
+    List<?> parts() {
+        return Arrays.asList(first, second);
     }
 
     @Override

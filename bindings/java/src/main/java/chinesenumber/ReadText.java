@@ -4,10 +4,10 @@ import java.io.Serializable;
 import java.util.Locale;
 
 /**
- * What a text was read as: an input, a number or a quantity. From it come the message and the
- * reason.
+ * A text that was refused, and what it was read as: an input, a number or a quantity. The message
+ * and the reason are computed from these.
  */
-final class Source implements Serializable {
+final class ReadText implements Serializable {
     private static final long serialVersionUID = 1;
 
     final String text;
@@ -18,23 +18,23 @@ final class Source implements Serializable {
     /** Null for an input or a quantity. */
     final Kind kind;
 
-    private Source(CharSequence text, Input input, Way way, Kind kind) {
+    private ReadText(CharSequence text, Input input, Way way, Kind kind) {
         this.text = text.toString();
         this.input = input;
         this.way = way;
         this.kind = kind;
     }
 
-    static Source of(CharSequence text, Input input) {
-        return new Source(text, input, null, null);
+    static ReadText of(CharSequence text, Input input) {
+        return new ReadText(text, input, null, null);
     }
 
-    static Source of(CharSequence text, Way method) {
-        return new Source(text, null, method, null);
+    static ReadText of(CharSequence text, Way method) {
+        return new ReadText(text, null, method, null);
     }
 
-    static Source of(CharSequence text, Way way, Kind kind) {
-        return new Source(text, null, way, kind);
+    static ReadText of(CharSequence text, Way way, Kind kind) {
+        return new ReadText(text, null, way, kind);
     }
 
     String message(Locale locale) {
