@@ -198,7 +198,7 @@ REFUSED = [
 @pytest.mark.parametrize("name, given, words", REFUSED)
 def test_refused_again(numerals, library, name, given, words):
     """An error that is raised again is as with ctypes, and shares nothing that can change."""
-    again = [f"{'1' * at}x{more}" for at in (0, 1, 2, 40, 72) for more in ("", "y")] + [
+    again = [f"{'1' * at}x{more}" for at in (0, 1, 2, 66, 130) for more in ("", "y")] + [
         "",
         "一" * 60,
     ]

@@ -17,7 +17,7 @@ enum {
     PIECE = 8192,   /* characters; see utf8 */
     AT_ONCE = 256,  /* numbers of a text that are found before the first one is returned */
     CHOICES = 5,    /* the most keywords of a quick function */
-    REFUSALS = 32,  /* how many different ones of a quick function are kept */
+    REFUSALS = 64,  /* how many different ones of a quick function are kept */
     DOUBT = 16 /* the code of a doubt is multiplied by this, and added to the flags */
 };
 
@@ -30,10 +30,11 @@ enum {
 #define PLACE_OF(name) AT_##name,
 enum { QUICK(PLACE_OF) COUNT };
 
-/* A keyword, the codes of its words, which are a dict, and the code of its default. */
+/* A keyword, the codes of its words, which are a dict, the code of its default, and the last word
+ * of a call, which the choice owns, with its code. */
 typedef struct choice {
-    PyObject *keyword, *codes;
-    uint32_t code;
+    PyObject *keyword, *codes, *last;
+    uint32_t code, last_code;
 } choice;
 
 /* The codes of a call's arguments, and, unless the status is CN_DONE, why there is no answer. */
@@ -42,11 +43,10 @@ typedef struct outcome {
     Py_ssize_t place;
 } outcome;
 
-/* An error: its class, its arguments, a copy of its `__dict__`, and whether a text was read. */
+/* An error for an outcome, as a tuple: its class, its arguments, and a copy of its `__dict__`. */
 typedef struct refusal {
     outcome of;
-    PyObject *class, *arguments, *fields;
-    int has_text;
+    PyObject *kept;
 } refusal;
 
 /* A quick function, the Python function, the keyword of the first argument, and what else the
@@ -62,7 +62,7 @@ typedef struct quick {
 } quick;
 
 /* `run` is the class of runs, and `text` the name of a field of errors. `held` is a dict that owns
- * the objects in the fields of the quick functions. */
+ * the other objects in the fields of the quick functions. */
 typedef struct state {
     PyObject *run, *held, *text;
     quick quick[COUNT];
@@ -83,6 +83,23 @@ static int code_of(PyObject *codes, PyObject *word, uint32_t *code) {
     if (found)
         *code = (uint32_t)PyLong_AsUnsignedLong(found);
     return found != NULL;
+}
+
+/* Finds the code of a choice's word, which is often the last one again. */
+static int choose(choice *of, PyObject *word, uint32_t *code) {
+    PyObject *last = of->last;
+    if (word == last) {
+        *code = of->last_code;
+        return 1;
+    }
+    if (!code_of(of->codes, word, code))
+        return 0;
+    Py_INCREF(word);
+    last = of->last; /* to find a code may run Python, and so another call */
+    of->last = word;
+    of->last_code = *code;
+    Py_XDECREF(last);
+    return 1;
 }
 
 /* Finds the place of each keyword of a call; returns 0 if a keyword has none. The same call has the
@@ -112,42 +129,47 @@ static int know_names(state *own, quick *of, PyObject *names) {
 static PyObject *arguments_of(state *own, quick *of, PyObject *const *values, Py_ssize_t count,
                               PyObject *names, uint32_t *codes) {
     PyObject *first = count == 1 ? values[0] : NULL;
+    int places[CHOICES + 1]; /* a copy, since another call may change them; see choose */
     for (int i = 0; i < of->choices_count; i++)
         codes[i] = of->choices[i].code;
     if (!of->function || count > 1 || (names && names != of->names && !know_names(own, of, names)))
         return NULL;
-    for (int i = 0; names && i < of->names_count; i++) {
-        int at = of->places[i];
+    if (!names)
+        return first;
+    Py_ssize_t names_count = of->names_count;
+    memcpy(places, of->places, sizeof places);
+    for (Py_ssize_t i = 0; i < names_count; i++) {
+        int at = places[i];
         PyObject *value = values[count + i];
-        if (at == CHOICES ? first != NULL : !code_of(of->choices[at].codes, value, &codes[at]))
+        if (at == CHOICES ? first != NULL : !choose(&of->choices[at], value, &codes[at]))
             return NULL;
         first = at == CHOICES ? value : first;
     }
     return first;
 }
 
-/* Where the error is kept that has this outcome, if it is kept. */
+/* Where the error for an outcome is kept, or that for another one. */
 static refusal *refusal_at(quick *of, const outcome *it) {
     return &of->refusals[((size_t)it->place + 7 * it->status) % REFUSALS];
 }
 
 /* Keeps the error that the Python function has raised for this outcome, without its text. */
 static void keep(state *own, quick *of, const outcome *it) {
-    refusal *like = refusal_at(of, it);
-    PyObject *class, *error, *trace, *arguments = NULL, *own_fields = NULL, *fields = NULL;
+    refusal *at = refusal_at(of, it);
+    PyObject *class, *error, *trace, *kept = NULL;
     PyErr_Fetch(&class, &error, &trace);
-    like->of.status = CN_DONE;
-    if (error && PyErr_GivenExceptionMatches(error, PyExc_ValueError)) {
-        arguments = PyObject_GetAttrString(error, "args");
-        own_fields = PyObject_GetAttrString(error, "__dict__");
-        fields = own_fields ? PyDict_Copy(own_fields) : NULL;
-    }
-    PyObject *kept = arguments && fields ? PyTuple_Pack(3, class, arguments, fields) : NULL;
-    int has_text = kept && PyDict_GetItemWithError(fields, own->text);
-    if (kept && !(has_text && PyDict_SetItem(fields, own->text, Py_None)) && hold(own, like, kept))
-        *like = (refusal){*it, class, arguments, fields, has_text};
+    int is_refusal = error && PyErr_GivenExceptionMatches(error, PyExc_ValueError);
+    PyObject *arguments = is_refusal ? PyObject_GetAttrString(error, "args") : NULL;
+    PyObject *of_error = is_refusal ? PyObject_GetAttrString(error, "__dict__") : NULL;
+    PyObject *fields = of_error ? PyDict_Copy(of_error) : NULL;
+    int has_text = fields && PyDict_GetItemWithError(fields, own->text);
+    if (arguments && fields && !(has_text && PyDict_SetItem(fields, own->text, Py_None)))
+        kept = PyTuple_Pack(3, class, arguments, fields);
+    at->of.status = CN_DONE;
+    if (kept && hold(own, at, kept))
+        *at = (refusal){*it, kept};
     Py_XDECREF(arguments);
-    Py_XDECREF(own_fields);
+    Py_XDECREF(of_error);
     Py_XDECREF(fields);
     Py_XDECREF(kept);
     PyErr_Restore(class, error, trace);
@@ -156,17 +178,20 @@ static void keep(state *own, quick *of, const outcome *it) {
 /* Raises an error like the one that is kept for this outcome; returns 0 if none is. The Python
  * function would take several times as long to make the same error. */
 static int refuse(state *own, quick *of, PyObject *given, const outcome *it) {
-    const refusal *like = refusal_at(of, it);
-    if (memcmp(&like->of, it, sizeof *it) != 0)
+    PyObject *kept = refusal_at(of, it)->kept, *error = NULL;
+    if (memcmp(&refusal_at(of, it)->of, it, sizeof *it) != 0)
         return 0;
-    PyTypeObject *class = (PyTypeObject *)like->class;
-    PyObject *fields = PyDict_Copy(like->fields), *error = NULL;
-    if (fields && !(like->has_text && PyDict_SetItem(fields, own->text, given)))
-        error = ((newfunc)PyType_GetSlot(class, Py_tp_new))(class, like->arguments, NULL);
+    Py_INCREF(kept); /* another call may replace it */
+    PyTypeObject *class = (PyTypeObject *)PyTuple_GetItem(kept, 0);
+    PyObject *arguments = PyTuple_GetItem(kept, 1), *fields = PyDict_Copy(PyTuple_GetItem(kept, 2));
+    int has_text = fields && PyDict_GetItemWithError(fields, own->text);
+    if (fields && !(has_text && PyDict_SetItem(fields, own->text, given)))
+        error = ((newfunc)PyType_GetSlot(class, Py_tp_new))(class, arguments, NULL);
     if (error && !PyObject_GenericSetDict(error, fields, NULL))
         PyErr_SetObject((PyObject *)class, error);
     Py_XDECREF(fields);
     Py_XDECREF(error);
+    Py_DECREF(kept);
     return 1;
 }
 
@@ -465,7 +490,7 @@ static PyObject *to_chinese(const quick *of, PyObject *given, outcome *it) {
     return string_of(it, printed, length);
 }
 
-/* Writes an amount that is at least `least`. The codes after that of the script are parts of one. */
+/* Writes an amount of at least `least`. The codes after the first one are parts of the form. */
 static PyObject *amount_of(PyObject *given, outcome *it, long long least) {
     const uint32_t *codes = it->codes, form = codes[1] | codes[2] | codes[3] | codes[4];
     uint8_t printed[CN_MOST_SIGNED_AMOUNT_BYTES];
@@ -511,7 +536,8 @@ static PyObject *date_to_chinese(const quick *of, PyObject *given, outcome *it) 
     uint32_t year = part_of(given, PyTuple_GetItem(of->more, 1));
     uint32_t month = part_of(given, PyTuple_GetItem(of->more, 2));
     uint32_t day = part_of(given, PyTuple_GetItem(of->more, 3));
-    it->status = chinese_date_print(year, month, day, it->codes[0], printed, sizeof printed, &length);
+    it->status =
+        chinese_date_print(year, month, day, it->codes[0], printed, sizeof printed, &length);
     return string_of(it, printed, length);
 }
 
@@ -583,6 +609,7 @@ static PyObject *make_quick(PyObject *module, PyObject *given) {
     quick *of = &own->quick[at];
     for (Py_ssize_t i = 0; i < count; i++) {
         choice *it = &of->choices[i];
+        Py_CLEAR(it->last);
         if (!PyArg_ParseTuple(PyTuple_GetItem(choices, i), "UO!I", &it->keyword, &PyDict_Type,
                               &it->codes, &it->code))
             return NULL;
@@ -908,6 +935,8 @@ static PyMethodDef METHODS[] = {
 
 static int traverse(PyObject *module, visitproc visit, void *arg) {
     state *own = PyModule_GetState(module);
+    for (int i = 0; i < COUNT * CHOICES; i++)
+        Py_VISIT(own->quick[i / CHOICES].choices[i % CHOICES].last);
     Py_VISIT(own->held);
     Py_VISIT(own->run);
     return 0;
@@ -919,6 +948,8 @@ static int clear(PyObject *module) {
     for (int i = 0; i < COUNT; i++) {
         own->quick[i].function = NULL;
         own->quick[i].method.ml_doc = NULL;
+        for (int at = 0; at < CHOICES; at++)
+            Py_CLEAR(own->quick[i].choices[at].last);
     }
     Py_CLEAR(own->held);
     Py_CLEAR(own->text);
