@@ -16,9 +16,9 @@ enum {
     LONG = 1 << 16, /* bytes; see let_go */
     PIECE = 8192,   /* characters; see utf8 */
     AT_ONCE = 256,  /* numbers of a text that are found before the first one is returned */
-    CHOICES = 5,    /* the most keywords of a quick function */
-    REFUSALS = 64,  /* how many different ones of a quick function are kept */
-    DOUBT = 16 /* the code of a doubt is multiplied by this, and added to the flags */
+    CHOICES = 5,    /* a quick function has at most this many */
+    REFUSALS = 64,  /* of a quick function that are kept */
+    DOUBT = 16      /* the code of a doubt is multiplied by this, and added to the flags */
 };
 
 /* The quick functions, by the names of the functions in Python. */
@@ -401,14 +401,14 @@ static int take_number(PyObject *given, int is_signed, cn_number *it) {
 }
 
 /* Reads a text with a call, and returns from the function unless there is an answer. */
-#define READ(call, given, why, it, ...)                     \
-    text from;                                              \
-    if (!take(given, &from))                                \
-        return NULL;                                        \
+#define READ(call, given, why, it, ...)                       \
+    text from;                                                \
+    if (!take(given, &from))                                  \
+        return NULL;                                          \
     why->status = call(from.bytes, from.length, __VA_ARGS__); \
-    give_back(&from);                                       \
-    why->place = (Py_ssize_t)it.char_index;                 \
-    if (why->status != CN_DONE)                             \
+    give_back(&from);                                         \
+    why->place = (Py_ssize_t)it.char_index;                   \
+    if (why->status != CN_DONE)                               \
         return NULL;
 
 static PyObject *to_number(const quick *of, PyObject *given, outcome *why) {

@@ -77,40 +77,13 @@ from datetime import date, datetime, time, timedelta
 from decimal import Decimal
 from fractions import Fraction
 from itertools import chain
-from typing import (
-    Any,
-    Callable,
-    Dict,
-    Iterable,
-    Iterator,
-    List,
-    Literal,
-    Optional,
-    Protocol,
-)
+from typing import Any, Callable, Dict, Iterable, Iterator, List, Literal, Optional, Protocol
 from typing import SupportsIndex, Tuple, Type, TypeVar, Union
 
 from . import _codes, _library
-from ._codes import (
-    Case,
-    Change,
-    Doubt,
-    Fault,
-    Input,
-    Kind,
-    Language,
-    PhraseKind,
-    PhraseState,
-)
+from ._codes import Case, Change, Doubt, Fault, Input, Kind, Language, PhraseKind, PhraseState
 from ._codes import QuantityForm, Script, Status, TEXTS as _TEXTS, Unit, Way
-from ._codes import (
-    _CaseWord,
-    _DoubtWord,
-    _InputWord,
-    _KindWord,
-    _LanguageWord,
-    _MethodWord,
-)
+from ._codes import _CaseWord, _DoubtWord, _InputWord, _KindWord, _LanguageWord, _MethodWord
 from ._codes import _QuantityFormWord, _ScriptWord, _UnitWord, _WayWord
 
 __all__ = [
@@ -169,9 +142,7 @@ __all__ = [
 __version__ = "0.1.0"
 _library.load(__version__)
 
-_Method = Union[
-    Literal[Way.LOW, Way.TEN_THOUSAND, Way.MIDDLE, Way.HIGH, Way.ANY], _MethodWord
-]
+_Method = Union[Literal[Way.LOW, Way.TEN_THOUSAND, Way.MIDDLE, Way.HIGH, Way.ANY], _MethodWord]
 _YuanWord = Literal["元", "圆"]
 _ClosingWord = Literal["整", "正"]
 
@@ -220,9 +191,7 @@ class _Refusal(ValueError):
     _read: Optional[Tuple[Any, ...]] = None
     _text: str
 
-    def __init__(
-        self, status: Status, char_index: Optional[int] = None, **more: Any
-    ) -> None:
+    def __init__(self, status: Status, char_index: Optional[int] = None, **more: Any) -> None:
         text = self._texts.get(status) or status.name
         super().__init__(text.format(char_index=char_index, **more))
         self.status = status
@@ -236,9 +205,7 @@ class _Refusal(ValueError):
         self._read, self._text = (what, *codes), text
         return self
 
-    def message_in(
-        self, language: Union[Language, _LanguageWord] = Language.ENGLISH
-    ) -> str:
+    def message_in(self, language: Union[Language, _LanguageWord] = Language.ENGLISH) -> str:
         """The message for the person who typed the text: that of input_message, number_message or
         quantity_message. If no text was read, it is that of status_message.
 
@@ -359,14 +326,7 @@ _FORMS, _FORM_OF = _codes_of(QuantityForm), tuple(QuantityForm)
 _DOUBT_OF = (None, *Doubt)
 _DOUBTS = {it: code + 1 for it, code in _codes_of(Doubt).items()}
 _INPUTS, _LANGUAGES = _codes_of(Input), _codes_of(Language)
-(
-    _AMOUNT,
-    _SIGNED_AMOUNT,
-    _TYPED_AMOUNT,
-    _TYPED_SIGNED_AMOUNT,
-    _DATE,
-    _FIGURES,
-) = _INPUTS.values()
+_AMOUNT, _SIGNED_AMOUNT, _TYPED_AMOUNT, _TYPED_SIGNED_AMOUNT, _DATE, _FIGURES = _INPUTS.values()
 _STATUS_OF, _INCORRECT = tuple(Status), Status.INCORRECT.value
 _PHRASE_KIND_OF, _PHRASE_STATE_OF = tuple(PhraseKind), tuple(PhraseState)
 _CHANGE_OF, _FAULT_OF = (None, *Change), (None, *Fault)
@@ -456,9 +416,7 @@ def _text(value: str) -> str:
 
 def _status(code: int) -> Status:
     if code == _codes.TOO_LONG:
-        raise OverflowError(
-            "the text is too long: it has more than 4,293,918,720 bytes"
-        )
+        raise OverflowError("the text is too long: it has more than 4,293,918,720 bytes")
     return _STATUS_OF[code]
 
 
@@ -468,10 +426,7 @@ def _place(code: int, char_index: int) -> Optional[int]:
 
 @_library.quick(kind=_KINDS, way=_WAYS)
 def to_number(
-    text: str,
-    *,
-    kind: Union[Kind, _KindWord] = Kind.I128,
-    way: Union[Way, _WayWord] = Way.ANY,
+    text: str, *, kind: Union[Kind, _KindWord] = Kind.I128, way: Union[Way, _WayWord] = Way.ANY
 ) -> int:
     """Reads a text as a number. Raises NumeralError if the text is not a number of this kind.
 
@@ -541,8 +496,7 @@ def _amount_text(
     sign: int = 0,
 ) -> str:
     """The text of an amount that is at least `least`. The choices are the script, whether the currency
-    is written, the word for yuan, and the closing. The sign is its part of the form's code.
-    """
+    is written, the word for yuan, and the closing. The sign is its part of the form's code."""
     script, currency, yuan, closing = choices
     whole = _whole(fen, "a whole number of fen (yuan_to_fen converts yuan)")
     script_code = _code(_SCRIPTS, script, "script")
@@ -612,21 +566,15 @@ def signed_amount_to_chinese(
     >>> signed_amount_to_chinese(-1500, bracketed_sign=True)
     '（负数）壹拾伍元整'
     """
-    choices, sign = (script, currency, yuan, closing), _codes.BRACKETED_SIGN * _flag(
-        bracketed_sign
-    )
-    return _amount_text(
-        _library.print_signed_amount, fen, 1 - _FIRST_NOT_WRITTEN, choices, sign
-    )
+    choices, sign = (script, currency, yuan, closing), _codes.BRACKETED_SIGN * _flag(bracketed_sign)
+    return _amount_text(_library.print_signed_amount, fen, 1 - _FIRST_NOT_WRITTEN, choices, sign)
 
 
 def _fen(read: Callable[[str], Tuple[int, int, int]], text: str, of: int) -> int:
     """The fen that a call of the library reads in a text, which is meant to be an input."""
     code, fen, char_index = read(_text(text))
     if code:
-        raise AmountError(_status(code), _place(code, char_index))._of(
-            "input", text, of
-        )
+        raise AmountError(_status(code), _place(code, char_index))._of("input", text, of)
     return fen
 
 
@@ -765,32 +713,25 @@ def chinese_to_date(text: str) -> date:
     """
     code, fields, char_index = _library.read_date(_text(text))
     if code:
-        raise DateError(_status(code), _place(code, char_index))._of(
-            "input", text, _DATE
-        )
+        raise DateError(_status(code), _place(code, char_index))._of("input", text, _DATE)
     return date(*fields)
 
 
 def _over_power(value: Decimal) -> Tuple[int, int, QuantityForm]:
     """The numerator, the denominator and the form of a Decimal. For one with many digits, or far from
-    1 such as Decimal('1E+999999999999'), these are others that do not fit in 128 bits either.
-    """
+    1 such as Decimal('1E+999999999999'), these are others that do not fit in 128 bits either."""
     sign, digits, exponent = value.as_tuple()
     if not isinstance(exponent, int):
         raise ValueError(f"expected a finite number, not {_shown(value)}")
     places = max(-_MOST_PLACES - 1, min(-exponent, _MOST_PLACES + 1))
-    numerator = int(Decimal((sign, digits[: _MOST_PLACES + 2], 0))) * 10 ** max(
-        -places, 0
-    )
+    numerator = int(Decimal((sign, digits[: _MOST_PLACES + 2], 0))) * 10 ** max(-places, 0)
     form = QuantityForm.DECIMAL if places > 0 else QuantityForm.WHOLE
     return numerator, 10 ** max(places, 0), form
 
 
 def _places_of(denominator: int) -> Optional[int]:
     """How many decimals a number over this denominator has, or None if they are infinite."""
-    return next(
-        (places for places in range(128) if 10**places % denominator == 0), None
-    )
+    return next((places for places in range(128) if 10**places % denominator == 0), None)
 
 
 @dataclass(frozen=True, init=False)
@@ -817,9 +758,7 @@ class Quantity:
         denominator: SupportsIndex = 1,
         form: Union[QuantityForm, _QuantityFormWord] = QuantityForm.WHOLE,
     ) -> None:
-        above, below = _whole(numerator, "a whole number"), _whole(
-            denominator, "a whole number"
-        )
+        above, below = _whole(numerator, "a whole number"), _whole(denominator, "a whole number")
         _refuse_not_held(above, Kind.I128)
         _refuse_not_held(below, Kind.U128)
         if below == 0:
@@ -843,9 +782,7 @@ class Quantity:
         if isinstance(value, Decimal):
             return cls(*_over_power(value))
         if isinstance(value, Fraction):
-            form = (
-                QuantityForm.FRACTION if value.denominator > 1 else QuantityForm.WHOLE
-            )
+            form = QuantityForm.FRACTION if value.denominator > 1 else QuantityForm.WHOLE
             return cls(value.numerator, value.denominator, form)
         return cls(_whole(value, "a whole number, a Decimal or a Fraction"))
 
@@ -995,9 +932,7 @@ def to_quantity(text: str, *, method: _Method = Way.ANY) -> Quantity:
 
 def _quantity_of(words: _library.Words) -> Quantity:
     low, high, below_low, below_high, form = words
-    above, below = _of_halves(low, high, Kind.I128), _of_halves(
-        below_low, below_high, Kind.U128
-    )
+    above, below = _of_halves(low, high, Kind.I128), _of_halves(below_low, below_high, Kind.U128)
     return Quantity(above, below, _FORM_OF[form])
 
 
@@ -1047,10 +982,7 @@ class Found(_Run):
     __slots__ = ()
 
     def number(
-        self,
-        *,
-        kind: Union[Kind, _KindWord] = Kind.I128,
-        way: Union[Way, _WayWord] = Way.ANY,
+        self, *, kind: Union[Kind, _KindWord] = Kind.I128, way: Union[Way, _WayWord] = Way.ANY
     ) -> int:
         """Reads the run as a number: plain digits as such, anything else by the way, where ANY means
         TEN_THOUSAND. Raises NumeralError if it is not a number of this kind; char_index counts
@@ -1061,15 +993,10 @@ class Found(_Run):
         """
         _code(_WAYS, way, "way")  # plain digits ignore the way, but it must be valid
         units = Way.TEN_THOUSAND if way == Way.ANY else way
-        return to_number(
-            self.text, kind=kind, way=Way.DIGITS if self.is_plain else units
-        )
+        return to_number(self.text, kind=kind, way=Way.DIGITS if self.is_plain else units)
 
     def value(
-        self,
-        *,
-        kind: Union[Kind, _KindWord] = Kind.I128,
-        way: Union[Way, _WayWord] = Way.ANY,
+        self, *, kind: Union[Kind, _KindWord] = Kind.I128, way: Union[Way, _WayWord] = Way.ANY
     ) -> Optional[int]:
         """The result of number(), or None if number() raises NumeralError.
 
@@ -1215,9 +1142,7 @@ def _date_of(year: int, month: int, day: int, given: int) -> Union[date, Partial
     return PartialDate(*[part if given & flag else None for part, flag in parts])
 
 
-def _time_of(
-    hour: int, minute: int, second: int, of_day: int
-) -> Union[time, ClockTime]:
+def _time_of(hour: int, minute: int, second: int, of_day: int) -> Union[time, ClockTime]:
     if of_day < 24:
         return time(of_day, minute, second)
     return ClockTime(hour, minute, second, None if of_day == _NOT_KNOWN else of_day)
@@ -1253,9 +1178,7 @@ _VALUES: Dict[PhraseKind, Callable[..., _PhraseValue]] = {
 }
 
 
-def _item(
-    found: Union[FoundQuantity, _library.PhraseWords]
-) -> Union[Phrase, FoundQuantity]:
+def _item(found: Union[FoundQuantity, _library.PhraseWords]) -> Union[Phrase, FoundQuantity]:
     if isinstance(found, FoundQuantity):
         return found
     start, end, text, kind_code, state_code, numbers = found
@@ -1281,9 +1204,7 @@ def find_numbers(
     A lone surrogate is treated as one character that ends a run.
     """
     wanted = _flag(upper), _code(_UNITS, greatest, "greatest")
-    return chain.from_iterable(
-        _found(_library.find_numbers, Found, _text(text), *wanted)
-    )
+    return chain.from_iterable(_found(_library.find_numbers, Found, _text(text), *wanted))
 
 
 def find_quantities(
@@ -1325,11 +1246,7 @@ _AnyRun = TypeVar("_AnyRun", bound=_Run)
 
 
 def _found(
-    find: Callable[..., _library.Some],
-    of: Type[_AnyRun],
-    text: str,
-    upper: bool,
-    greatest: int,
+    find: Callable[..., _library.Some], of: Type[_AnyRun], text: str, upper: bool, greatest: int
 ) -> Iterator[List[_AnyRun]]:
     """Finds the runs of a text, some at a time."""
     # A subclass of str has methods of its own, and can hold what is found in it.
@@ -1371,12 +1288,8 @@ def replace_quantities(
     done: List[str] = []
     at = 0
     for found in find_quantities(text, upper=upper, greatest=greatest):
-        is_left = (
-            found.is_about and not about or found.is_one_character and not one_character
-        )
-        is_in_doubt = found.doubt is not None and (
-            found.doubt is Doubt.PART or not doubtful
-        )
+        is_left = found.is_about and not about or found.is_one_character and not one_character
+        is_in_doubt = found.doubt is not None and (found.doubt is Doubt.PART or not doubtful)
         if is_left or is_in_doubt or found.value(method=method) is None:
             continue
         written = new(found)
@@ -1426,9 +1339,7 @@ def quantities_to_figures(
     '1280人，7号'
     """
     options = about, one_character, doubtful, expanded, canonical
-    return _in_figures(
-        _library.quantities_to_figures, text, upper, greatest, method, *options
-    )
+    return _in_figures(_library.quantities_to_figures, text, upper, greatest, method, *options)
 
 
 def text_to_figures(
@@ -1465,9 +1376,7 @@ def text_to_figures(
     '2026-01-05 15:30，1.5小时'
     """
     options = about, one_character, doubtful, expanded, canonical, compact
-    return _in_figures(
-        _library.text_to_figures, text, upper, greatest, method, *options
-    )
+    return _in_figures(_library.text_to_figures, text, upper, greatest, method, *options)
 
 
 _OPTIONS = [
@@ -1485,14 +1394,8 @@ def _in_figures(
     *chosen: bool,
 ) -> str:
     """The text that a call of the library rewrites. `chosen` says which of the options are chosen."""
-    wanted = (
-        _flag(upper),
-        _code(_UNITS, greatest, "greatest"),
-        _code(_METHODS, method, "method"),
-    )
-    options = sum(
-        option for option, is_chosen in zip(_OPTIONS, chosen) if _flag(is_chosen)
-    )
+    wanted = _flag(upper), _code(_UNITS, greatest, "greatest"), _code(_METHODS, method, "method")
+    options = sum(option for option, is_chosen in zip(_OPTIONS, chosen) if _flag(is_chosen))
     given = str.__str__(_text(text))  # a subclass of str has methods of its own
     marks: List[str] = []
     try:
@@ -1530,9 +1433,7 @@ def _fault(what: str, text: str, *codes: int) -> Optional[Fault]:
     return _FAULT_OF[fault]
 
 
-def _message(
-    language: Union[Language, _LanguageWord], what: str, text: str, *codes: int
-) -> str:
+def _message(language: Union[Language, _LanguageWord], what: str, text: str, *codes: int) -> str:
     in_language = _code(_LANGUAGES, language, "language")
     code, message = _library.message(what, text, *codes, in_language)
     _status(code)
@@ -1561,10 +1462,7 @@ def input_repair(text: str, input: Union[Input, _InputWord]) -> Optional[Repair]
 
 
 def explain_number(
-    text: str,
-    *,
-    kind: Union[Kind, _KindWord] = Kind.I128,
-    way: Union[Way, _WayWord] = Way.ANY,
+    text: str, *, kind: Union[Kind, _KindWord] = Kind.I128, way: Union[Way, _WayWord] = Way.ANY
 ) -> Optional[Fault]:
     """Says why to_number refuses a text: the first rule that the text breaks from the wrong character
     on. None if the text is read.
@@ -1572,9 +1470,7 @@ def explain_number(
     >>> explain_number('一百十'), explain_number('一百')
     (<Fault.UNITS: 'units'>, None)
     """
-    return _fault(
-        "number", _text(text), _code(_KINDS, kind, "kind"), _code(_WAYS, way, "way")
-    )
+    return _fault("number", _text(text), _code(_KINDS, kind, "kind"), _code(_WAYS, way, "way"))
 
 
 def explain_quantity(text: str, *, method: _Method = Way.ANY) -> Optional[Fault]:
@@ -1628,9 +1524,7 @@ def quantity_message(
     >>> quantity_message('零分之一')
     'The denominator must be a whole number above 0.'
     """
-    return _message(
-        language, "quantity", _text(text), _code(_METHODS, method, "method")
-    )
+    return _message(language, "quantity", _text(text), _code(_METHODS, method, "method"))
 
 
 def status_message(
@@ -1644,7 +1538,5 @@ def status_message(
     """
     if not isinstance(status, Status):
         raise TypeError(f"expected a Status, not {_shown_with_type(status)}")
-    _, message = _library.status_message(
-        status.value, _code(_LANGUAGES, language, "language")
-    )
+    _, message = _library.status_message(status.value, _code(_LANGUAGES, language, "language"))
     return message

@@ -13,46 +13,12 @@ import re
 import sys
 from datetime import date
 from functools import partial
-from typing import (
-    Any,
-    Callable,
-    Dict,
-    Iterable,
-    Iterator,
-    List,
-    Optional,
-    TextIO,
-    Tuple,
-)
+from typing import Any, Callable, Dict, Iterable, Iterator, List, Optional, TextIO, Tuple
 
-from . import (
-    AmountError,
-    DateError,
-    Found,
-    FoundQuantity,
-    Kind,
-    Language,
-    NumeralError,
-    Status,
-)
-from . import (
-    Way,
-    __version__,
-    chinese_to_amount,
-    chinese_to_amount_as_typed,
-    chinese_to_date,
-)
-from . import (
-    chinese_to_signed_amount,
-    chinese_to_signed_amount_as_typed,
-    date_to_chinese,
-)
-from . import (
-    find_numbers,
-    find_quantities,
-    quantities_to_figures,
-    signed_amount_to_chinese,
-)
+from . import AmountError, DateError, Found, FoundQuantity, Kind, Language, NumeralError, Status
+from . import Way, __version__, chinese_to_amount, chinese_to_amount_as_typed, chinese_to_date
+from . import chinese_to_signed_amount, chinese_to_signed_amount_as_typed, date_to_chinese
+from . import find_numbers, find_quantities, quantities_to_figures, signed_amount_to_chinese
 from . import _library, text_to_figures, to_chinese, to_number, yuan_to_fen
 from ._tables import Misuse, Refused, Table, shown, write_table
 
@@ -90,9 +56,7 @@ _TABLE: _Options = {
     "--column": _Matching("(?s).+", "a column's number or name"),
     "--header": _FLAG,
     "--name": _Matching("(?s).+", "a text that is not empty"),
-    "--delimiter": _Matching(
-        r'[^"\r\n]', "a character other than a quote or a line end"
-    ),
+    "--delimiter": _Matching(r'[^"\r\n]', "a character other than a quote or a line end"),
 }
 # The keywords of a flag whose name is not itself a keyword of the call.
 _MEANINGS: Dict[str, Dict[str, Any]] = {
@@ -223,9 +187,7 @@ def _figures(fen: int) -> str:
     return f"{'-' if fen < 0 else ''}{yuan}.{places:02}"
 
 
-def _amounts(
-    *, signed: bool = False, typed: bool = False, **form: Any
-) -> Callable[[str], str]:
+def _amounts(*, signed: bool = False, typed: bool = False, **form: Any) -> Callable[[str], str]:
     """The call that converts amounts, in capitals to figures and in figures to capitals."""
     read, write = _READERS[signed, typed], partial(signed_amount_to_chinese, **form)
     figures = _SIGNED_FIGURES if signed else _FIGURES
@@ -265,9 +227,7 @@ def _table(options: Dict[str, Any]) -> int:
         raise Misuse("--name needs --header, or --column with a name")
     delimiter = options.pop("delimiter", ",")
     language = options.pop("language", Language.ENGLISH)
-    table = Table(
-        int(column) if is_number else column, has_header, delimiter, name, language
-    )
+    table = Table(int(column) if is_number else column, has_header, delimiter, name, language)
     return write_table(table, _amounts(**options))
 
 
@@ -278,9 +238,7 @@ def _date(word: str, **options: Any) -> str:
     if not _DATE.fullmatch(word):
         rest = _PREFIX_OF_DATE.sub("", word, count=1)
         if rest:
-            raise Refused(
-                _NO_DATE, place=len(word) - len(rest) + 1, there=shown(rest[0])
-            )
+            raise Refused(_NO_DATE, place=len(word) - len(rest) + 1, there=shown(rest[0]))
         raise DateError(Status.UNFINISHED)
     year, month, day = map(int, re.findall("[0-9]+", word))
     try:
@@ -311,9 +269,7 @@ def _quantity_of(found: FoundQuantity, **options: Any) -> str:
     return f"{quantity.numerator}{below}"
 
 
-def _answers(
-    line: bytes, find: Callable[[str], Any], answer: Callable[..., str]
-) -> Iterator[str]:
+def _answers(line: bytes, find: Callable[[str], Any], answer: Callable[..., str]) -> Iterator[str]:
     """The column, the text and the result of each run that is found in a line."""
     try:
         text = line.decode()
@@ -342,9 +298,7 @@ def _find(options: Dict[str, Any]) -> int:
     return 0
 
 
-def _in_figures(
-    text: str, *, phrases: bool = False, compact: bool = False, **options: Any
-) -> str:
+def _in_figures(text: str, *, phrases: bool = False, compact: bool = False, **options: Any) -> str:
     if phrases or compact:
         return text_to_figures(text, compact=compact, **options)
     return quantities_to_figures(text, **options)
@@ -371,9 +325,7 @@ def _lines(options: Dict[str, Any]) -> int:
     """Answers the lines of standard input, as the program `numeral` does."""
     with open(0, "rb", closefd=False) as lines:
         for line in lines:
-            status, answer = _library.answer_line(
-                line[:-1] if line.endswith(b"\n") else line
-            )
+            status, answer = _library.answer_line(line[:-1] if line.endswith(b"\n") else line)
             if status:
                 raise OverflowError("the line is too long")
             print(answer)
@@ -382,11 +334,7 @@ def _lines(options: Dict[str, Any]) -> int:
 
 # For each command: the function that converts an argument, how it parses the argument, its options.
 _COMMANDS: Dict[str, Tuple[Callable[..., Any], Callable[[str], Any], _Options]] = {
-    "amount": (
-        _amount,
-        str,
-        {**_TRADITIONAL, **_FORM, **_READER, **_TABLE, **_LANGUAGE},
-    ),
+    "amount": (_amount, str, {**_TRADITIONAL, **_FORM, **_READER, **_TABLE, **_LANGUAGE}),
     "date": (_date, str, {**_TRADITIONAL, **_LANGUAGE}),
     "read": (to_number, str, {**_KIND, **_WAY, **_LANGUAGE}),
     "print": (
@@ -394,11 +342,7 @@ _COMMANDS: Dict[str, Tuple[Callable[..., Any], Callable[[str], Any], _Options]] 
         _number,
         {**_TRADITIONAL, "--upper": _FLAG, **_KIND, **_WAY, **_LANGUAGE},
     ),
-    "find": (
-        _find,
-        str,
-        {"--numbers": _FLAG, "--all": _FLAG, **_KIND, **_WAY, **_METHOD},
-    ),
+    "find": (_find, str, {"--numbers": _FLAG, "--all": _FLAG, **_KIND, **_WAY, **_METHOD}),
     "replace": (_in_figures, str, {"--all": _FLAG, **_METHOD, **_REPLACED}),
     "lines": (_lines, str, {}),
 }
@@ -442,10 +386,7 @@ def _refuse_misfits(first: str, options: Dict[str, Any]) -> None:
 
 
 def _answered(
-    call: Callable[..., object],
-    of_word: Callable[[str], Any],
-    words: List[str],
-    options: _Options,
+    call: Callable[..., object], of_word: Callable[[str], Any], words: List[str], options: _Options
 ) -> int:
     """Prints the result of each word on a line of its own, and returns the status. The words are
     first converted to arguments."""
@@ -495,13 +436,7 @@ def _run(words: List[str]) -> int:
 
 def _stream(number: int) -> TextIO:
     return open(
-        number,
-        "w",
-        buffering=1,
-        encoding="utf-8",
-        errors="replace",
-        newline="\n",
-        closefd=False,
+        number, "w", buffering=1, encoding="utf-8", errors="replace", newline="\n", closefd=False
     )
 
 

@@ -263,8 +263,7 @@ class PhraseState(str, Enum):
 
     CERTAIN: it has a value.
     DOUBTFUL: it has a value, but may mean something else: 1000年 of 1000年前, 五到八 of 五到八折.
-    REFUSED: it has no value: it names a day or a time that does not exist, or does not rise.
-    """
+    REFUSED: it has no value: it names a day or a time that does not exist, or does not rise."""
 
     CERTAIN = "certain"
     DOUBTFUL = "doubtful"

@@ -39,12 +39,7 @@ class _Number(ctypes.Structure):
 
 
 class _Quantity(ctypes.Structure):
-    _fields_ = [
-        ("numerator", _Number),
-        ("denominator", _Number),
-        ("form", _CODE),
-        *_PLACE,
-    ]
+    _fields_ = [("numerator", _Number), ("denominator", _Number), ("form", _CODE), *_PLACE]
 
 
 class _Amount(ctypes.Structure):
@@ -151,15 +146,7 @@ class Run:
     when it is read."""
 
     __slots__ = (
-        *(
-            "start",
-            "end",
-            "text",
-            "is_plain",
-            "stands_alone",
-            "is_about",
-            "is_one_character",
-        ),
+        *("start", "end", "text", "is_plain", "stands_alone", "is_about", "is_one_character"),
         "_doubt",
     )
     _doubt: int
@@ -191,11 +178,7 @@ def _module() -> Any:
     that does not declare support for it.
     """
     free_threaded = "t" in getattr(sys, "abiflags", "")
-    if (
-        sys.implementation.name != "cpython"
-        or sys.version_info < (3, 10)
-        or free_threaded
-    ):
+    if sys.implementation.name != "cpython" or sys.version_info < (3, 10) or free_threaded:
         return None
     try:
         return importlib.import_module("._native", __package__)
@@ -263,14 +246,11 @@ def quick(*more: Any, **choices: Dict[Any, int]) -> Callable[[_Function], _Funct
         defaults = function.__kwdefaults__ or {}
         # inspect evaluates the defaults, and only in ASCII.
         shown = {
-            it: str(its) if isinstance(its, Enum) else ascii(its)
-            for it, its in defaults.items()
+            it: str(its) if isinstance(its, Enum) else ascii(its) for it, its in defaults.items()
         }
         words = "".join(f", {it}={its}" for it, its in shown.items())
         signature = f"{name}({first}{words and ', *'}{words})"
-        rows = tuple(
-            (it, choices[it], choices[it][value]) for it, value in defaults.items()
-        )
+        rows = tuple((it, choices[it], choices[it][value]) for it, value in defaults.items())
         text = f"{signature}\n--\n\n{function.__doc__}"
         front = name.strip("_"), function, first, rows, more, text, function.__module__
         quickly: _Function = _native.make_quick(*front)
@@ -301,9 +281,7 @@ def read_number(text: str, kind: int, way: int) -> Tuple[int, int, int, int]:
     return status, it.low, it.high, it.char_index
 
 
-def _read_fen(
-    call: Any, text: str, it: Union[_Amount, _SignedAmount]
-) -> Tuple[int, int, int]:
+def _read_fen(call: Any, text: str, it: Union[_Amount, _SignedAmount]) -> Tuple[int, int, int]:
     status = _read(call, text, it)
     return status, it.fen, it.char_index
 
@@ -362,24 +340,18 @@ def print_number(
 
 def print_amount(fen: int, script: int, form: int) -> Tuple[int, str]:
     """The text of an amount of less than 2**64 fen."""
-    return _printed(
-        library.chinese_amount_print, _codes.MOST_AMOUNT_BYTES, fen, script, form
-    )
+    return _printed(library.chinese_amount_print, _codes.MOST_AMOUNT_BYTES, fen, script, form)
 
 
 def print_signed_amount(fen: int, script: int, form: int) -> Tuple[int, str]:
     """The text of a signed amount from -2**63 fen to less than 2**63."""
     codes = fen, script, form
-    return _printed(
-        library.chinese_signed_amount_print, _codes.MOST_SIGNED_AMOUNT_BYTES, *codes
-    )
+    return _printed(library.chinese_signed_amount_print, _codes.MOST_SIGNED_AMOUNT_BYTES, *codes)
 
 
 def print_date(year: int, month: int, day: int, script: int) -> Tuple[int, str]:
     """The text of a date."""
-    return _printed(
-        library.chinese_date_print, _codes.MOST_DATE_BYTES, year, month, day, script
-    )
+    return _printed(library.chinese_date_print, _codes.MOST_DATE_BYTES, year, month, day, script)
 
 
 def input_expected(text: str, of: int) -> Tuple[int, Tuple[int, bool, bool, str]]:
@@ -401,10 +373,7 @@ def input_repair(text: str, of: int) -> Tuple[int, int, int, str]:
 def fault(what: str, text: str, *codes: int) -> Tuple[int, int]:
     """The code of the reason why a text is not a number or a quantity, which `what` says."""
     it = _CODE()
-    return (
-        _read(getattr(library, f"chinese_{what}_explain"), text, it, *codes),
-        it.value,
-    )
+    return _read(getattr(library, f"chinese_{what}_explain"), text, it, *codes), it.value
 
 
 def message(what: str, text: str, *codes: int) -> Tuple[int, str]:
@@ -416,9 +385,7 @@ def message(what: str, text: str, *codes: int) -> Tuple[int, str]:
 
 def status_message(status: int, language: int) -> Tuple[int, str]:
     """The message of a status."""
-    return _printed(
-        library.chinese_status_message, _codes.MOST_MESSAGE_BYTES, status, language
-    )
+    return _printed(library.chinese_status_message, _codes.MOST_MESSAGE_BYTES, status, language)
 
 
 def answer_line(line: bytes) -> Tuple[int, str]:
@@ -431,9 +398,7 @@ def _at_words(low: int, high: int, below_low: int, below_high: int, form: int) -
     return byref(_Quantity(_Number(low, high), _Number(below_low, below_high), form))
 
 
-def print_quantity(
-    quantity: Words, method: int, script: int, case: int
-) -> Tuple[int, str]:
+def print_quantity(quantity: Words, method: int, script: int, case: int) -> Tuple[int, str]:
     """The text of a quantity. Only the low 64 bits of each word count."""
     codes = _at_words(*quantity), method, script, case
     return _printed(library.chinese_quantity_print, _codes.MOST_QUANTITY_BYTES, *codes)

@@ -8,18 +8,7 @@ import re
 import sys
 import time
 from itertools import chain
-from typing import (
-    Any,
-    Callable,
-    Dict,
-    Iterator,
-    List,
-    NamedTuple,
-    Optional,
-    TextIO,
-    Tuple,
-    Union,
-)
+from typing import Any, Callable, Dict, Iterator, List, NamedTuple, Optional, TextIO, Tuple, Union
 
 from . import AmountError, Language
 
@@ -179,9 +168,7 @@ def _copy(
         if not width and (cells or fault and isinstance(table.column, str)):
             place, width = _place(table, number, cells, fault), len(cells)
             if table.has_header and count == 0:
-                written.append(
-                    _with_cell(row, _name(table, cells[place]), table.delimiter)
-                )
+                written.append(_with_cell(row, _name(table, cells[place]), table.delimiter))
                 continue
         cell = ""
         if cells and len(cells) == width:
@@ -217,7 +204,5 @@ def write_table(table: Table, answer: Callable[[str], str]) -> int:
     csv.field_size_limit(2**31 - 1)
     with _opened(0, "r") as lines, _opened(1, "w") as output:
         count, refused = _copy(lines, output, table, answer)
-    print(
-        f"{count} rows: {count - refused} converted, {refused} refused", file=sys.stderr
-    )
+    print(f"{count} rows: {count - refused} converted, {refused} refused", file=sys.stderr)
     return int(refused > 0)
