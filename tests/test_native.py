@@ -220,6 +220,17 @@ def test_errors_pass(numerals):
     for _ in range(2):
         for call in (numerals.to_chinese, numerals.amount_to_chinese):
             assert str(refusal(call, Fails(), error=KeyError)) == "'own'"
+
+    class Changes:
+        def __init__(self):
+            self.numbers = [-1, 10**19]
+
+        def __index__(self):
+            return self.numbers.pop(0)
+
+    fresh = {"script": "traditional", "currency": True}
+    assert refusal(numerals.amount_to_chinese, Changes(), **fresh).status.name == "TOO_LARGE"
+    assert refusal(numerals.amount_to_chinese, -1, **fresh).status.name == "TOO_SMALL"
     try:
         numerals.to_number("十十")
     except ValueError as first:

@@ -1,6 +1,6 @@
 /* The calls of the library in a form for Go. Each file with `import "C"` includes it. A call takes
- * texts in place and returns a value, so that C gets no Go pointers except those to texts and to a
- * buffer for one. */
+ * texts in place, and returns a value or fills a buffer, so that C gets no Go pointers except those
+ * to texts and to buffers. */
 #ifndef LIBRARY_H
 #define LIBRARY_H
 

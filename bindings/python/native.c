@@ -158,9 +158,11 @@ static void keep(state *own, quick *of, const outcome *it) {
     refusal *at = refusal_at(of, it);
     PyObject *class, *error, *trace, *kept = NULL;
     PyErr_Fetch(&class, &error, &trace);
-    int is_refusal = error && PyErr_GivenExceptionMatches(error, PyExc_ValueError);
-    PyObject *arguments = is_refusal ? PyObject_GetAttrString(error, "args") : NULL;
-    PyObject *of_error = is_refusal ? PyObject_GetAttrString(error, "__dict__") : NULL;
+    PyObject *status = error ? PyObject_GetAttrString(error, "status") : NULL;
+    PyObject *code = status ? PyObject_GetAttrString(status, "value") : NULL;
+    int is_so = code && PyLong_AsUnsignedLong(code) == it->status; /* not of another __index__ */
+    PyObject *arguments = is_so ? PyObject_GetAttrString(error, "args") : NULL;
+    PyObject *of_error = is_so ? PyObject_GetAttrString(error, "__dict__") : NULL;
     PyObject *fields = of_error ? PyDict_Copy(of_error) : NULL;
     int has_text = fields && PyDict_GetItemWithError(fields, own->text);
     if (arguments && fields && !(has_text && PyDict_SetItem(fields, own->text, Py_None)))
@@ -168,6 +170,8 @@ static void keep(state *own, quick *of, const outcome *it) {
     at->of.status = CN_DONE;
     if (kept && hold(own, at, kept))
         *at = (refusal){*it, kept};
+    Py_XDECREF(status);
+    Py_XDECREF(code);
     Py_XDECREF(arguments);
     Py_XDECREF(of_error);
     Py_XDECREF(fields);
