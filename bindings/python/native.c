@@ -43,10 +43,12 @@ typedef struct outcome {
     Py_ssize_t place;
 } outcome;
 
-/* An error for an outcome, as a tuple: its class, its arguments, and a copy of its `__dict__`. */
+/* An error for an outcome, as a tuple: its class, its arguments, and a copy of its `__dict__`; and
+ * whether a text was read. */
 typedef struct refusal {
     outcome of;
     PyObject *kept;
+    int has_text;
 } refusal;
 
 /* A quick function, the Python function, the keyword of the first argument, and what else the
@@ -169,7 +171,7 @@ static void keep(state *own, quick *of, const outcome *it) {
         kept = PyTuple_Pack(3, class, arguments, fields);
     at->of.status = CN_DONE;
     if (kept && hold(own, at, kept))
-        *at = (refusal){*it, kept};
+        *at = (refusal){*it, kept, has_text};
     Py_XDECREF(status);
     Py_XDECREF(code);
     Py_XDECREF(arguments);
@@ -182,20 +184,20 @@ static void keep(state *own, quick *of, const outcome *it) {
 /* Raises an error like the one that is kept for this outcome; returns 0 if none is. The Python
  * function would take several times as long to make the same error. */
 static int refuse(state *own, quick *of, PyObject *given, const outcome *it) {
-    PyObject *kept = refusal_at(of, it)->kept, *error = NULL;
-    if (memcmp(&refusal_at(of, it)->of, it, sizeof *it) != 0)
+    const refusal like = *refusal_at(of, it); /* a copy, since another call may replace it */
+    if (memcmp(&like.of, it, sizeof *it) != 0)
         return 0;
-    Py_INCREF(kept); /* another call may replace it */
-    PyTypeObject *class = (PyTypeObject *)PyTuple_GetItem(kept, 0);
-    PyObject *arguments = PyTuple_GetItem(kept, 1), *fields = PyDict_Copy(PyTuple_GetItem(kept, 2));
-    int has_text = fields && PyDict_GetItemWithError(fields, own->text);
-    if (fields && !(has_text && PyDict_SetItem(fields, own->text, given)))
+    Py_INCREF(like.kept);
+    PyTypeObject *class = (PyTypeObject *)PyTuple_GetItem(like.kept, 0);
+    PyObject *arguments = PyTuple_GetItem(like.kept, 1), *error = NULL;
+    PyObject *fields = PyDict_Copy(PyTuple_GetItem(like.kept, 2));
+    if (fields && !(like.has_text && PyDict_SetItem(fields, own->text, given)))
         error = ((newfunc)PyType_GetSlot(class, Py_tp_new))(class, arguments, NULL);
     if (error && !PyObject_GenericSetDict(error, fields, NULL))
         PyErr_SetObject((PyObject *)class, error);
     Py_XDECREF(fields);
     Py_XDECREF(error);
-    Py_DECREF(kept);
+    Py_DECREF(like.kept);
     return 1;
 }
 
