@@ -1,6 +1,6 @@
 /* The calls of the library in a form for Go. Each file with `import "C"` includes it. A call takes
- * texts in place and returns a value, so that C gets no Go pointers except those to texts and to a
- * buffer for one. */
+ * texts in place, and returns a value or fills a buffer, so that C gets no Go pointers except those
+ * to texts and to buffers. */
 #ifndef LIBRARY_H
 #define LIBRARY_H
 
@@ -57,74 +57,56 @@ READER_BY_CODE(explain_quantity, explained, chinese_quantity_explain)
 READER_BY_CODE(expect_input, input_expected, chinese_input_expected)
 READER_BY_CODE(repair_input, input_repair, chinese_input_repair)
 
-/* A printed text or a message. None has more bytes. */
+/* A buffer for a printed text or a message. None has more bytes. */
 typedef struct { uint32_t status; size_t length; uint8_t text[CN_MOST_MESSAGE_BYTES]; } printed;
 
-#define ROOM(it) (it).text, sizeof (it).text, &(it).length
+#define BUFFER it->text, sizeof it->text, &it->length
 
-static inline printed print_number(cn_number number, uint32_t kind, uint32_t way, uint32_t script,
-                                   uint32_t letter_case) {
-    printed it;
-    it.status = chinese_number_print(number.low, number.high, kind, way, script, letter_case,
-                                     ROOM(it));
-    return it;
+static inline void print_number(cn_number number, uint32_t kind, uint32_t way, uint32_t script,
+                                uint32_t letter_case, printed *it) {
+    it->status = chinese_number_print(number.low, number.high, kind, way, script, letter_case,
+                                      BUFFER);
 }
 
-static inline printed print_quantity(cn_quantity quantity, uint32_t method, uint32_t script,
-                                     uint32_t letter_case) {
-    printed it;
-    it.status = chinese_quantity_print(&quantity, method, script, letter_case, ROOM(it));
-    return it;
+static inline void print_quantity(cn_quantity quantity, uint32_t method, uint32_t script,
+                                  uint32_t letter_case, printed *it) {
+    it->status = chinese_quantity_print(&quantity, method, script, letter_case, BUFFER);
 }
 
-static inline printed print_quantity_figures(cn_quantity quantity) {
-    printed it;
-    it.status = chinese_quantity_figures(&quantity, ROOM(it));
-    return it;
+static inline void print_quantity_figures(cn_quantity quantity, printed *it) {
+    it->status = chinese_quantity_figures(&quantity, BUFFER);
 }
 
-static inline printed print_amount(uint64_t fen, uint32_t script, uint32_t form) {
-    printed it;
-    it.status = chinese_amount_print(fen, script, form, ROOM(it));
-    return it;
+static inline void print_amount(uint64_t fen, uint32_t script, uint32_t form, printed *it) {
+    it->status = chinese_amount_print(fen, script, form, BUFFER);
 }
 
-static inline printed print_signed_amount(int64_t fen, uint32_t script, uint32_t form) {
-    printed it;
-    it.status = chinese_signed_amount_print(fen, script, form, ROOM(it));
-    return it;
+static inline void print_signed_amount(int64_t fen, uint32_t script, uint32_t form, printed *it) {
+    it->status = chinese_signed_amount_print(fen, script, form, BUFFER);
 }
 
-static inline printed print_date(uint32_t year, uint32_t month, uint32_t day, uint32_t script) {
-    printed it;
-    it.status = chinese_date_print(year, month, day, script, ROOM(it));
-    return it;
+static inline void print_date(uint32_t year, uint32_t month, uint32_t day, uint32_t script,
+                              printed *it) {
+    it->status = chinese_date_print(year, month, day, script, BUFFER);
 }
 
-static inline printed print_input_message(_GoString_ text, uint32_t input, uint32_t language) {
-    printed it;
-    it.status = chinese_input_message(TEXT(text), input, language, ROOM(it));
-    return it;
+static inline void print_input_message(_GoString_ text, uint32_t input, uint32_t language,
+                                       printed *it) {
+    it->status = chinese_input_message(TEXT(text), input, language, BUFFER);
 }
 
-static inline printed print_number_message(_GoString_ text, uint32_t kind, uint32_t way,
-                                           uint32_t language) {
-    printed it;
-    it.status = chinese_number_message(TEXT(text), kind, way, language, ROOM(it));
-    return it;
+static inline void print_number_message(_GoString_ text, uint32_t kind, uint32_t way,
+                                        uint32_t language, printed *it) {
+    it->status = chinese_number_message(TEXT(text), kind, way, language, BUFFER);
 }
 
-static inline printed print_quantity_message(_GoString_ text, uint32_t method,
-                                             uint32_t language) {
-    printed it;
-    it.status = chinese_quantity_message(TEXT(text), method, language, ROOM(it));
-    return it;
+static inline void print_quantity_message(_GoString_ text, uint32_t method, uint32_t language,
+                                          printed *it) {
+    it->status = chinese_quantity_message(TEXT(text), method, language, BUFFER);
 }
 
-static inline printed print_status_message(uint32_t status, uint32_t language) {
-    printed it;
-    it.status = chinese_status_message(status, language, ROOM(it));
-    return it;
+static inline void print_status_message(uint32_t status, uint32_t language, printed *it) {
+    it->status = chinese_status_message(status, language, BUFFER);
 }
 
 enum { AT_ONCE = 8 };

@@ -1,7 +1,8 @@
-/* The calls of the library for CPython 3.10 and later, with its stable ABI: the functions of
- * `_library.py`, which uses ctypes, under the same names, except those that say why a text is
- * refused; and quick functions that wrap two public functions. Texts are str, choices are the codes of chinese_number.h, and places count characters.
- * A lone surrogate is passed as a question mark, which is not a numeral either. */
+/* The calls of the library for CPython 3.10 and later, with its stable ABI: quick functions, each in
+ * front of a public function in Python, which handles unusual arguments; and those functions of
+ * `_library.py`, which uses ctypes, that search and rewrite texts, under the same names. Texts are
+ * str, choices are the codes of chinese_number.h, and places count characters. A lone surrogate is
+ * passed as a question mark, which is not a numeral either. */
 #define PY_SSIZE_T_CLEAN
 #define Py_LIMITED_API 0x030A0000
 #include <Python.h>
@@ -15,102 +16,188 @@ enum {
     LONG = 1 << 16, /* bytes; see let_go */
     PIECE = 8192,   /* characters; see utf8 */
     AT_ONCE = 256,  /* numbers of a text that are found before the first one is returned */
-    CHOICES = 4,
-    DOUBT = 16, /* the code of a doubt is multiplied by this, and added to the flags */
-    MOST_WORDS = 20 /* words of one choice: the members of its enum, and the str that each equals */
+    CHOICES = 5,    /* a quick function has at most this many */
+    REFUSALS = 64,  /* of a quick function that are kept */
+    DOUBT = 16      /* the code of a doubt is multiplied by this, and added to the flags */
 };
 
-/* The keywords of the quick functions; to_number has only the first two. */
-static const char *const KEYWORDS[CHOICES] = {"kind", "way", "script", "case"};
+/* The quick functions, by the names of the functions in Python. */
+#define QUICK(DO)                                                                               \
+    DO(to_number) DO(to_chinese) DO(amount_to_chinese) DO(signed_amount_to_chinese)             \
+    DO(chinese_to_amount) DO(chinese_to_signed_amount) DO(chinese_to_amount_as_typed)           \
+    DO(chinese_to_signed_amount_as_typed) DO(yuan_to_fen) DO(date_to_chinese)                   \
+    DO(chinese_to_date) DO(to_quantity) DO(quantity_to_chinese) DO(quantity_to_figures)
+#define PLACE_OF(name) AT_##name,
+enum { QUICK(PLACE_OF) COUNT };
 
-/* A keyword and its words: the members of its enum in the order of their codes, and then their str. */
+/* A keyword, the codes of its words, which are a dict, the code of its default, and the last word
+ * of a call, which the choice owns, with its code. */
 typedef struct choice {
-    PyObject *keyword, *words[MOST_WORDS], *last; /* the word of the last lookup */
-    int count, code;                              /* the code of `last` */
+    PyObject *keyword, *codes, *last;
+    uint32_t code, last_code;
 } choice;
 
-/* A quick function, the Python function that it wraps, which handles unusual arguments, and the
- * codes of its defaults, or -1. */
+/* The codes of a call's arguments, and, unless the status is CN_DONE, why there is no answer. */
+typedef struct outcome {
+    uint32_t status, codes[CHOICES];
+    Py_ssize_t place;
+} outcome;
+
+/* An error for an outcome, as a tuple: its class, its arguments, and a copy of its `__dict__`; and
+ * whether a text was read. */
+typedef struct refusal {
+    outcome of;
+    PyObject *kept;
+    int has_text;
+} refusal;
+
+/* A quick function, the Python function, the keyword of the first argument, and what else the
+ * quick function needs. The last keywords of a call were `names`, and `places` says which choice
+ * each is, or CHOICES for the first argument. */
 typedef struct quick {
     PyMethodDef method;
-    PyObject *function, *names; /* `names`, their `count` and their `places`: see know_names */
-    int count, defaults[CHOICES], places[CHOICES];
+    PyObject *function, *first, *more, *names;
+    Py_ssize_t choices_count, names_count;
+    int places[CHOICES + 1];
+    choice choices[CHOICES];
+    refusal refusals[REFUSALS];
 } quick;
 
-/* `run` is the class of runs. `held` is a dict that owns all objects in the fields below it. */
+/* `run` is the class of runs, and `text` the name of a field of errors. `held` is a dict that owns
+ * the other objects in the fields of the quick functions. */
 typedef struct state {
-    PyObject *run, *held;
-    choice choices[CHOICES];
-    quick to_number, to_chinese;
+    PyObject *run, *held, *text;
+    quick quick[COUNT];
 } state;
 
-/* The code of a word, or -1 if this very object is not known. */
-static int code_of(choice *of, PyObject *word) {
-    if (of->last != word) {
-        int members = of->count / 2, at = 0;
-        while (at < of->count && of->words[at] != word)
-            at++;
-        if (at == of->count)
-            return -1;
-        of->code = at < members ? at : at - members;
-        of->last = word;
-    }
-    return of->code;
+/* Owns an object that a field points to, instead of the last one of this field. */
+static int hold(state *own, const void *field, PyObject *it) {
+    PyObject *key = PyLong_FromVoidPtr((void *)field);
+    int failed = !key || PyDict_SetItem(own->held, key, it);
+    Py_XDECREF(key);
+    return !failed;
 }
 
-/* Stores a tuple of words for each choice. */
-static PyObject *know_words(PyObject *module, PyObject *given) {
-    state *own = PyModule_GetState(module);
-    for (int i = 0; i < CHOICES; i++) {
-        PyObject *words = PyTuple_GetItem(given, i);
-        Py_ssize_t count = words ? PyTuple_Size(words) : -1;
-        choice *of = &own->choices[i];
-        if (count < 0 || count > MOST_WORDS)
-            return count < 0 ? NULL : PyErr_Format(PyExc_ValueError, "there are %zd words", count);
-        PyObject *keyword = PyUnicode_InternFromString(KEYWORDS[i]);
-        int failed = !keyword || PyDict_SetItem(own->held, keyword, words);
-        Py_XDECREF(keyword);
-        if (failed)
-            return NULL;
-        *of = (choice){.keyword = keyword, .count = (int)count};
-        for (Py_ssize_t word = 0; word < count; word++)
-            of->words[word] = PyTuple_GetItem(words, word);
-    }
-    Py_RETURN_NONE;
+/* Finds the code of a word; returns 0 if it has none. */
+static int code_of(PyObject *codes, PyObject *word, uint32_t *code) {
+    int is_word = PyUnicode_Check(word) || PyBool_Check(word); /* 1 equals True, but is no word */
+    PyObject *found = is_word ? PyDict_GetItemWithError(codes, word) : NULL;
+    if (found)
+        *code = (uint32_t)PyLong_AsUnsignedLong(found);
+    return found != NULL;
 }
 
-/* Finds the choice of each keyword of a call; returns 0 if a keyword is not one. The same call has
- * the same tuple of names each time, so the last tuple is kept. */
+/* Finds the code of a choice's word, which is often the last one again. */
+static int choose(choice *of, PyObject *word, uint32_t *code) {
+    PyObject *last = of->last;
+    if (word == last) {
+        *code = of->last_code;
+        return 1;
+    }
+    if (!code_of(of->codes, word, code))
+        return 0;
+    Py_INCREF(word);
+    last = of->last; /* to find a code may run Python, and so another call */
+    of->last = word;
+    of->last_code = *code;
+    Py_XDECREF(last);
+    return 1;
+}
+
+/* Finds the place of each keyword of a call; returns 0 if a keyword has none. The same call has the
+ * same tuple of names each time, so the last tuple is kept. */
 static int know_names(state *own, quick *of, PyObject *names) {
     of->names = NULL;
-    of->count = (int)PyTuple_Size(names);
-    for (int i = 0; i < of->count; i++) {
-        int at = 0;
-        while (at < CHOICES && own->choices[at].keyword != PyTuple_GetItem(names, i))
-            at++;
-        if (i == CHOICES || at == CHOICES || of->defaults[at] < 0)
-            return 0;
-        of->places[i] = at;
-    }
-    if (PyDict_SetItemString(own->held, of == &own->to_number ? "to read" : "to print", names)) {
-        PyErr_Clear();
+    of->names_count = PyTuple_Size(names);
+    if (of->names_count > of->choices_count + 1)
         return 0;
+    for (int i = 0; i < of->names_count; i++) {
+        PyObject *name = PyTuple_GetItem(names, i);
+        int at = 0;
+        while (at < of->choices_count && of->choices[at].keyword != name)
+            at++;
+        if (at == of->choices_count && name != of->first)
+            return 0;
+        of->places[i] = at < of->choices_count ? at : CHOICES;
     }
+    if (!hold(own, &of->names, names))
+        return 0;
     of->names = names;
     return 1;
 }
 
-/* The codes of the arguments of a call, or of the defaults; returns 0 if one is not known. */
-static int codes_of(state *own, quick *of, PyObject *const *values, PyObject *names, int *codes) {
-    memcpy(codes, of->defaults, sizeof of->defaults);
-    if (names && names != of->names && !know_names(own, of, names))
-        return 0;
-    for (int i = 0; names && i < of->count; i++) {
-        int at = of->places[i], code = code_of(&own->choices[at], values[i]);
-        if (code < 0)
-            return 0;
-        codes[at] = code;
+/* Finds the first argument of a call, and the codes of the others or of their defaults; returns
+ * NULL if one is not known. */
+static PyObject *arguments_of(state *own, quick *of, PyObject *const *values, Py_ssize_t count,
+                              PyObject *names, uint32_t *codes) {
+    PyObject *first = count == 1 ? values[0] : NULL;
+    int places[CHOICES + 1]; /* a copy, since another call may change them; see choose */
+    for (int i = 0; i < of->choices_count; i++)
+        codes[i] = of->choices[i].code;
+    if (!of->function || count > 1 || (names && names != of->names && !know_names(own, of, names)))
+        return NULL;
+    if (!names)
+        return first;
+    Py_ssize_t names_count = of->names_count;
+    memcpy(places, of->places, sizeof places);
+    for (Py_ssize_t i = 0; i < names_count; i++) {
+        int at = places[i];
+        PyObject *value = values[count + i];
+        if (at == CHOICES ? first != NULL : !choose(&of->choices[at], value, &codes[at]))
+            return NULL;
+        first = at == CHOICES ? value : first;
     }
+    return first;
+}
+
+/* Where the error for an outcome is kept, or that for another one. */
+static refusal *refusal_at(quick *of, const outcome *it) {
+    return &of->refusals[((size_t)it->place + 7 * it->status) % REFUSALS];
+}
+
+/* Keeps the error that the Python function has raised for this outcome, without its text. */
+static void keep(state *own, quick *of, const outcome *it) {
+    refusal *at = refusal_at(of, it);
+    PyObject *class, *error, *trace, *kept = NULL;
+    PyErr_Fetch(&class, &error, &trace);
+    PyObject *status = error ? PyObject_GetAttrString(error, "status") : NULL;
+    PyObject *code = status ? PyObject_GetAttrString(status, "value") : NULL;
+    int is_so = code && PyLong_AsUnsignedLong(code) == it->status; /* not of another __index__ */
+    PyObject *arguments = is_so ? PyObject_GetAttrString(error, "args") : NULL;
+    PyObject *of_error = is_so ? PyObject_GetAttrString(error, "__dict__") : NULL;
+    PyObject *fields = of_error ? PyDict_Copy(of_error) : NULL;
+    int has_text = fields && PyDict_GetItemWithError(fields, own->text);
+    if (arguments && fields && !(has_text && PyDict_SetItem(fields, own->text, Py_None)))
+        kept = PyTuple_Pack(3, class, arguments, fields);
+    at->of.status = CN_DONE;
+    if (kept && hold(own, at, kept))
+        *at = (refusal){*it, kept, has_text};
+    Py_XDECREF(status);
+    Py_XDECREF(code);
+    Py_XDECREF(arguments);
+    Py_XDECREF(of_error);
+    Py_XDECREF(fields);
+    Py_XDECREF(kept);
+    PyErr_Restore(class, error, trace);
+}
+
+/* Raises an error like the one that is kept for this outcome; returns 0 if none is. The Python
+ * function would take several times as long to make the same error. */
+static int refuse(state *own, quick *of, PyObject *given, const outcome *it) {
+    const refusal like = *refusal_at(of, it); /* a copy, since another call may replace it */
+    if (memcmp(&like.of, it, sizeof *it) != 0)
+        return 0;
+    Py_INCREF(like.kept);
+    PyTypeObject *class = (PyTypeObject *)PyTuple_GetItem(like.kept, 0);
+    PyObject *arguments = PyTuple_GetItem(like.kept, 1), *error = NULL;
+    PyObject *fields = PyDict_Copy(PyTuple_GetItem(like.kept, 2));
+    if (fields && !(like.has_text && PyDict_SetItem(fields, own->text, given)))
+        error = ((newfunc)PyType_GetSlot(class, Py_tp_new))(class, arguments, NULL);
+    if (error && !PyObject_GenericSetDict(error, fields, NULL))
+        PyErr_SetObject((PyObject *)class, error);
+    Py_XDECREF(fields);
+    Py_XDECREF(error);
+    Py_DECREF(like.kept);
     return 1;
 }
 
@@ -134,6 +221,33 @@ static PyObject *unusual(const quick *of, PyObject *const *values, Py_ssize_t co
     Py_XDECREF(function);
     Py_XDECREF(places);
     Py_XDECREF(words);
+    return answer;
+}
+
+/* What a quick function does with its argument: returns the answer, or NULL if the argument is
+ * unusual, or if the outcome says why there is no answer. */
+typedef PyObject *doing(const quick *of, PyObject *given, outcome *it);
+
+static PyObject *answered(PyObject *module, int at, doing *what, PyObject *const *values,
+                          Py_ssize_t count, PyObject *names) {
+    state *own = PyModule_GetState(module);
+    quick *of = &own->quick[at];
+    outcome it = {.status = CN_DONE};
+    PyObject *given = arguments_of(own, of, values, count, names, it.codes);
+    PyObject *answer = given ? what(of, given, &it) : NULL;
+    if (answer)
+        return answer;
+    if (PyErr_Occurred()) {
+        if (!PyErr_ExceptionMatches(PyExc_TypeError))
+            return NULL;
+        PyErr_Clear(); /* the Python function raises an error with a better text */
+        it.status = CN_DONE;
+    }
+    if (it.status != CN_DONE && refuse(own, of, given, &it))
+        return NULL;
+    answer = unusual(of, values, count, names);
+    if (!answer && it.status != CN_DONE)
+        keep(own, of, &it);
     return answer;
 }
 
@@ -232,39 +346,101 @@ static void give_back(text *it) {
     Py_XDECREF(it->held);
 }
 
-/* Defines a function that reads a text with a call. It returns the status, the values that the
- * format and the arguments after it make from `it`, and how many characters come before the wrong
- * one. */
-#define READER(name, call, answer, format, ...)                                               \
-    static PyObject *name(PyObject *module, PyObject *given) {                                \
-        text from;                                                                            \
-        answer it;                                                                            \
-        if (!take(given, &from))                                                              \
-            return NULL;                                                                      \
-        uint32_t status = call(from.bytes, from.length, &it);                                 \
-        give_back(&from);                                                                     \
-        return Py_BuildValue("I" format "n", status, __VA_ARGS__, (Py_ssize_t)it.char_index); \
+/* Whether 64 bits hold a number with its sign. */
+static int is_short(cn_number number, int is_signed) {
+    cn_number same = cn_signed((int64_t)number.low);
+    return number.high == same.high && (number.high == 0 || is_signed);
+}
+
+/* The int of a number. */
+static PyObject *int_of(cn_number number, int is_signed) {
+    if (is_short(number, is_signed))
+        return PyLong_FromLongLong((long long)number.low);
+    PyObject *bits = PyLong_FromLong(64), *low = PyLong_FromUnsignedLongLong(number.low);
+    PyObject *high = is_signed ? PyLong_FromLongLong((long long)number.high)
+                               : PyLong_FromUnsignedLongLong(number.high);
+    PyObject *above = bits && high ? PyNumber_Lshift(high, bits) : NULL;
+    PyObject *it = above && low ? PyNumber_Or(above, low) : NULL;
+    Py_XDECREF(bits);
+    Py_XDECREF(low);
+    Py_XDECREF(high);
+    Py_XDECREF(above);
+    return it;
+}
+
+/* A whole number of any type except bool, as an int, or NULL. */
+static PyObject *whole_of(PyObject *given) {
+    if (!PyBool_Check(given))
+        return PyNumber_Index(given);
+    PyErr_SetNone(PyExc_TypeError);
+    return NULL;
+}
+
+/* Takes a number that 64 bits with a sign do not hold. */
+static int take_long(PyObject *whole, int is_signed, cn_number *it) {
+    int overflow = 0;
+    PyObject *bits = PyLong_FromLong(64), *above = bits ? PyNumber_Rshift(whole, bits) : NULL;
+    long long high = above ? PyLong_AsLongLongAndOverflow(above, &overflow) : 0;
+    int is_held = above && !overflow && (high >= 0 || is_signed);
+    if (overflow > 0 && !is_signed) {
+        high = (long long)PyLong_AsUnsignedLongLong(above);
+        is_held = !PyErr_Occurred();
+        PyErr_Clear();
+    }
+    *it = (cn_number){PyLong_AsUnsignedLongLongMask(whole), (uint64_t)high};
+    Py_XDECREF(bits);
+    Py_XDECREF(above);
+    return is_held;
+}
+
+/* Takes a whole number; returns 0 if 128 bits with or without a sign do not hold it. */
+static int take_number(PyObject *given, int is_signed, cn_number *it) {
+    int overflow = 0;
+    PyObject *whole = whole_of(given);
+    long long value = whole ? PyLong_AsLongLongAndOverflow(whole, &overflow) : 0;
+    int is_held = whole && (value >= 0 || is_signed);
+    *it = cn_signed(value);
+    if (overflow)
+        is_held = take_long(whole, is_signed, it);
+    Py_XDECREF(whole);
+    return is_held;
+}
+
+/* Reads a text with a call, and returns from the function unless there is an answer. */
+#define READ(call, given, why, it, ...)                       \
+    text from;                                                \
+    if (!take(given, &from))                                  \
+        return NULL;                                          \
+    why->status = call(from.bytes, from.length, __VA_ARGS__); \
+    give_back(&from);                                         \
+    why->place = (Py_ssize_t)it.char_index;                   \
+    if (why->status != CN_DONE)                               \
+        return NULL;
+
+static PyObject *to_number(const quick *of, PyObject *given, outcome *why) {
+    cn_reading it;
+    READ(chinese_number_read_utf8, given, why, it, why->codes[0], why->codes[1], &it)
+    return int_of(it.number, why->codes[0] >= CN_I8);
+}
+
+#define FEN_READER(name, call, answer)                                      \
+    static PyObject *name(const quick *of, PyObject *given, outcome *why) { \
+        answer it;                                                          \
+        READ(call, given, why, it, &it)                                     \
+        return PyLong_FromLongLong((long long)it.fen);                      \
     }
 
-READER(read_amount, chinese_amount_read, cn_amount, "K", (unsigned long long)it.fen)
-READER(read_typed_amount, chinese_typed_amount_read, cn_amount, "K", (unsigned long long)it.fen)
-READER(read_signed_amount, chinese_signed_amount_read, cn_signed_amount, "L", (long long)it.fen)
-READER(read_typed_signed_amount, chinese_typed_signed_amount_read, cn_signed_amount, "L",
-       (long long)it.fen)
-READER(read_figures, chinese_figures_read, cn_signed_amount, "L", (long long)it.fen)
-READER(read_date, chinese_date_read, cn_date, "(III)", it.year, it.month, it.day)
+FEN_READER(chinese_to_amount, chinese_amount_read, cn_amount)
+FEN_READER(chinese_to_signed_amount, chinese_signed_amount_read, cn_signed_amount)
+FEN_READER(chinese_to_amount_as_typed, chinese_typed_amount_read, cn_amount)
+FEN_READER(chinese_to_signed_amount_as_typed, chinese_typed_signed_amount_read, cn_signed_amount)
+FEN_READER(yuan_to_fen, chinese_figures_read, cn_signed_amount)
 
-static PyObject *read_number(PyObject *module, PyObject *given) {
-    text from;
-    PyObject *string;
-    unsigned kind, way;
-    cn_reading it;
-    if (!PyArg_ParseTuple(given, "OII", &string, &kind, &way) || !take(string, &from))
-        return NULL;
-    uint32_t status = chinese_number_read_utf8(from.bytes, from.length, kind, way, &it);
-    give_back(&from);
-    return Py_BuildValue("IKKn", status, (unsigned long long)it.number.low,
-                         (unsigned long long)it.number.high, (Py_ssize_t)it.char_index);
+/* `more` is the class of dates, and the names of the year, the month and the day. */
+static PyObject *chinese_to_date(const quick *of, PyObject *given, outcome *why) {
+    cn_date it;
+    READ(chinese_date_read, given, why, it, &it)
+    return PyObject_CallFunction(PyTuple_GetItem(of->more, 0), "III", it.year, it.month, it.day);
 }
 
 /* The words of a quantity: the halves of its numerator and of its denominator, and its form. */
@@ -274,125 +450,187 @@ static PyObject *words_of(const cn_quantity *it) {
                          (unsigned long long)below.low, (unsigned long long)below.high, it->form);
 }
 
-static PyObject *read_quantity(PyObject *module, PyObject *given) {
-    text from;
-    PyObject *string;
-    unsigned method;
+/* Sets a field of a quantity, whose class forbids it; returns whether that failed. */
+static int set_field(PyObject *made, PyObject *name, PyObject *value) {
+    int failed = !value || PyObject_GenericSetAttr(made, name, value);
+    Py_XDECREF(value);
+    return failed;
+}
+
+/* `more` is the names of the three fields of a quantity, the class of quantities, and the forms. */
+static PyObject *to_quantity(const quick *of, PyObject *given, outcome *why) {
     cn_quantity it;
-    if (!PyArg_ParseTuple(given, "OI", &string, &method) || !take(string, &from))
-        return NULL;
-    uint32_t status = chinese_quantity_read(from.bytes, from.length, method, &it);
-    give_back(&from);
-    return Py_BuildValue("INn", status, words_of(&it), (Py_ssize_t)it.char_index);
+    READ(chinese_quantity_read, given, why, it, why->codes[0], &it)
+    PyObject *more = of->more, *form = PyTuple_GetItem(more, 4 + (Py_ssize_t)it.form);
+    PyObject *made = PyType_GenericAlloc((PyTypeObject *)PyTuple_GetItem(more, 3), 0);
+    Py_XINCREF(form);
+    if (made && !set_field(made, PyTuple_GetItem(more, 2), form) &&
+        !set_field(made, PyTuple_GetItem(more, 0), int_of(it.numerator, 1)) &&
+        !set_field(made, PyTuple_GetItem(more, 1), int_of(it.denominator, 0)))
+        return made;
+    Py_XDECREF(made);
+    return NULL;
 }
 
-/* Whether 64 bits hold a number of a kind with its sign. */
-static int is_short(cn_number number, uint32_t kind) {
-    cn_number same = cn_signed((int64_t)number.low);
-    return number.high == same.high && (number.high == 0 || kind >= CN_I8);
-}
-
-/* to_number for a short text and known words, if 64 bits hold the number. */
-static PyObject *to_number(PyObject *module, PyObject *const *values, Py_ssize_t count,
-                           PyObject *names) {
-    state *own = PyModule_GetState(module);
-    quick *of = &own->to_number;
-    uint8_t room[3 * SHORT];
-    int codes[CHOICES];
-    cn_reading it;
-    Py_ssize_t length = count == 1 ? PyUnicode_GetLength(values[0]) : -1;
-    if (length >= 0 && length <= SHORT && codes_of(own, of, values + 1, names, codes)) {
-        size_t bytes = put_short(values[0], length, room);
-        uint32_t kind = (uint32_t)codes[0], way = (uint32_t)codes[1];
-        uint32_t status = chinese_number_read_utf8(room, bytes, kind, way, &it);
-        if (status == CN_DONE && is_short(it.number, kind))
-            return PyLong_FromLongLong((long long)it.number.low);
-    }
-    PyErr_Clear(); /* for an argument that is not a str the Python function raises */
-    return unusual(of, values, count, names);
-}
-
-/* The str of a printed text, in which each character has three bytes. Python's own decoder takes
- * twice as long. */
-static PyObject *string_of(const uint8_t *text, size_t length) {
+/* The str of a printed text, in which each character has three bytes, unless the outcome says why
+ * there is none. Python's own decoder takes twice as long. */
+static PyObject *string_of(const outcome *it, const uint8_t *text, size_t length) {
     wchar_t characters[CN_MOST_QUANTITY_BYTES / 3];
     Py_ssize_t count = 0;
+    if (it->status != CN_DONE)
+        return NULL;
     for (const uint8_t *at = text; at < text + length; at += 3)
         characters[count++] = (wchar_t)((at[0] & 15) << 12 | (at[1] & 63) << 6 | (at[2] & 63));
     return PyUnicode_FromWideChar(characters, count);
 }
 
-static PyObject *print_number(PyObject *module, PyObject *given) {
-    unsigned long long low, high;
-    unsigned kind, way, script, letter_case;
-    uint8_t room[CN_MOST_BYTES];
+static PyObject *to_chinese(const quick *of, PyObject *given, outcome *it) {
+    const uint32_t *codes = it->codes;
+    cn_number number;
+    uint8_t printed[CN_MOST_BYTES];
     size_t length;
-    if (!PyArg_ParseTuple(given, "KKIIII", &low, &high, &kind, &way, &script, &letter_case))
-        return NULL;
-    uint32_t status =
-        chinese_number_print(low, high, kind, way, script, letter_case, room, sizeof room, &length);
-    return Py_BuildValue("IN", status, string_of(room, length));
+    it->status = CN_NOT_HELD;
+    if (take_number(given, codes[0] >= CN_I8, &number))
+        it->status = chinese_number_print(number.low, number.high, codes[0], codes[1], codes[2],
+                                          codes[3], printed, sizeof printed, &length);
+    return string_of(it, printed, length);
 }
 
-#define AMOUNT_PRINTER(name, call, amount, format, most)                \
-    static PyObject *name(PyObject *module, PyObject *given) {          \
-        amount fen;                                                     \
-        unsigned script, form;                                          \
-        uint8_t room[most];                                             \
-        size_t length;                                                  \
-        if (!PyArg_ParseTuple(given, format, &fen, &script, &form))     \
-            return NULL;                                                \
-        uint32_t status = call(fen, script, form, room, most, &length); \
-        return Py_BuildValue("IN", status, string_of(room, length));    \
+/* Writes an amount of at least `least`. The codes after the first one are parts of the form. */
+static PyObject *amount_of(PyObject *given, outcome *it, long long least) {
+    const uint32_t *codes = it->codes, form = codes[1] | codes[2] | codes[3] | codes[4];
+    uint8_t printed[CN_MOST_SIGNED_AMOUNT_BYTES];
+    size_t length;
+    int overflow;
+    PyObject *whole = whole_of(given);
+    if (!whole)
+        return NULL;
+    long long fen = PyLong_AsLongLongAndOverflow(whole, &overflow);
+    Py_DECREF(whole);
+    if (overflow || fen < least)
+        it->status = overflow > 0 ? CN_TOO_LARGE : CN_TOO_SMALL;
+    else if (fen < 0)
+        it->status =
+            chinese_signed_amount_print(fen, codes[0], form, printed, sizeof printed, &length);
+    else
+        it->status = chinese_amount_print((uint64_t)fen, codes[0], form, printed, sizeof printed,
+                                          &length);
+    return string_of(it, printed, length);
+}
+
+static PyObject *amount_to_chinese(const quick *of, PyObject *given, outcome *it) {
+    return amount_of(given, it, 0);
+}
+
+static PyObject *signed_amount_to_chinese(const quick *of, PyObject *given, outcome *it) {
+    return amount_of(given, it, INT64_MIN);
+}
+
+static uint32_t part_of(PyObject *day, PyObject *name) {
+    PyObject *part = PyObject_GetAttr(day, name);
+    uint32_t it = part ? (uint32_t)PyLong_AsUnsignedLong(part) : 0;
+    Py_XDECREF(part);
+    return it;
+}
+
+/* `more` is that of chinese_to_date. A date of another class is unusual. */
+static PyObject *date_to_chinese(const quick *of, PyObject *given, outcome *it) {
+    uint8_t printed[CN_MOST_DATE_BYTES];
+    size_t length;
+    if ((PyObject *)Py_TYPE(given) != PyTuple_GetItem(of->more, 0))
+        return NULL;
+    uint32_t year = part_of(given, PyTuple_GetItem(of->more, 1));
+    uint32_t month = part_of(given, PyTuple_GetItem(of->more, 2));
+    uint32_t day = part_of(given, PyTuple_GetItem(of->more, 3));
+    it->status =
+        chinese_date_print(year, month, day, it->codes[0], printed, sizeof printed, &length);
+    return string_of(it, printed, length);
+}
+
+/* Takes a quantity. `more` is the names of its fields, and the codes of the forms. */
+static int take_quantity(const quick *of, PyObject *given, cn_quantity *it) {
+    PyObject *above = PyObject_GetAttr(given, PyTuple_GetItem(of->more, 0));
+    PyObject *below = above ? PyObject_GetAttr(given, PyTuple_GetItem(of->more, 1)) : NULL;
+    PyObject *form = below ? PyObject_GetAttr(given, PyTuple_GetItem(of->more, 2)) : NULL;
+    *it = (cn_quantity){{0, 0}, {0, 0}, 0, 0, 0};
+    int is_taken = form && take_number(above, 1, &it->numerator) &&
+                   take_number(below, 0, &it->denominator) &&
+                   code_of(PyTuple_GetItem(of->more, 3), form, &it->form);
+    Py_XDECREF(above);
+    Py_XDECREF(below);
+    Py_XDECREF(form);
+    return is_taken;
+}
+
+static PyObject *quantity_to_chinese(const quick *of, PyObject *given, outcome *it) {
+    const uint32_t *codes = it->codes;
+    cn_quantity quantity;
+    uint8_t printed[CN_MOST_QUANTITY_BYTES];
+    size_t length;
+    if (!take_quantity(of, given, &quantity))
+        return NULL;
+    it->status = chinese_quantity_print(&quantity, codes[0], codes[1], codes[2], printed,
+                                        sizeof printed, &length);
+    return string_of(it, printed, length);
+}
+
+static PyObject *quantity_to_figures(const quick *of, PyObject *given, outcome *it) {
+    cn_quantity quantity;
+    uint8_t printed[CN_MOST_FIGURES_BYTES];
+    size_t length;
+    if (!take_quantity(of, given, &quantity))
+        return NULL;
+    it->status = chinese_quantity_figures(&quantity, printed, sizeof printed, &length);
+    return PyUnicode_DecodeUTF8((char *)printed, (Py_ssize_t)length, NULL);
+}
+
+#define ENTRY(name)                                                                             \
+    static PyObject *call_##name(PyObject *module, PyObject *const *values, Py_ssize_t count,   \
+                                 PyObject *names) {                                             \
+        return answered(module, AT_##name, name, values, count, names);                         \
     }
+QUICK(ENTRY)
 
-AMOUNT_PRINTER(print_amount, chinese_amount_print, unsigned long long, "KII", CN_MOST_AMOUNT_BYTES)
-AMOUNT_PRINTER(print_signed_amount, chinese_signed_amount_print, long long, "LII",
-               CN_MOST_SIGNED_AMOUNT_BYTES)
+#define ROW(name) {#name, (void (*)(void))call_##name},
+static const struct {
+    const char *name;
+    void (*call)(void);
+} ROWS[] = {QUICK(ROW)};
 
-static PyObject *print_date(PyObject *module, PyObject *given) {
-    unsigned year, month, day, script;
-    uint8_t room[CN_MOST_DATE_BYTES];
-    size_t length;
-    if (!PyArg_ParseTuple(given, "IIII", &year, &month, &day, &script))
+/* Makes a quick function. The arguments are its name, the Python function, the keyword of its first
+ * argument, a row for each choice, what else it needs, a text that begins with its signature, as
+ * inspect reads it, and the name of its module. */
+static PyObject *make_quick(PyObject *module, PyObject *given) {
+    state *own = PyModule_GetState(module);
+    PyObject *name, *function, *first, *choices, *more, *text, *where;
+    int at = 0;
+    if (!PyArg_ParseTuple(given, "UOUO!O!UO", &name, &function, &first, &PyTuple_Type, &choices,
+                          &PyTuple_Type, &more, &text, &where))
         return NULL;
-    uint32_t status = chinese_date_print(year, month, day, script, room, sizeof room, &length);
-    return Py_BuildValue("IN", status, string_of(room, length));
-}
-
-/* Makes a quantity from its words. */
-static int quantity_of(PyObject *words, cn_quantity *it) {
-    unsigned long long low, high, below_low, below_high;
-    unsigned form;
-    if (!PyArg_ParseTuple(words, "KKKKI", &low, &high, &below_low, &below_high, &form))
-        return 0;
-    *it = (cn_quantity){{low, high}, {below_low, below_high}, form, 0, 0};
-    return 1;
-}
-
-static PyObject *print_quantity(PyObject *module, PyObject *given) {
-    PyObject *words;
-    cn_quantity it;
-    unsigned method, script, letter_case;
-    uint8_t room[CN_MOST_QUANTITY_BYTES];
-    size_t length;
-    if (!PyArg_ParseTuple(given, "OIII", &words, &method, &script, &letter_case) ||
-        !quantity_of(words, &it))
+    while (at < COUNT && PyUnicode_CompareWithASCIIString(name, ROWS[at].name) != 0)
+        at++;
+    Py_ssize_t count = PyTuple_Size(choices);
+    if (at == COUNT || count > CHOICES)
+        return PyErr_Format(PyExc_ValueError, "there is no quick function %U", name);
+    quick *of = &own->quick[at];
+    for (Py_ssize_t i = 0; i < count; i++) {
+        choice *it = &of->choices[i];
+        Py_CLEAR(it->last);
+        if (!PyArg_ParseTuple(PyTuple_GetItem(choices, i), "UO!I", &it->keyword, &PyDict_Type,
+                              &it->codes, &it->code))
+            return NULL;
+    }
+    if (!hold(own, of, given))
         return NULL;
-    uint32_t status =
-        chinese_quantity_print(&it, method, script, letter_case, room, sizeof room, &length);
-    return Py_BuildValue("IN", status, string_of(room, length));
-}
-
-static PyObject *print_figures(PyObject *module, PyObject *words) {
-    cn_quantity it;
-    uint8_t room[CN_MOST_FIGURES_BYTES];
-    size_t length;
-    if (!quantity_of(words, &it))
-        return NULL;
-    uint32_t status = chinese_quantity_figures(&it, room, sizeof room, &length);
-    PyObject *figures = PyUnicode_DecodeUTF8((char *)room, (Py_ssize_t)length, NULL);
-    return Py_BuildValue("IN", status, figures);
+    of->method = (PyMethodDef){ROWS[at].name, (PyCFunction)ROWS[at].call,
+                               METH_FASTCALL | METH_KEYWORDS, PyUnicode_AsUTF8AndSize(text, NULL)};
+    of->function = function;
+    of->first = first;
+    of->names = NULL;
+    of->more = more;
+    memset(of->refusals, 0, sizeof of->refusals);
+    of->choices_count = count;
+    return PyCFunction_NewEx(&of->method, module, where);
 }
 
 typedef uint32_t rewriting(const uint8_t *text, size_t text_length, uint32_t upper,
@@ -433,57 +671,6 @@ static PyObject *quantities_to_figures(PyObject *module, PyObject *given) {
 
 static PyObject *text_to_figures(PyObject *module, PyObject *given) {
     return rewritten(given, chinese_text_to_figures);
-}
-
-/* to_chinese for a signed int of 64 bits and known words. */
-static PyObject *to_chinese(PyObject *module, PyObject *const *values, Py_ssize_t count,
-                            PyObject *names) {
-    state *own = PyModule_GetState(module);
-    quick *of = &own->to_chinese;
-    uint8_t room[CN_MOST_BYTES];
-    int codes[CHOICES], overflow;
-    size_t length;
-    if (count == 1 && PyLong_CheckExact(values[0]) && codes_of(own, of, values + 1, names, codes)) {
-        uint32_t kind = (uint32_t)codes[0], way = (uint32_t)codes[1];
-        uint32_t script = (uint32_t)codes[2], letter_case = (uint32_t)codes[3];
-        long long value = PyLong_AsLongLongAndOverflow(values[0], &overflow);
-        cn_number it = cn_signed(value);
-        if (!overflow && (value >= 0 || kind >= CN_I8) &&
-            chinese_number_print(it.low, it.high, kind, way, script, letter_case, room, sizeof room,
-                                 &length) == CN_DONE)
-            return string_of(room, length);
-    }
-    return unusual(of, values, count, names);
-}
-
-/* Makes a quick function that wraps a Python function. The arguments are the function, its
- * defaults, a text that begins with its signature, as inspect reads it, and its module. */
-static PyObject *in_front(PyObject *module, PyObject *given, quick *of, void (*call)(void),
-                          const char *name) {
-    state *own = PyModule_GetState(module);
-    PyObject *function, *defaults, *text, *where;
-    if (!PyArg_ParseTuple(given, "OO!UO", &function, &PyDict_Type, &defaults, &text, &where) ||
-        PyDict_SetItemString(own->held, name, given))
-        return NULL;
-    for (int i = 0; i < CHOICES; i++) {
-        PyObject *value = PyDict_GetItemString(defaults, KEYWORDS[i]);
-        of->defaults[i] = value ? code_of(&own->choices[i], value) : -1;
-    }
-    of->method = (PyMethodDef){name, (PyCFunction)call, METH_FASTCALL | METH_KEYWORDS,
-                               PyUnicode_AsUTF8AndSize(text, NULL)};
-    of->function = function;
-    of->names = NULL;
-    return PyCFunction_NewEx(&of->method, module, where);
-}
-
-static PyObject *quick_to_number(PyObject *module, PyObject *given) {
-    quick *of = &((state *)PyModule_GetState(module))->to_number;
-    return in_front(module, given, of, (void (*)(void))to_number, "to_number");
-}
-
-static PyObject *quick_to_chinese(PyObject *module, PyObject *given) {
-    quick *of = &((state *)PyModule_GetState(module))->to_chinese;
-    return in_front(module, given, of, (void (*)(void))to_chinese, "to_chinese");
 }
 
 /* How many characters UTF-8 bytes have: counts the bytes that do not continue one, eight at a time. */
@@ -746,14 +933,7 @@ static PyObject *find_phrases(PyObject *module, PyObject *given) {
 
 #define CALL(name, words) {#name, name, words, NULL}
 static PyMethodDef METHODS[] = {
-    CALL(know_words, METH_VARARGS), CALL(quick_to_number, METH_VARARGS),
-    CALL(quick_to_chinese, METH_VARARGS), CALL(utf8, METH_O), CALL(read_number, METH_VARARGS),
-    CALL(read_amount, METH_O), CALL(read_typed_amount, METH_O), CALL(read_signed_amount, METH_O),
-    CALL(read_typed_signed_amount, METH_O), CALL(read_figures, METH_O), CALL(read_date, METH_O),
-    CALL(print_number, METH_VARARGS), CALL(print_amount, METH_VARARGS),
-    CALL(print_signed_amount, METH_VARARGS), CALL(print_date, METH_VARARGS),
-    CALL(find_numbers, METH_VARARGS), CALL(read_quantity, METH_VARARGS),
-    CALL(print_quantity, METH_VARARGS), CALL(print_figures, METH_O),
+    CALL(make_quick, METH_VARARGS), CALL(utf8, METH_O), CALL(find_numbers, METH_VARARGS),
     CALL(find_quantities, METH_VARARGS), CALL(find_phrases, METH_VARARGS),
     CALL(quantities_to_figures, METH_VARARGS), CALL(text_to_figures, METH_VARARGS),
     {NULL, NULL, 0, NULL},
@@ -761,19 +941,24 @@ static PyMethodDef METHODS[] = {
 
 static int traverse(PyObject *module, visitproc visit, void *arg) {
     state *own = PyModule_GetState(module);
+    for (int i = 0; i < COUNT * CHOICES; i++)
+        Py_VISIT(own->quick[i / CHOICES].choices[i % CHOICES].last);
     Py_VISIT(own->held);
     Py_VISIT(own->run);
     return 0;
 }
 
-/* A quick function may still exist: it then knows no word, and has no signature. */
+/* A quick function may still exist: it then has no function in Python and no signature. */
 static int clear(PyObject *module) {
     state *own = PyModule_GetState(module);
-    memset(own->choices, 0, sizeof own->choices);
-    own->to_number.function = own->to_chinese.function = NULL;
-    own->to_number.names = own->to_chinese.names = NULL;
-    own->to_number.method.ml_doc = own->to_chinese.method.ml_doc = NULL;
+    for (int i = 0; i < COUNT; i++) {
+        own->quick[i].function = NULL;
+        own->quick[i].method.ml_doc = NULL;
+        for (int at = 0; at < CHOICES; at++)
+            Py_CLEAR(own->quick[i].choices[at].last);
+    }
     Py_CLEAR(own->held);
+    Py_CLEAR(own->text);
     Py_CLEAR(own->run);
     return 0;
 }
@@ -785,8 +970,9 @@ static void discard(void *module) {
 static int begin(PyObject *module) {
     state *own = PyModule_GetState(module);
     own->held = PyDict_New();
+    own->text = PyUnicode_InternFromString("_text");
     own->run = PyType_FromModuleAndSpec(module, &RUN, NULL);
-    return own->held && own->run ? PyModule_AddObjectRef(module, "Run", own->run) : -1;
+    return own->held && own->text && own->run ? PyModule_AddObjectRef(module, "Run", own->run) : -1;
 }
 
 static PyModuleDef_Slot SLOTS[] = {{Py_mod_exec, (void *)begin}, {0, NULL}};

@@ -77,7 +77,6 @@ from datetime import date, datetime, time, timedelta
 from decimal import Decimal
 from fractions import Fraction
 from itertools import chain
-from sys import intern
 from typing import Any, Callable, Dict, Iterable, Iterator, List, Literal, Optional, Protocol
 from typing import SupportsIndex, Tuple, Type, TypeVar, Union
 
@@ -188,8 +187,9 @@ _POSITION = " (position: {char_index})"
 
 class _Refusal(ValueError):
     _texts: Dict[Status, str]
-    # What was read: "number", "quantity" or "input", the text, and the codes of the choices.
+    # What was read: "number", "quantity" or "input", and the codes of the choices; and the text.
     _read: Optional[Tuple[Any, ...]] = None
+    _text: str
 
     def __init__(self, status: Status, char_index: Optional[int] = None, **more: Any) -> None:
         text = self._texts.get(status) or status.name
@@ -201,8 +201,8 @@ class _Refusal(ValueError):
         return type(self), (self.status,), {**vars(self), "args": self.args}
 
     # An error in a variable of the function that raises it would be in a cycle with its traceback.
-    def _of(self: _AnyRefusal, *read: Any) -> _AnyRefusal:
-        self._read = read
+    def _of(self: _AnyRefusal, what: str, text: str, *codes: int) -> _AnyRefusal:
+        self._read, self._text = (what, *codes), text
         return self
 
     def message_in(self, language: Union[Language, _LanguageWord] = Language.ENGLISH) -> str:
@@ -217,19 +217,20 @@ class _Refusal(ValueError):
         """
         if self._read is None:
             return status_message(self.status, language=language)
-        return _message(language, *self._read)
+        what, *codes = self._read
+        return _message(language, what, self._text, *codes)
 
 
 class _InputRefusal(_Refusal):
     @property
     def expected(self) -> Optional[Expected]:
         """What may come next in the text that was read, or None if the error is not of reading."""
-        return _expected(*self._read[1:]) if self._read else None
+        return _expected(self._text, *self._read[1:]) if self._read else None
 
     @property
     def repair(self) -> Optional[Repair]:
         """The change that repairs the text that was read, if there is one."""
-        return _repair(*self._read[1:]) if self._read else None
+        return _repair(self._text, *self._read[1:]) if self._read else None
 
 
 class NumeralError(_Refusal):
@@ -264,7 +265,10 @@ class NumeralError(_Refusal):
     @property
     def fault(self) -> Optional[Fault]:
         """Why the text that was read is refused, or None if the error is not of reading."""
-        return _fault(*self._read) if self._read else None
+        if self._read is None:
+            return None
+        what, *codes = self._read
+        return _fault(what, self._text, *codes)
 
 
 class AmountError(_InputRefusal):
@@ -316,12 +320,6 @@ def _codes_of(of: Iterable[str]) -> Dict[str, int]:
     return {it: code for code, it in enumerate(of)}
 
 
-def _words(of: Iterable[Any]) -> Tuple[str, ...]:
-    members = tuple(of)
-    return members + tuple(intern(it.value) for it in members)
-
-
-_library.know_words(_words(Kind), _words(Way), _words(Script), _words(Case))
 _KINDS, _WAYS, _UNITS = _codes_of(Kind), _codes_of(Way), _codes_of(Unit)
 _SCRIPTS, _CASES = _codes_of(Script), _codes_of(Case)
 _FORMS, _FORM_OF = _codes_of(QuantityForm), tuple(QuantityForm)
@@ -336,6 +334,11 @@ _METHODS = {way: code for way, code in _WAYS.items() if way is not Way.DIGITS}
 # What each word adds to the code of an amount's form.
 _YUAN = {"元": 0, "圆": _codes.ROUND_YUAN}
 _CLOSINGS = {"整": 0, "正": _codes.UPRIGHT_CLOSING}
+_CURRENCY = {False: 0, True: _codes.CURRENCY}
+_BRACKETED_SIGN = {False: 0, True: _codes.BRACKETED_SIGN}
+# What the quick functions for dates and quantities need.
+_OF_DATES = date, "year", "month", "day"
+_OF_QUANTITIES = "numerator", "denominator", "form"
 _FIRST_NOT_WRITTEN = 10**18
 _TOO_MANY_PLACES = 16  # before the point: 10**16 yuan are 10**18 fen
 _MOST_PLACES = 38  # decimals that fit in 128 bits
@@ -421,7 +424,7 @@ def _place(code: int, char_index: int) -> Optional[int]:
     return char_index if code == _INCORRECT else None
 
 
-@_library.quick
+@_library.quick(kind=_KINDS, way=_WAYS)
 def to_number(
     text: str, *, kind: Union[Kind, _KindWord] = Kind.I128, way: Union[Way, _WayWord] = Way.ANY
 ) -> int:
@@ -445,7 +448,7 @@ def to_number(
     return _of_halves(low, high, kind)
 
 
-@_library.quick
+@_library.quick(kind=_KINDS, way=_WAYS, script=_SCRIPTS, case=_CASES)
 def to_chinese(
     number: SupportsIndex,
     *,
@@ -507,6 +510,7 @@ def _amount_text(
     return text
 
 
+@_library.quick(script=_SCRIPTS, currency=_CURRENCY, yuan=_YUAN, closing=_CLOSINGS)
 def amount_to_chinese(
     fen: SupportsIndex,
     *,
@@ -533,6 +537,13 @@ def amount_to_chinese(
     return _amount_text(_library.print_amount, fen, 0, choices)
 
 
+@_library.quick(
+    script=_SCRIPTS,
+    currency=_CURRENCY,
+    yuan=_YUAN,
+    closing=_CLOSINGS,
+    bracketed_sign=_BRACKETED_SIGN,
+)
 def signed_amount_to_chinese(
     fen: SupportsIndex,
     *,
@@ -561,13 +572,13 @@ def signed_amount_to_chinese(
 
 def _fen(read: Callable[[str], Tuple[int, int, int]], text: str, of: int) -> int:
     """The fen that a call of the library reads in a text, which is meant to be an input."""
-    # _text raises; it is not called for each text, which would take as long as a tenth of the rest.
-    code, fen, char_index = read(text if isinstance(text, str) else _text(text))
+    code, fen, char_index = read(_text(text))
     if code:
         raise AmountError(_status(code), _place(code, char_index))._of("input", text, of)
     return fen
 
 
+@_library.quick()
 def chinese_to_amount(text: str) -> int:
     """Reads a text in capitals as an amount in fen. Raises AmountError if the text is not an amount.
 
@@ -582,6 +593,7 @@ def chinese_to_amount(text: str) -> int:
     return _fen(_library.read_amount, text, _AMOUNT)
 
 
+@_library.quick()
 def chinese_to_signed_amount(text: str) -> int:
     """Reads an amount like chinese_to_amount, also a negative one with the prefix 负 or 負.
 
@@ -591,6 +603,7 @@ def chinese_to_signed_amount(text: str) -> int:
     return _fen(_library.read_signed_amount, text, _SIGNED_AMOUNT)
 
 
+@_library.quick()
 def chinese_to_amount_as_typed(text: str) -> int:
     """Reads an amount as it is typed, or copied from an invoice: like chinese_to_amount, but ignores
     white space, one ⊗ or ⓧ at the start, and （大写） and a colon directly after a leading 人民币.
@@ -601,6 +614,7 @@ def chinese_to_amount_as_typed(text: str) -> int:
     return _fen(_library.read_typed_amount, text, _TYPED_AMOUNT)
 
 
+@_library.quick()
 def chinese_to_signed_amount_as_typed(text: str) -> int:
     """Reads an amount like chinese_to_amount_as_typed, also a negative one, as on a red invoice: with
     the sign 负 or （负数） at the start, before or after ⊗ and 人民币.
@@ -616,6 +630,8 @@ def chinese_to_signed_amount_as_typed(text: str) -> int:
 def _figures_of(value: Decimal) -> str:
     """The figures of a Decimal. For a value far from 1, such as Decimal('1E+999999999999'), its own
     figures would fill the memory, so these are others with the same result."""
+    if value and -3 < value.adjusted() <= _TOO_MANY_PLACES:
+        return Decimal.__format__(value, "f")
     sign, digits, exponent = value.as_tuple()
     if isinstance(exponent, int):  # otherwise it is NaN or infinite
         if not any(digits):
@@ -626,6 +642,7 @@ def _figures_of(value: Decimal) -> str:
     return Decimal.__format__(value, "f")
 
 
+@_library.quick()
 def yuan_to_fen(value: Union[Decimal, str, SupportsIndex]) -> int:
     """Converts yuan to fen exactly, from figures in a str, a Decimal or a whole number. Raises
     AmountError if the value is not a whole number of fen; it never rounds.
@@ -650,17 +667,16 @@ def yuan_to_fen(value: Union[Decimal, str, SupportsIndex]) -> int:
             f"a float is not an exact amount: expected a str or a Decimal, not {_shown(value)}"
         )
     if isinstance(value, Decimal):
-        figures = _figures_of(value)
-    elif isinstance(value, str):
-        figures = value
-    else:
-        whole = _whole(value, "a str, a Decimal or a whole number of yuan")
-        if not abs(whole) < _FIRST_NOT_WRITTEN:  # Python may refuse to make its figures
-            raise AmountError(Status.TOO_LARGE)
-        figures = str(whole)
-    return _fen(_library.read_figures, figures, _FIGURES)
+        return yuan_to_fen(_figures_of(value))
+    if isinstance(value, str):
+        return _fen(_library.read_figures, value, _FIGURES)
+    whole = _whole(value, "a str, a Decimal or a whole number of yuan")
+    if not abs(whole) < _FIRST_NOT_WRITTEN:  # Python may refuse to make its figures
+        raise AmountError(Status.TOO_LARGE)
+    return yuan_to_fen(str(whole))
 
 
+@_library.quick(*_OF_DATES, script=_SCRIPTS)
 def date_to_chinese(
     day: _DateOnly, *, script: Union[Script, _ScriptWord] = Script.SIMPLIFIED
 ) -> str:
@@ -683,6 +699,7 @@ def date_to_chinese(
     return text
 
 
+@_library.quick(*_OF_DATES)
 def chinese_to_date(text: str) -> date:
     """Reads a text in capitals as a date. Raises DateError if the text is not a date.
 
@@ -852,12 +869,7 @@ class Quantity:
         >>> to_quantity('3.5兆').trimmed().to_chinese()
         '三万五千亿'
         """
-        method_code = _code(_METHODS, method, "method")
-        codes = _code(_SCRIPTS, script, "script"), _code(_CASES, case, "case")
-        status, text = _library.print_quantity(self._words(), method_code, *codes)
-        if status:
-            raise NumeralError(Status(status))
-        return text
+        return _quantity_to_chinese(self, method=method, script=script, case=case)
 
     def to_figures(self) -> str:
         """Writes the quantity in figures, in ASCII and without zeros at the end of its decimals.
@@ -865,14 +877,36 @@ class Quantity:
         >>> [to_quantity(it).to_figures() for it in ('三点一零', '12.50％', '负三分之一')]
         ['3.1', '12.5%', '-1/3']
         """
-        _, text = _library.print_figures(self._words())
-        return text
+        return _quantity_to_figures(self)
 
     def _words(self) -> _library.Words:
         above, below = self.numerator, self.denominator
         return above, above >> 64, below, below >> 64, _FORMS[self.form]
 
 
+@_library.quick(*_OF_QUANTITIES, _FORMS, method=_METHODS, script=_SCRIPTS, case=_CASES)
+def _quantity_to_chinese(
+    quantity: Quantity,
+    *,
+    method: _Method = Way.ANY,
+    script: Union[Script, _ScriptWord] = Script.SIMPLIFIED,
+    case: Union[Case, _CaseWord] = Case.LOWER,
+) -> str:
+    method_code = _code(_METHODS, method, "method")
+    codes = _code(_SCRIPTS, script, "script"), _code(_CASES, case, "case")
+    status, text = _library.print_quantity(quantity._words(), method_code, *codes)
+    if status:
+        raise NumeralError(Status(status))
+    return text
+
+
+@_library.quick(*_OF_QUANTITIES, _FORMS)
+def _quantity_to_figures(quantity: Quantity) -> str:
+    _, text = _library.print_figures(quantity._words())
+    return text
+
+
+@_library.quick(*_OF_QUANTITIES, Quantity, *_FORM_OF, method=_METHODS)
 def to_quantity(text: str, *, method: _Method = Way.ANY) -> Quantity:
     """Reads a text as a quantity: a whole number, a decimal, a percentage or a fraction, in figures or
     in numerals. The method is low, ten_thousand, middle, high or any, which means ten_thousand here.
