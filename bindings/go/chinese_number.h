@@ -19,9 +19,10 @@
  * - No pointer is NULL, not even for an empty text, buffer or array. (cn_.. accept NULL for a text
  *   or a buffer of length 0.)
  * - A text and a buffer have as many bytes as their length says, and an array has `most` spans or
- *   phrases: at most PTRDIFF_MAX bytes.
+ *   phrases, or as many values as its length says: at most PTRDIFF_MAX bytes.
  * - What a call writes (the buffer `room`, *length, *reading, *quantity, *low, *high, the spans, the
- *   phrases, *count) does not overlap any other argument.
+ *   phrases, *count; of a column the offsets, values and statuses that it writes, and *done) does not
+ *   overlap any other argument.
  * - Nothing else writes to the arguments before the call returns.
  *
  * All names begin with chinese_, cn_ or CN_. */
@@ -348,7 +349,8 @@ typedef enum cn_status CN_OF_CODE {
     /* When reading, finding or replacing, the bytes are not UTF-8; when finding, also: the
      * search starts neither at a character nor at the end of the text. */
     CN_NOT_UTF8 = 5,
-    /* When writing or replacing, the text has more bytes than the buffer. */
+    /* When writing or replacing, the text has more bytes than the buffer; when reading a column,
+     * the offsets of the row are not those of a text. */
     CN_NO_ROOM = 6,
     /* When writing, the type does not hold the number. */
     CN_NOT_HELD = 7,
@@ -358,7 +360,8 @@ typedef enum cn_status CN_OF_CODE {
     /* When reading an amount, figures or a date, the text is not one, but more text can make it
      * one. */
     CN_UNFINISHED = 9,
-    /* When finding the next number or quantity, there is no further one in the text. */
+    /* When finding the next number or quantity, there is no further one in the text; in a
+     * column, the row is missing. */
     CN_NONE = 10,
     /* When writing a date, the date does not exist. */
     CN_NOT_A_DATE = 11,
@@ -745,6 +748,97 @@ uint32_t chinese_date_print(uint32_t year, uint32_t month, uint32_t day, uint32_
  * with which no date begins, or CN_NOT_UTF8. The call tests that the whole text is UTF-8, and then
  * reads up to the wrong character, which is among the first 14. */
 uint32_t chinese_date_read(const uint8_t *text, size_t text_length, cn_date *reading);
+
+/* A column is many rows in one call. A column of texts is as Arrow has its large strings: the texts, in
+ * UTF-8, one after another in one array of bytes, and one offset more than there are rows: the text of
+ * row i is the bytes from offsets[i] up to, not including, offsets[i + 1]. A bitmap says which rows are
+ * present, 1 for a present one: that of row i is bit `first` + i, counted from the least bit of
+ * bitmap[0] on. A row beyond the bitmap is present, so with an empty bitmap all are. Each row has a
+ * status of its own, so that a bad row loses nothing. A missing row has the status CN_NONE.
+ *
+ * A call has as many rows as the shortest of its arrays: values, statuses, and the offsets after the
+ * first. */
+
+/* Prints numbers of a type, given in 64 bits, as a column of texts: each row as chinese_number_print
+ * prints it. A number of a signed type is in two's complement of 64 bits. The caller sets offsets[0]:
+ * the first text begins at this byte of the buffer.
+ *
+ * Writes *done, and of the first *done rows the status, the end (row i's to offsets[i + 1]) and the
+ * text, which is empty if the row is missing or refused; nothing else. At CN_DONE these are all rows.
+ * At CN_NO_ROOM the text of row *done does not fit the buffer. To go on, in a larger buffer or, with
+ * another offsets[0], in another one, call again with values, offsets and statuses from row *done on,
+ * and with `first` + *done; the bytes are then the same as from one call with a buffer that is large
+ * enough.
+ *
+ * Returns CN_DONE, CN_NO_ROOM or CN_UNKNOWN (*done is then 0). The status of a row is CN_DONE, CN_NONE,
+ * CN_TOO_LARGE, CN_TOO_SMALL or CN_NOT_HELD. A buffer with CN_MOST_BYTES for each row is never too
+ * small. */
+uint32_t chinese_numbers_print_column(const uint64_t *values, size_t values_length, const uint8_t *bitmap,
+                                      size_t bitmap_length, size_t first, uint32_t kind, uint32_t way,
+                                      uint32_t script, uint32_t letter_case, uint64_t *offsets,
+                                      size_t offsets_length, uint8_t *room, size_t room_length, uint32_t *statuses,
+                                      size_t statuses_length, size_t *done);
+
+/* The same for numbers of 128 bits, in two halves. In memory they are as Arrow's decimals of 128 bits,
+ * if the processor is little-endian. */
+uint32_t chinese_wide_numbers_print_column(const cn_number *values, size_t values_length, const uint8_t *bitmap,
+                                           size_t bitmap_length, size_t first, uint32_t kind, uint32_t way,
+                                           uint32_t script, uint32_t letter_case, uint64_t *offsets,
+                                           size_t offsets_length, uint8_t *room, size_t room_length,
+                                           uint32_t *statuses, size_t statuses_length, size_t *done);
+
+/* Prints amounts of fen, likewise: each row as chinese_signed_amount_print prints it, which prints an
+ * amount that is not negative as chinese_amount_print does. A buffer with CN_MOST_SIGNED_AMOUNT_BYTES
+ * for each row is never too small. */
+uint32_t chinese_amounts_print_column(const int64_t *values, size_t values_length, const uint8_t *bitmap,
+                                      size_t bitmap_length, size_t first, uint32_t script, uint32_t form,
+                                      uint64_t *offsets, size_t offsets_length, uint8_t *room, size_t room_length,
+                                      uint32_t *statuses, size_t statuses_length, size_t *done);
+
+/* A row of a column of dates. */
+typedef struct cn_day {
+    uint32_t year;
+    uint32_t month;
+    uint32_t day;
+} cn_day;
+
+/* Prints dates, likewise: each row as chinese_date_print prints it. The status of a row is CN_DONE,
+ * CN_NONE or CN_NOT_A_DATE. A buffer with CN_MOST_DATE_BYTES for each row is never too small. */
+uint32_t chinese_dates_print_column(const cn_day *values, size_t values_length, const uint8_t *bitmap,
+                                    size_t bitmap_length, size_t first, uint32_t script, uint64_t *offsets,
+                                    size_t offsets_length, uint8_t *room, size_t room_length, uint32_t *statuses,
+                                    size_t statuses_length, size_t *done);
+
+/* Reads a column of texts as numbers of a type: each row as chinese_number_read reads its text. Writes
+ * the value and the status of each row, and nothing else. The value is the lower 64 bits of the number,
+ * which are all of a number of up to 64 bits, and 0 if the row is not read: if it is missing (CN_NONE),
+ * refused, or not between two offsets of the texts (CN_NO_ROOM): if they fall, or are beyond the end.
+ *
+ * Returns CN_DONE or CN_UNKNOWN, which writes nothing. */
+uint32_t chinese_numbers_read_column(const uint8_t *texts, size_t texts_length, const uint64_t *offsets,
+                                     size_t offsets_length, const uint8_t *bitmap, size_t bitmap_length,
+                                     size_t first, uint32_t kind, uint32_t way, uint64_t *values,
+                                     size_t values_length, uint32_t *statuses, size_t statuses_length);
+
+/* The same for numbers of 128 bits. */
+uint32_t chinese_wide_numbers_read_column(const uint8_t *texts, size_t texts_length, const uint64_t *offsets,
+                                          size_t offsets_length, const uint8_t *bitmap, size_t bitmap_length,
+                                          size_t first, uint32_t kind, uint32_t way, cn_number *values,
+                                          size_t values_length, uint32_t *statuses, size_t statuses_length);
+
+/* Reads a column of texts as amounts of fen, likewise: each row as the call of the input reads it, which
+ * is CN_SIGNED_AMOUNT, CN_TYPED_SIGNED_AMOUNT or CN_FIGURES. Returns CN_DONE, or CN_UNKNOWN for any
+ * other input. */
+uint32_t chinese_amounts_read_column(const uint8_t *texts, size_t texts_length, const uint64_t *offsets,
+                                     size_t offsets_length, const uint8_t *bitmap, size_t bitmap_length,
+                                     size_t first, uint32_t input, int64_t *values, size_t values_length,
+                                     uint32_t *statuses, size_t statuses_length);
+
+/* Reads a column of texts as dates, likewise: each row as chinese_date_read reads it. Returns CN_DONE. */
+uint32_t chinese_dates_read_column(const uint8_t *texts, size_t texts_length, const uint64_t *offsets,
+                                   size_t offsets_length, const uint8_t *bitmap, size_t bitmap_length,
+                                   size_t first, cn_day *values, size_t values_length, uint32_t *statuses,
+                                   size_t statuses_length);
 
 /* What may come next in a text after its longest part, from the start, that begins such an input.
  * char_index and byte_index are its length: all of the text, or up to the wrong character. may_end

@@ -5335,7 +5335,89 @@ static void f63(State m, long l0, int l1) {
  b[((int) l0) - 60720] = (byte) l3;
 }
 
-static void f64(State m, long l0, int l1, int l2) {
+static void f64(State m, long l0, long l1, int l2, int l3) {
+ final byte[] b = m.bytes;
+ long l4 = 0;
+ long l5 = 0;
+ long l6 = 0;
+ long l7 = 0;
+ int l8 = 0;
+ int l9 = 0;
+ m.g0 = l4 = m.g0 - 32L;
+ L1: {
+  if ((l4 = l4) < 16L) { break L1; }
+  l8 = l3 >>> 16;
+  Words.put64(b, ((int) l4) - 60696, 0L);
+  Words.put64(b, ((int) l4) - 60704, 39L);
+  Words.put64(b, ((int) l4) - 60712, l1);
+  f65(m, l4 + 8L, l2, l3);
+  L2: {
+   final long t3 = l5 = (l1 = Words.get64(b, ((int) l4) - 60696)) + 3L;
+   final int t4 = (l5 + Long.MIN_VALUE < l1 + Long.MIN_VALUE) ? 1 : 0;
+   if ((l5 = t4 != 0 ? -1L : t3) + Long.MIN_VALUE > (l6 = Words.get64(b, ((int) l4) - 60704)) + Long.MIN_VALUE) { break L2; }
+   b[((int) (l7 = Words.get64(b, ((int) l4) - 60712) + l1)) - 60718] = (byte) 180;
+   Words.put16(b, ((int) l7) - 60720, (short) 47589);
+  }
+  Words.put64(b, ((int) l4) - 60696, l5);
+  L5: {
+   if ((l9 = l8 & 255) + Integer.MIN_VALUE > -2147483638) { break L5; }
+   if (((1 << l9) & 1031) == 0) { break L5; }
+   L6: {
+    final long t7 = l7 = l1 + 6L;
+    final int t8 = (l7 + Long.MIN_VALUE < l1 + Long.MIN_VALUE) ? 1 : 0;
+    if ((l1 = t8 != 0 ? -1L : t7) + Long.MIN_VALUE > l6 + Long.MIN_VALUE) { break L6; }
+    b[((int) (l5 = Words.get64(b, ((int) l4) - 60712) + l5)) - 60718] = (byte) 182;
+    Words.put16(b, ((int) l5) - 60720, (short) 39913);
+   }
+   Words.put64(b, ((int) l4) - 60696, l1);
+  }
+  l9 = l3 >>> 24;
+  f66(m, l4 + 8L, l2, l8);
+  L9: {
+   final long t10 = l5 = (l1 = Words.get64(b, ((int) l4) - 60696)) + 3L;
+   final int t11 = (l5 + Long.MIN_VALUE < l1 + Long.MIN_VALUE) ? 1 : 0;
+   if ((l5 = t11 != 0 ? -1L : t10) + Long.MIN_VALUE > (l6 = Words.get64(b, ((int) l4) - 60704)) + Long.MIN_VALUE) { break L9; }
+   b[((int) (l7 = Words.get64(b, ((int) l4) - 60712) + l1)) - 60718] = (byte) 136;
+   Words.put16(b, ((int) l7) - 60720, (short) 40166);
+  }
+  Words.put64(b, ((int) l4) - 60696, l5);
+  l8 = (int) ((l9 & 0xffffffffL) % 10L);
+  L12: {
+   L13: {
+    if (l3 + Integer.MIN_VALUE < -1979711488) { break L13; }
+    if (l8 != 0) { break L12; }
+   }
+   L14: {
+    final long t15 = l7 = l1 + 6L;
+    final int t16 = (l7 + Long.MIN_VALUE < l1 + Long.MIN_VALUE) ? 1 : 0;
+    if ((l1 = t16 != 0 ? -1L : t15) + Long.MIN_VALUE > l6 + Long.MIN_VALUE) { break L14; }
+    b[((int) (l5 = Words.get64(b, ((int) l4) - 60712) + l5)) - 60718] = (byte) 182;
+    Words.put16(b, ((int) l5) - 60720, (short) 39913);
+   }
+   Words.put64(b, ((int) l4) - 60696, l1);
+  }
+  f66(m, l4 + 8L, l2, l9);
+  L17: {
+   L18: {
+    final long t19 = l5 = (l1 = Words.get64(b, ((int) l4) - 60696)) + 3L;
+    final int t20 = (l5 + Long.MIN_VALUE < l1 + Long.MIN_VALUE) ? 1 : 0;
+    if ((l5 = t20 != 0 ? -1L : t19) + Long.MIN_VALUE <= Words.get64(b, ((int) l4) - 60704) + Long.MIN_VALUE) { break L18; }
+    l5 = 0L;
+    l6 = 83372L;
+    break L17;
+   }
+   b[((int) (l1 = (l6 = Words.get64(b, ((int) l4) - 60712)) + l1)) - 60718] = (byte) 165;
+   Words.put16(b, ((int) l1) - 60720, (short) 38886);
+  }
+  Words.put64(b, ((int) l0) - 60712, l5);
+  Words.put64(b, ((int) l0) - 60720, l6);
+  m.g0 = l4 + 32L;
+  return;
+ }
+ throw State.trap();
+}
+
+static void f65(State m, long l0, int l1, int l2) {
  final byte[] b = m.bytes;
  long l3 = 0;
  long l4 = 0;
@@ -5346,7 +5428,7 @@ static void f64(State m, long l0, int l1, int l2) {
   if ((l3 = m.g0) < 16L) { break L1; }
   L2: {
    if ((l7 = l2 & 65535) == 0) { break L2; }
-   f64(m, l0, l1, l7 = (int) ((l7 & 0xffffffffL) / 10L));
+   f65(m, l0, l1, l7 = (int) ((l7 & 0xffffffffL) / 10L));
    if (((l2 = Words.get32(b, ((int) ((((l1 & 255) != 0) ? 70000L : 69568L) + ((((l2 - (l7 * 10)) << 2) & 0xffffffffL) & 65532L))) - 60720)) + -55296) + Integer.MIN_VALUE <= 2147430399) { break L1; }
    L3: {
     final long t4 = l6 = (l5 = Words.get64(b, ((int) (l4 = l0 + 16L)) - 60720)) + 3L;
@@ -5364,7 +5446,7 @@ static void f64(State m, long l0, int l1, int l2) {
  throw State.trap();
 }
 
-static void f65(State m, long l0, int l1, int l2) {
+static void f66(State m, long l0, int l1, int l2) {
  final byte[] b = m.bytes;
  int l3 = 0;
  long l4 = 0;
@@ -5424,7 +5506,7 @@ static void f65(State m, long l0, int l1, int l2) {
  throw State.trap();
 }
 
-static void f66(State m, long l0, long l1) {
+static void f67(State m, long l0, long l1) {
  final byte[] b = m.bytes;
  long l2 = 0;
  int l3 = 0;
@@ -5442,7 +5524,7 @@ static void f66(State m, long l0, long l1) {
  throw State.trap();
 }
 
-static void f67(State m, long l0, long l1, long l2) {
+static void f68(State m, long l0, long l1, long l2) {
  final byte[] b = m.bytes;
  long l3 = 0;
  long l4 = 0;
@@ -5505,7 +5587,7 @@ static void f67(State m, long l0, long l1, long l2) {
   Words.put32(b, ((int) l3) - 60708, l12);
   L12: {
    if (l12 == 0) { break L12; }
-   f68(m, l0, l3 + 24L, 0, l3 + 12L);
+   f69(m, l0, l3 + 24L, 0, l3 + 12L);
    L13: {
     final long t14 = l5 = (l2 = Words.get64(b, ((int) (l1 = l0 + 16L)) - 60720)) + 3L;
     final int t15 = (l5 + Long.MIN_VALUE < l2 + Long.MIN_VALUE) ? 1 : 0;
@@ -5529,7 +5611,7 @@ static void f67(State m, long l0, long l1, long l2) {
   final long t17 = l3 + 24L;
   final int t18 = ((l12 & 16777215) != 0) ? 1 : 0;
   final int t19 = (l12 + Integer.MIN_VALUE < -2130706432) ? 1 : 0;
-  f68(m, t16, t17, l12 = t19 != 0 ? t18 : 2, l3 + 20L);
+  f69(m, t16, t17, l12 = t19 != 0 ? t18 : 2, l3 + 20L);
   l12 = l12 | l11;
   L20: {
    L21: {
@@ -5554,7 +5636,7 @@ static void f67(State m, long l0, long l1, long l2) {
   l11 = t26 != 0 ? t25 : 2;
   L27: {
    if (l10 == 0) { break L27; }
-   f68(m, l0, l3 + 12L, l11, l3 + 24L);
+   f69(m, l0, l3 + 12L, l11, l3 + 24L);
    L28: {
     final long t29 = l5 = (l2 = Words.get64(b, ((int) (l1 = l0 + 16L)) - 60720)) + 3L;
     final int t30 = (l5 + Long.MIN_VALUE < l2 + Long.MIN_VALUE) ? 1 : 0;
@@ -5570,7 +5652,7 @@ static void f67(State m, long l0, long l1, long l2) {
   final long t32 = l3 + 12L;
   final int t33 = (((l10 & 16777215) | (l11 & 255)) != 0) ? 1 : 0;
   final int t34 = (l10 + Integer.MIN_VALUE < -2130706432) ? 1 : 0;
-  f68(m, t31, t32, l11 = t34 != 0 ? t33 : 2, l3 + 24L);
+  f69(m, t31, t32, l11 = t34 != 0 ? t33 : 2, l3 + 24L);
   l10 = (((l8 | l7) & 255) == 0) ? 1 : 0;
   L35: {
    L36: {
@@ -5684,7 +5766,7 @@ static void f67(State m, long l0, long l1, long l2) {
  throw State.trap();
 }
 
-static void f68(State m, long l0, long l1, int l2, long l3) {
+static void f69(State m, long l0, long l1, int l2, long l3) {
  final byte[] b = m.bytes;
  int l4 = 0;
  int l5 = 0;
@@ -5832,7 +5914,1023 @@ static void f68(State m, long l0, long l1, int l2, long l3) {
  throw State.trap();
 }
 
-static int f69(State m, long l0, long l1, long l2, long l3) {
+static int f70(State m, long l0, long l1, long l2) {
+ final byte[] b = m.bytes;
+ long l3 = 0;
+ long l4 = 0;
+ long l5 = 0;
+ long l6 = 0;
+ long l7 = 0;
+ long l8 = 0;
+ long l9 = 0;
+ long l10 = 0;
+ long l11 = 0;
+ long l12 = 0;
+ long l13 = 0;
+ int l14 = 0;
+ int l15 = 0;
+ int l16 = 0;
+ int l17 = 0;
+ int l18 = 0;
+ int l19 = 0;
+ int l20 = 0;
+ int l21 = 0;
+ m.g0 = l3 = m.g0 - 32L;
+ L1: {
+  L2: {
+   L3: {
+    if ((l4 = l3) < 16L) { break L3; }
+    Words.put64(b, ((int) l2) - 60720, 0L);
+    Words.put64(b, ((int) l2) - 60712, 0L);
+    Words.put64(b, ((int) l2) - 60704, 0L);
+    Words.put64(b, ((int) l4) - 60696, 0L);
+    Words.put64(b, ((int) l4) - 60704, 0L);
+    Words.put64(b, ((int) l4) - 60712, 0L);
+    l5 = l1;
+    l3 = l0;
+    L4: {
+     L5: {
+      L6: {
+       if (l1 + Long.MIN_VALUE < -9223372036854775804L) { break L6; }
+       l3 = l0;
+       l5 = l1;
+       L7: while (true) {
+        if (((Words.get32(b, ((int) l3) - 60720) + 16776990) & 12632312) != 8421376) { break L5; }
+        l3 = l3 + 3L;
+        if ((l5 = l5 + -3L) + Long.MIN_VALUE > -9223372036854775805L) { continue L7; }
+        break L7;
+       }
+      }
+      if (l5 + Long.MIN_VALUE > -9223372036854775805L) { break L5; }
+      L8: {
+       switch ((int) l5) {
+       case 1: case 2: break L5;
+       case 3: break L8;
+       default: break L4;
+       }
+      }
+      if (((((Words.get16(b, ((int) l3) - 60720) & 0xffff) | ((b[((int) (l3 + 2L)) - 60720] & 0xff) << 16)) + 16776990) & 12632312) == 8421376) { break L4; }
+     }
+     l14 = 5;
+     if (Core1.f6(m, l0, l1) == 0) { break L1; }
+    }
+    L9: {
+     if (l1 == 0L) { break L9; }
+     l15 = 0;
+     l6 = 0L;
+     l7 = l1;
+     l5 = l0;
+     l8 = 0L;
+     l9 = 0L;
+     l10 = 0L;
+     l16 = 0;
+     l17 = 0;
+     L10: {
+      L11: while (true) {
+       l18 = l16;
+       l14 = (l16 = (int) b[((int) l5) - 60720]) & 255;
+       l11 = 1L;
+       L12: {
+        L13: {
+         if (l16 <= -1) { break L13; }
+         l12 = 1L;
+         break L12;
+        }
+        l19 = (b[((int) l5) - 60719] & 0xff) & 63;
+        L14: {
+         if (l16 + Integer.MIN_VALUE > 2147483615) { break L14; }
+         l14 = ((l14 << 6) & 1984) | l19;
+         l12 = 2L;
+         break L12;
+        }
+        l20 = (b[((int) l5) - 60718] & 0xff) & 63;
+        L15: {
+         if (l16 + Integer.MIN_VALUE > 2147483631) { break L15; }
+         l14 = ((l19 << 6) | ((l14 << 12) & 61440)) | l20;
+         l12 = 3L;
+         break L12;
+        }
+        l14 = ((l20 << 6) | ((l19 << 12) | ((l14 << 18) & 1835008))) | ((b[((int) l5) - 60717] & 0xff) & 63);
+        l12 = 4L;
+       }
+       L16: {
+        if (Words.get32(b, State.far((int) (l3 = (((l14 * 3227) >>> 7) & 0xffffffffL) & 504L), 65536)) == l14) { break L16; }
+        l3 = 1L;
+        break L10;
+       }
+       L17: {
+        if (((b[((int) (l3 + 65540L)) - 60720] & 0xff) & 255) == 1) { break L17; }
+        l3 = 1L;
+        break L10;
+       }
+       l13 = b[((int) (l3 + 65542L)) - 60720] & 0xffL;
+       l14 = b[((int) (l3 + 65541L)) - 60720] & 0xff;
+       l3 = 1L;
+       L18: {
+        L19: {
+         L20: {
+          L21: {
+           L22: {
+            L23: {
+             L24: {
+              L25: {
+               L26: {
+                L27: {
+                 L28: {
+                  L29: {
+                   L30: {
+                    L31: {
+                     L32: {
+                      L33: {
+                       L34: {
+                        L35: {
+                         L36: {
+                          L37: {
+                           L38: {
+                            L39: {
+                             L40: {
+                              L41: {
+                               L42: {
+                                L43: {
+                                 L44: {
+                                  L45: {
+                                   L46: {
+                                    L47: {
+                                     L48: {
+                                      L49: {
+                                       L50: {
+                                        L51: {
+                                         L52: {
+                                          L53: {
+                                           switch ((int) ((l17 & 0xffffffffL) & 255L)) {
+                                           case 1: break L44;
+                                           case 2: break L43;
+                                           case 3: break L42;
+                                           case 4: break L41;
+                                           case 5: break L53;
+                                           case 6: break L52;
+                                           case 7: break L51;
+                                           case 8: break L50;
+                                           case 9: break L49;
+                                           case 10: break L48;
+                                           case 11: break L47;
+                                           case 12: break L46;
+                                           case 13: break L40;
+                                           case 14: break L38;
+                                           case 15: break L36;
+                                           case 16: break L37;
+                                           case 17: break L39;
+                                           case 18: break L34;
+                                           case 19: break L10;
+                                           default: break L45;
+                                           }
+                                          }
+                                          L54: {
+                                           if (((1 << l14) & 261375) != 0) { break L54; }
+                                           if (l14 != 8) { break L21; }
+                                           break L20;
+                                          }
+                                          L55: {
+                                           if ((l14 + -5) + Integer.MIN_VALUE < -2147483635) { break L55; }
+                                           l16 = 0;
+                                           switch (l14) {
+                                           case 2: break L31;
+                                           case 3: break L30;
+                                           case 4: break L28;
+                                           default: break L55;
+                                           }
+                                          }
+                                          l16 = 0;
+                                          l17 = 6;
+                                          l3 = 1L;
+                                          switch (l14) {
+                                          case 5: break L25;
+                                          case 6: break L24;
+                                          case 7: break L22;
+                                          default: break L10;
+                                          }
+                                         }
+                                         L56: {
+                                          if ((l14 + -6) + Integer.MIN_VALUE < -2147483636) { break L56; }
+                                          l20 = 3;
+                                          l19 = 10;
+                                          l21 = l14;
+                                          l3 = 1L;
+                                          L57: {
+                                           switch (l14) {
+                                           case 1: break L32;
+                                           case 2: case 3: case 4: break L56;
+                                           case 5: break L10;
+                                           default: break L57;
+                                           }
+                                          }
+                                          l16 = 1;
+                                          l15 = (l18 & 1) | 2;
+                                          l17 = 9;
+                                          break L18;
+                                         }
+                                         l16 = 1;
+                                         if (l14 == 6) { break L24; }
+                                         if (l14 == 7) { break L22; }
+                                         l3 = 1L;
+                                         break L10;
+                                        }
+                                        L58: {
+                                         if ((l14 + -6) + Integer.MIN_VALUE < -2147483636) { break L58; }
+                                         l20 = 3;
+                                         l21 = 4;
+                                         l19 = 10;
+                                         l3 = 1L;
+                                         L59: {
+                                          switch (l14) {
+                                          case 1: break L32;
+                                          case 2: case 3: case 4: break L58;
+                                          case 5: break L10;
+                                          default: break L59;
+                                          }
+                                         }
+                                         l15 = 3;
+                                         l16 = (l18 & 1) ^ 3;
+                                         l17 = 9;
+                                         break L18;
+                                        }
+                                        l16 = 1;
+                                        l17 = 8;
+                                        if (l14 == 5) { break L25; }
+                                        if (l14 == 7) { break L22; }
+                                        l3 = 1L;
+                                        break L10;
+                                       }
+                                       l16 = 1;
+                                       l20 = 3;
+                                       l21 = 5;
+                                       l19 = 10;
+                                       l3 = 1L;
+                                       L60: {
+                                        switch (l14) {
+                                        case 1: break L32;
+                                        case 2: case 3: case 4: case 5: case 6: case 8: case 9: case 10: case 11: case 12: case 13: case 14: case 15: case 16: case 17: break L10;
+                                        case 7: break L22;
+                                        default: break L60;
+                                        }
+                                       }
+                                       l15 = (l18 & 1) | 2;
+                                       l16 = 5;
+                                       l17 = 9;
+                                       break L18;
+                                      }
+                                      if (l14 == 1) { break L33; }
+                                      l3 = 1L;
+                                      break L10;
+                                     }
+                                     L61: {
+                                      L62: {
+                                       L63: {
+                                        L64: {
+                                         switch ((int) ((l15 & 0xffffffffL) & 255L)) {
+                                         case 1: break L62;
+                                         case 2: break L63;
+                                         case 3: break L64;
+                                         default: break L61;
+                                         }
+                                        }
+                                        l16 = l18;
+                                        if (l14 == 4) { break L28; }
+                                        l3 = 1L;
+                                        break L10;
+                                       }
+                                       l16 = l18;
+                                       if (l14 == 3) { break L30; }
+                                       l3 = 1L;
+                                       break L10;
+                                      }
+                                      l16 = l18;
+                                      if (l14 == 2) { break L31; }
+                                      l3 = 1L;
+                                      break L10;
+                                     }
+                                     L65: {
+                                      L66: {
+                                       L67: {
+                                        L68: {
+                                         L69: {
+                                          switch ((int) ((l18 & 0xffffffffL) & 255L)) {
+                                          case 1: break L66;
+                                          case 2: case 3: break L68;
+                                          case 4: break L67;
+                                          case 5: break L65;
+                                          default: break L69;
+                                          }
+                                         }
+                                         l16 = 0;
+                                         l17 = 6;
+                                         l3 = 1L;
+                                         switch (l14) {
+                                         case 5: break L25;
+                                         case 6: break L24;
+                                         case 7: break L22;
+                                         default: break L10;
+                                         }
+                                        }
+                                        l16 = 0;
+                                        l17 = 8;
+                                        if (l14 == 5) { break L25; }
+                                        if (l14 == 7) { break L22; }
+                                        l3 = 1L;
+                                        break L10;
+                                       }
+                                       if (l14 == 5) { break L27; }
+                                       l3 = 1L;
+                                       break L10;
+                                      }
+                                      l16 = 0;
+                                      if (l14 == 6) { break L24; }
+                                      if (l14 == 7) { break L22; }
+                                      l3 = 1L;
+                                      break L10;
+                                     }
+                                     if (l14 == 7) { break L23; }
+                                     l3 = 1L;
+                                     break L10;
+                                    }
+                                    L70: {
+                                     L71: {
+                                      L72: {
+                                       L73: {
+                                        switch ((int) ((l15 & 0xffffffffL) & 255L)) {
+                                        case 1: break L71;
+                                        case 2: break L72;
+                                        case 3: break L73;
+                                        default: break L70;
+                                        }
+                                       }
+                                       L74: {
+                                        if ((l14 + -5) + Integer.MIN_VALUE < -2147483635) { break L74; }
+                                        l16 = l18;
+                                        switch (l14) {
+                                        case 2: break L31;
+                                        case 3: break L30;
+                                        case 4: break L29;
+                                        default: break L74;
+                                        }
+                                       }
+                                       L75: {
+                                        L76: {
+                                         L77: {
+                                          L78: {
+                                           L79: {
+                                            switch ((int) ((l18 & 0xffffffffL) & 255L)) {
+                                            case 1: break L76;
+                                            case 2: case 3: break L78;
+                                            case 4: break L77;
+                                            case 5: break L75;
+                                            default: break L79;
+                                            }
+                                           }
+                                           l16 = 0;
+                                           l17 = 6;
+                                           l3 = 1L;
+                                           switch (l14) {
+                                           case 5: break L25;
+                                           case 6: break L24;
+                                           case 7: break L22;
+                                           default: break L10;
+                                           }
+                                          }
+                                          l16 = 0;
+                                          l17 = 8;
+                                          if (l14 == 5) { break L25; }
+                                          if (l14 == 7) { break L22; }
+                                          l3 = 1L;
+                                          break L10;
+                                         }
+                                         if (l14 == 5) { break L27; }
+                                         l3 = 1L;
+                                         break L10;
+                                        }
+                                        l16 = 0;
+                                        if (l14 == 6) { break L24; }
+                                        if (l14 == 7) { break L22; }
+                                        l3 = 1L;
+                                        break L10;
+                                       }
+                                       if (l14 == 7) { break L23; }
+                                       l3 = 1L;
+                                       break L10;
+                                      }
+                                      L80: {
+                                       if ((l14 + -4) + Integer.MIN_VALUE < -2147483634) { break L80; }
+                                       l16 = l18;
+                                       switch (l14) {
+                                       case 2: break L31;
+                                       case 3: break L30;
+                                       default: break L80;
+                                       }
+                                      }
+                                      L81: {
+                                       L82: {
+                                        L83: {
+                                         L84: {
+                                          L85: {
+                                           switch ((int) ((l18 & 0xffffffffL) & 255L)) {
+                                           case 1: break L82;
+                                           case 2: case 3: break L84;
+                                           case 4: break L83;
+                                           case 5: break L81;
+                                           default: break L85;
+                                           }
+                                          }
+                                          l16 = 0;
+                                          l17 = 6;
+                                          l3 = 1L;
+                                          switch (l14) {
+                                          case 5: break L25;
+                                          case 6: break L24;
+                                          case 7: break L22;
+                                          default: break L10;
+                                          }
+                                         }
+                                         l16 = 0;
+                                         l17 = 8;
+                                         if (l14 == 5) { break L25; }
+                                         if (l14 == 7) { break L22; }
+                                         l3 = 1L;
+                                         break L10;
+                                        }
+                                        if (l14 == 5) { break L27; }
+                                        l3 = 1L;
+                                        break L10;
+                                       }
+                                       l16 = 0;
+                                       if (l14 == 6) { break L24; }
+                                       if (l14 == 7) { break L22; }
+                                       l3 = 1L;
+                                       break L10;
+                                      }
+                                      if (l14 == 7) { break L23; }
+                                      l3 = 1L;
+                                      break L10;
+                                     }
+                                     L86: {
+                                      if ((l14 + -5) + Integer.MIN_VALUE < -2147483635) { break L86; }
+                                      l16 = l18;
+                                      l3 = 1L;
+                                      switch (l14) {
+                                      case 2: break L31;
+                                      case 3: case 4: break L10;
+                                      default: break L86;
+                                      }
+                                     }
+                                     L87: {
+                                      L88: {
+                                       L89: {
+                                        L90: {
+                                         L91: {
+                                          switch ((int) ((l18 & 0xffffffffL) & 255L)) {
+                                          case 1: break L88;
+                                          case 2: case 3: break L90;
+                                          case 4: break L89;
+                                          case 5: break L87;
+                                          default: break L91;
+                                          }
+                                         }
+                                         l16 = 0;
+                                         l17 = 6;
+                                         l3 = 1L;
+                                         switch (l14) {
+                                         case 5: break L25;
+                                         case 6: break L24;
+                                         case 7: break L22;
+                                         default: break L10;
+                                         }
+                                        }
+                                        l16 = 0;
+                                        l17 = 8;
+                                        if (l14 == 5) { break L25; }
+                                        if (l14 == 7) { break L22; }
+                                        l3 = 1L;
+                                        break L10;
+                                       }
+                                       if (l14 == 5) { break L27; }
+                                       l3 = 1L;
+                                       break L10;
+                                      }
+                                      l16 = 0;
+                                      if (l14 == 6) { break L24; }
+                                      if (l14 == 7) { break L22; }
+                                      l3 = 1L;
+                                      break L10;
+                                     }
+                                     if (l14 == 7) { break L23; }
+                                     l3 = 1L;
+                                     break L10;
+                                    }
+                                    L92: {
+                                     L93: {
+                                      L94: {
+                                       L95: {
+                                        L96: {
+                                         switch ((int) ((l18 & 0xffffffffL) & 255L)) {
+                                         case 1: break L93;
+                                         case 2: case 3: break L95;
+                                         case 4: break L94;
+                                         case 5: break L92;
+                                         default: break L96;
+                                         }
+                                        }
+                                        l16 = 0;
+                                        l17 = 6;
+                                        l3 = 1L;
+                                        switch (l14) {
+                                        case 5: break L25;
+                                        case 6: break L24;
+                                        case 7: break L22;
+                                        default: break L10;
+                                        }
+                                       }
+                                       l16 = 0;
+                                       l17 = 8;
+                                       if (l14 == 5) { break L25; }
+                                       if (l14 == 7) { break L22; }
+                                       l3 = 1L;
+                                       break L10;
+                                      }
+                                      if (l14 == 5) { break L27; }
+                                      l3 = 1L;
+                                      break L10;
+                                     }
+                                     l16 = 0;
+                                     if (l14 == 6) { break L24; }
+                                     if (l14 == 7) { break L22; }
+                                     l3 = 1L;
+                                     break L10;
+                                    }
+                                    if (l14 == 7) { break L23; }
+                                    l3 = 1L;
+                                    break L10;
+                                   }
+                                   L97: {
+                                    L98: {
+                                     L99: {
+                                      L100: {
+                                       L101: {
+                                        L102: {
+                                         L103: {
+                                          switch ((int) ((l15 & 0xffffffffL) & 255L)) {
+                                          case 1: break L101;
+                                          case 2: break L102;
+                                          case 3: break L103;
+                                          default: break L100;
+                                          }
+                                         }
+                                         L104: {
+                                          if ((l14 + -2) + Integer.MIN_VALUE < -2147483632) { break L104; }
+                                          l15 = 1;
+                                          l17 = 9;
+                                          l20 = 2;
+                                          l19 = 10;
+                                          l21 = l18;
+                                          l16 = l18;
+                                          switch (l14) {
+                                          case 1: break L32;
+                                          default: break L18;
+                                          }
+                                         }
+                                         L105: {
+                                          L106: {
+                                           L107: {
+                                            L108: {
+                                             L109: {
+                                              switch ((int) ((l18 & 0xffffffffL) & 255L)) {
+                                              case 1: break L106;
+                                              case 2: case 3: break L108;
+                                              case 4: break L107;
+                                              case 5: break L105;
+                                              default: break L109;
+                                              }
+                                             }
+                                             l16 = 1;
+                                             l17 = 6;
+                                             l3 = 1L;
+                                             switch (l14 + -2) {
+                                             case 3: break L25;
+                                             case 4: break L24;
+                                             case 5: break L22;
+                                             default: break L10;
+                                             }
+                                            }
+                                            l16 = 1;
+                                            l17 = 8;
+                                            if (l14 == 5) { break L25; }
+                                            if (l14 == 7) { break L22; }
+                                            l3 = 1L;
+                                            break L10;
+                                           }
+                                           if (l14 == 5) { break L99; }
+                                           l3 = 1L;
+                                           break L10;
+                                          }
+                                          l16 = 1;
+                                          if (l14 == 6) { break L24; }
+                                          if (l14 == 7) { break L22; }
+                                          l3 = 1L;
+                                          break L10;
+                                         }
+                                         L110: {
+                                          if (l14 == 7) { break L110; }
+                                          l3 = 1L;
+                                          break L10;
+                                         }
+                                         l16 = 1;
+                                         break L22;
+                                        }
+                                        L111: {
+                                         if ((l14 + -2) + Integer.MIN_VALUE < -2147483632) { break L111; }
+                                         l17 = 9;
+                                         l19 = 10;
+                                         l21 = l18;
+                                         l20 = l14;
+                                         l16 = l18;
+                                         l15 = l14;
+                                         switch (l14) {
+                                         case 1: break L32;
+                                         default: break L18;
+                                         }
+                                        }
+                                        L112: {
+                                         L113: {
+                                          L114: {
+                                           L115: {
+                                            L116: {
+                                             switch ((int) ((l18 & 0xffffffffL) & 255L)) {
+                                             case 1: break L113;
+                                             case 2: case 3: break L115;
+                                             case 4: break L114;
+                                             case 5: break L112;
+                                             default: break L116;
+                                             }
+                                            }
+                                            l16 = 1;
+                                            l17 = 6;
+                                            l3 = 1L;
+                                            switch (l14 + -2) {
+                                            case 3: break L25;
+                                            case 4: break L24;
+                                            case 5: break L22;
+                                            default: break L10;
+                                            }
+                                           }
+                                           l16 = 1;
+                                           l17 = 8;
+                                           if (l14 == 5) { break L25; }
+                                           if (l14 == 7) { break L22; }
+                                           l3 = 1L;
+                                           break L10;
+                                          }
+                                          if (l14 == 5) { break L99; }
+                                          l3 = 1L;
+                                          break L10;
+                                         }
+                                         l16 = 1;
+                                         if (l14 == 6) { break L24; }
+                                         if (l14 == 7) { break L22; }
+                                         l3 = 1L;
+                                         break L10;
+                                        }
+                                        L117: {
+                                         if (l14 == 7) { break L117; }
+                                         l3 = 1L;
+                                         break L10;
+                                        }
+                                        l16 = 1;
+                                        break L22;
+                                       }
+                                       L118: {
+                                        if ((l14 + -2) + Integer.MIN_VALUE < -2147483632) { break L118; }
+                                        l20 = 0;
+                                        l19 = 10;
+                                        l21 = l18;
+                                        l3 = 1L;
+                                        switch (l14) {
+                                        case 1: break L32;
+                                        default: break L10;
+                                        }
+                                       }
+                                       L119: {
+                                        L120: {
+                                         L121: {
+                                          L122: {
+                                           L123: {
+                                            switch ((int) ((l18 & 0xffffffffL) & 255L)) {
+                                            case 1: break L120;
+                                            case 2: case 3: break L122;
+                                            case 4: break L121;
+                                            case 5: break L119;
+                                            default: break L123;
+                                            }
+                                           }
+                                           l16 = 1;
+                                           l17 = 6;
+                                           l3 = 1L;
+                                           switch (l14 + -2) {
+                                           case 3: break L25;
+                                           case 4: break L24;
+                                           case 5: break L22;
+                                           default: break L10;
+                                           }
+                                          }
+                                          l16 = 1;
+                                          l17 = 8;
+                                          if (l14 == 5) { break L25; }
+                                          if (l14 == 7) { break L22; }
+                                          l3 = 1L;
+                                          break L10;
+                                         }
+                                         if (l14 == 5) { break L99; }
+                                         l3 = 1L;
+                                         break L10;
+                                        }
+                                        l16 = 1;
+                                        if (l14 == 6) { break L24; }
+                                        if (l14 == 7) { break L22; }
+                                        l3 = 1L;
+                                        break L10;
+                                       }
+                                       L124: {
+                                        if (l14 == 7) { break L124; }
+                                        l3 = 1L;
+                                        break L10;
+                                       }
+                                       l16 = 1;
+                                       break L22;
+                                      }
+                                      L125: {
+                                       L126: {
+                                        L127: {
+                                         switch ((int) ((l18 & 0xffffffffL) & 255L)) {
+                                         case 1: break L98;
+                                         case 2: case 3: break L126;
+                                         case 4: break L125;
+                                         case 5: break L97;
+                                         default: break L127;
+                                         }
+                                        }
+                                        l16 = 1;
+                                        l17 = 6;
+                                        l3 = 1L;
+                                        switch (l14) {
+                                        case 5: break L25;
+                                        case 6: break L24;
+                                        case 7: break L22;
+                                        default: break L10;
+                                        }
+                                       }
+                                       l16 = 1;
+                                       l17 = 8;
+                                       if (l14 == 5) { break L25; }
+                                       if (l14 == 7) { break L22; }
+                                       l3 = 1L;
+                                       break L10;
+                                      }
+                                      if (l14 == 5) { break L99; }
+                                      l3 = 1L;
+                                      break L10;
+                                     }
+                                     l16 = 1;
+                                     break L26;
+                                    }
+                                    l16 = 1;
+                                    if (l14 == 6) { break L24; }
+                                    if (l14 == 7) { break L22; }
+                                    l3 = 1L;
+                                    break L10;
+                                   }
+                                   L128: {
+                                    if (l14 == 7) { break L128; }
+                                    l3 = 1L;
+                                    break L10;
+                                   }
+                                   l16 = 1;
+                                   break L22;
+                                  }
+                                  l19 = 5;
+                                  l21 = 0;
+                                  l17 = 1;
+                                  l20 = 0;
+                                  l16 = 0;
+                                  l15 = 0;
+                                  l3 = 1L;
+                                  switch (l14) {
+                                  case 1: break L32;
+                                  case 2: case 3: case 4: case 5: case 6: case 7: case 8: case 9: case 10: case 12: case 13: case 14: case 15: case 16: case 17: break L10;
+                                  case 11: break L18;
+                                  default: break L35;
+                                  }
+                                 }
+                                 L129: {
+                                  if (l14 == 12) { break L129; }
+                                  l3 = 1L;
+                                  break L10;
+                                 }
+                                 l16 = 0;
+                                 l17 = 2;
+                                 break L19;
+                                }
+                                L130: {
+                                 if (l14 == 13) { break L130; }
+                                 l3 = 1L;
+                                 break L10;
+                                }
+                                l16 = 0;
+                                l17 = 3;
+                                break L19;
+                               }
+                               l21 = 0;
+                               l19 = 5;
+                               l20 = 0;
+                               l3 = 1L;
+                               switch (l14) {
+                               case 1: break L32;
+                               case 2: case 3: case 4: case 5: case 6: case 7: case 8: case 9: case 10: case 11: case 12: case 13: case 14: case 15: case 16: case 17: break L10;
+                               default: break L35;
+                               }
+                              }
+                              L131: {
+                               if (l14 == 7) { break L131; }
+                               l3 = 1L;
+                               break L10;
+                              }
+                              l16 = 1;
+                              break L22;
+                             }
+                             l19 = 16;
+                             l21 = 0;
+                             l17 = 19;
+                             l20 = 0;
+                             l16 = 0;
+                             l15 = 0;
+                             l3 = 1L;
+                             L132: {
+                              switch (l14) {
+                              case 1: break L32;
+                              case 2: case 3: case 4: case 5: case 6: case 7: case 8: case 9: case 11: case 12: case 13: case 14: case 15: case 16: case 17: break L10;
+                              case 10: break L18;
+                              default: break L132;
+                              }
+                             }
+                             l16 = l18 & 1;
+                             l17 = 14;
+                             break L19;
+                            }
+                            l19 = 18;
+                            l16 = 0;
+                            l17 = 19;
+                            L133: {
+                             if (l14 != 1) { break L133; }
+                             l21 = 0;
+                             l20 = 0;
+                             break L32;
+                            }
+                            l15 = 0;
+                            if (l14 == 10) { break L18; }
+                            l3 = 1L;
+                            break L10;
+                           }
+                           L134: {
+                            if (l14 == 1) { break L134; }
+                            l3 = 1L;
+                            break L10;
+                           }
+                           l21 = l18 & 1;
+                           l20 = 0;
+                           l19 = 15;
+                           break L32;
+                          }
+                          if (l14 == 8) { break L20; }
+                          l3 = 1L;
+                          break L10;
+                         }
+                         if ((l18 & 1) == 0) { break L34; }
+                         if (l14 == 8) { break L20; }
+                         if (l14 == 9) { break L21; }
+                         l3 = 1L;
+                         break L10;
+                        }
+                        l16 = 0;
+                        l17 = 4;
+                        break L19;
+                       }
+                       if (l14 == 9) { break L21; }
+                       l3 = 1L;
+                       break L10;
+                      }
+                      l19 = 11;
+                      l21 = l18;
+                      l20 = l15;
+                     }
+                     l17 = l19;
+                     l16 = l21;
+                     l15 = l20;
+                     l6 = l13;
+                     break L18;
+                    }
+                    l9 = (l6 * 10L) + l9;
+                    l6 = 0L;
+                    l15 = 1;
+                    l17 = 12;
+                    break L18;
+                   }
+                   l9 = (l6 * 100L) + l9;
+                   l6 = 0L;
+                   l15 = 2;
+                   l17 = 12;
+                   break L18;
+                  }
+                  l16 = ((l18 & 255) == 3) ? 5 : l18;
+                 }
+                 l9 = (l6 * 1000L) + l9;
+                 l6 = 0L;
+                 l15 = 3;
+                 l17 = 12;
+                 break L18;
+                }
+                l16 = 0;
+               }
+               l17 = 8;
+              }
+              l10 = ((l9 + l6) * 10000L) + l10;
+              l9 = 0L;
+              l15 = 0;
+              l6 = 0L;
+              break L18;
+             }
+             l10 = ((l9 + l6) + l10) * 100000000L;
+             l9 = 0L;
+             l15 = 0;
+             l17 = 7;
+             l6 = 0L;
+             break L18;
+            }
+            l16 = 0;
+           }
+           l10 = ((l9 + l6) + l10) * 100L;
+           l9 = 0L;
+           l15 = 0;
+           l17 = 13;
+           l6 = 0L;
+           break L18;
+          }
+          l10 = l10 + l6;
+          l6 = 0L;
+          l16 = 0;
+          l17 = 19;
+          break L19;
+         }
+         l10 = l10 + (l6 * 10L);
+         l6 = 0L;
+         l16 = 0;
+         l17 = 17;
+        }
+        l15 = 0;
+       }
+       l5 = l5 + l12;
+       l8 = l8 + 1L;
+       l3 = 0L;
+       if ((l7 = l7 - l12) != 0L) { continue L11; }
+       break L11;
+      }
+      L135: {
+       if ((l17 + -1) + Integer.MIN_VALUE < -2147483632) { break L135; }
+       l11 = l10;
+       l8 = 0L;
+       switch (l17 + -17) {
+       case 1: break L135;
+       default: break L10;
+       }
+      }
+      l3 = 1L;
+      l11 = 0L;
+      l8 = 0L;
+     }
+     Words.put64(b, ((int) l4) - 60696, l8);
+     Words.put64(b, ((int) l4) - 60704, l11);
+     Words.put64(b, ((int) l4) - 60712, l3);
+     break L2;
+    }
+    Words.put64(b, ((int) l4) - 60704, 0L);
+    Words.put64(b, ((int) l4) - 60712, 1L);
+    Words.put64(b, ((int) l4) - 60696, 0L);
+    break L2;
+   }
+   throw State.trap();
+  }
+  l14 = f71(m, l0, l1, l4 + 8L, l2);
+ }
+ m.g0 = l4 + 32L;
+ return l14;
+}
+
+static int f71(State m, long l0, long l1, long l2, long l3) {
  final byte[] b = m.bytes;
  long l4 = 0;
  long l5 = 0;
@@ -5909,7 +7007,405 @@ static int f69(State m, long l0, long l1, long l2, long l3) {
  throw State.trap();
 }
 
-static int f70(State m, long l0, int l1, int l2, long l3, long l4, long l5) {
+static int f72(State m, long l0, long l1, long l2) {
+ final byte[] b = m.bytes;
+ long l3 = 0;
+ long l4 = 0;
+ long l5 = 0;
+ long l6 = 0;
+ long l7 = 0;
+ long l8 = 0;
+ long l9 = 0;
+ long l10 = 0;
+ long l11 = 0;
+ long l12 = 0;
+ long l13 = 0;
+ long l14 = 0;
+ int l15 = 0;
+ int l16 = 0;
+ int l17 = 0;
+ int l18 = 0;
+ int l19 = 0;
+ int l20 = 0;
+ int l21 = 0;
+ int l22 = 0;
+ m.g0 = l3 = m.g0 - 176L;
+ L1: {
+  if ((l3 = l3) < 16L) { break L1; }
+  Words.put64(b, ((int) l2) - 60720, 0L);
+  Words.put64(b, ((int) l2) - 60712, 0L);
+  Words.put64(b, ((int) l2) - 60704, 0L);
+  Words.put64(b, ((int) l3) - 60704, 0L);
+  Words.put64(b, ((int) l3) - 60712, 0L);
+  Words.put64(b, ((int) l3) - 60720, 0L);
+  l4 = l1;
+  l5 = l0;
+  L2: {
+   L3: {
+    L4: {
+     L5: {
+      if (l1 + Long.MIN_VALUE < -9223372036854775804L) { break L5; }
+      l5 = l0;
+      l4 = l1;
+      L6: while (true) {
+       if (((Words.get32(b, ((int) l5) - 60720) + 16776990) & 12632312) != 8421376) { break L4; }
+       l5 = l5 + 3L;
+       if ((l4 = l4 + -3L) + Long.MIN_VALUE > -9223372036854775805L) { continue L6; }
+       break L6;
+      }
+     }
+     if (l4 + Long.MIN_VALUE > -9223372036854775805L) { break L4; }
+     L7: {
+      switch ((int) l4) {
+      case 1: case 2: break L4;
+      case 3: break L7;
+      default: break L3;
+      }
+     }
+     if (((((Words.get16(b, ((int) l5) - 60720) & 0xffff) | ((b[((int) (l5 + 2L)) - 60720] & 0xff) << 16)) + 16776990) & 12632312) == 8421376) { break L3; }
+    }
+    l15 = 5;
+    if (Core1.f6(m, l0, l1) == 0) { break L2; }
+   }
+   Words.put32(b, ((int) l3) - 60640, 0);
+   b[((int) l3) - 60636] = (byte) 0;
+   Words.put32(b, ((int) l3) - 60648, 0);
+   Words.put32(b, ((int) l3) - 60645, 0);
+   l6 = 0L;
+   Words.put64(b, ((int) l3) - 60664, 0L);
+   Words.put64(b, ((int) l3) - 60656, 0L);
+   Words.put32(b, ((int) l3) - 60672, 0);
+   b[((int) l3) - 60668] = (byte) 0;
+   Words.put32(b, ((int) l3) - 60680, 0);
+   Words.put32(b, ((int) l3) - 60677, 0);
+   Words.put64(b, ((int) l3) - 60696, 0L);
+   Words.put64(b, ((int) l3) - 60688, 0L);
+   L8: {
+    L9: {
+     L10: {
+      L11: {
+       L12: {
+        if (l1 == 0L) { break L12; }
+        l7 = l3 + 160L;
+        l8 = l3 + 145L;
+        l9 = l3 + 139L;
+        l10 = l3 + 112L;
+        l11 = l3 + 97L;
+        l12 = (l3 + 88L) | 3L;
+        l16 = 1;
+        l17 = 3;
+        l4 = l1;
+        l5 = l0;
+        l13 = 0L;
+        l18 = 1;
+        l19 = 1;
+        L13: while (true) {
+         l14 = l5 + 1L;
+         l15 = (l20 = (int) b[((int) l5) - 60720]) & 255;
+         L14: {
+          L15: {
+           L16: {
+            L17: {
+             L18: {
+              L19: {
+               if (l20 < 0) { break L19; }
+               Words.put64(b, ((int) l3) - 60592, 0L);
+               Words.put64(b, ((int) l3) - 60584, 0L);
+               Words.put64(b, ((int) l3) - 60576, 0L);
+               Words.put64(b, ((int) l3) - 60568, 0L);
+               Words.put64(b, ((int) l3) - 60560, 0L);
+               Words.put64(b, ((int) l3) - 60552, 0L);
+               l4 = l4 + -1L;
+               l5 = l14;
+               break L18;
+              }
+              l21 = (b[((int) l14) - 60720] & 0xff) & 63;
+              L20: {
+               L21: {
+                if (l20 + Integer.MIN_VALUE > 2147483615) { break L21; }
+                l15 = ((l15 << 6) & 1984) | l21;
+                l14 = 2L;
+                break L20;
+               }
+               l22 = (b[((int) l5) - 60718] & 0xff) & 63;
+               L22: {
+                if (l20 + Integer.MIN_VALUE > 2147483631) { break L22; }
+                l15 = ((l21 << 6) | ((l15 << 12) & 61440)) | l22;
+                l14 = 3L;
+                break L20;
+               }
+               l15 = ((l22 << 6) | ((l21 << 12) | ((l15 << 18) & 1835008))) | ((b[((int) l5) - 60717] & 0xff) & 63);
+               l14 = 4L;
+              }
+              Words.put64(b, ((int) l3) - 60592, 0L);
+              Words.put64(b, ((int) l3) - 60584, 0L);
+              Words.put64(b, ((int) l3) - 60576, 0L);
+              Words.put64(b, ((int) l3) - 60568, 0L);
+              Words.put64(b, ((int) l3) - 60560, 0L);
+              Words.put64(b, ((int) l3) - 60552, 0L);
+              l4 = l4 - l14;
+              l5 = l5 + l14;
+              if (l15 + Integer.MIN_VALUE > -2147483521) { break L17; }
+             }
+             if ((l15 + -9) + Integer.MIN_VALUE < -2147483643) { break L15; }
+             if (l15 != 32) { break L16; }
+             break L15;
+            }
+            if ((l15 + -8192) + Integer.MIN_VALUE < -2147483637) { break L15; }
+            L23: {
+             if (l15 > 8231) { break L23; }
+             if (l15 == 133) { break L15; }
+             if (l15 == 160) { break L15; }
+             if (l15 != 5760) { break L16; }
+             break L15;
+            }
+            L24: {
+             if ((l20 = l15 + -8232) + Integer.MIN_VALUE > -2147483593) { break L24; }
+             if (((1L << (l20 & 0xffffffffL)) & 36028797018964099L) != 0L) { break L15; }
+            }
+            if (l15 == 12288) { break L15; }
+           }
+           Words.put32(b, ((int) l12) - 60720, Words.get32(b, ((int) l3) - 60640));
+           b[((int) l12) - 60716] = (byte) (b[((int) l3) - 60636] & 0xff);
+           Words.put32(b, ((int) l11) - 60720, Words.get32(b, ((int) l3) - 60648));
+           Words.put32(b, ((int) l11) - 60717, Words.get32(b, ((int) l3) - 60645));
+           Words.put64(b, ((int) l10) - 60720, Words.get64(b, ((int) l3) - 60664));
+           Words.put64(b, ((int) l10) - 60712, Words.get64(b, ((int) l3) - 60656));
+           b[((int) l3) - 60630] = (byte) l16;
+           b[((int) l3) - 60631] = (byte) l18;
+           b[((int) l3) - 60632] = (byte) l19;
+           b[((int) l3) - 60624] = (byte) l17;
+           Words.put64(b, ((int) l3) - 60616, l13);
+           Core1.f21(m, l3 + 128L, l3 + 88L, l15);
+           if ((b[((int) l3) - 60592] & 0xff) != 1) { break L11; }
+           Words.put32(b, ((int) l3) - 60672, Words.get32(b, ((int) l9) - 60720));
+           b[((int) l3) - 60668] = (byte) (b[((int) l9) - 60716] & 0xff);
+           Words.put32(b, ((int) l3) - 60680, Words.get32(b, ((int) l8) - 60720));
+           Words.put32(b, ((int) l3) - 60677, Words.get32(b, ((int) l8) - 60717));
+           Words.put64(b, ((int) l3) - 60696, Words.get64(b, ((int) l7) - 60720));
+           Words.put64(b, ((int) l3) - 60688, Words.get64(b, ((int) l7) - 60712));
+           l13 = Words.get64(b, ((int) l3) - 60568);
+           l17 = b[((int) l3) - 60576] & 0xff;
+           l16 = b[((int) l3) - 60582] & 0xff;
+           l18 = b[((int) l3) - 60583] & 0xff;
+           l19 = b[((int) l3) - 60584] & 0xff;
+           break L14;
+          }
+          b[((int) l3) - 60668] = (byte) (b[((int) l3) - 60636] & 0xff);
+          Words.put32(b, ((int) l3) - 60672, Words.get32(b, ((int) l3) - 60640));
+          Words.put32(b, ((int) l3) - 60680, Words.get32(b, ((int) l3) - 60648));
+          Words.put32(b, ((int) l3) - 60677, Words.get32(b, ((int) l3) - 60645));
+          Words.put64(b, ((int) l3) - 60696, Words.get64(b, ((int) l3) - 60664));
+          Words.put64(b, ((int) l3) - 60688, Words.get64(b, ((int) l3) - 60656));
+         }
+         Words.put32(b, ((int) l3) - 60640, Words.get32(b, ((int) l3) - 60672));
+         b[((int) l3) - 60636] = (byte) (b[((int) l3) - 60668] & 0xff);
+         Words.put32(b, ((int) l3) - 60648, Words.get32(b, ((int) l3) - 60680));
+         Words.put32(b, ((int) l3) - 60645, Words.get32(b, ((int) l3) - 60677));
+         Words.put64(b, ((int) l3) - 60664, Words.get64(b, ((int) l3) - 60696));
+         Words.put64(b, ((int) l3) - 60656, Words.get64(b, ((int) l3) - 60688));
+         l6 = l6 + 1L;
+         if (l4 != 0L) { continue L13; }
+         break L13;
+        }
+        if ((l15 = l17 & 255) + Integer.MIN_VALUE < -2147483631) { break L12; }
+        switch (l15 + -17) {
+        case 1: break L12;
+        default: break L10;
+        }
+       }
+       l5 = 1L;
+       l13 = 0L;
+       break L9;
+      }
+      l13 = 1L;
+      l5 = 1L;
+      break L8;
+     }
+     l5 = 0L;
+    }
+    l6 = 0L;
+   }
+   Words.put64(b, ((int) l3) - 60704, l6);
+   Words.put64(b, ((int) l3) - 60712, l13);
+   Words.put64(b, ((int) l3) - 60720, l5);
+   l15 = f71(m, l0, l1, l3, l2);
+  }
+  m.g0 = l3 + 176L;
+  final int t25 = l15;
+  return t25;
+ }
+ throw State.trap();
+}
+
+static int f73(State m, long l0, long l1, long l2) {
+ final byte[] b = m.bytes;
+ long l3 = 0;
+ long l4 = 0;
+ long l5 = 0;
+ long l6 = 0;
+ long l7 = 0;
+ int l8 = 0;
+ int l9 = 0;
+ int l10 = 0;
+ int l11 = 0;
+ m.g0 = l3 = m.g0 - 48L;
+ L1: {
+  if ((l3 = l3) < 16L) { break L1; }
+  Words.put64(b, ((int) l2) - 60696, 0L);
+  Words.put64(b, ((int) l2) - 60704, 0L);
+  Words.put64(b, ((int) l2) - 60712, 0L);
+  Words.put64(b, ((int) l2) - 60720, 0L);
+  l4 = l1;
+  l5 = l0;
+  L2: {
+   L3: {
+    L4: {
+     L5: {
+      if (l1 + Long.MIN_VALUE < -9223372036854775804L) { break L5; }
+      l5 = l0;
+      l4 = l1;
+      L6: while (true) {
+       if (((Words.get32(b, ((int) l5) - 60720) + 16776990) & 12632312) != 8421376) { break L4; }
+       l5 = l5 + 3L;
+       if ((l4 = l4 + -3L) + Long.MIN_VALUE > -9223372036854775805L) { continue L6; }
+       break L6;
+      }
+     }
+     if (l4 + Long.MIN_VALUE > -9223372036854775805L) { break L4; }
+     L7: {
+      switch ((int) l4) {
+      case 1: case 2: break L4;
+      case 3: break L7;
+      default: break L3;
+      }
+     }
+     if (((((Words.get16(b, ((int) l5) - 60720) & 0xffff) | ((b[((int) (l5 + 2L)) - 60720] & 0xff) << 16)) + 16776990) & 12632312) == 8421376) { break L3; }
+    }
+    if (Core1.f6(m, l0, l1) != 0) { break L3; }
+    l8 = 5;
+    break L2;
+   }
+   Words.put16(b, ((int) l3) - 60680, (short) 0);
+   l6 = 0L;
+   Words.put64(b, ((int) l3) - 60688, 0L);
+   b[((int) l3) - 60680] = (byte) 0;
+   Words.put64(b, ((int) l3) - 60704, 0L);
+   Words.put32(b, ((int) l3) - 60696, 0);
+   L8: {
+    if (l1 != 0L) { break L8; }
+    Words.put64(b, ((int) l2) - 60696, 0L);
+    Words.put64(b, ((int) l2) - 60704, 0L);
+    Words.put64(b, ((int) l2) - 60712, 0L);
+    Words.put64(b, ((int) l2) - 60720, 0L);
+    l8 = 9;
+    break L2;
+   }
+   l7 = l1;
+   l5 = l0;
+   L9: {
+    L10: while (true) {
+     l8 = (l9 = (int) b[((int) l5) - 60720]) & 255;
+     l4 = 1L;
+     L11: {
+      if (l9 > -1) { break L11; }
+      l10 = (b[((int) l5) - 60719] & 0xff) & 63;
+      L12: {
+       if (l9 + Integer.MIN_VALUE > 2147483615) { break L12; }
+       l8 = ((l8 << 6) & 1984) | l10;
+       l4 = 2L;
+       break L11;
+      }
+      l11 = (b[((int) l5) - 60718] & 0xff) & 63;
+      L13: {
+       if (l9 + Integer.MIN_VALUE > 2147483631) { break L13; }
+       l8 = ((l10 << 6) | ((l8 << 12) & 61440)) | l11;
+       l4 = 3L;
+       break L11;
+      }
+      l8 = ((l11 << 6) | ((l10 << 12) | ((l8 << 18) & 1835008))) | ((b[((int) l5) - 60717] & 0xff) & 63);
+      l4 = 4L;
+     }
+     Core1.f22(m, l3 + 16L, l3 + 32L, l8);
+     if ((b[((int) l3) - 60704] & 0xff) != 1) { break L9; }
+     b[((int) l3) - 60680] = (byte) (b[((int) l3) - 60694] & 0xff);
+     Words.put16(b, ((int) l3) - 60682, (short) (Words.get16(b, ((int) l3) - 60696) & 0xffff));
+     Words.put32(b, ((int) l3) - 60686, l8 = Words.get32(b, ((int) l3) - 60700));
+     Words.put16(b, ((int) l3) - 60688, (short) (l9 = (b[((int) l3) - 60702] & 0xff) & 255));
+     l6 = l6 + 1L;
+     l5 = l5 + l4;
+     if ((l7 = l7 - l4) != 0L) { continue L10; }
+     break L10;
+    }
+    Words.put64(b, ((int) l2) - 60696, 0L);
+    Words.put64(b, ((int) l2) - 60704, 0L);
+    Words.put64(b, ((int) l2) - 60712, 0L);
+    Words.put64(b, ((int) l2) - 60720, 0L);
+    L14: {
+     if (l9 == 3) { break L14; }
+     l8 = 9;
+     break L2;
+    }
+    Words.put32(b, ((int) l2) - 60712, l8 >>> 24);
+    Words.put32(b, ((int) l2) - 60720, l8 & 65535);
+    Words.put32(b, ((int) l2) - 60716, (l8 >>> 16) & 255);
+    l8 = 0;
+    break L2;
+   }
+   l5 = 0L;
+   Words.put64(b, ((int) l2) - 60696, 0L);
+   Words.put64(b, ((int) l2) - 60712, 0L);
+   Words.put64(b, ((int) l2) - 60720, 0L);
+   Words.put64(b, ((int) l2) - 60704, l6);
+   L15: {
+    if (l6 + Long.MIN_VALUE < -9223372036854775792L) { break L15; }
+    Core1.f25(m, l3, l0, l1, l6);
+    l6 = Words.get64(b, ((int) l3) - 60712);
+    l5 = Words.get64(b, ((int) l3) - 60720);
+   }
+   L16: {
+    if (l6 + Long.MIN_VALUE < -9223372036854775805L) { break L16; }
+    L17: while (true) {
+     if ((l1 - l5) + Long.MIN_VALUE < -9223372036854775800L) { break L16; }
+     L18: {
+      L19: {
+       if (((l4 = Words.get64(b, ((int) (l0 + l5)) - 60720)) & 67553998437089520L) != 63050398541283552L) { break L19; }
+       l6 = l6 + -3L;
+       l5 = l5 + 9L;
+       break L18;
+      }
+      if (l6 + Long.MIN_VALUE < -9223372036854775800L) { break L16; }
+      if ((l4 & -9187201950435737472L) != 0L) { break L16; }
+      l6 = l6 + -8L;
+      l5 = l5 + 8L;
+     }
+     if (l6 + Long.MIN_VALUE > -9223372036854775806L) { continue L17; }
+     break L17;
+    }
+   }
+   L20: {
+    if (l6 == 0L) { break L20; }
+    if (l1 + Long.MIN_VALUE <= l5 + Long.MIN_VALUE) { break L20; }
+    l4 = l6 + -1L;
+    L21: while (true) {
+     l5 = Words.get64(b, ((int) (((((b[((int) (l0 + l5)) - 60720] & 0xff) >>> 1) & 0xffffffffL) & 120L) + 66680L)) - 60720) + l5;
+     if (l4 == 0L) { break L20; }
+     l4 = l4 + -1L;
+     if (l1 + Long.MIN_VALUE > l5 + Long.MIN_VALUE) { continue L21; }
+     break L21;
+    }
+   }
+   Words.put64(b, ((int) l2) - 60696, l5);
+   l8 = 2;
+  }
+  m.g0 = l3 + 48L;
+  final int t22 = l8;
+  return t22;
+ }
+ throw State.trap();
+}
+
+static int f74(State m, long l0, int l1, int l2, long l3, long l4, long l5) {
  final byte[] b = m.bytes;
  long l6 = 0;
  long l7 = 0;
@@ -5927,8 +7423,8 @@ static int f70(State m, long l0, int l1, int l2, long l3, long l4, long l5) {
   Words.put64(b, ((int) l7) - 60584, 0L);
   Words.put64(b, ((int) l7) - 60592, 0L);
   Words.put64(b, ((int) l7) - 60568, l7 + 11L);
-  f66(m, l7 + 128L, l0);
-  f67(m, l7 + 152L, l7 + 147L, l7 + 128L);
+  f67(m, l7 + 128L, l0);
+  f68(m, l7 + 152L, l7 + 147L, l7 + 128L);
   l0 = Words.get64(b, ((int) l7) - 60568);
   final int t2 = (int) l5;
   final long t3 = l6 = Words.get64(b, ((int) l7) - 60552);
@@ -5981,7 +7477,268 @@ static int f70(State m, long l0, int l1, int l2, long l3, long l4, long l5) {
  throw State.trap();
 }
 
-static int f71(State m, long l0, long l1, long l2, long l3) {
+static int f75(State m, long l0, long l1, long l2) {
+ final byte[] b = m.bytes;
+ long l3 = 0;
+ long l4 = 0;
+ long l5 = 0;
+ long l6 = 0;
+ long l7 = 0;
+ int l8 = 0;
+ m.g0 = l3 = m.g0 - 48L;
+ L1: {
+  if ((l4 = l3) < 16L) { break L1; }
+  Words.put64(b, ((int) l2) - 60720, 0L);
+  Words.put64(b, ((int) l2) - 60712, 0L);
+  Words.put64(b, ((int) l2) - 60704, 0L);
+  Words.put64(b, ((int) l4) - 60680, 0L);
+  Words.put64(b, ((int) l4) - 60688, 0L);
+  Words.put64(b, ((int) l4) - 60696, 0L);
+  l5 = l1;
+  l3 = l0;
+  L2: {
+   L3: {
+    L4: {
+     L5: {
+      if (l1 + Long.MIN_VALUE < -9223372036854775804L) { break L5; }
+      l3 = l0;
+      l5 = l1;
+      L6: while (true) {
+       if (((Words.get32(b, ((int) l3) - 60720) + 16776990) & 12632312) != 8421376) { break L4; }
+       l3 = l3 + 3L;
+       if ((l5 = l5 + -3L) + Long.MIN_VALUE > -9223372036854775805L) { continue L6; }
+       break L6;
+      }
+     }
+     if (l5 + Long.MIN_VALUE > -9223372036854775805L) { break L4; }
+     L7: {
+      switch ((int) l5) {
+      case 1: case 2: break L4;
+      case 3: break L7;
+      default: break L3;
+      }
+     }
+     if (((((Words.get16(b, ((int) l3) - 60720) & 0xffff) | ((b[((int) (l3 + 2L)) - 60720] & 0xff) << 16)) + 16776990) & 12632312) == 8421376) { break L3; }
+    }
+    if (Core1.f6(m, l0, l1) != 0) { break L3; }
+    l8 = 5;
+    break L2;
+   }
+   f60(m, l4 + 24L, l0, l1);
+   Words.put64(b, ((int) l2) - 60720, 0L);
+   Words.put64(b, ((int) l2) - 60712, 0L);
+   Words.put64(b, ((int) l2) - 60704, 0L);
+   l3 = Words.get64(b, ((int) l4) - 60688);
+   L8: {
+    if ((b[((int) l4) - 60696] & 0xff) != 0) { break L8; }
+    Words.put64(b, ((int) l2) - 60720, l3);
+    l8 = 0;
+    break L2;
+   }
+   l8 = 9;
+   L9: {
+    L10: {
+     switch ((int) (l3 & 255L)) {
+     case 1: break L9;
+     case 2: break L10;
+     default: break L2;
+     }
+    }
+    l8 = 3;
+    break L2;
+   }
+   l3 = 0L;
+   l5 = l6 = Words.get64(b, ((int) l4) - 60680);
+   L11: {
+    if (l6 + Long.MIN_VALUE < -9223372036854775792L) { break L11; }
+    Core1.f25(m, l4 + 8L, l0, l1, l6);
+    l5 = Words.get64(b, ((int) l4) - 60704);
+    l3 = Words.get64(b, ((int) l4) - 60712);
+   }
+   L12: {
+    if (l5 + Long.MIN_VALUE < -9223372036854775805L) { break L12; }
+    L13: while (true) {
+     if ((l1 - l3) + Long.MIN_VALUE < -9223372036854775800L) { break L12; }
+     L14: {
+      L15: {
+       if (((l7 = Words.get64(b, ((int) (l0 + l3)) - 60720)) & 67553998437089520L) != 63050398541283552L) { break L15; }
+       l5 = l5 + -3L;
+       l3 = l3 + 9L;
+       break L14;
+      }
+      if (l5 + Long.MIN_VALUE < -9223372036854775800L) { break L12; }
+      if ((l7 & -9187201950435737472L) != 0L) { break L12; }
+      l5 = l5 + -8L;
+      l3 = l3 + 8L;
+     }
+     if (l5 + Long.MIN_VALUE > -9223372036854775806L) { continue L13; }
+     break L13;
+    }
+   }
+   L16: {
+    if (l5 == 0L) { break L16; }
+    if (l1 + Long.MIN_VALUE <= l3 + Long.MIN_VALUE) { break L16; }
+    l5 = l5 + -1L;
+    L17: while (true) {
+     l3 = Words.get64(b, ((int) (((((b[((int) (l0 + l3)) - 60720] & 0xff) >>> 1) & 0xffffffffL) & 120L) + 66680L)) - 60720) + l3;
+     if (l5 == 0L) { break L16; }
+     l5 = l5 + -1L;
+     if (l1 + Long.MIN_VALUE > l3 + Long.MIN_VALUE) { continue L17; }
+     break L17;
+    }
+   }
+   Words.put64(b, ((int) l2) - 60704, l3);
+   Words.put64(b, ((int) l2) - 60712, l6);
+   Words.put64(b, ((int) l2) - 60720, 0L);
+   l8 = 2;
+  }
+  m.g0 = l4 + 48L;
+  final int t18 = l8;
+  return t18;
+ }
+ throw State.trap();
+}
+
+static int f76(State m, long l0, long l1, long l2) {
+ final byte[] b = m.bytes;
+ long l3 = 0;
+ long l4 = 0;
+ long l5 = 0;
+ long l6 = 0;
+ long l7 = 0;
+ long l8 = 0;
+ int l9 = 0;
+ int l10 = 0;
+ int l11 = 0;
+ int l12 = 0;
+ m.g0 = l3 = m.g0 - 112L;
+ L1: {
+  if ((l3 = l3) < 16L) { break L1; }
+  Words.put64(b, ((int) l2) - 60720, 0L);
+  Words.put64(b, ((int) l2) - 60712, 0L);
+  Words.put64(b, ((int) l2) - 60704, 0L);
+  Words.put64(b, ((int) l3) - 60704, 0L);
+  Words.put64(b, ((int) l3) - 60712, 0L);
+  Words.put64(b, ((int) l3) - 60720, 0L);
+  l4 = l1;
+  l5 = l0;
+  L2: {
+   L3: {
+    L4: {
+     L5: {
+      if (l1 + Long.MIN_VALUE < -9223372036854775804L) { break L5; }
+      l5 = l0;
+      l4 = l1;
+      L6: while (true) {
+       if (((Words.get32(b, ((int) l5) - 60720) + 16776990) & 12632312) != 8421376) { break L4; }
+       l5 = l5 + 3L;
+       if ((l4 = l4 + -3L) + Long.MIN_VALUE > -9223372036854775805L) { continue L6; }
+       break L6;
+      }
+     }
+     if (l4 + Long.MIN_VALUE > -9223372036854775805L) { break L4; }
+     L7: {
+      switch ((int) l4) {
+      case 1: case 2: break L4;
+      case 3: break L7;
+      default: break L3;
+      }
+     }
+     if (((((Words.get16(b, ((int) l5) - 60720) & 0xffff) | ((b[((int) (l5 + 2L)) - 60720] & 0xff) << 16)) + 16776990) & 12632312) == 8421376) { break L3; }
+    }
+    l9 = 5;
+    if (Core1.f6(m, l0, l1) == 0) { break L2; }
+   }
+   l6 = 0L;
+   Words.put64(b, ((int) l3) - 60648, 0L);
+   Words.put64(b, ((int) l3) - 60640, 0L);
+   Words.put64(b, ((int) l3) - 60632, 0L);
+   Words.put64(b, ((int) l3) - 60624, 0L);
+   Words.put64(b, ((int) l3) - 60616, 0L);
+   Words.put64(b, ((int) l3) - 60656, 0L);
+   Words.put64(b, ((int) l3) - 60664, 0L);
+   Words.put64(b, ((int) l3) - 60672, 0L);
+   Words.put64(b, ((int) l3) - 60680, 0L);
+   Words.put64(b, ((int) l3) - 60688, 0L);
+   Words.put64(b, ((int) l3) - 60696, 0L);
+   L8: {
+    L9: {
+     L10: {
+      L11: {
+       L12: {
+        if (l1 == 0L) { break L12; }
+        l5 = l3 + 32L;
+        l7 = l1;
+        l4 = l0;
+        L13: while (true) {
+         l9 = (l10 = (int) b[((int) l4) - 60720]) & 255;
+         l8 = 1L;
+         L14: {
+          if (l10 > -1) { break L14; }
+          l11 = (b[((int) l4) - 60719] & 0xff) & 63;
+          L15: {
+           if (l10 + Integer.MIN_VALUE > 2147483615) { break L15; }
+           l9 = ((l9 << 6) & 1984) | l11;
+           l8 = 2L;
+           break L14;
+          }
+          l12 = (b[((int) l4) - 60718] & 0xff) & 63;
+          L16: {
+           if (l10 + Integer.MIN_VALUE > 2147483631) { break L16; }
+           l9 = ((l11 << 6) | ((l9 << 12) & 61440)) | l12;
+           l8 = 3L;
+           break L14;
+          }
+          l9 = ((l12 << 6) | ((l11 << 12) | ((l9 << 18) & 1835008))) | ((b[((int) l4) - 60717] & 0xff) & 63);
+          l8 = 4L;
+         }
+         Core1.f20(m, l3 + 24L, l3 + 72L, l9);
+         if ((b[((int) l3) - 60696] & 0xff) != 1) { break L11; }
+         Words.put64(b, ((int) l3) - 60616, Words.get64(b, ((int) l5) - 60688));
+         Words.put64(b, ((int) l3) - 60624, Words.get64(b, ((int) l5) - 60696));
+         Words.put64(b, ((int) l3) - 60632, Words.get64(b, ((int) l5) - 60704));
+         Words.put64(b, ((int) l3) - 60640, Words.get64(b, ((int) l5) - 60712));
+         Words.put64(b, ((int) l3) - 60648, Words.get64(b, ((int) l5) - 60720));
+         l6 = l6 + 1L;
+         l4 = l4 + l8;
+         if ((l7 = l7 - l8) != 0L) { continue L13; }
+         break L13;
+        }
+        if ((l5 = Words.get64(b, ((int) l3) - 60647) >>> 56L) + Long.MIN_VALUE < -9223372036854775791L) { break L12; }
+        switch (((int) l5) + -17) {
+        case 1: break L12;
+        default: break L10;
+        }
+       }
+       l5 = 1L;
+       l4 = 0L;
+       break L9;
+      }
+      l4 = 1L;
+      l5 = 1L;
+      break L8;
+     }
+     l5 = 0L;
+     final long t17 = 0L - (l4 = Words.get64(b, ((int) l3) - 60632));
+     final long t18 = l4;
+     final int t19 = ((b[((int) l3) - 60648] & 0xff) == 2) ? 1 : 0;
+     l4 = t19 != 0 ? t17 : t18;
+    }
+    l6 = 0L;
+   }
+   Words.put64(b, ((int) l3) - 60704, l6);
+   Words.put64(b, ((int) l3) - 60712, l4);
+   Words.put64(b, ((int) l3) - 60720, l5);
+   l9 = f77(m, l0, l1, l3, l2);
+  }
+  m.g0 = l3 + 112L;
+  final int t20 = l9;
+  return t20;
+ }
+ throw State.trap();
+}
+
+static int f77(State m, long l0, long l1, long l2, long l3) {
  final byte[] b = m.bytes;
  long l4 = 0;
  long l5 = 0;
@@ -6061,7 +7818,242 @@ static int f71(State m, long l0, long l1, long l2, long l3) {
  throw State.trap();
 }
 
-static void f72(State m, long l0, long l1, long l2, long l3, long l4) {
+static int f78(State m, long l0, long l1, long l2) {
+ final byte[] b = m.bytes;
+ long l3 = 0;
+ long l4 = 0;
+ long l5 = 0;
+ long l6 = 0;
+ long l7 = 0;
+ long l8 = 0;
+ long l9 = 0;
+ long l10 = 0;
+ long l11 = 0;
+ long l12 = 0;
+ long l13 = 0;
+ long l14 = 0;
+ int l15 = 0;
+ int l16 = 0;
+ int l17 = 0;
+ int l18 = 0;
+ int l19 = 0;
+ int l20 = 0;
+ int l21 = 0;
+ int l22 = 0;
+ m.g0 = l3 = m.g0 - 176L;
+ L1: {
+  if ((l3 = l3) < 16L) { break L1; }
+  Words.put64(b, ((int) l2) - 60720, 0L);
+  Words.put64(b, ((int) l2) - 60712, 0L);
+  Words.put64(b, ((int) l2) - 60704, 0L);
+  Words.put64(b, ((int) l3) - 60704, 0L);
+  Words.put64(b, ((int) l3) - 60712, 0L);
+  Words.put64(b, ((int) l3) - 60720, 0L);
+  l4 = l1;
+  l5 = l0;
+  L2: {
+   L3: {
+    L4: {
+     L5: {
+      if (l1 + Long.MIN_VALUE < -9223372036854775804L) { break L5; }
+      l5 = l0;
+      l4 = l1;
+      L6: while (true) {
+       if (((Words.get32(b, ((int) l5) - 60720) + 16776990) & 12632312) != 8421376) { break L4; }
+       l5 = l5 + 3L;
+       if ((l4 = l4 + -3L) + Long.MIN_VALUE > -9223372036854775805L) { continue L6; }
+       break L6;
+      }
+     }
+     if (l4 + Long.MIN_VALUE > -9223372036854775805L) { break L4; }
+     L7: {
+      switch ((int) l4) {
+      case 1: case 2: break L4;
+      case 3: break L7;
+      default: break L3;
+      }
+     }
+     if (((((Words.get16(b, ((int) l5) - 60720) & 0xffff) | ((b[((int) (l5 + 2L)) - 60720] & 0xff) << 16)) + 16776990) & 12632312) == 8421376) { break L3; }
+    }
+    l15 = 5;
+    if (Core1.f6(m, l0, l1) == 0) { break L2; }
+   }
+   l16 = 0;
+   Words.put32(b, ((int) l3) - 60640, 0);
+   b[((int) l3) - 60636] = (byte) 0;
+   Words.put32(b, ((int) l3) - 60648, 0);
+   Words.put32(b, ((int) l3) - 60645, 0);
+   l6 = 0L;
+   Words.put64(b, ((int) l3) - 60664, 0L);
+   Words.put64(b, ((int) l3) - 60656, 0L);
+   Words.put32(b, ((int) l3) - 60672, 0);
+   b[((int) l3) - 60668] = (byte) 0;
+   Words.put32(b, ((int) l3) - 60680, 0);
+   Words.put32(b, ((int) l3) - 60677, 0);
+   Words.put64(b, ((int) l3) - 60696, 0L);
+   Words.put64(b, ((int) l3) - 60688, 0L);
+   L8: {
+    L9: {
+     L10: {
+      L11: {
+       L12: {
+        if (l1 == 0L) { break L12; }
+        l7 = l3 + 160L;
+        l8 = l3 + 145L;
+        l9 = l3 + 139L;
+        l10 = l3 + 112L;
+        l11 = l3 + 97L;
+        l12 = (l3 + 88L) | 3L;
+        l17 = 1;
+        l18 = 3;
+        l4 = l1;
+        l5 = l0;
+        l13 = 0L;
+        l19 = 1;
+        L13: while (true) {
+         l14 = l5 + 1L;
+         l15 = (l20 = (int) b[((int) l5) - 60720]) & 255;
+         L14: {
+          L15: {
+           L16: {
+            L17: {
+             L18: {
+              L19: {
+               if (l20 < 0) { break L19; }
+               Words.put64(b, ((int) l3) - 60592, 0L);
+               Words.put64(b, ((int) l3) - 60584, 0L);
+               Words.put64(b, ((int) l3) - 60576, 0L);
+               Words.put64(b, ((int) l3) - 60568, 0L);
+               Words.put64(b, ((int) l3) - 60560, 0L);
+               Words.put64(b, ((int) l3) - 60552, 0L);
+               l4 = l4 + -1L;
+               l5 = l14;
+               break L18;
+              }
+              l21 = (b[((int) l14) - 60720] & 0xff) & 63;
+              L20: {
+               L21: {
+                if (l20 + Integer.MIN_VALUE > 2147483615) { break L21; }
+                l15 = ((l15 << 6) & 1984) | l21;
+                l14 = 2L;
+                break L20;
+               }
+               l22 = (b[((int) l5) - 60718] & 0xff) & 63;
+               L22: {
+                if (l20 + Integer.MIN_VALUE > 2147483631) { break L22; }
+                l15 = ((l21 << 6) | ((l15 << 12) & 61440)) | l22;
+                l14 = 3L;
+                break L20;
+               }
+               l15 = ((l22 << 6) | ((l21 << 12) | ((l15 << 18) & 1835008))) | ((b[((int) l5) - 60717] & 0xff) & 63);
+               l14 = 4L;
+              }
+              Words.put64(b, ((int) l3) - 60592, 0L);
+              Words.put64(b, ((int) l3) - 60584, 0L);
+              Words.put64(b, ((int) l3) - 60576, 0L);
+              Words.put64(b, ((int) l3) - 60568, 0L);
+              Words.put64(b, ((int) l3) - 60560, 0L);
+              Words.put64(b, ((int) l3) - 60552, 0L);
+              l4 = l4 - l14;
+              l5 = l5 + l14;
+              if (l15 + Integer.MIN_VALUE > -2147483521) { break L17; }
+             }
+             if ((l15 + -9) + Integer.MIN_VALUE < -2147483643) { break L15; }
+             if (l15 != 32) { break L16; }
+             break L15;
+            }
+            if ((l15 + -8192) + Integer.MIN_VALUE < -2147483637) { break L15; }
+            L23: {
+             if (l15 > 8231) { break L23; }
+             if (l15 == 133) { break L15; }
+             if (l15 == 160) { break L15; }
+             if (l15 != 5760) { break L16; }
+             break L15;
+            }
+            L24: {
+             if ((l20 = l15 + -8232) + Integer.MIN_VALUE > -2147483593) { break L24; }
+             if (((1L << (l20 & 0xffffffffL)) & 36028797018964099L) != 0L) { break L15; }
+            }
+            if (l15 == 12288) { break L15; }
+           }
+           Words.put32(b, ((int) l12) - 60720, Words.get32(b, ((int) l3) - 60640));
+           b[((int) l12) - 60716] = (byte) (b[((int) l3) - 60636] & 0xff);
+           Words.put32(b, ((int) l11) - 60720, Words.get32(b, ((int) l3) - 60648));
+           Words.put32(b, ((int) l11) - 60717, Words.get32(b, ((int) l3) - 60645));
+           Words.put64(b, ((int) l10) - 60720, Words.get64(b, ((int) l3) - 60664));
+           Words.put64(b, ((int) l10) - 60712, Words.get64(b, ((int) l3) - 60656));
+           b[((int) l3) - 60630] = (byte) l17;
+           b[((int) l3) - 60631] = (byte) l16;
+           b[((int) l3) - 60632] = (byte) l19;
+           b[((int) l3) - 60624] = (byte) l18;
+           Words.put64(b, ((int) l3) - 60616, l13);
+           Core1.f21(m, l3 + 128L, l3 + 88L, l15);
+           if ((b[((int) l3) - 60592] & 0xff) != 1) { break L11; }
+           Words.put32(b, ((int) l3) - 60672, Words.get32(b, ((int) l9) - 60720));
+           b[((int) l3) - 60668] = (byte) (b[((int) l9) - 60716] & 0xff);
+           Words.put32(b, ((int) l3) - 60680, Words.get32(b, ((int) l8) - 60720));
+           Words.put32(b, ((int) l3) - 60677, Words.get32(b, ((int) l8) - 60717));
+           Words.put64(b, ((int) l3) - 60696, Words.get64(b, ((int) l7) - 60720));
+           Words.put64(b, ((int) l3) - 60688, Words.get64(b, ((int) l7) - 60712));
+           l13 = Words.get64(b, ((int) l3) - 60568);
+           l18 = b[((int) l3) - 60576] & 0xff;
+           l17 = b[((int) l3) - 60582] & 0xff;
+           l16 = b[((int) l3) - 60583] & 0xff;
+           l19 = b[((int) l3) - 60584] & 0xff;
+           break L14;
+          }
+          b[((int) l3) - 60668] = (byte) (b[((int) l3) - 60636] & 0xff);
+          Words.put32(b, ((int) l3) - 60672, Words.get32(b, ((int) l3) - 60640));
+          Words.put32(b, ((int) l3) - 60680, Words.get32(b, ((int) l3) - 60648));
+          Words.put32(b, ((int) l3) - 60677, Words.get32(b, ((int) l3) - 60645));
+          Words.put64(b, ((int) l3) - 60696, Words.get64(b, ((int) l3) - 60664));
+          Words.put64(b, ((int) l3) - 60688, Words.get64(b, ((int) l3) - 60656));
+         }
+         Words.put32(b, ((int) l3) - 60640, Words.get32(b, ((int) l3) - 60672));
+         b[((int) l3) - 60636] = (byte) (b[((int) l3) - 60668] & 0xff);
+         Words.put32(b, ((int) l3) - 60648, Words.get32(b, ((int) l3) - 60680));
+         Words.put32(b, ((int) l3) - 60645, Words.get32(b, ((int) l3) - 60677));
+         Words.put64(b, ((int) l3) - 60664, Words.get64(b, ((int) l3) - 60696));
+         Words.put64(b, ((int) l3) - 60656, Words.get64(b, ((int) l3) - 60688));
+         l6 = l6 + 1L;
+         if (l4 != 0L) { continue L13; }
+         break L13;
+        }
+        if ((l15 = l18 & 255) + Integer.MIN_VALUE < -2147483631) { break L12; }
+        switch (l15 + -17) {
+        case 1: break L12;
+        default: break L10;
+        }
+       }
+       l5 = 1L;
+       l4 = 0L;
+       break L9;
+      }
+      l4 = 1L;
+      l5 = 1L;
+      break L8;
+     }
+     l5 = 0L;
+     final long t25 = 0L - l13;
+     final long t26 = l13;
+     final int t27 = ((l16 & 255) == 2) ? 1 : 0;
+     l4 = t27 != 0 ? t25 : t26;
+    }
+    l6 = 0L;
+   }
+   Words.put64(b, ((int) l3) - 60704, l6);
+   Words.put64(b, ((int) l3) - 60712, l4);
+   Words.put64(b, ((int) l3) - 60720, l5);
+   l15 = f77(m, l0, l1, l3, l2);
+  }
+  m.g0 = l3 + 176L;
+  final int t28 = l15;
+  return t28;
+ }
+ throw State.trap();
+}
+
+static void f79(State m, long l0, long l1, long l2, long l3, long l4) {
  final byte[] b = m.bytes;
  long l5 = 0;
  long l6 = 0;
@@ -6096,8 +8088,8 @@ static void f72(State m, long l0, long l1, long l2, long l3, long l4) {
    Words.put64(b, ((int) l5) - 60552, 0L);
    Words.put64(b, ((int) l5) - 60576, 0L);
    Words.put64(b, ((int) l5) - 60568, 0L);
-   f73(m, l5 + 128L, l1, l2, l3, l4);
-   f74(m, l5 + 176L, l1, l2, Words.get64(b, ((int) l5) - 60592), Words.get64(b, ((int) l5) - 60584));
+   Core3.f80(m, l5 + 128L, l1, l2, l3, l4);
+   Core3.f81(m, l5 + 176L, l1, l2, Words.get64(b, ((int) l5) - 60592), Words.get64(b, ((int) l5) - 60584));
    L3: {
     L4: {
      L5: {
@@ -6117,7 +8109,7 @@ static void f72(State m, long l0, long l1, long l2, long l3, long l4) {
        Words.put64(b, ((int) l5) - 60448, 0L);
        Words.put64(b, ((int) l5) - 60456, 0L);
        Words.put64(b, ((int) l5) - 60464, 0L);
-       f75(m, l5 + 256L, l1, l2, 1);
+       Core3.f82(m, l5 + 256L, l1, l2, 1);
        l2 = 83372L;
        L7: {
         if ((b[((int) l5) - 60464] & 0xff) != 0) { break L7; }
@@ -6130,11 +8122,11 @@ static void f72(State m, long l0, long l1, long l2, long l3, long l4) {
         Words.put64(b, ((int) l5) - 60448, 0L);
         Words.put64(b, ((int) l5) - 60456, 0L);
         Words.put64(b, ((int) l5) - 60464, 0L);
-        f75(m, l5 + 256L, l3, l4, 1);
+        Core3.f82(m, l5 + 256L, l3, l4, 1);
         l2 = ((l20 = ((((b[((int) l5) - 60464] & 0xff) & 255) != 0) | (((b[((int) l5) - 60416] & 0xff) & 255) != 2)) ? 1 : 0) != 0) ? 77254L : 83372L;
         l6 = l20 & 0xffffffffL;
        }
-       f74(m, l5 + 176L, l3, l4, l2, l6);
+       Core3.f81(m, l5 + 176L, l3, l4, l2, l6);
        if ((b[((int) l5) - 60544] & 0xff) != 1) { break L5; }
        final long t8 = l5 + 80L;
        final long t9 = l3 = Words.get64(b, ((int) l5) - 60512);
@@ -6225,1419 +8217,5 @@ static void f72(State m, long l0, long l1, long l2, long l3, long l4) {
   throw State.trap();
  }
  m.g0 = l5 + 320L;
-}
-
-static void f73(State m, long l0, long l1, long l2, long l3, long l4) {
- final byte[] b = m.bytes;
- long l5 = 0;
- long l6 = 0;
- long l7 = 0;
- long l8 = 0;
- long l9 = 0;
- long l10 = 0;
- long l11 = 0;
- long l12 = 0;
- long l13 = 0;
- long l14 = 0;
- int l15 = 0;
- int l16 = 0;
- int l17 = 0;
- int l18 = 0;
- m.g0 = l5 = m.g0 - 240L;
- L1: {
-  if ((l5 = l5) < 16L) { break L1; }
-  Words.put64(b, ((int) l5) - 60488, 0L);
-  Words.put64(b, ((int) l5) - 60496, 0L);
-  Words.put64(b, ((int) l5) - 60504, 0L);
-  Words.put64(b, ((int) l5) - 60512, 0L);
-  Words.put64(b, ((int) l5) - 60520, 0L);
-  Words.put64(b, ((int) l5) - 60528, 0L);
-  Words.put64(b, ((int) l5) - 60536, 0L);
-  Words.put64(b, ((int) l5) - 60544, 0L);
-  f75(m, l5 + 176L, l3, l4, 1);
-  L2: {
-   L3: {
-    if ((b[((int) l5) - 60544] & 0xff) != 0) { break L3; }
-    if (((b[((int) l5) - 60496] & 0xff) & 255) != 2) { break L3; }
-    Words.put64(b, ((int) l5) - 60488, 0L);
-    Words.put64(b, ((int) l5) - 60496, 0L);
-    Words.put64(b, ((int) l5) - 60504, 0L);
-    Words.put64(b, ((int) l5) - 60512, 0L);
-    Words.put64(b, ((int) l5) - 60520, 0L);
-    Words.put64(b, ((int) l5) - 60528, 0L);
-    Words.put64(b, ((int) l5) - 60536, 0L);
-    Words.put64(b, ((int) l5) - 60544, 0L);
-    f75(m, l5 + 176L, l1, l2, 1);
-    l6 = 1L;
-    l7 = 77254L;
-    if ((b[((int) l5) - 60544] & 0xff) != 0) { break L2; }
-    if (((b[((int) l5) - 60496] & 0xff) & 255) != 2) { break L2; }
-   }
-   l7 = 83372L;
-   L4: {
-    if (l4 + Long.MIN_VALUE <= -9223372036854775760L) { break L4; }
-    l6 = 0L;
-    break L2;
-   }
-   l6 = l1;
-   l8 = l2;
-   L5: {
-    L6: while (true) {
-     if (l8 == 0L) { break L5; }
-     l16 = (l15 = (int) b[((int) l6) - 60720]) & 255;
-     l9 = 1L;
-     L7: {
-      if (l15 > -1) { break L7; }
-      l17 = (b[((int) l6) - 60719] & 0xff) & 63;
-      L8: {
-       if (l15 + Integer.MIN_VALUE > 2147483615) { break L8; }
-       l16 = ((l16 << 6) & 1984) | l17;
-       l9 = 2L;
-       break L7;
-      }
-      l18 = (b[((int) l6) - 60718] & 0xff) & 63;
-      L9: {
-       if (l15 + Integer.MIN_VALUE > 2147483631) { break L9; }
-       l16 = ((l17 << 6) | ((l16 << 12) & 61440)) | l18;
-       l9 = 3L;
-       break L7;
-      }
-      l16 = ((l18 << 6) | ((l17 << 12) | ((l16 << 18) & 1835008))) | ((b[((int) l6) - 60717] & 0xff) & 63);
-      l9 = 4L;
-     }
-     f61(m, l5 + 168L, l16);
-     l8 = l8 - l9;
-     l6 = l6 + l9;
-     if ((b[((int) l5) - 60552] & 0xff) != 1) { continue L6; }
-     if (((b[((int) l5) - 60551] & 0xff) & 255) + Integer.MIN_VALUE <= -2147483647) { continue L6; }
-     break L6;
-    }
-    l6 = 0L;
-    break L2;
-   }
-   l6 = 0L;
-   Words.put64(b, ((int) l5) - 60488, 0L);
-   Words.put64(b, ((int) l5) - 60496, 0L);
-   Words.put64(b, ((int) l5) - 60504, 0L);
-   Words.put64(b, ((int) l5) - 60512, 0L);
-   Words.put64(b, ((int) l5) - 60520, 0L);
-   Words.put64(b, ((int) l5) - 60528, 0L);
-   Words.put64(b, ((int) l5) - 60536, 0L);
-   Words.put64(b, ((int) l5) - 60544, 0L);
-   f75(m, l5 + 176L, l1, l2, 1);
-   if ((b[((int) l5) - 60544] & 0xff) != 0) { break L2; }
-   final int t10 = (Words.get64(b, ((int) l5) - 60528) == 0L) ? 1 : 0;
-   final int t11 = ((l9 = Words.get64(b, ((int) l5) - 60520)) < 0L) ? 1 : 0;
-   final int t12 = (l9 == 0L) ? 1 : 0;
-   if ((t12 != 0 ? t10 : t11) != 0) { break L2; }
-   Words.put64(b, ((int) l5) - 60488, 0L);
-   Words.put64(b, ((int) l5) - 60496, 0L);
-   Words.put64(b, ((int) l5) - 60504, 0L);
-   Words.put64(b, ((int) l5) - 60512, 0L);
-   Words.put64(b, ((int) l5) - 60520, 0L);
-   Words.put64(b, ((int) l5) - 60528, 0L);
-   Words.put64(b, ((int) l5) - 60536, 0L);
-   Words.put64(b, ((int) l5) - 60544, 0L);
-   f75(m, l5 + 176L, l1, l2, 1);
-   l10 = Words.get64(b, ((int) l5) - 60504);
-   l11 = Words.get64(b, ((int) l5) - 60512);
-   l9 = Words.get64(b, ((int) l5) - 60520);
-   l8 = Words.get64(b, ((int) l5) - 60528);
-   l16 = b[((int) l5) - 60544] & 0xff;
-   f76(m, l5 + 152L, l3, l4);
-   l6 = Words.get64(b, ((int) l5) - 60560);
-   Words.put64(b, ((int) l5) - 60488, 0L);
-   Words.put64(b, ((int) l5) - 60496, 0L);
-   Words.put64(b, ((int) l5) - 60504, 0L);
-   Words.put64(b, ((int) l5) - 60512, 0L);
-   Words.put64(b, ((int) l5) - 60520, 0L);
-   Words.put64(b, ((int) l5) - 60528, 0L);
-   Words.put64(b, ((int) l5) - 60536, 0L);
-   Words.put64(b, ((int) l5) - 60544, 0L);
-   f75(m, l5 + 176L, l3, l4 - l6, 1);
-   L13: {
-    if (((l16 | (l15 = b[((int) l5) - 60544] & 0xff)) & 255) == 0) { break L13; }
-    l6 = 0L;
-    break L2;
-   }
-   l12 = Words.get64(b, ((int) l5) - 60504);
-   l2 = Words.get64(b, ((int) l5) - 60520);
-   l1 = Words.get64(b, ((int) l5) - 60528);
-   l6 = 0L;
-   final long t14 = l5 + 32L;
-   final long t15 = Words.get64(b, ((int) l5) - 60512);
-   final int t16 = l15 = l15 & 255;
-   final long t17 = l13 = t16 != 0 ? 0L : t15;
-   final long t18 = 0L - l8;
-   final long t19 = l8;
-   final int t20 = l17 = (l9 < 0L) ? 1 : 0;
-   final long t21 = t20 != 0 ? t18 : t19;
-   final int t22 = l16 = l16 & 255;
-   Core1.f3(m, t14, t17, 0L, l14 = t22 != 0 ? 0L : t21, 0L);
-   Core1.f3(m, l5 + 16L, l12 = l15 != 0 ? 0L : l12, 0L, l14, 0L);
-   final long t23 = l5 + 64L;
-   final long t24 = l13;
-   final long t25 = 0L - (l9 + ((l8 != 0L) ? 1L : 0L));
-   final long t26 = l9;
-   final int t27 = l17;
-   final long t28 = t27 != 0 ? t25 : t26;
-   final int t29 = l16;
-   Core1.f3(m, t23, t24, 0L, l9 = t29 != 0 ? 0L : t28, 0L);
-   Core1.f3(m, l5 + 48L, l12, 0L, l9, 0L);
-   final long t30 = l5 + 96L;
-   final long t31 = 0L - l1;
-   final long t32 = l1;
-   final int t33 = l17 = (l2 < 0L) ? 1 : 0;
-   final long t34 = t33 != 0 ? t31 : t32;
-   final int t35 = l15;
-   Core1.f3(m, t30, l9 = t35 != 0 ? 0L : t34, 0L, l8 = l16 != 0 ? 0L : l11, 0L);
-   Core1.f3(m, l5 + 80L, l9, 0L, l10 = l16 != 0 ? 0L : l10, 0L);
-   final long t36 = l5 + 128L;
-   final long t37 = 0L - (l2 + ((l1 != 0L) ? 1L : 0L));
-   final long t38 = l2;
-   final int t39 = l17;
-   final long t40 = t39 != 0 ? t37 : t38;
-   final int t41 = l15;
-   Core1.f3(m, t36, l9 = t41 != 0 ? 0L : t40, 0L, l8, 0L);
-   Core1.f3(m, l5 + 112L, l9, 0L, l10, 0L);
-   if (((((Words.get64(b, ((int) l5) - 60648) + (((l2 = (l9 = (l8 = Words.get64(b, ((int) l5) - 60680)) + Words.get64(b, ((int) l5) - 60704)) + Words.get64(b, ((int) l5) - 60656)) + Long.MIN_VALUE < l9 + Long.MIN_VALUE) ? 1L : 0L)) | (l1 = (l8 = Words.get64(b, ((int) l5) - 60696) + ((l9 + Long.MIN_VALUE < l8 + Long.MIN_VALUE) ? 1L : 0L)) + Words.get64(b, ((int) l5) - 60672))) | ((Words.get64(b, ((int) l5) - 60584) + (((l11 = (l9 = (l10 = Words.get64(b, ((int) l5) - 60616)) + Words.get64(b, ((int) l5) - 60640)) + Words.get64(b, ((int) l5) - 60592)) + Long.MIN_VALUE < l9 + Long.MIN_VALUE) ? 1L : 0L)) | (l10 = (l9 = Words.get64(b, ((int) l5) - 60632) + ((l9 + Long.MIN_VALUE < l10 + Long.MIN_VALUE) ? 1L : 0L)) + Words.get64(b, ((int) l5) - 60608)))) | ((Words.get64(b, ((int) l5) - 60664) + ((l1 + Long.MIN_VALUE < l8 + Long.MIN_VALUE) ? 1L : 0L)) | (Words.get64(b, ((int) l5) - 60600) + ((l10 + Long.MIN_VALUE < l9 + Long.MIN_VALUE) ? 1L : 0L)))) != 0L) { break L2; }
-   final int t42 = (Words.get64(b, ((int) l5) - 60624) + Long.MIN_VALUE <= Words.get64(b, ((int) l5) - 60688) + Long.MIN_VALUE) ? 1 : 0;
-   final int t43 = (l11 + Long.MIN_VALUE <= l2 + Long.MIN_VALUE) ? 1 : 0;
-   final int t44 = (l11 == l2) ? 1 : 0;
-   if ((t44 != 0 ? t42 : t43) != 0) { break L2; }
-   f76(m, l5, l3, l4);
-   l6 = Words.get64(b, ((int) l5) - 60712);
-   l7 = Words.get64(b, ((int) l5) - 60720);
-  }
-  Words.put64(b, ((int) l0) - 60712, l6);
-  Words.put64(b, ((int) l0) - 60720, l7);
-  m.g0 = l5 + 240L;
-  return;
- }
- throw State.trap();
-}
-
-static void f74(State m, long l0, long l1, long l2, long l3, long l4) {
- final byte[] b = m.bytes;
- long l5 = 0;
- long l6 = 0;
- long l7 = 0;
- int l8 = 0;
- int l9 = 0;
- m.g0 = l5 = m.g0 - 256L;
- L1: {
-  L2: {
-   if ((l5 = l5) < 16L) { break L2; }
-   L3: {
-    L4: {
-     if (l2 + Long.MIN_VALUE > -9223372036854775760L) { break L4; }
-     if (l4 + Long.MIN_VALUE < -9223372036854775759L) { break L3; }
-    }
-    Words.put64(b, ((int) l0) - 60664, 0L);
-    Words.put64(b, ((int) l0) - 60672, 0L);
-    Words.put64(b, ((int) l0) - 60680, 0L);
-    Words.put64(b, ((int) l0) - 60688, 0L);
-    Words.put64(b, ((int) l0) - 60696, 0L);
-    Words.put64(b, ((int) l0) - 60704, 0L);
-    Words.put64(b, ((int) l0) - 60712, 0L);
-    Words.put64(b, ((int) l0) - 60720, 0L);
-    break L1;
-   }
-   m.fill((int) (l5 + 8L), 0, (int) 96L);
-   l6 = 0L;
-   Words.put64(b, ((int) l5) - 60560, 0L);
-   Words.put64(b, ((int) l5) - 60568, 96L);
-   Words.put64(b, ((int) l5) - 60576, l5 + 8L);
-   f53(m, l5 + 144L, l1, l2);
-   f53(m, l5 + 144L, l3, l4);
-   l4 = Words.get64(b, ((int) l5) - 60576);
-   l2 = Words.get64(b, ((int) l5) - 60560);
-   l3 = Words.get64(b, ((int) l5) - 60568);
-   Words.put64(b, ((int) l5) - 60520, 0L);
-   Words.put64(b, ((int) l5) - 60528, 0L);
-   Words.put64(b, ((int) l5) - 60536, 0L);
-   Words.put64(b, ((int) l5) - 60544, 0L);
-   Words.put64(b, ((int) l5) - 60552, 0L);
-   Words.put64(b, ((int) l5) - 60560, 0L);
-   Words.put64(b, ((int) l5) - 60568, 0L);
-   Words.put64(b, ((int) l5) - 60576, 0L);
-   l8 = 1;
-   f75(m, l5 + 144L, ((l9 = (l3 + Long.MIN_VALUE < l2 + Long.MIN_VALUE) ? 1 : 0) != 0) ? 83372L : l4, l9 != 0 ? 0L : l2, 1);
-   L5: {
-    L6: {
-     if ((b[((int) l5) - 60576] & 0xff) != 0) { break L6; }
-     Words.put64(b, ((int) l5) - 60504, Words.get64(b, ((int) l5) - 60552));
-     Words.put64(b, ((int) l5) - 60496, Words.get64(b, ((int) l5) - 60544));
-     Words.put64(b, ((int) l5) - 60488, Words.get64(b, ((int) l5) - 60536));
-     Words.put64(b, ((int) l5) - 60480, Words.get64(b, ((int) l5) - 60528));
-     Words.put64(b, ((int) l5) - 60472, Words.get64(b, ((int) l5) - 60520));
-     l6 = Words.get64(b, ((int) l5) - 60560);
-     break L5;
-    }
-    Words.put64(b, ((int) l5) - 60472, 0L);
-    Words.put64(b, ((int) l5) - 60480, 0L);
-    Words.put64(b, ((int) l5) - 60488, 0L);
-    Words.put64(b, ((int) l5) - 60496, 0L);
-    Words.put64(b, ((int) l5) - 60504, 0L);
-    l8 = 0;
-   }
-   Words.put64(b, ((int) l5) - 60584, l2 = Words.get64(b, ((int) l5) - 60472));
-   Words.put64(b, ((int) l5) - 60592, l4 = Words.get64(b, ((int) l5) - 60480));
-   Words.put64(b, ((int) l5) - 60600, l3 = Words.get64(b, ((int) l5) - 60488));
-   Words.put64(b, ((int) l5) - 60608, l1 = Words.get64(b, ((int) l5) - 60496));
-   Words.put64(b, ((int) l5) - 60616, l7 = Words.get64(b, ((int) l5) - 60504));
-   Words.put64(b, ((int) l0) - 60712, 0L);
-   Words.put64(b, ((int) l0) - 60720, l8 & 0xffffffffL);
-   Words.put64(b, ((int) (l0 + 16L)) - 60720, l6);
-   Words.put64(b, ((int) (l0 + 24L)) - 60720, l7);
-   Words.put64(b, ((int) (l0 + 32L)) - 60720, l1);
-   Words.put64(b, ((int) (l0 + 40L)) - 60720, l3);
-   Words.put64(b, ((int) (l0 + 48L)) - 60720, l4);
-   Words.put64(b, ((int) (l0 + 56L)) - 60720, l2);
-   break L1;
-  }
-  throw State.trap();
- }
- m.g0 = l5 + 256L;
-}
-
-static void f75(State m, long l0, long l1, long l2, int l3) {
- final byte[] b = m.bytes;
- long l4 = 0;
- long l5 = 0;
- long l6 = 0;
- long l7 = 0;
- long l8 = 0;
- long l9 = 0;
- long l10 = 0;
- long l11 = 0;
- long l12 = 0;
- int l13 = 0;
- int l14 = 0;
- int l15 = 0;
- int l16 = 0;
- m.g0 = l4 = m.g0 - 528L;
- L1: {
-  L2: {
-   L3: {
-    L4: {
-     L5: {
-      L6: {
-       if ((l4 = l4) < 16L) { break L6; }
-       Words.put64(b, ((int) l4) - 60473, 0L);
-       Words.put64(b, ((int) l4) - 60480, 0L);
-       Words.put64(b, ((int) l4) - 60512, 0L);
-       Words.put64(b, ((int) l4) - 60504, 0L);
-       Words.put64(b, ((int) l4) - 60496, 0L);
-       Words.put64(b, ((int) l4) - 60488, 0L);
-       Words.put64(b, ((int) l4) - 60560, 0L);
-       Words.put64(b, ((int) l4) - 60552, 0L);
-       Words.put64(b, ((int) l4) - 60544, 0L);
-       Words.put64(b, ((int) l4) - 60536, 0L);
-       Words.put64(b, ((int) l4) - 60528, 0L);
-       Words.put64(b, ((int) l4) - 60520, 0L);
-       Words.put64(b, ((int) l4) - 60624, 0L);
-       Words.put64(b, ((int) l4) - 60616, 0L);
-       Words.put64(b, ((int) l4) - 60608, 0L);
-       Words.put64(b, ((int) l4) - 60600, 0L);
-       Words.put64(b, ((int) l4) - 60592, 0L);
-       Words.put64(b, ((int) l4) - 60584, 0L);
-       Words.put64(b, ((int) l4) - 60576, 0L);
-       Words.put64(b, ((int) l4) - 60568, 0L);
-       f77(m, l4 + 208L, l1, l2);
-       l5 = Words.get64(b, ((int) l4) - 60488);
-       l6 = Words.get64(b, ((int) l4) - 60496);
-       l7 = Words.get64(b, ((int) l4) - 60504);
-       l13 = b[((int) l4) - 60511] & 0xff;
-       L7: {
-        if ((l14 = b[((int) l4) - 60512] & 0xff) == 1) { break L7; }
-        f78(m, l4 + 160L, l6, l5);
-        if ((b[((int) l4) - 60560] & 0xff) != 1) { break L7; }
-        f79(m, l4 + 96L, l3, l7, l4 + 168L);
-        l2 = Words.get64(b, ((int) l4) - 60608);
-        L8: {
-         L9: {
-          if ((b[((int) l4) - 60624] & 0xff) != 0) { break L9; }
-          L10: {
-           final int t11 = (l2 == 0L) ? 1 : 0;
-           final int t12 = ((l6 = Words.get64(b, ((int) l4) - 60600)) > -1L) ? 1 : 0;
-           final int t13 = (l6 == -9223372036854775808L) ? 1 : 0;
-           if ((t13 != 0 ? t11 : t12) == 0) { break L10; }
-           l1 = 0L;
-           l8 = 0L - l2;
-           l2 = 0L - (l6 + ((l2 != 0L) ? 1L : 0L));
-           l6 = Words.get64(b, ((int) l4) - 60584);
-           l5 = Words.get64(b, ((int) l4) - 60592);
-           l3 = b[((int) l4) - 60576] & 0xff;
-           l7 = 0L;
-           break L8;
-          }
-          l8 = 0L;
-          l3 = 0;
-          l7 = 3L;
-          l1 = 1L;
-          l2 = 0L;
-          l5 = 0L;
-          l6 = 0L;
-          break L8;
-         }
-         l6 = 0L;
-         l8 = ((l15 = ((l3 = b[((int) l4) - 60616] & 0xff) == 2) ? 1 : 0) != 0) ? 0L : l2;
-         l7 = (l15 != 0 ? 3 : l3) & 0xffffffffL;
-         l3 = 0;
-         l1 = 1L;
-         l2 = 0L;
-         l5 = 0L;
-        }
-        Words.put64(b, ((int) l0) - 60720, l1);
-        Words.put64(b, ((int) (l0 + 40L)) - 60720, l6);
-        Words.put64(b, ((int) (l0 + 32L)) - 60720, l5);
-        Words.put64(b, ((int) (l0 + 24L)) - 60720, l2);
-        Words.put64(b, ((int) (l0 + 16L)) - 60720, l8);
-        Words.put64(b, ((int) (l0 + 49L)) - 60720, 0L);
-        b[((int) (l0 + 48L)) - 60720] = (byte) l3;
-        Words.put64(b, ((int) (l0 + 8L)) - 60720, l7);
-        Words.put64(b, ((int) (l0 + 56L)) - 60720, 0L);
-        break L1;
-       }
-       Words.put64(b, ((int) l4) - 60432, 0L);
-       Words.put64(b, ((int) l4) - 60424, 0L);
-       Words.put64(b, ((int) l4) - 60416, 0L);
-       Words.put64(b, ((int) l4) - 60408, 0L);
-       Words.put64(b, ((int) l4) - 60288, 0L);
-       Words.put64(b, ((int) l4) - 60280, 0L);
-       Words.put64(b, ((int) l4) - 60272, 0L);
-       Words.put64(b, ((int) l4) - 60264, 0L);
-       Words.put64(b, ((int) l4) - 60256, 0L);
-       Words.put64(b, ((int) l4) - 60248, 0L);
-       Words.put64(b, ((int) l4) - 60224, 0L);
-       Words.put64(b, ((int) l4) - 60216, 0L);
-       Words.put64(b, ((int) l4) - 60208, 0L);
-       Words.put64(b, ((int) l4) - 60200, 0L);
-       Words.put64(b, ((int) l4) - 60464, 0L);
-       Words.put64(b, ((int) l4) - 60456, 0L);
-       Words.put64(b, ((int) l4) - 60448, 0L);
-       Words.put64(b, ((int) l4) - 60440, 0L);
-       Words.put64(b, ((int) l4) - 60296, 0L);
-       Words.put64(b, ((int) l4) - 60304, 0L);
-       Words.put64(b, ((int) l4) - 60312, 0L);
-       Words.put64(b, ((int) l4) - 60320, 0L);
-       Words.put64(b, ((int) l4) - 60328, 0L);
-       Words.put64(b, ((int) l4) - 60336, 0L);
-       Words.put64(b, ((int) l4) - 60360, 0L);
-       Words.put64(b, ((int) l4) - 60368, 0L);
-       Words.put64(b, ((int) l4) - 60376, 0L);
-       Words.put64(b, ((int) l4) - 60384, 0L);
-       l2 = l6;
-       l1 = l5;
-       L14: {
-        L15: {
-         L16: while (true) {
-          f80(m, l4 + 336L, l2, l8 = l1);
-          if ((b[((int) l4) - 60384] & 0xff) != 1) { break L15; }
-          l1 = Words.get64(b, ((int) l4) - 60360);
-          l2 = Words.get64(b, ((int) l4) - 60368);
-          if (Words.get32(b, ((int) l4) - 60376) != 21448) { continue L16; }
-          break L16;
-         }
-         f80(m, l4 + 288L, l6, l8 = l5 - l8);
-         if ((b[((int) l4) - 60432] & 0xff) != 1) { break L15; }
-         f81(m, l4 + 432L, l2, l1);
-         if ((b[((int) l4) - 60288] & 0xff) != 1) { break L15; }
-         l2 = Words.get64(b, ((int) l4) - 60248);
-         l1 = Words.get64(b, ((int) l4) - 60256);
-         l9 = Words.get64(b, ((int) l4) - 60272);
-         l10 = Words.get64(b, ((int) l4) - 60280);
-         Core3.f82(m, l4 + 496L, l3, 0L, l6, l8);
-         Core3.f83(m, l4 + 256L, l3, 0L, l10, l9);
-         Core3.f84(m, l4 + 384L, l3, 0L, l1, l2);
-         if ((b[((int) l4) - 60224] & 0xff) != 0) { break L15; }
-         if (((b[((int) l4) - 60464] & 0xff) & 255) != 0) { break L15; }
-         if (((b[((int) l4) - 60336] & 0xff) & 255) != 0) { break L15; }
-         if (Words.get64(b, ((int) l4) - 60304) != 0L) { break L15; }
-         final int t17 = ((l8 = Words.get64(b, ((int) l4) - 60448)) + Long.MIN_VALUE <= (l10 = Words.get64(b, ((int) l4) - 60320)) + Long.MIN_VALUE) ? 1 : 0;
-         final int t18 = ((l1 = Words.get64(b, ((int) l4) - 60440)) + Long.MIN_VALUE <= (l2 = Words.get64(b, ((int) l4) - 60312)) + Long.MIN_VALUE) ? 1 : 0;
-         final int t19 = (l1 == l2) ? 1 : 0;
-         if ((t19 != 0 ? t17 : t18) != 0) { break L15; }
-         l9 = Words.get64(b, ((int) l4) - 60200);
-         Core1.f3(m, l4 + 48L, l8, 0L, l11 = Words.get64(b, ((int) l4) - 60208), 0L);
-         Core1.f3(m, l4 + 80L, l1, 0L, l11, 0L);
-         Core1.f3(m, l4 + 32L, l8, 0L, l9, 0L);
-         Core1.f3(m, l4 + 64L, l1, 0L, l9, 0L);
-         if ((((Words.get64(b, ((int) l4) - 60680) + (((l12 = (l9 = (l11 = Words.get64(b, ((int) l4) - 60664)) + Words.get64(b, ((int) l4) - 60640)) + Words.get64(b, ((int) l4) - 60688)) + Long.MIN_VALUE < l9 + Long.MIN_VALUE) ? 1L : 0L)) | (l11 = (l9 = Words.get64(b, ((int) l4) - 60632) + ((l9 + Long.MIN_VALUE < l11 + Long.MIN_VALUE) ? 1L : 0L)) + Words.get64(b, ((int) l4) - 60656))) | (Words.get64(b, ((int) l4) - 60648) + ((l11 + Long.MIN_VALUE < l9 + Long.MIN_VALUE) ? 1L : 0L))) != 0L) { break L15; }
-         final int t20 = ((l9 = Words.get64(b, ((int) l4) - 60672)) + Long.MIN_VALUE > (l10 ^ -1L) + Long.MIN_VALUE) ? 1 : 0;
-         final int t21 = (l12 + Long.MIN_VALUE > (l11 = l2 ^ -1L) + Long.MIN_VALUE) ? 1 : 0;
-         final int t22 = (l12 == l11) ? 1 : 0;
-         if ((t22 != 0 ? t20 : t21) != 0) { break L15; }
-         Words.put64(b, ((int) l4) - 60281, 0L);
-         Words.put64(b, ((int) l4) - 60288, 0L);
-         l2 = (l12 + l2) + (((l6 = l9 + l10) + Long.MIN_VALUE < l9 + Long.MIN_VALUE) ? 1L : 0L);
-         l15 = 3;
-         break L14;
-        }
-        Words.put64(b, ((int) l4) - 60288, 0L);
-        Words.put64(b, ((int) l4) - 60280, 0L);
-        Words.put64(b, ((int) l4) - 60272, 0L);
-        Words.put64(b, ((int) l4) - 60264, 0L);
-        Words.put64(b, ((int) l4) - 60256, 0L);
-        Words.put64(b, ((int) l4) - 60248, 0L);
-        Words.put64(b, ((int) l4) - 60240, 0L);
-        Words.put64(b, ((int) l4) - 60232, 0L);
-        Words.put64(b, ((int) l4) - 60336, 0L);
-        Words.put64(b, ((int) l4) - 60328, 0L);
-        Words.put64(b, ((int) l4) - 60320, 0L);
-        Words.put64(b, ((int) l4) - 60312, 0L);
-        Words.put64(b, ((int) l4) - 60304, 0L);
-        Words.put64(b, ((int) l4) - 60296, 0L);
-        Words.put64(b, ((int) l4) - 60384, 0L);
-        Words.put64(b, ((int) l4) - 60376, 0L);
-        Words.put64(b, ((int) l4) - 60368, 0L);
-        Words.put64(b, ((int) l4) - 60360, 0L);
-        Words.put64(b, ((int) l4) - 60352, 0L);
-        Words.put64(b, ((int) l4) - 60344, 0L);
-        Words.put64(b, ((int) l4) - 60392, 0L);
-        Words.put64(b, ((int) l4) - 60400, 0L);
-        Words.put64(b, ((int) l4) - 60408, 0L);
-        Words.put64(b, ((int) l4) - 60416, 0L);
-        Words.put64(b, ((int) l4) - 60424, 0L);
-        Words.put64(b, ((int) l4) - 60432, 0L);
-        f81(m, l4 + 384L, l6, l5);
-        L23: {
-         if ((b[((int) l4) - 60336] & 0xff) == 1) { break L23; }
-         Words.put64(b, ((int) l4) - 60200, 0L);
-         Words.put64(b, ((int) l4) - 60208, 0L);
-         Words.put64(b, ((int) l4) - 60216, 0L);
-         Words.put64(b, ((int) l4) - 60224, 0L);
-         Core3.f85(m, l4 + 496L, l6, l5);
-         L24: {
-          L25: {
-           L26: {
-            L27: {
-             if ((b[((int) l4) - 60224] & 0xff) != 1) { break L27; }
-             l16 = Words.get32(b, ((int) l4) - 60216);
-             f80(m, l4 + 496L, l2 = Words.get64(b, ((int) l4) - 60208), l1 = Words.get64(b, ((int) l4) - 60200));
-             if ((b[((int) l4) - 60224] & 0xff) != 1) { break L27; }
-             l8 = 100L;
-             l15 = 2;
-             L28: {
-              if (l16 == 37) { break L28; }
-              if (l16 == 65285) { break L28; }
-              if (l16 != 8240) { break L27; }
-              l8 = 1000L;
-              l15 = 3;
-             }
-             Core3.f86(m, l4 + 336L, l3, l7, l2, l1);
-             l5 = Words.get64(b, ((int) l4) - 60368);
-             L29: {
-              if ((b[((int) l4) - 60384] & 0xff) != 0) { break L29; }
-              l3 = 2;
-              L30: {
-               if ((l1 = Words.get64(b, ((int) l4) - 60352)) + Long.MIN_VALUE <= -9223372036854775770L) { break L30; }
-               l6 = 0L;
-               break L26;
-              }
-              l2 = Words.get64(b, ((int) l4) - 60360);
-              l6 = 0L;
-              Core1.f3(m, l4 + 16L, Words.get64(b, ((int) ((l1 = l1 << 4L) + 68336L)) - 60720), 0L, l8, 0L);
-              Core1.f3(m, l4, Words.get64(b, ((int) (l1 + 68344L)) - 60720), 0L, l8, 0L);
-              if ((Words.get64(b, ((int) l4) - 60712) + (((l1 = (l8 = Words.get64(b, ((int) l4) - 60696)) + Words.get64(b, ((int) l4) - 60720)) + Long.MIN_VALUE < l8 + Long.MIN_VALUE) ? 1L : 0L)) != 0L) { break L26; }
-              l8 = Words.get64(b, ((int) l4) - 60704) & -4L;
-              l6 = l5;
-              break L24;
-             }
-             Words.put64(b, ((int) l4) - 60264, 0L);
-             Words.put64(b, ((int) l4) - 60272, l5);
-             Words.put64(b, ((int) l4) - 60256, 0L);
-             Words.put64(b, ((int) l4) - 60248, 0L);
-             Words.put64(b, ((int) l4) - 60240, 0L);
-             Words.put64(b, ((int) l4) - 60232, 0L);
-             l3 = b[((int) l4) - 60376] & 0xff;
-             l6 = l5;
-             break L26;
-            }
-            Core3.f86(m, l4 + 288L, l3, l7, l6, l5);
-            l6 = Words.get64(b, ((int) l4) - 60416);
-            L31: {
-             if ((b[((int) l4) - 60432] & 0xff) != 0) { break L31; }
-             if ((l2 = Words.get64(b, ((int) l4) - 60400)) + Long.MIN_VALUE <= -9223372036854775770L) { break L25; }
-             l3 = 2;
-             l6 = 0L;
-             break L26;
-            }
-            Words.put64(b, ((int) l4) - 60264, 0L);
-            Words.put64(b, ((int) l4) - 60272, l6);
-            Words.put64(b, ((int) l4) - 60256, 0L);
-            Words.put64(b, ((int) l4) - 60248, 0L);
-            Words.put64(b, ((int) l4) - 60240, 0L);
-            Words.put64(b, ((int) l4) - 60232, 0L);
-            l3 = b[((int) l4) - 60424] & 0xff;
-           }
-           Words.put64(b, ((int) l4) - 60281, 0L);
-           Words.put64(b, ((int) l4) - 60288, 0L);
-           break L4;
-          }
-          l15 = (l2 != 0L) ? 1 : 0;
-          l1 = Words.get64(b, ((int) ((l2 = l2 << 4L) + 68344L)) - 60720);
-          l8 = Words.get64(b, ((int) (l2 + 68336L)) - 60720);
-          l2 = Words.get64(b, ((int) l4) - 60408);
-         }
-         Words.put64(b, ((int) l4) - 60281, 0L);
-         Words.put64(b, ((int) l4) - 60288, 0L);
-         break L14;
-        }
-        f79(m, l4 + 432L, l3, l7, l4 + 392L);
-        l1 = Words.get64(b, ((int) l4) - 60248);
-        l8 = Words.get64(b, ((int) l4) - 60256);
-        l2 = Words.get64(b, ((int) l4) - 60264);
-        l6 = Words.get64(b, ((int) l4) - 60272);
-        l15 = b[((int) l4) - 60240] & 0xff;
-        l3 = b[((int) l4) - 60280] & 0xff;
-        l16 = b[((int) l4) - 60288] & 0xff;
-        Words.put64(b, ((int) l4) - 60281, 0L);
-        Words.put64(b, ((int) l4) - 60288, 0L);
-        if (l16 != 0) { break L4; }
-       }
-       L32: {
-        L33: {
-         if (l14 != 1) { break L33; }
-         if ((l13 & 255) != 1) { break L33; }
-         L34: {
-          final int t35 = (l6 == 0L) ? 1 : 0;
-          final int t36 = (l2 > -1L) ? 1 : 0;
-          final int t37 = (l2 == -9223372036854775808L) ? 1 : 0;
-          if ((t37 != 0 ? t35 : t36) != 0) { break L34; }
-          l3 = 3;
-          break L32;
-         }
-         l7 = 0L;
-         l5 = 0L - l6;
-         l2 = 0L - (l2 + ((l6 != 0L) ? 1L : 0L));
-         l3 = 0;
-         break L2;
-        }
-        if (l2 > -1L) { break L5; }
-        l3 = 2;
-       }
-       l5 = 0L;
-       l15 = 0;
-       l7 = 1L;
-       l2 = 0L;
-       break L3;
-      }
-      throw State.trap();
-     }
-     l3 = 0;
-     l7 = 0L;
-     l5 = l6;
-     break L2;
-    }
-    l2 = 0L;
-    l5 = ((l15 = (((l14 == 1) & ((l13 & 255) == 1)) & ((l3 & 255) == 2)) ? 1 : 0) != 0) ? 0L : l6;
-    l3 = l15 != 0 ? 3 : l3;
-    l15 = 0;
-    l7 = 1L;
-   }
-   l8 = 0L;
-   l1 = 0L;
-  }
-  Words.put64(b, ((int) l4) - 60473, Words.get64(b, ((int) l4) - 60281));
-  Words.put64(b, ((int) l4) - 60480, Words.get64(b, ((int) l4) - 60288));
-  Words.put64(b, ((int) (l0 + 40L)) - 60720, l1);
-  Words.put64(b, ((int) (l0 + 32L)) - 60720, l8);
-  Words.put64(b, ((int) (l0 + 24L)) - 60720, l2);
-  Words.put64(b, ((int) (l0 + 16L)) - 60720, l5);
-  b[((int) (l0 + 48L)) - 60720] = (byte) l15;
-  Words.put64(b, ((int) (l0 + 8L)) - 60720, (l3 & 0xffffffffL) & 255L);
-  Words.put64(b, ((int) l0) - 60720, l7);
-  Words.put64(b, ((int) (l0 + 49L)) - 60720, Words.get64(b, ((int) l4) - 60480));
-  Words.put64(b, ((int) (l0 + 56L)) - 60720, Words.get64(b, ((int) l4) - 60473));
- }
- m.g0 = l4 + 528L;
-}
-
-static void f76(State m, long l0, long l1, long l2) {
- final byte[] b = m.bytes;
- long l3 = 0;
- long l4 = 0;
- long l5 = 0;
- long l6 = 0;
- long l7 = 0;
- int l8 = 0;
- int l9 = 0;
- int l10 = 0;
- int l11 = 0;
- L1: {
-  L2: {
-   L3: {
-    if (m.g0 < 16L) { break L3; }
-    if (l2 == 0L) { break L2; }
-    L4: while (true) {
-     l3 = l2;
-     L5: {
-      L6: {
-       if ((l8 = (int) b[((int) (l4 = l1)) - 60720]) <= -1) { break L6; }
-       l5 = 1L;
-       break L5;
-      }
-      L7: {
-       if (l8 + Integer.MIN_VALUE >= 2147483616) { break L7; }
-       l5 = 2L;
-       break L5;
-      }
-      l5 = (l8 + Integer.MIN_VALUE < 2147483632) ? 3L : 4L;
-     }
-     l2 = l3 - l5;
-     l1 = l4 + l5;
-     l6 = l3;
-     l5 = l4;
-     L8: while (true) {
-      l8 = (l9 = (int) b[((int) l5) - 60720]) & 255;
-      l7 = 1L;
-      L9: {
-       if (l9 > -1) { break L9; }
-       l10 = (b[((int) l5) - 60719] & 0xff) & 63;
-       L10: {
-        if (l9 + Integer.MIN_VALUE > 2147483615) { break L10; }
-        l8 = ((l8 << 6) & 1984) | l10;
-        l7 = 2L;
-        break L9;
-       }
-       l11 = (b[((int) l5) - 60718] & 0xff) & 63;
-       L11: {
-        if (l9 + Integer.MIN_VALUE > 2147483631) { break L11; }
-        l8 = ((l10 << 6) | ((l8 << 12) & 61440)) | l11;
-        l7 = 3L;
-        break L9;
-       }
-       l8 = ((l11 << 6) | ((l10 << 12) | ((l8 << 18) & 1835008))) | ((b[((int) l5) - 60717] & 0xff) & 63);
-       l7 = 4L;
-      }
-      L12: {
-       L13: {
-        L14: {
-         if (l8 > 27490) { break L14; }
-         L15: {
-          if (l8 > 20805) { break L15; }
-          L16: {
-           if (l8 > 20190) { break L16; }
-           L17: {
-            switch (l8 + -20140) {
-            case 0: case 19: break L13;
-            case 1: case 2: case 3: case 4: case 5: case 6: case 7: case 8: case 9: case 10: case 11: case 12: case 13: case 14: case 15: case 16: case 17: case 18: break L12;
-            default: break L17;
-            }
-           }
-           if (l8 == 19975) { break L13; }
-           break L12;
-          }
-          if (l8 == 20191) { break L13; }
-          if (l8 == 20336) { break L13; }
-          if (l8 != 20740) { break L12; }
-          break L13;
-         }
-         L18: {
-          if (l8 > 22418) { break L18; }
-          if (l8 == 20806) { break L13; }
-          if (l8 != 21315) { break L12; }
-          break L13;
-         }
-         if (l8 == 22419) { break L13; }
-         if (l8 == 26497) { break L13; }
-         if (l8 != 26997) { break L12; }
-         break L13;
-        }
-        L19: {
-         if (l8 > 30333) { break L19; }
-         L20: {
-          if (l8 > 28070) { break L20; }
-          if (l8 == 27491) { break L13; }
-          if (l8 != 27807) { break L12; }
-          break L13;
-         }
-         if (l8 == 28071) { break L13; }
-         if (l8 == 28317) { break L13; }
-         if (l8 != 28567) { break L12; }
-         break L13;
-        }
-        L21: {
-         if (l8 > 33835) { break L21; }
-         if (l8 == 30334) { break L13; }
-         if (l8 == 31213) { break L13; }
-         if (l8 != 31344) { break L12; }
-         break L13;
-        }
-        if (l8 == 33836) { break L13; }
-        if (l8 == 36733) { break L13; }
-        if (l8 != 36617) { break L12; }
-       }
-       l5 = l5 + l7;
-       if ((l6 = l6 - l7) != 0L) { continue L8; }
-       break L1;
-      }
-      break L8;
-     }
-     if (l2 == 0L) { break L2; }
-     continue L4;
-    }
-   }
-   throw State.trap();
-  }
-  l4 = l1;
-  l3 = 0L;
- }
- Words.put64(b, ((int) l0) - 60712, l3);
- Words.put64(b, ((int) l0) - 60720, l4);
-}
-
-static void f77(State m, long l0, long l1, long l2) {
- final byte[] b = m.bytes;
- long l3 = 0;
- long l4 = 0;
- long l5 = 0;
- long l6 = 0;
- long l7 = 0;
- long l8 = 0;
- int l9 = 0;
- int l10 = 0;
- int l11 = 0;
- m.g0 = l3 = m.g0 - 112L;
- L1: {
-  L2: {
-   L3: {
-    if ((l4 = l3) < 16L) { break L3; }
-    Words.put64(b, ((int) l4) - 60648, 0L);
-    Words.put64(b, ((int) l4) - 60656, 0L);
-    Words.put64(b, ((int) l4) - 60664, 0L);
-    Words.put64(b, ((int) l4) - 60672, 0L);
-    Words.put64(b, ((int) l4) - 60616, 0L);
-    Words.put64(b, ((int) l4) - 60624, 0L);
-    Words.put64(b, ((int) l4) - 60632, 0L);
-    Words.put64(b, ((int) l4) - 60640, 0L);
-    f80(m, l4 + 80L, l1, l2);
-    L4: {
-     L5: {
-      if ((b[((int) l4) - 60640] & 0xff) != 1) { break L5; }
-      l9 = Words.get32(b, ((int) l4) - 60632);
-      f80(m, l4 + 80L, Words.get64(b, ((int) l4) - 60624), Words.get64(b, ((int) l4) - 60616));
-      if ((b[((int) l4) - 60640] & 0xff) != 1) { break L5; }
-      l10 = Words.get32(b, ((int) l4) - 60632);
-      f80(m, l4 + 80L, l3 = Words.get64(b, ((int) l4) - 60624), l5 = Words.get64(b, ((int) l4) - 60616));
-      if ((b[((int) l4) - 60640] & 0xff) != 1) { break L5; }
-      if (l9 != 38646) { break L5; }
-      if (l10 != 19979) { break L5; }
-      f63(m, l4 + 40L, l10 = Words.get32(b, ((int) l4) - 60632));
-      l9 = 1;
-      if ((b[((int) l4) - 60680] & 0xff) == 1) { break L4; }
-      Core1.f24(m, l4 + 32L, l10);
-      if ((b[((int) l4) - 60688] & 0xff) == 1) { break L4; }
-      f61(m, l4 + 24L, l10);
-      if ((b[((int) l4) - 60696] & 0xff) != 1) { break L5; }
-      if (((b[((int) l4) - 60695] & 0xff) & 255) == 1) { break L4; }
-     }
-     f80(m, l4 + 48L, l1, l2);
-     l9 = 1;
-     if ((b[((int) l4) - 60672] & 0xff) != 1) { break L2; }
-     l10 = 0;
-     l5 = Words.get64(b, ((int) l4) - 60648);
-     l3 = Words.get64(b, ((int) l4) - 60656);
-     L6: {
-      L7: {
-       if ((l11 = Words.get32(b, ((int) l4) - 60664)) > 35999) { break L7; }
-       L8: {
-        switch (l11 + -43) {
-        case 0: break L1;
-        case 1: break L2;
-        case 2: break L6;
-        default: break L8;
-        }
-       }
-       if (l11 == 8722) { break L6; }
-       if (l11 == 27491) { break L1; }
-       break L2;
-      }
-      L9: {
-       switch (l11 + -65291) {
-       case 0: break L1;
-       case 1: break L2;
-       case 2: break L6;
-       default: break L9;
-       }
-      }
-      if (l11 == 36127) { break L6; }
-      if (l11 != 36000) { break L2; }
-     }
-     l9 = 1;
-    }
-    l10 = 1;
-    break L1;
-   }
-   throw State.trap();
-  }
-  l9 = 0;
-  l10 = 0;
-  l3 = l1;
-  l5 = l2;
- }
- Words.put64(b, ((int) l4) - 60640, 0L);
- Words.put64(b, ((int) l4) - 60632, 0L);
- Words.put64(b, ((int) l4) - 60624, 0L);
- Words.put64(b, ((int) l4) - 60616, 0L);
- Words.put64(b, ((int) l4) - 60672, 0L);
- Words.put64(b, ((int) l4) - 60664, 0L);
- Words.put64(b, ((int) l4) - 60656, 0L);
- Words.put64(b, ((int) l4) - 60648, 0L);
- f80(m, l4 + 80L, l3, l5);
- L10: {
-  L11: {
-   if ((b[((int) l4) - 60640] & 0xff) != 1) { break L11; }
-   l11 = Words.get32(b, ((int) l4) - 60632);
-   f80(m, l4 + 48L, l6 = Words.get64(b, ((int) l4) - 60624), l7 = Words.get64(b, ((int) l4) - 60616));
-   if ((b[((int) l4) - 60672] & 0xff) != 1) { break L11; }
-   L12: {
-    if (l11 == 65509) { break L12; }
-    if (l11 != 165) { break L11; }
-   }
-   Core1.f24(m, l4 + 16L, Words.get32(b, ((int) l4) - 60664));
-   if ((b[((int) l4) - 60704] & 0xff) == 1) { break L10; }
-  }
-  l7 = l5;
-  l6 = l3;
- }
- l5 = 0L;
- l3 = 0L;
- L13: {
-  if ((l2 = l2 - l7) + Long.MIN_VALUE < -9223372036854775776L) { break L13; }
-  Core1.f25(m, l4, l1, l2, l2);
-  l5 = l2 - Words.get64(b, ((int) l4) - 60712);
-  l3 = Words.get64(b, ((int) l4) - 60720);
- }
- L14: {
-  if ((l2 - l3) + Long.MIN_VALUE < -9223372036854775800L) { break L14; }
-  L15: while (true) {
-   L16: {
-    L17: {
-     if (((l8 = Words.get64(b, ((int) (l1 + l3)) - 60720)) & 67553998437089520L) != 63050398541283552L) { break L17; }
-     l5 = l5 + 3L;
-     l3 = l3 + 9L;
-     break L16;
-    }
-    if ((l8 & -9187201950435737472L) != 0L) { break L14; }
-    l5 = l5 + 8L;
-    l3 = l3 + 8L;
-   }
-   if ((l2 - l3) + Long.MIN_VALUE > -9223372036854775801L) { continue L15; }
-   break L15;
-  }
- }
- L18: {
-  if (l3 + Long.MIN_VALUE >= l2 + Long.MIN_VALUE) { break L18; }
-  L19: while (true) {
-   l5 = l5 + 1L;
-   if ((l3 = Words.get64(b, ((int) (((((b[((int) (l1 + l3)) - 60720] & 0xff) >>> 1) & 0xffffffffL) & 120L) + 66680L)) - 60720) + l3) + Long.MIN_VALUE < l2 + Long.MIN_VALUE) { continue L19; }
-   break L19;
-  }
- }
- b[((int) l0) - 60720] = (byte) l9;
- Words.put64(b, ((int) (l0 + 24L)) - 60720, l7);
- Words.put64(b, ((int) (l0 + 16L)) - 60720, l6);
- Words.put64(b, ((int) (l0 + 8L)) - 60720, l5);
- b[((int) (l0 + 1L)) - 60720] = (byte) l10;
- m.g0 = l4 + 112L;
-}
-
-static void f78(State m, long l0, long l1, long l2) {
- final byte[] b = m.bytes;
- long l3 = 0;
- long l4 = 0;
- long l5 = 0;
- long l6 = 0;
- long l7 = 0;
- long l8 = 0;
- long l9 = 0;
- int l10 = 0;
- m.g0 = l3 = m.g0 - 112L;
- L1: {
-  L2: {
-   L3: {
-    L4: {
-     if ((l3 = l3) < 16L) { break L4; }
-     Words.put64(b, ((int) l3) - 60616, 0L);
-     Words.put64(b, ((int) l3) - 60624, 0L);
-     Words.put64(b, ((int) l3) - 60632, 0L);
-     Words.put64(b, ((int) l3) - 60640, 0L);
-     Words.put64(b, ((int) l3) - 60648, 0L);
-     Words.put64(b, ((int) l3) - 60656, 0L);
-     Words.put64(b, ((int) l3) - 60688, 0L);
-     Words.put64(b, ((int) l3) - 60680, 0L);
-     Words.put64(b, ((int) l3) - 60672, 0L);
-     Words.put64(b, ((int) l3) - 60664, 0L);
-     Words.put64(b, ((int) l3) - 60704, 0L);
-     Words.put64(b, ((int) l3) - 60696, 0L);
-     f81(m, l3 + 64L, l1, l2);
-     L5: {
-      L6: {
-       L7: {
-        if ((b[((int) l3) - 60656] & 0xff) != 1) { break L7; }
-        f80(m, l3 + 32L, Words.get64(b, ((int) l3) - 60624), Words.get64(b, ((int) l3) - 60616));
-        if ((b[((int) l3) - 60688] & 0xff) != 1) { break L6; }
-        l10 = Words.get32(b, ((int) l3) - 60680);
-        f80(m, l3 + 32L, l4 = Words.get64(b, ((int) l3) - 60672), l5 = Words.get64(b, ((int) l3) - 60664));
-        if ((b[((int) l3) - 60688] & 0xff) == 1) { break L5; }
-        Words.put64(b, ((int) l0) - 60680, 0L);
-        Words.put64(b, ((int) l0) - 60688, 0L);
-        Words.put64(b, ((int) l0) - 60696, 0L);
-        Words.put64(b, ((int) l0) - 60704, 0L);
-        Words.put64(b, ((int) l0) - 60712, 0L);
-        Words.put64(b, ((int) l0) - 60720, 0L);
-        break L1;
-       }
-       Words.put64(b, ((int) l0) - 60680, 0L);
-       Words.put64(b, ((int) l0) - 60688, 0L);
-       Words.put64(b, ((int) l0) - 60696, 0L);
-       Words.put64(b, ((int) l0) - 60704, 0L);
-       Words.put64(b, ((int) l0) - 60712, 0L);
-       Words.put64(b, ((int) l0) - 60720, 0L);
-       break L1;
-      }
-      Words.put64(b, ((int) l0) - 60680, 0L);
-      Words.put64(b, ((int) l0) - 60688, 0L);
-      Words.put64(b, ((int) l0) - 60696, 0L);
-      Words.put64(b, ((int) l0) - 60704, 0L);
-      Words.put64(b, ((int) l0) - 60712, 0L);
-      Words.put64(b, ((int) l0) - 60720, 0L);
-      break L1;
-     }
-     l6 = 0L;
-     L8: {
-      L9: {
-       if (l10 > 35999) { break L9; }
-       if (l10 == 45) { break L8; }
-       l7 = 0L;
-       l8 = 0L;
-       l9 = 0L;
-       if (l10 == 8722) { break L8; }
-       break L2;
-      }
-      if (l10 == 36000) { break L8; }
-      if (l10 == 36127) { break L8; }
-      l7 = 0L;
-      l8 = 0L;
-      l9 = 0L;
-      if (l10 != 65293) { break L2; }
-     }
-     l9 = 0L;
-     l6 = 0L;
-     L10: {
-      if ((l2 = l2 - l5) + Long.MIN_VALUE < -9223372036854775776L) { break L10; }
-      Core1.f25(m, l3, l1, l2, l2);
-      l9 = l2 - Words.get64(b, ((int) l3) - 60712);
-      l6 = Words.get64(b, ((int) l3) - 60720);
-     }
-     if ((l2 - l6) + Long.MIN_VALUE < -9223372036854775800L) { break L3; }
-     L11: while (true) {
-      L12: {
-       L13: {
-        if (((l7 = Words.get64(b, ((int) (l1 + l6)) - 60720)) & 67553998437089520L) != 63050398541283552L) { break L13; }
-        l9 = l9 + 3L;
-        l6 = l6 + 9L;
-        break L12;
-       }
-       if ((l7 & -9187201950435737472L) != 0L) { break L3; }
-       l9 = l9 + 8L;
-       l6 = l6 + 8L;
-      }
-      if ((l2 - l6) + Long.MIN_VALUE <= -9223372036854775801L) { break L3; }
-      continue L11;
-     }
-    }
-    throw State.trap();
-   }
-   l7 = l3 + 72L;
-   L14: {
-    if (l6 + Long.MIN_VALUE >= l2 + Long.MIN_VALUE) { break L14; }
-    L15: while (true) {
-     l9 = l9 + 1L;
-     if ((l6 = Words.get64(b, ((int) (((((b[((int) (l1 + l6)) - 60720] & 0xff) >>> 1) & 0xffffffffL) & 120L) + 66680L)) - 60720) + l6) + Long.MIN_VALUE < l2 + Long.MIN_VALUE) { continue L15; }
-     break L15;
-    }
-   }
-   Words.put64(b, ((int) l3) - 60696, Words.get64(b, ((int) l7) - 60712));
-   Words.put64(b, ((int) l3) - 60704, Words.get64(b, ((int) l7) - 60720));
-   l8 = 1L;
-   l6 = l4;
-   l7 = l5;
-  }
-  Words.put64(b, ((int) l0) - 60720, l8);
-  Words.put64(b, ((int) (l0 + 8L)) - 60720, Words.get64(b, ((int) l3) - 60704));
-  Words.put64(b, ((int) (l0 + 16L)) - 60720, Words.get64(b, ((int) l3) - 60696));
-  Words.put64(b, ((int) (l0 + 40L)) - 60720, l7);
-  Words.put64(b, ((int) (l0 + 32L)) - 60720, l6);
-  Words.put64(b, ((int) (l0 + 24L)) - 60720, l9);
- }
- m.g0 = l3 + 112L;
-}
-
-static void f79(State m, long l0, int l1, long l2, long l3) {
- final byte[] b = m.bytes;
- long l4 = 0;
- long l5 = 0;
- long l6 = 0;
- long l7 = 0;
- long l8 = 0;
- long l9 = 0;
- long l10 = 0;
- long l11 = 0;
- long l12 = 0;
- m.g0 = l4 = m.g0 - 144L;
- L1: {
-  L2: {
-   if ((l4 = l4) < 16L) { break L2; }
-   l5 = Words.get64(b, ((int) l3) - 60688);
-   l6 = Words.get64(b, ((int) l3) - 60696);
-   l7 = Words.get64(b, ((int) l3) - 60704);
-   Words.put64(b, ((int) l4) - 60608, 0L);
-   Words.put64(b, ((int) l4) - 60600, 0L);
-   Words.put64(b, ((int) l4) - 60592, 0L);
-   Words.put64(b, ((int) l4) - 60584, 0L);
-   Words.put64(b, ((int) l4) - 60656, 0L);
-   Words.put64(b, ((int) l4) - 60648, 0L);
-   Words.put64(b, ((int) l4) - 60640, 0L);
-   Words.put64(b, ((int) l4) - 60632, 0L);
-   Words.put64(b, ((int) l4) - 60624, 0L);
-   Words.put64(b, ((int) l4) - 60616, 0L);
-   Core3.f83(m, l4 + 112L, l1, l2, Words.get64(b, ((int) l3) - 60720), Words.get64(b, ((int) l3) - 60712));
-   l3 = Words.get64(b, ((int) l4) - 60592);
-   L3: {
-    L4: {
-     L5: {
-      L6: {
-       L7: {
-        L8: {
-         if ((b[((int) l4) - 60608] & 0xff) != 0) { break L8; }
-         l8 = Words.get64(b, ((int) l4) - 60584);
-         Core3.f84(m, l4 + 64L, l1, l7 + l2, l6, l5);
-         l2 = Words.get64(b, ((int) l4) - 60640);
-         if ((b[((int) l4) - 60656] & 0xff) != 0) { break L3; }
-         l1 = 0;
-         l7 = 2L;
-         l9 = 1L;
-         if ((l6 = Words.get64(b, ((int) l4) - 60624)) + Long.MIN_VALUE <= -9223372036854775770L) { break L7; }
-         l10 = 0L;
-         break L6;
-        }
-        Words.put64(b, ((int) l0) - 60720, 1L);
-        Words.put64(b, ((int) (l0 + 24L)) - 60720, 0L);
-        Words.put64(b, ((int) (l0 + 16L)) - 60720, l3);
-        Words.put64(b, ((int) (l0 + 32L)) - 60720, 0L);
-        Words.put64(b, ((int) (l0 + 8L)) - 60720, b[((int) l4) - 60600] & 0xffL);
-        Words.put64(b, ((int) (l0 + 40L)) - 60720, 0L);
-        Words.put64(b, ((int) (l0 + 48L)) - 60720, 0L);
-        Words.put64(b, ((int) (l0 + 56L)) - 60720, 0L);
-        break L1;
-       }
-       l5 = Words.get64(b, ((int) l4) - 60632);
-       l10 = 0L;
-       Core1.f3(m, l4 + 16L, l11 = Words.get64(b, ((int) ((l6 = l6 << 4L) + 68336L)) - 60720), 0L, l3, 0L);
-       Core1.f3(m, l4, l6 = Words.get64(b, ((int) (l6 + 68344L)) - 60720), 0L, l3, 0L);
-       Core1.f3(m, l4 + 48L, l11, 0L, l8, 0L);
-       Core1.f3(m, l4 + 32L, l6, 0L, l8, 0L);
-       if ((((Words.get64(b, ((int) l4) - 60664) + (((l6 = (l11 = (l12 = Words.get64(b, ((int) l4) - 60696)) + Words.get64(b, ((int) l4) - 60720)) + Words.get64(b, ((int) l4) - 60672)) + Long.MIN_VALUE < l11 + Long.MIN_VALUE) ? 1L : 0L)) | (l12 = (l11 = Words.get64(b, ((int) l4) - 60712) + ((l11 + Long.MIN_VALUE < l12 + Long.MIN_VALUE) ? 1L : 0L)) + Words.get64(b, ((int) l4) - 60688))) | (Words.get64(b, ((int) l4) - 60680) + ((l12 + Long.MIN_VALUE < l11 + Long.MIN_VALUE) ? 1L : 0L))) == 0L) { break L5; }
-      }
-      l5 = 0L;
-      l3 = 0L;
-      l6 = 0L;
-      break L4;
-     }
-     l1 = (((l3 ^ 100L) | l8) == 0L) ? 2 : 3;
-     l3 = Words.get64(b, ((int) l4) - 60704);
-     l9 = 0L;
-     l7 = 0L;
-     l10 = l2;
-    }
-    Words.put64(b, ((int) l0) - 60720, l9);
-    Words.put64(b, ((int) (l0 + 40L)) - 60720, l6);
-    Words.put64(b, ((int) (l0 + 32L)) - 60720, l3);
-    Words.put64(b, ((int) (l0 + 24L)) - 60720, l5);
-    Words.put64(b, ((int) (l0 + 16L)) - 60720, l10);
-    Words.put64(b, ((int) (l0 + 49L)) - 60720, 0L);
-    b[((int) (l0 + 48L)) - 60720] = (byte) l1;
-    Words.put64(b, ((int) (l0 + 8L)) - 60720, l7);
-    Words.put64(b, ((int) (l0 + 56L)) - 60720, 0L);
-    break L1;
-   }
-   Words.put64(b, ((int) l0) - 60720, 1L);
-   Words.put64(b, ((int) (l0 + 24L)) - 60720, 0L);
-   Words.put64(b, ((int) (l0 + 16L)) - 60720, l2);
-   Words.put64(b, ((int) (l0 + 32L)) - 60720, 0L);
-   Words.put64(b, ((int) (l0 + 8L)) - 60720, b[((int) l4) - 60648] & 0xffL);
-   Words.put64(b, ((int) (l0 + 40L)) - 60720, 0L);
-   Words.put64(b, ((int) (l0 + 48L)) - 60720, 0L);
-   Words.put64(b, ((int) (l0 + 56L)) - 60720, 0L);
-   break L1;
-  }
-  throw State.trap();
- }
- m.g0 = l4 + 144L;
-}
-
-static void f80(State m, long l0, long l1, long l2) {
- final byte[] b = m.bytes;
- int l3 = 0;
- int l4 = 0;
- int l5 = 0;
- int l6 = 0;
- long l7 = 0;
- long l8 = 0;
- L1: {
-  L2: {
-   L3: {
-    L4: {
-     L5: {
-      L6: {
-       if (m.g0 < 16L) { break L6; }
-       L7: {
-        if (l2 == 0L) { break L7; }
-        L8: while (true) {
-         L9: {
-          L10: {
-           if ((l3 = b[((int) l1) - 60720] & 0xff) + Integer.MIN_VALUE > -2147483616) { break L10; }
-           if (((1L << (l3 & 0xffffffffL)) & 4294983168L) == 0L) { break L10; }
-           l7 = 1L;
-           break L9;
-          }
-          L11: {
-           L12: {
-            L13: {
-             if (l3 == 194) { break L13; }
-             if (l2 + Long.MIN_VALUE < -9223372036854775805L) { break L12; }
-             if (((l3 + 28) & 255) + Integer.MIN_VALUE < -2147483395) { break L12; }
-             l4 = b[((int) (l1 + 1L)) - 60720] & 0xff;
-             l6 = (int) (byte) (l5 = b[((int) (l1 + 2L)) - 60720] & 0xff);
-             if (l3 != 226) { break L11; }
-             if ((l4 & 255) != 128) { break L11; }
-             l7 = 3L;
-             if (l6 < -117) { break L9; }
-             if ((l3 = l5 + -168) + Integer.MIN_VALUE > -2147483641) { break L5; }
-             if (((1 << l3) & 131) == 0) { break L5; }
-             break L9;
-            }
-            l7 = 1L;
-            l3 = b[((int) l1) - 60719] & 0xff;
-            L14: {
-             if (l2 != 1L) { break L14; }
-             l6 = l3 & 63;
-             l3 = 194;
-             break L3;
-            }
-            l7 = 2L;
-            if (l3 == 133) { break L9; }
-            if (l3 == 160) { break L9; }
-           }
-           if (l2 + Long.MIN_VALUE >= -9223372036854775805L) { break L5; }
-           l4 = b[((int) l1) - 60720] & 0xff;
-           break L4;
-          }
-          L15: {
-           L16: {
-            L17: {
-             L18: {
-              switch (l3 + -225) {
-              case 1: break L17;
-              case 2: break L16;
-              default: break L18;
-              }
-             }
-             if ((l4 & 255) != 154) { break L5; }
-             if (l6 != -128) { break L5; }
-             break L15;
-            }
-            if ((l4 & 255) != 129) { break L5; }
-            if (l6 == -97) { break L15; }
-            break L5;
-           }
-           if ((l4 & 255) != 128) { break L5; }
-           if (l6 != -128) { break L5; }
-          }
-          l7 = 3L;
-         }
-         l1 = l1 + l7;
-         if (!((l2 = l2 - l7) == 0L)) { continue L8; }
-         break L8;
-        }
-       }
-       Words.put64(b, ((int) l0) - 60696, 0L);
-       Words.put64(b, ((int) l0) - 60704, 0L);
-       Words.put64(b, ((int) l0) - 60712, 0L);
-       Words.put64(b, ((int) l0) - 60720, 0L);
-       return;
-      }
-      throw State.trap();
-     }
-     if (((l4 = b[((int) l1) - 60720] & 0xff) & 240) != 224) { break L4; }
-     l3 = (((b[((int) l1) - 60718] & 0xff) + ((b[((int) l1) - 60719] & 0xff) << 6)) + (l4 << 12)) + -925824;
-     l7 = l2 + -3L;
-     l1 = l1 + 3L;
-     break L1;
-    }
-    l3 = l4 & 255;
-    l8 = 1L;
-    L19: {
-     if (((int) (byte) l4) > -1) { break L19; }
-     l6 = (b[((int) l1) - 60719] & 0xff) & 63;
-     L20: {
-      if ((l4 & 255) + Integer.MIN_VALUE > -2147483425) { break L20; }
-      l7 = l2;
-      break L3;
-     }
-     l5 = (b[((int) l1) - 60718] & 0xff) & 63;
-     L21: {
-      if ((l4 & 255) + Integer.MIN_VALUE > -2147483409) { break L21; }
-      l3 = ((l6 << 6) | ((l3 << 12) & 61440)) | l5;
-      l8 = 3L;
-      break L19;
-     }
-     l3 = ((l5 << 6) | ((l6 << 12) | ((l3 << 18) & 1835008))) | ((b[((int) l1) - 60717] & 0xff) & 63);
-     l8 = 4L;
-    }
-    l7 = l2;
-    break L2;
-   }
-   l3 = ((l3 << 6) & 1984) | l6;
-   l8 = 2L;
-  }
-  l7 = l7 - l8;
-  l1 = l1 + l8;
- }
- Words.put64(b, ((int) l0) - 60720, 1L);
- Words.put64(b, ((int) (l0 + 24L)) - 60720, l7);
- Words.put64(b, ((int) (l0 + 16L)) - 60720, l1);
- Words.put32(b, ((int) (l0 + 12L)) - 60720, 0);
- Words.put32(b, ((int) (l0 + 8L)) - 60720, l3);
-}
-
-static void f81(State m, long l0, long l1, long l2) {
- final byte[] b = m.bytes;
- long l3 = 0;
- long l4 = 0;
- long l5 = 0;
- long l6 = 0;
- long l7 = 0;
- long l8 = 0;
- long l9 = 0;
- long l10 = 0;
- int l11 = 0;
- m.g0 = l3 = m.g0 - 112L;
- L1: {
-  L2: {
-   L3: {
-    if ((l3 = l3) < 16L) { break L3; }
-    Words.put64(b, ((int) l3) - 60680, 0L);
-    Words.put64(b, ((int) l3) - 60688, 0L);
-    Words.put64(b, ((int) l3) - 60696, 0L);
-    Words.put64(b, ((int) l3) - 60704, 0L);
-    Words.put64(b, ((int) l3) - 60648, 0L);
-    Words.put64(b, ((int) l3) - 60656, 0L);
-    Words.put64(b, ((int) l3) - 60664, 0L);
-    Words.put64(b, ((int) l3) - 60672, 0L);
-    f80(m, l3 + 48L, l1, l2);
-    l4 = l2;
-    L4: {
-     L5: {
-      if ((b[((int) l3) - 60672] & 0xff) != 1) { break L5; }
-      L6: while (true) {
-       l5 = Words.get64(b, ((int) l3) - 60648);
-       l6 = Words.get64(b, ((int) l3) - 60656);
-       l11 = Words.get32(b, ((int) l3) - 60664);
-       Words.put64(b, ((int) l3) - 60616, 0L);
-       Words.put64(b, ((int) l3) - 60624, 0L);
-       Words.put64(b, ((int) l3) - 60632, 0L);
-       Words.put64(b, ((int) l3) - 60640, 0L);
-       L7: {
-        if (l11 != 20998) { break L7; }
-        f80(m, l3 + 80L, l6, l5);
-        if ((b[((int) l3) - 60640] & 0xff) != 1) { break L7; }
-        if (Words.get32(b, ((int) l3) - 60632) == 20043) { break L4; }
-       }
-       f80(m, l3 + 48L, l6, l5);
-       l4 = l5;
-       if ((b[((int) l3) - 60672] & 0xff) == 1) { continue L6; }
-       break L6;
-      }
-     }
-     Words.put64(b, ((int) l0) - 60680, 0L);
-     Words.put64(b, ((int) l0) - 60688, 0L);
-     Words.put64(b, ((int) l0) - 60696, 0L);
-     Words.put64(b, ((int) l0) - 60704, 0L);
-     Words.put64(b, ((int) l0) - 60712, 0L);
-     Words.put64(b, ((int) l0) - 60720, 0L);
-     break L1;
-    }
-    l7 = Words.get64(b, ((int) l3) - 60624);
-    l6 = 0L;
-    l5 = 0L;
-    L8: {
-     if ((l9 = l2 - (l8 = Words.get64(b, ((int) l3) - 60616))) + Long.MIN_VALUE < -9223372036854775776L) { break L8; }
-     Core1.f25(m, l3, l1, l9, l9);
-     l6 = l9 - Words.get64(b, ((int) l3) - 60712);
-     l5 = Words.get64(b, ((int) l3) - 60720);
-    }
-    if ((l9 - l5) + Long.MIN_VALUE < -9223372036854775800L) { break L2; }
-    L9: while (true) {
-     L10: {
-      L11: {
-       if (((l10 = Words.get64(b, ((int) (l1 + l5)) - 60720)) & 67553998437089520L) != 63050398541283552L) { break L11; }
-       l6 = l6 + 3L;
-       l5 = l5 + 9L;
-       break L10;
-      }
-      if ((l10 & -9187201950435737472L) != 0L) { break L2; }
-      l6 = l6 + 8L;
-      l5 = l5 + 8L;
-     }
-     if ((l9 - l5) + Long.MIN_VALUE <= -9223372036854775801L) { break L2; }
-     continue L9;
-    }
-   }
-   throw State.trap();
-  }
-  l4 = l2 - l4;
-  L12: {
-   if (l5 + Long.MIN_VALUE >= l9 + Long.MIN_VALUE) { break L12; }
-   L13: while (true) {
-    l6 = l6 + 1L;
-    if ((l5 = Words.get64(b, ((int) (((((b[((int) (l1 + l5)) - 60720] & 0xff) >>> 1) & 0xffffffffL) & 120L) + 66680L)) - 60720) + l5) + Long.MIN_VALUE < l9 + Long.MIN_VALUE) { continue L13; }
-    break L13;
-   }
-  }
-  f80(m, l3 + 16L, l1, l4);
-  L14: {
-   L15: {
-    if ((b[((int) l3) - 60704] & 0xff) != 1) { break L15; }
-    f80(m, l3 + 16L, l7, l8);
-    if ((b[((int) l3) - 60704] & 0xff) != 1) { break L14; }
-    Words.put64(b, ((int) l0) - 60720, 1L);
-    Words.put64(b, ((int) (l0 + 40L)) - 60720, l8);
-    Words.put64(b, ((int) (l0 + 32L)) - 60720, l7);
-    Words.put64(b, ((int) (l0 + 24L)) - 60720, l6);
-    Words.put64(b, ((int) (l0 + 16L)) - 60720, l4);
-    Words.put64(b, ((int) (l0 + 8L)) - 60720, l1);
-    break L1;
-   }
-   Words.put64(b, ((int) l0) - 60680, 0L);
-   Words.put64(b, ((int) l0) - 60688, 0L);
-   Words.put64(b, ((int) l0) - 60696, 0L);
-   Words.put64(b, ((int) l0) - 60704, 0L);
-   Words.put64(b, ((int) l0) - 60712, 0L);
-   Words.put64(b, ((int) l0) - 60720, 0L);
-   break L1;
-  }
-  Words.put64(b, ((int) l0) - 60680, 0L);
-  Words.put64(b, ((int) l0) - 60688, 0L);
-  Words.put64(b, ((int) l0) - 60696, 0L);
-  Words.put64(b, ((int) l0) - 60704, 0L);
-  Words.put64(b, ((int) l0) - 60712, 0L);
-  Words.put64(b, ((int) l0) - 60720, 0L);
- }
- m.g0 = l3 + 112L;
 }
 }

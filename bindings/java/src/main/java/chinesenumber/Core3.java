@@ -2,7 +2,1421 @@
 package chinesenumber;
 
 final class Core3 {
-static void f82(State m, long l0, int l1, long l2, long l3, long l4) {
+static void f80(State m, long l0, long l1, long l2, long l3, long l4) {
+ final byte[] b = m.bytes;
+ long l5 = 0;
+ long l6 = 0;
+ long l7 = 0;
+ long l8 = 0;
+ long l9 = 0;
+ long l10 = 0;
+ long l11 = 0;
+ long l12 = 0;
+ long l13 = 0;
+ long l14 = 0;
+ int l15 = 0;
+ int l16 = 0;
+ int l17 = 0;
+ int l18 = 0;
+ m.g0 = l5 = m.g0 - 240L;
+ L1: {
+  if ((l5 = l5) < 16L) { break L1; }
+  Words.put64(b, ((int) l5) - 60488, 0L);
+  Words.put64(b, ((int) l5) - 60496, 0L);
+  Words.put64(b, ((int) l5) - 60504, 0L);
+  Words.put64(b, ((int) l5) - 60512, 0L);
+  Words.put64(b, ((int) l5) - 60520, 0L);
+  Words.put64(b, ((int) l5) - 60528, 0L);
+  Words.put64(b, ((int) l5) - 60536, 0L);
+  Words.put64(b, ((int) l5) - 60544, 0L);
+  f82(m, l5 + 176L, l3, l4, 1);
+  L2: {
+   L3: {
+    if ((b[((int) l5) - 60544] & 0xff) != 0) { break L3; }
+    if (((b[((int) l5) - 60496] & 0xff) & 255) != 2) { break L3; }
+    Words.put64(b, ((int) l5) - 60488, 0L);
+    Words.put64(b, ((int) l5) - 60496, 0L);
+    Words.put64(b, ((int) l5) - 60504, 0L);
+    Words.put64(b, ((int) l5) - 60512, 0L);
+    Words.put64(b, ((int) l5) - 60520, 0L);
+    Words.put64(b, ((int) l5) - 60528, 0L);
+    Words.put64(b, ((int) l5) - 60536, 0L);
+    Words.put64(b, ((int) l5) - 60544, 0L);
+    f82(m, l5 + 176L, l1, l2, 1);
+    l6 = 1L;
+    l7 = 77254L;
+    if ((b[((int) l5) - 60544] & 0xff) != 0) { break L2; }
+    if (((b[((int) l5) - 60496] & 0xff) & 255) != 2) { break L2; }
+   }
+   l7 = 83372L;
+   L4: {
+    if (l4 + Long.MIN_VALUE <= -9223372036854775760L) { break L4; }
+    l6 = 0L;
+    break L2;
+   }
+   l6 = l1;
+   l8 = l2;
+   L5: {
+    L6: while (true) {
+     if (l8 == 0L) { break L5; }
+     l16 = (l15 = (int) b[((int) l6) - 60720]) & 255;
+     l9 = 1L;
+     L7: {
+      if (l15 > -1) { break L7; }
+      l17 = (b[((int) l6) - 60719] & 0xff) & 63;
+      L8: {
+       if (l15 + Integer.MIN_VALUE > 2147483615) { break L8; }
+       l16 = ((l16 << 6) & 1984) | l17;
+       l9 = 2L;
+       break L7;
+      }
+      l18 = (b[((int) l6) - 60718] & 0xff) & 63;
+      L9: {
+       if (l15 + Integer.MIN_VALUE > 2147483631) { break L9; }
+       l16 = ((l17 << 6) | ((l16 << 12) & 61440)) | l18;
+       l9 = 3L;
+       break L7;
+      }
+      l16 = ((l18 << 6) | ((l17 << 12) | ((l16 << 18) & 1835008))) | ((b[((int) l6) - 60717] & 0xff) & 63);
+      l9 = 4L;
+     }
+     Core2.f61(m, l5 + 168L, l16);
+     l8 = l8 - l9;
+     l6 = l6 + l9;
+     if ((b[((int) l5) - 60552] & 0xff) != 1) { continue L6; }
+     if (((b[((int) l5) - 60551] & 0xff) & 255) + Integer.MIN_VALUE <= -2147483647) { continue L6; }
+     break L6;
+    }
+    l6 = 0L;
+    break L2;
+   }
+   l6 = 0L;
+   Words.put64(b, ((int) l5) - 60488, 0L);
+   Words.put64(b, ((int) l5) - 60496, 0L);
+   Words.put64(b, ((int) l5) - 60504, 0L);
+   Words.put64(b, ((int) l5) - 60512, 0L);
+   Words.put64(b, ((int) l5) - 60520, 0L);
+   Words.put64(b, ((int) l5) - 60528, 0L);
+   Words.put64(b, ((int) l5) - 60536, 0L);
+   Words.put64(b, ((int) l5) - 60544, 0L);
+   f82(m, l5 + 176L, l1, l2, 1);
+   if ((b[((int) l5) - 60544] & 0xff) != 0) { break L2; }
+   final int t10 = (Words.get64(b, ((int) l5) - 60528) == 0L) ? 1 : 0;
+   final int t11 = ((l9 = Words.get64(b, ((int) l5) - 60520)) < 0L) ? 1 : 0;
+   final int t12 = (l9 == 0L) ? 1 : 0;
+   if ((t12 != 0 ? t10 : t11) != 0) { break L2; }
+   Words.put64(b, ((int) l5) - 60488, 0L);
+   Words.put64(b, ((int) l5) - 60496, 0L);
+   Words.put64(b, ((int) l5) - 60504, 0L);
+   Words.put64(b, ((int) l5) - 60512, 0L);
+   Words.put64(b, ((int) l5) - 60520, 0L);
+   Words.put64(b, ((int) l5) - 60528, 0L);
+   Words.put64(b, ((int) l5) - 60536, 0L);
+   Words.put64(b, ((int) l5) - 60544, 0L);
+   f82(m, l5 + 176L, l1, l2, 1);
+   l10 = Words.get64(b, ((int) l5) - 60504);
+   l11 = Words.get64(b, ((int) l5) - 60512);
+   l9 = Words.get64(b, ((int) l5) - 60520);
+   l8 = Words.get64(b, ((int) l5) - 60528);
+   l16 = b[((int) l5) - 60544] & 0xff;
+   f83(m, l5 + 152L, l3, l4);
+   l6 = Words.get64(b, ((int) l5) - 60560);
+   Words.put64(b, ((int) l5) - 60488, 0L);
+   Words.put64(b, ((int) l5) - 60496, 0L);
+   Words.put64(b, ((int) l5) - 60504, 0L);
+   Words.put64(b, ((int) l5) - 60512, 0L);
+   Words.put64(b, ((int) l5) - 60520, 0L);
+   Words.put64(b, ((int) l5) - 60528, 0L);
+   Words.put64(b, ((int) l5) - 60536, 0L);
+   Words.put64(b, ((int) l5) - 60544, 0L);
+   f82(m, l5 + 176L, l3, l4 - l6, 1);
+   L13: {
+    if (((l16 | (l15 = b[((int) l5) - 60544] & 0xff)) & 255) == 0) { break L13; }
+    l6 = 0L;
+    break L2;
+   }
+   l12 = Words.get64(b, ((int) l5) - 60504);
+   l2 = Words.get64(b, ((int) l5) - 60520);
+   l1 = Words.get64(b, ((int) l5) - 60528);
+   l6 = 0L;
+   final long t14 = l5 + 32L;
+   final long t15 = Words.get64(b, ((int) l5) - 60512);
+   final int t16 = l15 = l15 & 255;
+   final long t17 = l13 = t16 != 0 ? 0L : t15;
+   final long t18 = 0L - l8;
+   final long t19 = l8;
+   final int t20 = l17 = (l9 < 0L) ? 1 : 0;
+   final long t21 = t20 != 0 ? t18 : t19;
+   final int t22 = l16 = l16 & 255;
+   Core1.f3(m, t14, t17, 0L, l14 = t22 != 0 ? 0L : t21, 0L);
+   Core1.f3(m, l5 + 16L, l12 = l15 != 0 ? 0L : l12, 0L, l14, 0L);
+   final long t23 = l5 + 64L;
+   final long t24 = l13;
+   final long t25 = 0L - (l9 + ((l8 != 0L) ? 1L : 0L));
+   final long t26 = l9;
+   final int t27 = l17;
+   final long t28 = t27 != 0 ? t25 : t26;
+   final int t29 = l16;
+   Core1.f3(m, t23, t24, 0L, l9 = t29 != 0 ? 0L : t28, 0L);
+   Core1.f3(m, l5 + 48L, l12, 0L, l9, 0L);
+   final long t30 = l5 + 96L;
+   final long t31 = 0L - l1;
+   final long t32 = l1;
+   final int t33 = l17 = (l2 < 0L) ? 1 : 0;
+   final long t34 = t33 != 0 ? t31 : t32;
+   final int t35 = l15;
+   Core1.f3(m, t30, l9 = t35 != 0 ? 0L : t34, 0L, l8 = l16 != 0 ? 0L : l11, 0L);
+   Core1.f3(m, l5 + 80L, l9, 0L, l10 = l16 != 0 ? 0L : l10, 0L);
+   final long t36 = l5 + 128L;
+   final long t37 = 0L - (l2 + ((l1 != 0L) ? 1L : 0L));
+   final long t38 = l2;
+   final int t39 = l17;
+   final long t40 = t39 != 0 ? t37 : t38;
+   final int t41 = l15;
+   Core1.f3(m, t36, l9 = t41 != 0 ? 0L : t40, 0L, l8, 0L);
+   Core1.f3(m, l5 + 112L, l9, 0L, l10, 0L);
+   if (((((Words.get64(b, ((int) l5) - 60648) + (((l2 = (l9 = (l8 = Words.get64(b, ((int) l5) - 60680)) + Words.get64(b, ((int) l5) - 60704)) + Words.get64(b, ((int) l5) - 60656)) + Long.MIN_VALUE < l9 + Long.MIN_VALUE) ? 1L : 0L)) | (l1 = (l8 = Words.get64(b, ((int) l5) - 60696) + ((l9 + Long.MIN_VALUE < l8 + Long.MIN_VALUE) ? 1L : 0L)) + Words.get64(b, ((int) l5) - 60672))) | ((Words.get64(b, ((int) l5) - 60584) + (((l11 = (l9 = (l10 = Words.get64(b, ((int) l5) - 60616)) + Words.get64(b, ((int) l5) - 60640)) + Words.get64(b, ((int) l5) - 60592)) + Long.MIN_VALUE < l9 + Long.MIN_VALUE) ? 1L : 0L)) | (l10 = (l9 = Words.get64(b, ((int) l5) - 60632) + ((l9 + Long.MIN_VALUE < l10 + Long.MIN_VALUE) ? 1L : 0L)) + Words.get64(b, ((int) l5) - 60608)))) | ((Words.get64(b, ((int) l5) - 60664) + ((l1 + Long.MIN_VALUE < l8 + Long.MIN_VALUE) ? 1L : 0L)) | (Words.get64(b, ((int) l5) - 60600) + ((l10 + Long.MIN_VALUE < l9 + Long.MIN_VALUE) ? 1L : 0L)))) != 0L) { break L2; }
+   final int t42 = (Words.get64(b, ((int) l5) - 60624) + Long.MIN_VALUE <= Words.get64(b, ((int) l5) - 60688) + Long.MIN_VALUE) ? 1 : 0;
+   final int t43 = (l11 + Long.MIN_VALUE <= l2 + Long.MIN_VALUE) ? 1 : 0;
+   final int t44 = (l11 == l2) ? 1 : 0;
+   if ((t44 != 0 ? t42 : t43) != 0) { break L2; }
+   f83(m, l5, l3, l4);
+   l6 = Words.get64(b, ((int) l5) - 60712);
+   l7 = Words.get64(b, ((int) l5) - 60720);
+  }
+  Words.put64(b, ((int) l0) - 60712, l6);
+  Words.put64(b, ((int) l0) - 60720, l7);
+  m.g0 = l5 + 240L;
+  return;
+ }
+ throw State.trap();
+}
+
+static void f81(State m, long l0, long l1, long l2, long l3, long l4) {
+ final byte[] b = m.bytes;
+ long l5 = 0;
+ long l6 = 0;
+ long l7 = 0;
+ int l8 = 0;
+ int l9 = 0;
+ m.g0 = l5 = m.g0 - 256L;
+ L1: {
+  L2: {
+   if ((l5 = l5) < 16L) { break L2; }
+   L3: {
+    L4: {
+     if (l2 + Long.MIN_VALUE > -9223372036854775760L) { break L4; }
+     if (l4 + Long.MIN_VALUE < -9223372036854775759L) { break L3; }
+    }
+    Words.put64(b, ((int) l0) - 60664, 0L);
+    Words.put64(b, ((int) l0) - 60672, 0L);
+    Words.put64(b, ((int) l0) - 60680, 0L);
+    Words.put64(b, ((int) l0) - 60688, 0L);
+    Words.put64(b, ((int) l0) - 60696, 0L);
+    Words.put64(b, ((int) l0) - 60704, 0L);
+    Words.put64(b, ((int) l0) - 60712, 0L);
+    Words.put64(b, ((int) l0) - 60720, 0L);
+    break L1;
+   }
+   m.fill((int) (l5 + 8L), 0, (int) 96L);
+   l6 = 0L;
+   Words.put64(b, ((int) l5) - 60560, 0L);
+   Words.put64(b, ((int) l5) - 60568, 96L);
+   Words.put64(b, ((int) l5) - 60576, l5 + 8L);
+   Core2.f53(m, l5 + 144L, l1, l2);
+   Core2.f53(m, l5 + 144L, l3, l4);
+   l4 = Words.get64(b, ((int) l5) - 60576);
+   l2 = Words.get64(b, ((int) l5) - 60560);
+   l3 = Words.get64(b, ((int) l5) - 60568);
+   Words.put64(b, ((int) l5) - 60520, 0L);
+   Words.put64(b, ((int) l5) - 60528, 0L);
+   Words.put64(b, ((int) l5) - 60536, 0L);
+   Words.put64(b, ((int) l5) - 60544, 0L);
+   Words.put64(b, ((int) l5) - 60552, 0L);
+   Words.put64(b, ((int) l5) - 60560, 0L);
+   Words.put64(b, ((int) l5) - 60568, 0L);
+   Words.put64(b, ((int) l5) - 60576, 0L);
+   l8 = 1;
+   f82(m, l5 + 144L, ((l9 = (l3 + Long.MIN_VALUE < l2 + Long.MIN_VALUE) ? 1 : 0) != 0) ? 83372L : l4, l9 != 0 ? 0L : l2, 1);
+   L5: {
+    L6: {
+     if ((b[((int) l5) - 60576] & 0xff) != 0) { break L6; }
+     Words.put64(b, ((int) l5) - 60504, Words.get64(b, ((int) l5) - 60552));
+     Words.put64(b, ((int) l5) - 60496, Words.get64(b, ((int) l5) - 60544));
+     Words.put64(b, ((int) l5) - 60488, Words.get64(b, ((int) l5) - 60536));
+     Words.put64(b, ((int) l5) - 60480, Words.get64(b, ((int) l5) - 60528));
+     Words.put64(b, ((int) l5) - 60472, Words.get64(b, ((int) l5) - 60520));
+     l6 = Words.get64(b, ((int) l5) - 60560);
+     break L5;
+    }
+    Words.put64(b, ((int) l5) - 60472, 0L);
+    Words.put64(b, ((int) l5) - 60480, 0L);
+    Words.put64(b, ((int) l5) - 60488, 0L);
+    Words.put64(b, ((int) l5) - 60496, 0L);
+    Words.put64(b, ((int) l5) - 60504, 0L);
+    l8 = 0;
+   }
+   Words.put64(b, ((int) l5) - 60584, l2 = Words.get64(b, ((int) l5) - 60472));
+   Words.put64(b, ((int) l5) - 60592, l4 = Words.get64(b, ((int) l5) - 60480));
+   Words.put64(b, ((int) l5) - 60600, l3 = Words.get64(b, ((int) l5) - 60488));
+   Words.put64(b, ((int) l5) - 60608, l1 = Words.get64(b, ((int) l5) - 60496));
+   Words.put64(b, ((int) l5) - 60616, l7 = Words.get64(b, ((int) l5) - 60504));
+   Words.put64(b, ((int) l0) - 60712, 0L);
+   Words.put64(b, ((int) l0) - 60720, l8 & 0xffffffffL);
+   Words.put64(b, ((int) (l0 + 16L)) - 60720, l6);
+   Words.put64(b, ((int) (l0 + 24L)) - 60720, l7);
+   Words.put64(b, ((int) (l0 + 32L)) - 60720, l1);
+   Words.put64(b, ((int) (l0 + 40L)) - 60720, l3);
+   Words.put64(b, ((int) (l0 + 48L)) - 60720, l4);
+   Words.put64(b, ((int) (l0 + 56L)) - 60720, l2);
+   break L1;
+  }
+  throw State.trap();
+ }
+ m.g0 = l5 + 256L;
+}
+
+static void f82(State m, long l0, long l1, long l2, int l3) {
+ final byte[] b = m.bytes;
+ long l4 = 0;
+ long l5 = 0;
+ long l6 = 0;
+ long l7 = 0;
+ long l8 = 0;
+ long l9 = 0;
+ long l10 = 0;
+ long l11 = 0;
+ long l12 = 0;
+ int l13 = 0;
+ int l14 = 0;
+ int l15 = 0;
+ int l16 = 0;
+ m.g0 = l4 = m.g0 - 528L;
+ L1: {
+  L2: {
+   L3: {
+    L4: {
+     L5: {
+      L6: {
+       if ((l4 = l4) < 16L) { break L6; }
+       Words.put64(b, ((int) l4) - 60473, 0L);
+       Words.put64(b, ((int) l4) - 60480, 0L);
+       Words.put64(b, ((int) l4) - 60512, 0L);
+       Words.put64(b, ((int) l4) - 60504, 0L);
+       Words.put64(b, ((int) l4) - 60496, 0L);
+       Words.put64(b, ((int) l4) - 60488, 0L);
+       Words.put64(b, ((int) l4) - 60560, 0L);
+       Words.put64(b, ((int) l4) - 60552, 0L);
+       Words.put64(b, ((int) l4) - 60544, 0L);
+       Words.put64(b, ((int) l4) - 60536, 0L);
+       Words.put64(b, ((int) l4) - 60528, 0L);
+       Words.put64(b, ((int) l4) - 60520, 0L);
+       Words.put64(b, ((int) l4) - 60624, 0L);
+       Words.put64(b, ((int) l4) - 60616, 0L);
+       Words.put64(b, ((int) l4) - 60608, 0L);
+       Words.put64(b, ((int) l4) - 60600, 0L);
+       Words.put64(b, ((int) l4) - 60592, 0L);
+       Words.put64(b, ((int) l4) - 60584, 0L);
+       Words.put64(b, ((int) l4) - 60576, 0L);
+       Words.put64(b, ((int) l4) - 60568, 0L);
+       f84(m, l4 + 208L, l1, l2);
+       l5 = Words.get64(b, ((int) l4) - 60488);
+       l6 = Words.get64(b, ((int) l4) - 60496);
+       l7 = Words.get64(b, ((int) l4) - 60504);
+       l13 = b[((int) l4) - 60511] & 0xff;
+       L7: {
+        if ((l14 = b[((int) l4) - 60512] & 0xff) == 1) { break L7; }
+        f85(m, l4 + 160L, l6, l5);
+        if ((b[((int) l4) - 60560] & 0xff) != 1) { break L7; }
+        f86(m, l4 + 96L, l3, l7, l4 + 168L);
+        l2 = Words.get64(b, ((int) l4) - 60608);
+        L8: {
+         L9: {
+          if ((b[((int) l4) - 60624] & 0xff) != 0) { break L9; }
+          L10: {
+           final int t11 = (l2 == 0L) ? 1 : 0;
+           final int t12 = ((l6 = Words.get64(b, ((int) l4) - 60600)) > -1L) ? 1 : 0;
+           final int t13 = (l6 == -9223372036854775808L) ? 1 : 0;
+           if ((t13 != 0 ? t11 : t12) == 0) { break L10; }
+           l1 = 0L;
+           l8 = 0L - l2;
+           l2 = 0L - (l6 + ((l2 != 0L) ? 1L : 0L));
+           l6 = Words.get64(b, ((int) l4) - 60584);
+           l5 = Words.get64(b, ((int) l4) - 60592);
+           l3 = b[((int) l4) - 60576] & 0xff;
+           l7 = 0L;
+           break L8;
+          }
+          l8 = 0L;
+          l3 = 0;
+          l7 = 3L;
+          l1 = 1L;
+          l2 = 0L;
+          l5 = 0L;
+          l6 = 0L;
+          break L8;
+         }
+         l6 = 0L;
+         l8 = ((l15 = ((l3 = b[((int) l4) - 60616] & 0xff) == 2) ? 1 : 0) != 0) ? 0L : l2;
+         l7 = (l15 != 0 ? 3 : l3) & 0xffffffffL;
+         l3 = 0;
+         l1 = 1L;
+         l2 = 0L;
+         l5 = 0L;
+        }
+        Words.put64(b, ((int) l0) - 60720, l1);
+        Words.put64(b, ((int) (l0 + 40L)) - 60720, l6);
+        Words.put64(b, ((int) (l0 + 32L)) - 60720, l5);
+        Words.put64(b, ((int) (l0 + 24L)) - 60720, l2);
+        Words.put64(b, ((int) (l0 + 16L)) - 60720, l8);
+        Words.put64(b, ((int) (l0 + 49L)) - 60720, 0L);
+        b[((int) (l0 + 48L)) - 60720] = (byte) l3;
+        Words.put64(b, ((int) (l0 + 8L)) - 60720, l7);
+        Words.put64(b, ((int) (l0 + 56L)) - 60720, 0L);
+        break L1;
+       }
+       Words.put64(b, ((int) l4) - 60432, 0L);
+       Words.put64(b, ((int) l4) - 60424, 0L);
+       Words.put64(b, ((int) l4) - 60416, 0L);
+       Words.put64(b, ((int) l4) - 60408, 0L);
+       Words.put64(b, ((int) l4) - 60288, 0L);
+       Words.put64(b, ((int) l4) - 60280, 0L);
+       Words.put64(b, ((int) l4) - 60272, 0L);
+       Words.put64(b, ((int) l4) - 60264, 0L);
+       Words.put64(b, ((int) l4) - 60256, 0L);
+       Words.put64(b, ((int) l4) - 60248, 0L);
+       Words.put64(b, ((int) l4) - 60224, 0L);
+       Words.put64(b, ((int) l4) - 60216, 0L);
+       Words.put64(b, ((int) l4) - 60208, 0L);
+       Words.put64(b, ((int) l4) - 60200, 0L);
+       Words.put64(b, ((int) l4) - 60464, 0L);
+       Words.put64(b, ((int) l4) - 60456, 0L);
+       Words.put64(b, ((int) l4) - 60448, 0L);
+       Words.put64(b, ((int) l4) - 60440, 0L);
+       Words.put64(b, ((int) l4) - 60296, 0L);
+       Words.put64(b, ((int) l4) - 60304, 0L);
+       Words.put64(b, ((int) l4) - 60312, 0L);
+       Words.put64(b, ((int) l4) - 60320, 0L);
+       Words.put64(b, ((int) l4) - 60328, 0L);
+       Words.put64(b, ((int) l4) - 60336, 0L);
+       Words.put64(b, ((int) l4) - 60360, 0L);
+       Words.put64(b, ((int) l4) - 60368, 0L);
+       Words.put64(b, ((int) l4) - 60376, 0L);
+       Words.put64(b, ((int) l4) - 60384, 0L);
+       l2 = l6;
+       l1 = l5;
+       L14: {
+        L15: {
+         L16: while (true) {
+          f87(m, l4 + 336L, l2, l8 = l1);
+          if ((b[((int) l4) - 60384] & 0xff) != 1) { break L15; }
+          l1 = Words.get64(b, ((int) l4) - 60360);
+          l2 = Words.get64(b, ((int) l4) - 60368);
+          if (Words.get32(b, ((int) l4) - 60376) != 21448) { continue L16; }
+          break L16;
+         }
+         f87(m, l4 + 288L, l6, l8 = l5 - l8);
+         if ((b[((int) l4) - 60432] & 0xff) != 1) { break L15; }
+         f88(m, l4 + 432L, l2, l1);
+         if ((b[((int) l4) - 60288] & 0xff) != 1) { break L15; }
+         l2 = Words.get64(b, ((int) l4) - 60248);
+         l1 = Words.get64(b, ((int) l4) - 60256);
+         l9 = Words.get64(b, ((int) l4) - 60272);
+         l10 = Words.get64(b, ((int) l4) - 60280);
+         f89(m, l4 + 496L, l3, 0L, l6, l8);
+         f90(m, l4 + 256L, l3, 0L, l10, l9);
+         f91(m, l4 + 384L, l3, 0L, l1, l2);
+         if ((b[((int) l4) - 60224] & 0xff) != 0) { break L15; }
+         if (((b[((int) l4) - 60464] & 0xff) & 255) != 0) { break L15; }
+         if (((b[((int) l4) - 60336] & 0xff) & 255) != 0) { break L15; }
+         if (Words.get64(b, ((int) l4) - 60304) != 0L) { break L15; }
+         final int t17 = ((l8 = Words.get64(b, ((int) l4) - 60448)) + Long.MIN_VALUE <= (l10 = Words.get64(b, ((int) l4) - 60320)) + Long.MIN_VALUE) ? 1 : 0;
+         final int t18 = ((l1 = Words.get64(b, ((int) l4) - 60440)) + Long.MIN_VALUE <= (l2 = Words.get64(b, ((int) l4) - 60312)) + Long.MIN_VALUE) ? 1 : 0;
+         final int t19 = (l1 == l2) ? 1 : 0;
+         if ((t19 != 0 ? t17 : t18) != 0) { break L15; }
+         l9 = Words.get64(b, ((int) l4) - 60200);
+         Core1.f3(m, l4 + 48L, l8, 0L, l11 = Words.get64(b, ((int) l4) - 60208), 0L);
+         Core1.f3(m, l4 + 80L, l1, 0L, l11, 0L);
+         Core1.f3(m, l4 + 32L, l8, 0L, l9, 0L);
+         Core1.f3(m, l4 + 64L, l1, 0L, l9, 0L);
+         if ((((Words.get64(b, ((int) l4) - 60680) + (((l12 = (l9 = (l11 = Words.get64(b, ((int) l4) - 60664)) + Words.get64(b, ((int) l4) - 60640)) + Words.get64(b, ((int) l4) - 60688)) + Long.MIN_VALUE < l9 + Long.MIN_VALUE) ? 1L : 0L)) | (l11 = (l9 = Words.get64(b, ((int) l4) - 60632) + ((l9 + Long.MIN_VALUE < l11 + Long.MIN_VALUE) ? 1L : 0L)) + Words.get64(b, ((int) l4) - 60656))) | (Words.get64(b, ((int) l4) - 60648) + ((l11 + Long.MIN_VALUE < l9 + Long.MIN_VALUE) ? 1L : 0L))) != 0L) { break L15; }
+         final int t20 = ((l9 = Words.get64(b, ((int) l4) - 60672)) + Long.MIN_VALUE > (l10 ^ -1L) + Long.MIN_VALUE) ? 1 : 0;
+         final int t21 = (l12 + Long.MIN_VALUE > (l11 = l2 ^ -1L) + Long.MIN_VALUE) ? 1 : 0;
+         final int t22 = (l12 == l11) ? 1 : 0;
+         if ((t22 != 0 ? t20 : t21) != 0) { break L15; }
+         Words.put64(b, ((int) l4) - 60281, 0L);
+         Words.put64(b, ((int) l4) - 60288, 0L);
+         l2 = (l12 + l2) + (((l6 = l9 + l10) + Long.MIN_VALUE < l9 + Long.MIN_VALUE) ? 1L : 0L);
+         l15 = 3;
+         break L14;
+        }
+        Words.put64(b, ((int) l4) - 60288, 0L);
+        Words.put64(b, ((int) l4) - 60280, 0L);
+        Words.put64(b, ((int) l4) - 60272, 0L);
+        Words.put64(b, ((int) l4) - 60264, 0L);
+        Words.put64(b, ((int) l4) - 60256, 0L);
+        Words.put64(b, ((int) l4) - 60248, 0L);
+        Words.put64(b, ((int) l4) - 60240, 0L);
+        Words.put64(b, ((int) l4) - 60232, 0L);
+        Words.put64(b, ((int) l4) - 60336, 0L);
+        Words.put64(b, ((int) l4) - 60328, 0L);
+        Words.put64(b, ((int) l4) - 60320, 0L);
+        Words.put64(b, ((int) l4) - 60312, 0L);
+        Words.put64(b, ((int) l4) - 60304, 0L);
+        Words.put64(b, ((int) l4) - 60296, 0L);
+        Words.put64(b, ((int) l4) - 60384, 0L);
+        Words.put64(b, ((int) l4) - 60376, 0L);
+        Words.put64(b, ((int) l4) - 60368, 0L);
+        Words.put64(b, ((int) l4) - 60360, 0L);
+        Words.put64(b, ((int) l4) - 60352, 0L);
+        Words.put64(b, ((int) l4) - 60344, 0L);
+        Words.put64(b, ((int) l4) - 60392, 0L);
+        Words.put64(b, ((int) l4) - 60400, 0L);
+        Words.put64(b, ((int) l4) - 60408, 0L);
+        Words.put64(b, ((int) l4) - 60416, 0L);
+        Words.put64(b, ((int) l4) - 60424, 0L);
+        Words.put64(b, ((int) l4) - 60432, 0L);
+        f88(m, l4 + 384L, l6, l5);
+        L23: {
+         if ((b[((int) l4) - 60336] & 0xff) == 1) { break L23; }
+         Words.put64(b, ((int) l4) - 60200, 0L);
+         Words.put64(b, ((int) l4) - 60208, 0L);
+         Words.put64(b, ((int) l4) - 60216, 0L);
+         Words.put64(b, ((int) l4) - 60224, 0L);
+         f92(m, l4 + 496L, l6, l5);
+         L24: {
+          L25: {
+           L26: {
+            L27: {
+             if ((b[((int) l4) - 60224] & 0xff) != 1) { break L27; }
+             l16 = Words.get32(b, ((int) l4) - 60216);
+             f87(m, l4 + 496L, l2 = Words.get64(b, ((int) l4) - 60208), l1 = Words.get64(b, ((int) l4) - 60200));
+             if ((b[((int) l4) - 60224] & 0xff) != 1) { break L27; }
+             l8 = 100L;
+             l15 = 2;
+             L28: {
+              if (l16 == 37) { break L28; }
+              if (l16 == 65285) { break L28; }
+              if (l16 != 8240) { break L27; }
+              l8 = 1000L;
+              l15 = 3;
+             }
+             f93(m, l4 + 336L, l3, l7, l2, l1);
+             l5 = Words.get64(b, ((int) l4) - 60368);
+             L29: {
+              if ((b[((int) l4) - 60384] & 0xff) != 0) { break L29; }
+              l3 = 2;
+              L30: {
+               if ((l1 = Words.get64(b, ((int) l4) - 60352)) + Long.MIN_VALUE <= -9223372036854775770L) { break L30; }
+               l6 = 0L;
+               break L26;
+              }
+              l2 = Words.get64(b, ((int) l4) - 60360);
+              l6 = 0L;
+              Core1.f3(m, l4 + 16L, Words.get64(b, ((int) ((l1 = l1 << 4L) + 68336L)) - 60720), 0L, l8, 0L);
+              Core1.f3(m, l4, Words.get64(b, ((int) (l1 + 68344L)) - 60720), 0L, l8, 0L);
+              if ((Words.get64(b, ((int) l4) - 60712) + (((l1 = (l8 = Words.get64(b, ((int) l4) - 60696)) + Words.get64(b, ((int) l4) - 60720)) + Long.MIN_VALUE < l8 + Long.MIN_VALUE) ? 1L : 0L)) != 0L) { break L26; }
+              l8 = Words.get64(b, ((int) l4) - 60704) & -4L;
+              l6 = l5;
+              break L24;
+             }
+             Words.put64(b, ((int) l4) - 60264, 0L);
+             Words.put64(b, ((int) l4) - 60272, l5);
+             Words.put64(b, ((int) l4) - 60256, 0L);
+             Words.put64(b, ((int) l4) - 60248, 0L);
+             Words.put64(b, ((int) l4) - 60240, 0L);
+             Words.put64(b, ((int) l4) - 60232, 0L);
+             l3 = b[((int) l4) - 60376] & 0xff;
+             l6 = l5;
+             break L26;
+            }
+            f93(m, l4 + 288L, l3, l7, l6, l5);
+            l6 = Words.get64(b, ((int) l4) - 60416);
+            L31: {
+             if ((b[((int) l4) - 60432] & 0xff) != 0) { break L31; }
+             if ((l2 = Words.get64(b, ((int) l4) - 60400)) + Long.MIN_VALUE <= -9223372036854775770L) { break L25; }
+             l3 = 2;
+             l6 = 0L;
+             break L26;
+            }
+            Words.put64(b, ((int) l4) - 60264, 0L);
+            Words.put64(b, ((int) l4) - 60272, l6);
+            Words.put64(b, ((int) l4) - 60256, 0L);
+            Words.put64(b, ((int) l4) - 60248, 0L);
+            Words.put64(b, ((int) l4) - 60240, 0L);
+            Words.put64(b, ((int) l4) - 60232, 0L);
+            l3 = b[((int) l4) - 60424] & 0xff;
+           }
+           Words.put64(b, ((int) l4) - 60281, 0L);
+           Words.put64(b, ((int) l4) - 60288, 0L);
+           break L4;
+          }
+          l15 = (l2 != 0L) ? 1 : 0;
+          l1 = Words.get64(b, ((int) ((l2 = l2 << 4L) + 68344L)) - 60720);
+          l8 = Words.get64(b, ((int) (l2 + 68336L)) - 60720);
+          l2 = Words.get64(b, ((int) l4) - 60408);
+         }
+         Words.put64(b, ((int) l4) - 60281, 0L);
+         Words.put64(b, ((int) l4) - 60288, 0L);
+         break L14;
+        }
+        f86(m, l4 + 432L, l3, l7, l4 + 392L);
+        l1 = Words.get64(b, ((int) l4) - 60248);
+        l8 = Words.get64(b, ((int) l4) - 60256);
+        l2 = Words.get64(b, ((int) l4) - 60264);
+        l6 = Words.get64(b, ((int) l4) - 60272);
+        l15 = b[((int) l4) - 60240] & 0xff;
+        l3 = b[((int) l4) - 60280] & 0xff;
+        l16 = b[((int) l4) - 60288] & 0xff;
+        Words.put64(b, ((int) l4) - 60281, 0L);
+        Words.put64(b, ((int) l4) - 60288, 0L);
+        if (l16 != 0) { break L4; }
+       }
+       L32: {
+        L33: {
+         if (l14 != 1) { break L33; }
+         if ((l13 & 255) != 1) { break L33; }
+         L34: {
+          final int t35 = (l6 == 0L) ? 1 : 0;
+          final int t36 = (l2 > -1L) ? 1 : 0;
+          final int t37 = (l2 == -9223372036854775808L) ? 1 : 0;
+          if ((t37 != 0 ? t35 : t36) != 0) { break L34; }
+          l3 = 3;
+          break L32;
+         }
+         l7 = 0L;
+         l5 = 0L - l6;
+         l2 = 0L - (l2 + ((l6 != 0L) ? 1L : 0L));
+         l3 = 0;
+         break L2;
+        }
+        if (l2 > -1L) { break L5; }
+        l3 = 2;
+       }
+       l5 = 0L;
+       l15 = 0;
+       l7 = 1L;
+       l2 = 0L;
+       break L3;
+      }
+      throw State.trap();
+     }
+     l3 = 0;
+     l7 = 0L;
+     l5 = l6;
+     break L2;
+    }
+    l2 = 0L;
+    l5 = ((l15 = (((l14 == 1) & ((l13 & 255) == 1)) & ((l3 & 255) == 2)) ? 1 : 0) != 0) ? 0L : l6;
+    l3 = l15 != 0 ? 3 : l3;
+    l15 = 0;
+    l7 = 1L;
+   }
+   l8 = 0L;
+   l1 = 0L;
+  }
+  Words.put64(b, ((int) l4) - 60473, Words.get64(b, ((int) l4) - 60281));
+  Words.put64(b, ((int) l4) - 60480, Words.get64(b, ((int) l4) - 60288));
+  Words.put64(b, ((int) (l0 + 40L)) - 60720, l1);
+  Words.put64(b, ((int) (l0 + 32L)) - 60720, l8);
+  Words.put64(b, ((int) (l0 + 24L)) - 60720, l2);
+  Words.put64(b, ((int) (l0 + 16L)) - 60720, l5);
+  b[((int) (l0 + 48L)) - 60720] = (byte) l15;
+  Words.put64(b, ((int) (l0 + 8L)) - 60720, (l3 & 0xffffffffL) & 255L);
+  Words.put64(b, ((int) l0) - 60720, l7);
+  Words.put64(b, ((int) (l0 + 49L)) - 60720, Words.get64(b, ((int) l4) - 60480));
+  Words.put64(b, ((int) (l0 + 56L)) - 60720, Words.get64(b, ((int) l4) - 60473));
+ }
+ m.g0 = l4 + 528L;
+}
+
+static void f83(State m, long l0, long l1, long l2) {
+ final byte[] b = m.bytes;
+ long l3 = 0;
+ long l4 = 0;
+ long l5 = 0;
+ long l6 = 0;
+ long l7 = 0;
+ int l8 = 0;
+ int l9 = 0;
+ int l10 = 0;
+ int l11 = 0;
+ L1: {
+  L2: {
+   L3: {
+    if (m.g0 < 16L) { break L3; }
+    if (l2 == 0L) { break L2; }
+    L4: while (true) {
+     l3 = l2;
+     L5: {
+      L6: {
+       if ((l8 = (int) b[((int) (l4 = l1)) - 60720]) <= -1) { break L6; }
+       l5 = 1L;
+       break L5;
+      }
+      L7: {
+       if (l8 + Integer.MIN_VALUE >= 2147483616) { break L7; }
+       l5 = 2L;
+       break L5;
+      }
+      l5 = (l8 + Integer.MIN_VALUE < 2147483632) ? 3L : 4L;
+     }
+     l2 = l3 - l5;
+     l1 = l4 + l5;
+     l6 = l3;
+     l5 = l4;
+     L8: while (true) {
+      l8 = (l9 = (int) b[((int) l5) - 60720]) & 255;
+      l7 = 1L;
+      L9: {
+       if (l9 > -1) { break L9; }
+       l10 = (b[((int) l5) - 60719] & 0xff) & 63;
+       L10: {
+        if (l9 + Integer.MIN_VALUE > 2147483615) { break L10; }
+        l8 = ((l8 << 6) & 1984) | l10;
+        l7 = 2L;
+        break L9;
+       }
+       l11 = (b[((int) l5) - 60718] & 0xff) & 63;
+       L11: {
+        if (l9 + Integer.MIN_VALUE > 2147483631) { break L11; }
+        l8 = ((l10 << 6) | ((l8 << 12) & 61440)) | l11;
+        l7 = 3L;
+        break L9;
+       }
+       l8 = ((l11 << 6) | ((l10 << 12) | ((l8 << 18) & 1835008))) | ((b[((int) l5) - 60717] & 0xff) & 63);
+       l7 = 4L;
+      }
+      L12: {
+       L13: {
+        L14: {
+         if (l8 > 27490) { break L14; }
+         L15: {
+          if (l8 > 20805) { break L15; }
+          L16: {
+           if (l8 > 20190) { break L16; }
+           L17: {
+            switch (l8 + -20140) {
+            case 0: case 19: break L13;
+            case 1: case 2: case 3: case 4: case 5: case 6: case 7: case 8: case 9: case 10: case 11: case 12: case 13: case 14: case 15: case 16: case 17: case 18: break L12;
+            default: break L17;
+            }
+           }
+           if (l8 == 19975) { break L13; }
+           break L12;
+          }
+          if (l8 == 20191) { break L13; }
+          if (l8 == 20336) { break L13; }
+          if (l8 != 20740) { break L12; }
+          break L13;
+         }
+         L18: {
+          if (l8 > 22418) { break L18; }
+          if (l8 == 20806) { break L13; }
+          if (l8 != 21315) { break L12; }
+          break L13;
+         }
+         if (l8 == 22419) { break L13; }
+         if (l8 == 26497) { break L13; }
+         if (l8 != 26997) { break L12; }
+         break L13;
+        }
+        L19: {
+         if (l8 > 30333) { break L19; }
+         L20: {
+          if (l8 > 28070) { break L20; }
+          if (l8 == 27491) { break L13; }
+          if (l8 != 27807) { break L12; }
+          break L13;
+         }
+         if (l8 == 28071) { break L13; }
+         if (l8 == 28317) { break L13; }
+         if (l8 != 28567) { break L12; }
+         break L13;
+        }
+        L21: {
+         if (l8 > 33835) { break L21; }
+         if (l8 == 30334) { break L13; }
+         if (l8 == 31213) { break L13; }
+         if (l8 != 31344) { break L12; }
+         break L13;
+        }
+        if (l8 == 33836) { break L13; }
+        if (l8 == 36733) { break L13; }
+        if (l8 != 36617) { break L12; }
+       }
+       l5 = l5 + l7;
+       if ((l6 = l6 - l7) != 0L) { continue L8; }
+       break L1;
+      }
+      break L8;
+     }
+     if (l2 == 0L) { break L2; }
+     continue L4;
+    }
+   }
+   throw State.trap();
+  }
+  l4 = l1;
+  l3 = 0L;
+ }
+ Words.put64(b, ((int) l0) - 60712, l3);
+ Words.put64(b, ((int) l0) - 60720, l4);
+}
+
+static void f84(State m, long l0, long l1, long l2) {
+ final byte[] b = m.bytes;
+ long l3 = 0;
+ long l4 = 0;
+ long l5 = 0;
+ long l6 = 0;
+ long l7 = 0;
+ long l8 = 0;
+ int l9 = 0;
+ int l10 = 0;
+ int l11 = 0;
+ m.g0 = l3 = m.g0 - 112L;
+ L1: {
+  L2: {
+   L3: {
+    if ((l4 = l3) < 16L) { break L3; }
+    Words.put64(b, ((int) l4) - 60648, 0L);
+    Words.put64(b, ((int) l4) - 60656, 0L);
+    Words.put64(b, ((int) l4) - 60664, 0L);
+    Words.put64(b, ((int) l4) - 60672, 0L);
+    Words.put64(b, ((int) l4) - 60616, 0L);
+    Words.put64(b, ((int) l4) - 60624, 0L);
+    Words.put64(b, ((int) l4) - 60632, 0L);
+    Words.put64(b, ((int) l4) - 60640, 0L);
+    f87(m, l4 + 80L, l1, l2);
+    L4: {
+     L5: {
+      if ((b[((int) l4) - 60640] & 0xff) != 1) { break L5; }
+      l9 = Words.get32(b, ((int) l4) - 60632);
+      f87(m, l4 + 80L, Words.get64(b, ((int) l4) - 60624), Words.get64(b, ((int) l4) - 60616));
+      if ((b[((int) l4) - 60640] & 0xff) != 1) { break L5; }
+      l10 = Words.get32(b, ((int) l4) - 60632);
+      f87(m, l4 + 80L, l3 = Words.get64(b, ((int) l4) - 60624), l5 = Words.get64(b, ((int) l4) - 60616));
+      if ((b[((int) l4) - 60640] & 0xff) != 1) { break L5; }
+      if (l9 != 38646) { break L5; }
+      if (l10 != 19979) { break L5; }
+      Core2.f63(m, l4 + 40L, l10 = Words.get32(b, ((int) l4) - 60632));
+      l9 = 1;
+      if ((b[((int) l4) - 60680] & 0xff) == 1) { break L4; }
+      Core1.f24(m, l4 + 32L, l10);
+      if ((b[((int) l4) - 60688] & 0xff) == 1) { break L4; }
+      Core2.f61(m, l4 + 24L, l10);
+      if ((b[((int) l4) - 60696] & 0xff) != 1) { break L5; }
+      if (((b[((int) l4) - 60695] & 0xff) & 255) == 1) { break L4; }
+     }
+     f87(m, l4 + 48L, l1, l2);
+     l9 = 1;
+     if ((b[((int) l4) - 60672] & 0xff) != 1) { break L2; }
+     l10 = 0;
+     l5 = Words.get64(b, ((int) l4) - 60648);
+     l3 = Words.get64(b, ((int) l4) - 60656);
+     L6: {
+      L7: {
+       if ((l11 = Words.get32(b, ((int) l4) - 60664)) > 35999) { break L7; }
+       L8: {
+        switch (l11 + -43) {
+        case 0: break L1;
+        case 1: break L2;
+        case 2: break L6;
+        default: break L8;
+        }
+       }
+       if (l11 == 8722) { break L6; }
+       if (l11 == 27491) { break L1; }
+       break L2;
+      }
+      L9: {
+       switch (l11 + -65291) {
+       case 0: break L1;
+       case 1: break L2;
+       case 2: break L6;
+       default: break L9;
+       }
+      }
+      if (l11 == 36127) { break L6; }
+      if (l11 != 36000) { break L2; }
+     }
+     l9 = 1;
+    }
+    l10 = 1;
+    break L1;
+   }
+   throw State.trap();
+  }
+  l9 = 0;
+  l10 = 0;
+  l3 = l1;
+  l5 = l2;
+ }
+ Words.put64(b, ((int) l4) - 60640, 0L);
+ Words.put64(b, ((int) l4) - 60632, 0L);
+ Words.put64(b, ((int) l4) - 60624, 0L);
+ Words.put64(b, ((int) l4) - 60616, 0L);
+ Words.put64(b, ((int) l4) - 60672, 0L);
+ Words.put64(b, ((int) l4) - 60664, 0L);
+ Words.put64(b, ((int) l4) - 60656, 0L);
+ Words.put64(b, ((int) l4) - 60648, 0L);
+ f87(m, l4 + 80L, l3, l5);
+ L10: {
+  L11: {
+   if ((b[((int) l4) - 60640] & 0xff) != 1) { break L11; }
+   l11 = Words.get32(b, ((int) l4) - 60632);
+   f87(m, l4 + 48L, l6 = Words.get64(b, ((int) l4) - 60624), l7 = Words.get64(b, ((int) l4) - 60616));
+   if ((b[((int) l4) - 60672] & 0xff) != 1) { break L11; }
+   L12: {
+    if (l11 == 65509) { break L12; }
+    if (l11 != 165) { break L11; }
+   }
+   Core1.f24(m, l4 + 16L, Words.get32(b, ((int) l4) - 60664));
+   if ((b[((int) l4) - 60704] & 0xff) == 1) { break L10; }
+  }
+  l7 = l5;
+  l6 = l3;
+ }
+ l5 = 0L;
+ l3 = 0L;
+ L13: {
+  if ((l2 = l2 - l7) + Long.MIN_VALUE < -9223372036854775776L) { break L13; }
+  Core1.f25(m, l4, l1, l2, l2);
+  l5 = l2 - Words.get64(b, ((int) l4) - 60712);
+  l3 = Words.get64(b, ((int) l4) - 60720);
+ }
+ L14: {
+  if ((l2 - l3) + Long.MIN_VALUE < -9223372036854775800L) { break L14; }
+  L15: while (true) {
+   L16: {
+    L17: {
+     if (((l8 = Words.get64(b, ((int) (l1 + l3)) - 60720)) & 67553998437089520L) != 63050398541283552L) { break L17; }
+     l5 = l5 + 3L;
+     l3 = l3 + 9L;
+     break L16;
+    }
+    if ((l8 & -9187201950435737472L) != 0L) { break L14; }
+    l5 = l5 + 8L;
+    l3 = l3 + 8L;
+   }
+   if ((l2 - l3) + Long.MIN_VALUE > -9223372036854775801L) { continue L15; }
+   break L15;
+  }
+ }
+ L18: {
+  if (l3 + Long.MIN_VALUE >= l2 + Long.MIN_VALUE) { break L18; }
+  L19: while (true) {
+   l5 = l5 + 1L;
+   if ((l3 = Words.get64(b, ((int) (((((b[((int) (l1 + l3)) - 60720] & 0xff) >>> 1) & 0xffffffffL) & 120L) + 66680L)) - 60720) + l3) + Long.MIN_VALUE < l2 + Long.MIN_VALUE) { continue L19; }
+   break L19;
+  }
+ }
+ b[((int) l0) - 60720] = (byte) l9;
+ Words.put64(b, ((int) (l0 + 24L)) - 60720, l7);
+ Words.put64(b, ((int) (l0 + 16L)) - 60720, l6);
+ Words.put64(b, ((int) (l0 + 8L)) - 60720, l5);
+ b[((int) (l0 + 1L)) - 60720] = (byte) l10;
+ m.g0 = l4 + 112L;
+}
+
+static void f85(State m, long l0, long l1, long l2) {
+ final byte[] b = m.bytes;
+ long l3 = 0;
+ long l4 = 0;
+ long l5 = 0;
+ long l6 = 0;
+ long l7 = 0;
+ long l8 = 0;
+ long l9 = 0;
+ int l10 = 0;
+ m.g0 = l3 = m.g0 - 112L;
+ L1: {
+  L2: {
+   L3: {
+    L4: {
+     if ((l3 = l3) < 16L) { break L4; }
+     Words.put64(b, ((int) l3) - 60616, 0L);
+     Words.put64(b, ((int) l3) - 60624, 0L);
+     Words.put64(b, ((int) l3) - 60632, 0L);
+     Words.put64(b, ((int) l3) - 60640, 0L);
+     Words.put64(b, ((int) l3) - 60648, 0L);
+     Words.put64(b, ((int) l3) - 60656, 0L);
+     Words.put64(b, ((int) l3) - 60688, 0L);
+     Words.put64(b, ((int) l3) - 60680, 0L);
+     Words.put64(b, ((int) l3) - 60672, 0L);
+     Words.put64(b, ((int) l3) - 60664, 0L);
+     Words.put64(b, ((int) l3) - 60704, 0L);
+     Words.put64(b, ((int) l3) - 60696, 0L);
+     f88(m, l3 + 64L, l1, l2);
+     L5: {
+      L6: {
+       L7: {
+        if ((b[((int) l3) - 60656] & 0xff) != 1) { break L7; }
+        f87(m, l3 + 32L, Words.get64(b, ((int) l3) - 60624), Words.get64(b, ((int) l3) - 60616));
+        if ((b[((int) l3) - 60688] & 0xff) != 1) { break L6; }
+        l10 = Words.get32(b, ((int) l3) - 60680);
+        f87(m, l3 + 32L, l4 = Words.get64(b, ((int) l3) - 60672), l5 = Words.get64(b, ((int) l3) - 60664));
+        if ((b[((int) l3) - 60688] & 0xff) == 1) { break L5; }
+        Words.put64(b, ((int) l0) - 60680, 0L);
+        Words.put64(b, ((int) l0) - 60688, 0L);
+        Words.put64(b, ((int) l0) - 60696, 0L);
+        Words.put64(b, ((int) l0) - 60704, 0L);
+        Words.put64(b, ((int) l0) - 60712, 0L);
+        Words.put64(b, ((int) l0) - 60720, 0L);
+        break L1;
+       }
+       Words.put64(b, ((int) l0) - 60680, 0L);
+       Words.put64(b, ((int) l0) - 60688, 0L);
+       Words.put64(b, ((int) l0) - 60696, 0L);
+       Words.put64(b, ((int) l0) - 60704, 0L);
+       Words.put64(b, ((int) l0) - 60712, 0L);
+       Words.put64(b, ((int) l0) - 60720, 0L);
+       break L1;
+      }
+      Words.put64(b, ((int) l0) - 60680, 0L);
+      Words.put64(b, ((int) l0) - 60688, 0L);
+      Words.put64(b, ((int) l0) - 60696, 0L);
+      Words.put64(b, ((int) l0) - 60704, 0L);
+      Words.put64(b, ((int) l0) - 60712, 0L);
+      Words.put64(b, ((int) l0) - 60720, 0L);
+      break L1;
+     }
+     l6 = 0L;
+     L8: {
+      L9: {
+       if (l10 > 35999) { break L9; }
+       if (l10 == 45) { break L8; }
+       l7 = 0L;
+       l8 = 0L;
+       l9 = 0L;
+       if (l10 == 8722) { break L8; }
+       break L2;
+      }
+      if (l10 == 36000) { break L8; }
+      if (l10 == 36127) { break L8; }
+      l7 = 0L;
+      l8 = 0L;
+      l9 = 0L;
+      if (l10 != 65293) { break L2; }
+     }
+     l9 = 0L;
+     l6 = 0L;
+     L10: {
+      if ((l2 = l2 - l5) + Long.MIN_VALUE < -9223372036854775776L) { break L10; }
+      Core1.f25(m, l3, l1, l2, l2);
+      l9 = l2 - Words.get64(b, ((int) l3) - 60712);
+      l6 = Words.get64(b, ((int) l3) - 60720);
+     }
+     if ((l2 - l6) + Long.MIN_VALUE < -9223372036854775800L) { break L3; }
+     L11: while (true) {
+      L12: {
+       L13: {
+        if (((l7 = Words.get64(b, ((int) (l1 + l6)) - 60720)) & 67553998437089520L) != 63050398541283552L) { break L13; }
+        l9 = l9 + 3L;
+        l6 = l6 + 9L;
+        break L12;
+       }
+       if ((l7 & -9187201950435737472L) != 0L) { break L3; }
+       l9 = l9 + 8L;
+       l6 = l6 + 8L;
+      }
+      if ((l2 - l6) + Long.MIN_VALUE <= -9223372036854775801L) { break L3; }
+      continue L11;
+     }
+    }
+    throw State.trap();
+   }
+   l7 = l3 + 72L;
+   L14: {
+    if (l6 + Long.MIN_VALUE >= l2 + Long.MIN_VALUE) { break L14; }
+    L15: while (true) {
+     l9 = l9 + 1L;
+     if ((l6 = Words.get64(b, ((int) (((((b[((int) (l1 + l6)) - 60720] & 0xff) >>> 1) & 0xffffffffL) & 120L) + 66680L)) - 60720) + l6) + Long.MIN_VALUE < l2 + Long.MIN_VALUE) { continue L15; }
+     break L15;
+    }
+   }
+   Words.put64(b, ((int) l3) - 60696, Words.get64(b, ((int) l7) - 60712));
+   Words.put64(b, ((int) l3) - 60704, Words.get64(b, ((int) l7) - 60720));
+   l8 = 1L;
+   l6 = l4;
+   l7 = l5;
+  }
+  Words.put64(b, ((int) l0) - 60720, l8);
+  Words.put64(b, ((int) (l0 + 8L)) - 60720, Words.get64(b, ((int) l3) - 60704));
+  Words.put64(b, ((int) (l0 + 16L)) - 60720, Words.get64(b, ((int) l3) - 60696));
+  Words.put64(b, ((int) (l0 + 40L)) - 60720, l7);
+  Words.put64(b, ((int) (l0 + 32L)) - 60720, l6);
+  Words.put64(b, ((int) (l0 + 24L)) - 60720, l9);
+ }
+ m.g0 = l3 + 112L;
+}
+
+static void f86(State m, long l0, int l1, long l2, long l3) {
+ final byte[] b = m.bytes;
+ long l4 = 0;
+ long l5 = 0;
+ long l6 = 0;
+ long l7 = 0;
+ long l8 = 0;
+ long l9 = 0;
+ long l10 = 0;
+ long l11 = 0;
+ long l12 = 0;
+ m.g0 = l4 = m.g0 - 144L;
+ L1: {
+  L2: {
+   if ((l4 = l4) < 16L) { break L2; }
+   l5 = Words.get64(b, ((int) l3) - 60688);
+   l6 = Words.get64(b, ((int) l3) - 60696);
+   l7 = Words.get64(b, ((int) l3) - 60704);
+   Words.put64(b, ((int) l4) - 60608, 0L);
+   Words.put64(b, ((int) l4) - 60600, 0L);
+   Words.put64(b, ((int) l4) - 60592, 0L);
+   Words.put64(b, ((int) l4) - 60584, 0L);
+   Words.put64(b, ((int) l4) - 60656, 0L);
+   Words.put64(b, ((int) l4) - 60648, 0L);
+   Words.put64(b, ((int) l4) - 60640, 0L);
+   Words.put64(b, ((int) l4) - 60632, 0L);
+   Words.put64(b, ((int) l4) - 60624, 0L);
+   Words.put64(b, ((int) l4) - 60616, 0L);
+   f90(m, l4 + 112L, l1, l2, Words.get64(b, ((int) l3) - 60720), Words.get64(b, ((int) l3) - 60712));
+   l3 = Words.get64(b, ((int) l4) - 60592);
+   L3: {
+    L4: {
+     L5: {
+      L6: {
+       L7: {
+        L8: {
+         if ((b[((int) l4) - 60608] & 0xff) != 0) { break L8; }
+         l8 = Words.get64(b, ((int) l4) - 60584);
+         f91(m, l4 + 64L, l1, l7 + l2, l6, l5);
+         l2 = Words.get64(b, ((int) l4) - 60640);
+         if ((b[((int) l4) - 60656] & 0xff) != 0) { break L3; }
+         l1 = 0;
+         l7 = 2L;
+         l9 = 1L;
+         if ((l6 = Words.get64(b, ((int) l4) - 60624)) + Long.MIN_VALUE <= -9223372036854775770L) { break L7; }
+         l10 = 0L;
+         break L6;
+        }
+        Words.put64(b, ((int) l0) - 60720, 1L);
+        Words.put64(b, ((int) (l0 + 24L)) - 60720, 0L);
+        Words.put64(b, ((int) (l0 + 16L)) - 60720, l3);
+        Words.put64(b, ((int) (l0 + 32L)) - 60720, 0L);
+        Words.put64(b, ((int) (l0 + 8L)) - 60720, b[((int) l4) - 60600] & 0xffL);
+        Words.put64(b, ((int) (l0 + 40L)) - 60720, 0L);
+        Words.put64(b, ((int) (l0 + 48L)) - 60720, 0L);
+        Words.put64(b, ((int) (l0 + 56L)) - 60720, 0L);
+        break L1;
+       }
+       l5 = Words.get64(b, ((int) l4) - 60632);
+       l10 = 0L;
+       Core1.f3(m, l4 + 16L, l11 = Words.get64(b, ((int) ((l6 = l6 << 4L) + 68336L)) - 60720), 0L, l3, 0L);
+       Core1.f3(m, l4, l6 = Words.get64(b, ((int) (l6 + 68344L)) - 60720), 0L, l3, 0L);
+       Core1.f3(m, l4 + 48L, l11, 0L, l8, 0L);
+       Core1.f3(m, l4 + 32L, l6, 0L, l8, 0L);
+       if ((((Words.get64(b, ((int) l4) - 60664) + (((l6 = (l11 = (l12 = Words.get64(b, ((int) l4) - 60696)) + Words.get64(b, ((int) l4) - 60720)) + Words.get64(b, ((int) l4) - 60672)) + Long.MIN_VALUE < l11 + Long.MIN_VALUE) ? 1L : 0L)) | (l12 = (l11 = Words.get64(b, ((int) l4) - 60712) + ((l11 + Long.MIN_VALUE < l12 + Long.MIN_VALUE) ? 1L : 0L)) + Words.get64(b, ((int) l4) - 60688))) | (Words.get64(b, ((int) l4) - 60680) + ((l12 + Long.MIN_VALUE < l11 + Long.MIN_VALUE) ? 1L : 0L))) == 0L) { break L5; }
+      }
+      l5 = 0L;
+      l3 = 0L;
+      l6 = 0L;
+      break L4;
+     }
+     l1 = (((l3 ^ 100L) | l8) == 0L) ? 2 : 3;
+     l3 = Words.get64(b, ((int) l4) - 60704);
+     l9 = 0L;
+     l7 = 0L;
+     l10 = l2;
+    }
+    Words.put64(b, ((int) l0) - 60720, l9);
+    Words.put64(b, ((int) (l0 + 40L)) - 60720, l6);
+    Words.put64(b, ((int) (l0 + 32L)) - 60720, l3);
+    Words.put64(b, ((int) (l0 + 24L)) - 60720, l5);
+    Words.put64(b, ((int) (l0 + 16L)) - 60720, l10);
+    Words.put64(b, ((int) (l0 + 49L)) - 60720, 0L);
+    b[((int) (l0 + 48L)) - 60720] = (byte) l1;
+    Words.put64(b, ((int) (l0 + 8L)) - 60720, l7);
+    Words.put64(b, ((int) (l0 + 56L)) - 60720, 0L);
+    break L1;
+   }
+   Words.put64(b, ((int) l0) - 60720, 1L);
+   Words.put64(b, ((int) (l0 + 24L)) - 60720, 0L);
+   Words.put64(b, ((int) (l0 + 16L)) - 60720, l2);
+   Words.put64(b, ((int) (l0 + 32L)) - 60720, 0L);
+   Words.put64(b, ((int) (l0 + 8L)) - 60720, b[((int) l4) - 60648] & 0xffL);
+   Words.put64(b, ((int) (l0 + 40L)) - 60720, 0L);
+   Words.put64(b, ((int) (l0 + 48L)) - 60720, 0L);
+   Words.put64(b, ((int) (l0 + 56L)) - 60720, 0L);
+   break L1;
+  }
+  throw State.trap();
+ }
+ m.g0 = l4 + 144L;
+}
+
+static void f87(State m, long l0, long l1, long l2) {
+ final byte[] b = m.bytes;
+ int l3 = 0;
+ int l4 = 0;
+ int l5 = 0;
+ int l6 = 0;
+ long l7 = 0;
+ long l8 = 0;
+ L1: {
+  L2: {
+   L3: {
+    L4: {
+     L5: {
+      L6: {
+       if (m.g0 < 16L) { break L6; }
+       L7: {
+        if (l2 == 0L) { break L7; }
+        L8: while (true) {
+         L9: {
+          L10: {
+           if ((l3 = b[((int) l1) - 60720] & 0xff) + Integer.MIN_VALUE > -2147483616) { break L10; }
+           if (((1L << (l3 & 0xffffffffL)) & 4294983168L) == 0L) { break L10; }
+           l7 = 1L;
+           break L9;
+          }
+          L11: {
+           L12: {
+            L13: {
+             if (l3 == 194) { break L13; }
+             if (l2 + Long.MIN_VALUE < -9223372036854775805L) { break L12; }
+             if (((l3 + 28) & 255) + Integer.MIN_VALUE < -2147483395) { break L12; }
+             l4 = b[((int) (l1 + 1L)) - 60720] & 0xff;
+             l6 = (int) (byte) (l5 = b[((int) (l1 + 2L)) - 60720] & 0xff);
+             if (l3 != 226) { break L11; }
+             if ((l4 & 255) != 128) { break L11; }
+             l7 = 3L;
+             if (l6 < -117) { break L9; }
+             if ((l3 = l5 + -168) + Integer.MIN_VALUE > -2147483641) { break L5; }
+             if (((1 << l3) & 131) == 0) { break L5; }
+             break L9;
+            }
+            l7 = 1L;
+            l3 = b[((int) l1) - 60719] & 0xff;
+            L14: {
+             if (l2 != 1L) { break L14; }
+             l6 = l3 & 63;
+             l3 = 194;
+             break L3;
+            }
+            l7 = 2L;
+            if (l3 == 133) { break L9; }
+            if (l3 == 160) { break L9; }
+           }
+           if (l2 + Long.MIN_VALUE >= -9223372036854775805L) { break L5; }
+           l4 = b[((int) l1) - 60720] & 0xff;
+           break L4;
+          }
+          L15: {
+           L16: {
+            L17: {
+             L18: {
+              switch (l3 + -225) {
+              case 1: break L17;
+              case 2: break L16;
+              default: break L18;
+              }
+             }
+             if ((l4 & 255) != 154) { break L5; }
+             if (l6 != -128) { break L5; }
+             break L15;
+            }
+            if ((l4 & 255) != 129) { break L5; }
+            if (l6 == -97) { break L15; }
+            break L5;
+           }
+           if ((l4 & 255) != 128) { break L5; }
+           if (l6 != -128) { break L5; }
+          }
+          l7 = 3L;
+         }
+         l1 = l1 + l7;
+         if (!((l2 = l2 - l7) == 0L)) { continue L8; }
+         break L8;
+        }
+       }
+       Words.put64(b, ((int) l0) - 60696, 0L);
+       Words.put64(b, ((int) l0) - 60704, 0L);
+       Words.put64(b, ((int) l0) - 60712, 0L);
+       Words.put64(b, ((int) l0) - 60720, 0L);
+       return;
+      }
+      throw State.trap();
+     }
+     if (((l4 = b[((int) l1) - 60720] & 0xff) & 240) != 224) { break L4; }
+     l3 = (((b[((int) l1) - 60718] & 0xff) + ((b[((int) l1) - 60719] & 0xff) << 6)) + (l4 << 12)) + -925824;
+     l7 = l2 + -3L;
+     l1 = l1 + 3L;
+     break L1;
+    }
+    l3 = l4 & 255;
+    l8 = 1L;
+    L19: {
+     if (((int) (byte) l4) > -1) { break L19; }
+     l6 = (b[((int) l1) - 60719] & 0xff) & 63;
+     L20: {
+      if ((l4 & 255) + Integer.MIN_VALUE > -2147483425) { break L20; }
+      l7 = l2;
+      break L3;
+     }
+     l5 = (b[((int) l1) - 60718] & 0xff) & 63;
+     L21: {
+      if ((l4 & 255) + Integer.MIN_VALUE > -2147483409) { break L21; }
+      l3 = ((l6 << 6) | ((l3 << 12) & 61440)) | l5;
+      l8 = 3L;
+      break L19;
+     }
+     l3 = ((l5 << 6) | ((l6 << 12) | ((l3 << 18) & 1835008))) | ((b[((int) l1) - 60717] & 0xff) & 63);
+     l8 = 4L;
+    }
+    l7 = l2;
+    break L2;
+   }
+   l3 = ((l3 << 6) & 1984) | l6;
+   l8 = 2L;
+  }
+  l7 = l7 - l8;
+  l1 = l1 + l8;
+ }
+ Words.put64(b, ((int) l0) - 60720, 1L);
+ Words.put64(b, ((int) (l0 + 24L)) - 60720, l7);
+ Words.put64(b, ((int) (l0 + 16L)) - 60720, l1);
+ Words.put32(b, ((int) (l0 + 12L)) - 60720, 0);
+ Words.put32(b, ((int) (l0 + 8L)) - 60720, l3);
+}
+
+static void f88(State m, long l0, long l1, long l2) {
+ final byte[] b = m.bytes;
+ long l3 = 0;
+ long l4 = 0;
+ long l5 = 0;
+ long l6 = 0;
+ long l7 = 0;
+ long l8 = 0;
+ long l9 = 0;
+ long l10 = 0;
+ int l11 = 0;
+ m.g0 = l3 = m.g0 - 112L;
+ L1: {
+  L2: {
+   L3: {
+    if ((l3 = l3) < 16L) { break L3; }
+    Words.put64(b, ((int) l3) - 60680, 0L);
+    Words.put64(b, ((int) l3) - 60688, 0L);
+    Words.put64(b, ((int) l3) - 60696, 0L);
+    Words.put64(b, ((int) l3) - 60704, 0L);
+    Words.put64(b, ((int) l3) - 60648, 0L);
+    Words.put64(b, ((int) l3) - 60656, 0L);
+    Words.put64(b, ((int) l3) - 60664, 0L);
+    Words.put64(b, ((int) l3) - 60672, 0L);
+    f87(m, l3 + 48L, l1, l2);
+    l4 = l2;
+    L4: {
+     L5: {
+      if ((b[((int) l3) - 60672] & 0xff) != 1) { break L5; }
+      L6: while (true) {
+       l5 = Words.get64(b, ((int) l3) - 60648);
+       l6 = Words.get64(b, ((int) l3) - 60656);
+       l11 = Words.get32(b, ((int) l3) - 60664);
+       Words.put64(b, ((int) l3) - 60616, 0L);
+       Words.put64(b, ((int) l3) - 60624, 0L);
+       Words.put64(b, ((int) l3) - 60632, 0L);
+       Words.put64(b, ((int) l3) - 60640, 0L);
+       L7: {
+        if (l11 != 20998) { break L7; }
+        f87(m, l3 + 80L, l6, l5);
+        if ((b[((int) l3) - 60640] & 0xff) != 1) { break L7; }
+        if (Words.get32(b, ((int) l3) - 60632) == 20043) { break L4; }
+       }
+       f87(m, l3 + 48L, l6, l5);
+       l4 = l5;
+       if ((b[((int) l3) - 60672] & 0xff) == 1) { continue L6; }
+       break L6;
+      }
+     }
+     Words.put64(b, ((int) l0) - 60680, 0L);
+     Words.put64(b, ((int) l0) - 60688, 0L);
+     Words.put64(b, ((int) l0) - 60696, 0L);
+     Words.put64(b, ((int) l0) - 60704, 0L);
+     Words.put64(b, ((int) l0) - 60712, 0L);
+     Words.put64(b, ((int) l0) - 60720, 0L);
+     break L1;
+    }
+    l7 = Words.get64(b, ((int) l3) - 60624);
+    l6 = 0L;
+    l5 = 0L;
+    L8: {
+     if ((l9 = l2 - (l8 = Words.get64(b, ((int) l3) - 60616))) + Long.MIN_VALUE < -9223372036854775776L) { break L8; }
+     Core1.f25(m, l3, l1, l9, l9);
+     l6 = l9 - Words.get64(b, ((int) l3) - 60712);
+     l5 = Words.get64(b, ((int) l3) - 60720);
+    }
+    if ((l9 - l5) + Long.MIN_VALUE < -9223372036854775800L) { break L2; }
+    L9: while (true) {
+     L10: {
+      L11: {
+       if (((l10 = Words.get64(b, ((int) (l1 + l5)) - 60720)) & 67553998437089520L) != 63050398541283552L) { break L11; }
+       l6 = l6 + 3L;
+       l5 = l5 + 9L;
+       break L10;
+      }
+      if ((l10 & -9187201950435737472L) != 0L) { break L2; }
+      l6 = l6 + 8L;
+      l5 = l5 + 8L;
+     }
+     if ((l9 - l5) + Long.MIN_VALUE <= -9223372036854775801L) { break L2; }
+     continue L9;
+    }
+   }
+   throw State.trap();
+  }
+  l4 = l2 - l4;
+  L12: {
+   if (l5 + Long.MIN_VALUE >= l9 + Long.MIN_VALUE) { break L12; }
+   L13: while (true) {
+    l6 = l6 + 1L;
+    if ((l5 = Words.get64(b, ((int) (((((b[((int) (l1 + l5)) - 60720] & 0xff) >>> 1) & 0xffffffffL) & 120L) + 66680L)) - 60720) + l5) + Long.MIN_VALUE < l9 + Long.MIN_VALUE) { continue L13; }
+    break L13;
+   }
+  }
+  f87(m, l3 + 16L, l1, l4);
+  L14: {
+   L15: {
+    if ((b[((int) l3) - 60704] & 0xff) != 1) { break L15; }
+    f87(m, l3 + 16L, l7, l8);
+    if ((b[((int) l3) - 60704] & 0xff) != 1) { break L14; }
+    Words.put64(b, ((int) l0) - 60720, 1L);
+    Words.put64(b, ((int) (l0 + 40L)) - 60720, l8);
+    Words.put64(b, ((int) (l0 + 32L)) - 60720, l7);
+    Words.put64(b, ((int) (l0 + 24L)) - 60720, l6);
+    Words.put64(b, ((int) (l0 + 16L)) - 60720, l4);
+    Words.put64(b, ((int) (l0 + 8L)) - 60720, l1);
+    break L1;
+   }
+   Words.put64(b, ((int) l0) - 60680, 0L);
+   Words.put64(b, ((int) l0) - 60688, 0L);
+   Words.put64(b, ((int) l0) - 60696, 0L);
+   Words.put64(b, ((int) l0) - 60704, 0L);
+   Words.put64(b, ((int) l0) - 60712, 0L);
+   Words.put64(b, ((int) l0) - 60720, 0L);
+   break L1;
+  }
+  Words.put64(b, ((int) l0) - 60680, 0L);
+  Words.put64(b, ((int) l0) - 60688, 0L);
+  Words.put64(b, ((int) l0) - 60696, 0L);
+  Words.put64(b, ((int) l0) - 60704, 0L);
+  Words.put64(b, ((int) l0) - 60712, 0L);
+  Words.put64(b, ((int) l0) - 60720, 0L);
+ }
+ m.g0 = l3 + 112L;
+}
+
+static void f89(State m, long l0, int l1, long l2, long l3, long l4) {
  final byte[] b = m.bytes;
  long l5 = 0;
  long l6 = 0;
@@ -24,11 +1438,11 @@ static void f82(State m, long l0, int l1, long l2, long l3, long l4) {
   Words.put64(b, ((int) l5) - 60648, 0L);
   Words.put64(b, ((int) l5) - 60640, 0L);
   Words.put64(b, ((int) l5) - 60632, 0L);
-  f93(m, l5 + 96L, l3, l4);
+  f100(m, l5 + 96L, l3, l4);
   L2: {
    L3: {
     if ((b[((int) l5) - 60624] & 0xff) != 0) { break L3; }
-    f94(m, l5 + 64L, l1, l2, l3, l4);
+    f101(m, l5 + 64L, l1, l2, l3, l4);
     l1 = b[((int) l5) - 60648] & 0xff;
     l10 = b[((int) l5) - 60656] & 0xff;
     break L2;
@@ -53,7 +1467,7 @@ static void f82(State m, long l0, int l1, long l2, long l3, long l4) {
     L5: {
      L6: {
       if (l11 != 1) { break L6; }
-      f93(m, l5 + 176L, l7, l6);
+      f100(m, l5 + 176L, l7, l6);
       if ((b[((int) l5) - 60544] & 0xff) != 0) { break L5; }
       b[((int) l5) - 60423] = (byte) l10;
       b[((int) l5) - 60424] = (byte) 1;
@@ -63,7 +1477,7 @@ static void f82(State m, long l0, int l1, long l2, long l3, long l4) {
       Words.put64(b, ((int) l5) - 60456, Words.get64(b, ((int) l9) - 60720));
       Words.put32(b, ((int) l5) - 60422, Words.get32(b, ((int) l8) - 60720));
       Words.put16(b, ((int) l5) - 60418, (short) (Words.get16(b, ((int) l8) - 60716) & 0xffff));
-      f95(m, l5 + 144L, l1, l2, l10, l5 + 264L);
+      f102(m, l5 + 144L, l1, l2, l10, l5 + 264L);
       l4 = Words.get64(b, ((int) l5) - 60552);
       l3 = Words.get64(b, ((int) l5) - 60560);
       l1 = b[((int) l5) - 60568] & 0xff;
@@ -82,18 +1496,18 @@ static void f82(State m, long l0, int l1, long l2, long l3, long l4) {
      Words.put64(b, ((int) l5) - 60448, Words.get64(b, ((int) l9) - 60712));
      Words.put32(b, ((int) l5) - 60422, Words.get32(b, ((int) l8) - 60720));
      Words.put16(b, ((int) l5) - 60418, (short) (Words.get16(b, ((int) l8) - 60716) & 0xffff));
-     f94(m, l5 + 224L, l1, l2, l3, l4);
+     f101(m, l5 + 224L, l1, l2, l3, l4);
      L7: {
       L8: {
        if ((b[((int) l5) - 60496] & 0xff) != 0) { break L8; }
-       f96(m, l5 + 32L, l2, l5 + 264L);
+       f103(m, l5 + 32L, l2, l5 + 264L);
        l4 = Words.get64(b, ((int) l5) - 60680);
        l1 = b[((int) l5) - 60688] & 0xff;
        break L7;
       }
       l1 = b[((int) l5) - 60488] & 0xff;
       l4 = Words.get64(b, ((int) l5) - 60480);
-      f96(m, l5 + 48L, l2, l5 + 264L);
+      f103(m, l5 + 48L, l2, l5 + 264L);
       final long t9 = l4;
       final long t10 = l3 = Words.get64(b, ((int) l5) - 60664);
       final int t11 = l10 = (((l1 != 1) | ((b[((int) l5) - 60672] & 0xff) == 0)) | (l4 + Long.MIN_VALUE > l3 + Long.MIN_VALUE)) ? 1 : 0;
@@ -117,18 +1531,18 @@ static void f82(State m, long l0, int l1, long l2, long l3, long l4) {
     Words.put64(b, ((int) l5) - 60448, Words.get64(b, ((int) l9) - 60712));
     Words.put32(b, ((int) l5) - 60422, Words.get32(b, ((int) l8) - 60720));
     Words.put16(b, ((int) l5) - 60418, (short) (Words.get16(b, ((int) l8) - 60716) & 0xffff));
-    f94(m, l5 + 224L, l1, l2, l3, l4);
+    f101(m, l5 + 224L, l1, l2, l3, l4);
     L12: {
      L13: {
       if ((b[((int) l5) - 60496] & 0xff) != 0) { break L13; }
-      f96(m, l5, l2, l5 + 264L);
+      f103(m, l5, l2, l5 + 264L);
       l3 = Words.get64(b, ((int) l5) - 60712);
       l1 = b[((int) l5) - 60720] & 0xff;
       break L12;
      }
      l1 = b[((int) l5) - 60488] & 0xff;
      l4 = Words.get64(b, ((int) l5) - 60480);
-     f96(m, l5 + 16L, l2, l5 + 264L);
+     f103(m, l5 + 16L, l2, l5 + 264L);
      final long t14 = l4;
      final long t15 = l3 = Words.get64(b, ((int) l5) - 60696);
      final int t16 = l10 = (((l1 != 1) | ((b[((int) l5) - 60704] & 0xff) == 0)) | (l4 + Long.MIN_VALUE > l3 + Long.MIN_VALUE)) ? 1 : 0;
@@ -151,7 +1565,7 @@ static void f82(State m, long l0, int l1, long l2, long l3, long l4) {
  throw State.trap();
 }
 
-static void f83(State m, long l0, int l1, long l2, long l3, long l4) {
+static void f90(State m, long l0, int l1, long l2, long l3, long l4) {
  final byte[] b = m.bytes;
  long l5 = 0;
  long l6 = 0;
@@ -244,7 +1658,7 @@ static void f83(State m, long l0, int l1, long l2, long l3, long l4) {
    }
    throw State.trap();
   }
-  f84(m, l6, l1, l2, l3, l4);
+  f91(m, l6, l1, l2, l3, l4);
   l5 = Words.get64(b, ((int) l6) - 60704);
   L14: {
    if ((b[((int) l6) - 60720] & 0xff) != 0) { break L14; }
@@ -265,7 +1679,7 @@ static void f83(State m, long l0, int l1, long l2, long l3, long l4) {
  m.g0 = l6 + 48L;
 }
 
-static void f84(State m, long l0, int l1, long l2, long l3, long l4) {
+static void f91(State m, long l0, int l1, long l2, long l3, long l4) {
  final byte[] b = m.bytes;
  long l5 = 0;
  long l6 = 0;
@@ -290,7 +1704,7 @@ static void f84(State m, long l0, int l1, long l2, long l3, long l4) {
   Words.put64(b, ((int) l5) - 60696, 0L);
   Words.put64(b, ((int) l5) - 60688, 0L);
   Words.put64(b, ((int) l5) - 60680, 0L);
-  Core2.f80(m, l5 + 48L, l3, l4);
+  f87(m, l5 + 48L, l3, l4);
   l8 = 1;
   L2: {
    L3: {
@@ -303,7 +1717,7 @@ static void f84(State m, long l0, int l1, long l2, long l3, long l4) {
      l6 = l3;
      l7 = l4;
      L5: while (true) {
-      Core2.f80(m, l5 + 128L, l6, l7);
+      f87(m, l5 + 128L, l6, l7);
       l9 = 1;
       if ((b[((int) l5) - 60592] & 0xff) != 1) { break L3; }
       l7 = Words.get64(b, ((int) l5) - 60568);
@@ -316,12 +1730,12 @@ static void f84(State m, long l0, int l1, long l2, long l3, long l4) {
       break L5;
      }
     }
-    f86(m, l5 + 80L, l1, l2, l3, l4);
+    f93(m, l5 + 80L, l1, l2, l3, l4);
     l8 = b[((int) l5) - 60632] & 0xff;
     l9 = b[((int) l5) - 60640] & 0xff;
     break L2;
    }
-   f87(m, l5 + 16L, l1, 1L, 0L, l3, l4);
+   f94(m, l5 + 16L, l1, 1L, 0L, l3, l4);
    l8 = 2;
    l6 = 0L;
    l7 = 0L;
@@ -349,7 +1763,7 @@ static void f84(State m, long l0, int l1, long l2, long l3, long l4) {
  throw State.trap();
 }
 
-static void f85(State m, long l0, long l1, long l2) {
+static void f92(State m, long l0, long l1, long l2) {
  final byte[] b = m.bytes;
  long l3 = 0;
  long l4 = 0;
@@ -473,7 +1887,7 @@ static void f85(State m, long l0, long l1, long l2) {
  Words.put32(b, ((int) (l0 + 8L)) - 60720, l5);
 }
 
-static int f86_1(State m, int l1, long l5, long l6, long l7, long l8, long l9, long l10, long l11, long l12, long l13, long l14, long l15, long l16, long l17, long l18, long l19, long l20, long l21, long l22, long l23, int l24, int l25, int l26) {
+static int f93_1(State m, int l1, long l5, long l6, long l7, long l8, long l9, long l10, long l11, long l12, long l13, long l14, long l15, long l16, long l17, long l18, long l19, long l20, long l21, long l22, long l23, int l24, int l25, int l26) {
  final byte[] b = m.bytes;
  int exit = 0;
  PART: {
@@ -483,16 +1897,16 @@ static int f86_1(State m, int l1, long l5, long l6, long l7, long l8, long l9, l
    if (((b[((int) l5) - 60208] & 0xff) & 1) != 0) { break L24; }
    l6 = Words.get64(b, ((int) l5) - 60216);
    l8 = Words.get64(b, ((int) l5) - 60224);
-   Core2.f80(m, l5 + 624L, l7 = Words.get64(b, ((int) l5) - 60200), l9 = Words.get64(b, ((int) l5) - 60192));
+   f87(m, l5 + 624L, l7 = Words.get64(b, ((int) l5) - 60200), l9 = Words.get64(b, ((int) l5) - 60192));
    if ((b[((int) l5) - 60096] & 0xff) != 1) { break L24; }
-   f91(m, l5 + 560L, l1, 0L, 0L, l8, l6, l7, l9);
+   f98(m, l5 + 560L, l1, 0L, 0L, l8, l6, l7, l9);
    if ((b[((int) l5) - 60160] & 0xff) != 1) { break L24; }
    l10 = Words.get64(b, ((int) l5) - 60120);
    l12 = Words.get64(b, ((int) l5) - 60128);
    l7 = Words.get64(b, ((int) l5) - 60136);
    l8 = Words.get64(b, ((int) l5) - 60144);
    l25 = b[((int) l5) - 60112] & 0xff;
-   Core2.f80(m, l5 + 400L, l6 = Words.get64(b, ((int) l5) - 60184), l9 = Words.get64(b, ((int) l5) - 60176));
+   f87(m, l5 + 400L, l6 = Words.get64(b, ((int) l5) - 60184), l9 = Words.get64(b, ((int) l5) - 60176));
    L25: {
     if ((b[((int) l5) - 60320] & 0xff) != 1) { break L25; }
     L26: while (true) {
@@ -500,7 +1914,7 @@ static int f86_1(State m, int l1, long l5, long l6, long l7, long l8, long l9, l
      Words.put64(b, ((int) l5) - 60240, 0L);
      Words.put64(b, ((int) l5) - 60248, 0L);
      Words.put64(b, ((int) l5) - 60256, 0L);
-     Core2.f80(m, l5 + 464L, l6, l9);
+     f87(m, l5 + 464L, l6, l9);
      L27: {
       L28: {
        if ((b[((int) l5) - 60256] & 0xff) == 1) { break L28; }
@@ -521,7 +1935,7 @@ static int f86_1(State m, int l1, long l5, long l6, long l7, long l8, long l9, l
      Words.put64(b, ((int) l5) - 60272, 0L);
      Words.put64(b, ((int) l5) - 60280, 0L);
      Words.put64(b, ((int) l5) - 60288, 0L);
-     f90(m, l5 + 464L, l6, l9);
+     f97(m, l5 + 464L, l6, l9);
      if ((b[((int) l5) - 60256] & 0xff) != 1) { break L24; }
      if ((l13 = Words.get64(b, ((int) l5) - 60240)) == 0L) { break L24; }
      l14 = Words.get64(b, ((int) l5) - 60216);
@@ -529,7 +1943,7 @@ static int f86_1(State m, int l1, long l5, long l6, long l7, long l8, long l9, l
      l9 = Words.get64(b, ((int) l5) - 60176);
      l6 = Words.get64(b, ((int) l5) - 60184);
      l26 = b[((int) l5) - 60208] & 0xff;
-     Core2.f80(m, l5 + 432L, l15 = Words.get64(b, ((int) l5) - 60200), l16 = Words.get64(b, ((int) l5) - 60192));
+     f87(m, l5 + 432L, l15 = Words.get64(b, ((int) l5) - 60200), l16 = Words.get64(b, ((int) l5) - 60192));
      L30: {
       L31: {
        if ((b[((int) l5) - 60288] & 0xff) != 1) { break L31; }
@@ -542,7 +1956,7 @@ static int f86_1(State m, int l1, long l5, long l6, long l7, long l8, long l9, l
         Words.put64(b, ((int) l5) - 60144, 0L);
         Words.put64(b, ((int) l5) - 60152, 0L);
         Words.put64(b, ((int) l5) - 60160, 0L);
-        f87(m, l5 + 560L, l1, 1L, 0L, l15, l16);
+        f94(m, l5 + 560L, l1, 1L, 0L, l15, l16);
         if ((b[((int) l5) - 60160] & 0xff) != 1) { break L32; }
         final int t36 = (Words.get64(b, ((int) l5) - 60144) + Long.MIN_VALUE < -9223372036854765808L) ? 1 : 0;
         final int t37 = (Words.get64(b, ((int) l5) - 60136) == 0L) ? 1 : 0;
@@ -561,13 +1975,13 @@ static int f86_1(State m, int l1, long l5, long l6, long l7, long l8, long l9, l
        Words.put64(b, ((int) l5) - 60080, 0L);
        Words.put64(b, ((int) l5) - 60088, 0L);
        Words.put64(b, ((int) l5) - 60096, 0L);
-       f87(m, l5 + 624L, l1, l11, l14, l15, l16);
+       f94(m, l5 + 624L, l1, l11, l14, l15, l16);
        if ((b[((int) l5) - 60096] & 0xff) != 1) { break L24; }
        final int t38 = (Words.get64(b, ((int) l5) - 60080) + Long.MIN_VALUE >= l12 + Long.MIN_VALUE) ? 1 : 0;
        final int t39 = ((l12 = Words.get64(b, ((int) l5) - 60072)) + Long.MIN_VALUE >= l10 + Long.MIN_VALUE) ? 1 : 0;
        final int t40 = (l12 == l10) ? 1 : 0;
        if ((t40 != 0 ? t38 : t39) != 0) { break L24; }
-       f91(m, l5 + 560L, l1, l8, l7, l11, l14, l15, l16);
+       f98(m, l5 + 560L, l1, l8, l7, l11, l14, l15, l16);
        if ((b[((int) l5) - 60160] & 0xff) != 1) { break L24; }
        l10 = Words.get64(b, ((int) l5) - 60120);
        l12 = Words.get64(b, ((int) l5) - 60128);
@@ -661,7 +2075,7 @@ static int f86_1(State m, int l1, long l5, long l6, long l7, long l8, long l9, l
       l25 = 0;
       l10 = 0L;
      }
-     Core2.f80(m, l5 + 400L, l6, l9);
+     f87(m, l5 + 400L, l6, l9);
      if ((b[((int) l5) - 60320] & 0xff) == 1) { continue L26; }
      break L26;
     }
@@ -695,7 +2109,7 @@ static int f86_1(State m, int l1, long l5, long l6, long l7, long l8, long l9, l
  return exit;
 }
 
-static void f86(State m, long l0, int l1, long l2, long l3, long l4) {
+static void f93(State m, long l0, int l1, long l2, long l3, long l4) {
  final byte[] b = m.bytes;
  long l5 = 0;
  long l6 = 0;
@@ -732,7 +2146,7 @@ static void f86(State m, long l0, int l1, long l2, long l3, long l4) {
        Words.put64(b, ((int) l5) - 60512, 0L);
        Words.put64(b, ((int) l5) - 60520, 0L);
        Words.put64(b, ((int) l5) - 60528, 0L);
-       f82(m, l5 + 192L, l1, l2, l3, l4);
+       f89(m, l5 + 192L, l1, l2, l3, l4);
        L7: {
         if ((b[((int) l5) - 60528] & 0xff) != 0) { break L7; }
         l7 = Words.get64(b, ((int) l5) - 60504);
@@ -771,7 +2185,7 @@ static void f86(State m, long l0, int l1, long l2, long l3, long l4) {
        Words.put64(b, ((int) l5) - 60240, 0L);
        Words.put64(b, ((int) l5) - 60248, 0L);
        Words.put64(b, ((int) l5) - 60256, 0L);
-       Core2.f80(m, l5 + 464L, l3, l4);
+       f87(m, l5 + 464L, l3, l4);
        if ((b[((int) l5) - 60256] & 0xff) != 1) { break L5; }
        l6 = Words.get64(b, ((int) l5) - 60232);
        l8 = Words.get64(b, ((int) l5) - 60240);
@@ -781,7 +2195,7 @@ static void f86(State m, long l0, int l1, long l2, long l3, long l4) {
        L8: {
         L9: while (true) {
          l10 = l11;
-         Core2.f80(m, l5 + 464L, l7 = l8, l9 = l6);
+         f87(m, l5 + 464L, l7 = l8, l9 = l6);
          if ((b[((int) l5) - 60256] & 0xff) != 1) { break L8; }
          l6 = Words.get64(b, ((int) l5) - 60232);
          l8 = Words.get64(b, ((int) l5) - 60240);
@@ -800,12 +2214,12 @@ static void f86(State m, long l0, int l1, long l2, long l3, long l4) {
           Words.put64(b, ((int) l5) - 60240, 0L);
           Words.put64(b, ((int) l5) - 60248, 0L);
           Words.put64(b, ((int) l5) - 60256, 0L);
-          Core2.f80(m, l5 + 464L, l3, l4);
+          f87(m, l5 + 464L, l3, l4);
           if ((b[((int) l5) - 60256] & 0xff) != 1) { break L11; }
           Core1.f24(m, l5 + 168L, Words.get32(b, ((int) l5) - 60248));
           if (((((b[((int) l5) - 60552] & 0xff) != 1) | (((b[((int) l5) - 60551] & 0xff) & 255) != 0)) ? 1 : 0) == 1) { break L11; }
          }
-         Core2.f80(m, l5 + 560L, l7, l9);
+         f87(m, l5 + 560L, l7, l9);
          if ((b[((int) l5) - 60160] & 0xff) != 1) { break L10; }
          L13: {
           if ((l24 = Words.get32(b, ((int) l5) - 60152)) == 65292) { break L13; }
@@ -817,12 +2231,12 @@ static void f86(State m, long l0, int l1, long l2, long l3, long l4) {
          Words.put64(b, ((int) l5) - 60240, 0L);
          Words.put64(b, ((int) l5) - 60248, 0L);
          Words.put64(b, ((int) l5) - 60256, 0L);
-         Core2.f80(m, l5 + 464L, l6, l8);
+         f87(m, l5 + 464L, l6, l8);
          if ((b[((int) l5) - 60256] & 0xff) != 1) { break L5; }
          Core1.f24(m, l5 + 160L, Words.get32(b, ((int) l5) - 60248));
          if ((b[((int) l5) - 60560] & 0xff) != 1) { break L5; }
          L14: while (true) {
-          Core2.f80(m, l5 + 464L, Words.get64(b, ((int) l5) - 60240), Words.get64(b, ((int) l5) - 60232));
+          f87(m, l5 + 464L, Words.get64(b, ((int) l5) - 60240), Words.get64(b, ((int) l5) - 60232));
           if ((b[((int) l5) - 60256] & 0xff) != 1) { break L5; }
           Core1.f24(m, l5 + 152L, Words.get32(b, ((int) l5) - 60248));
           if ((b[((int) l5) - 60568] & 0xff) == 1) { continue L14; }
@@ -830,7 +2244,7 @@ static void f86(State m, long l0, int l1, long l2, long l3, long l4) {
          }
         }
         L15: while (true) {
-         Core2.f80(m, l5 + 560L, l7, l9);
+         f87(m, l5 + 560L, l7, l9);
          if ((b[((int) l5) - 60160] & 0xff) != 1) { break L10; }
          L16: {
           if ((l24 = Words.get32(b, ((int) l5) - 60152)) == 65292) { break L16; }
@@ -842,7 +2256,7 @@ static void f86(State m, long l0, int l1, long l2, long l3, long l4) {
          Words.put64(b, ((int) l5) - 60240, 0L);
          Words.put64(b, ((int) l5) - 60248, 0L);
          Words.put64(b, ((int) l5) - 60256, 0L);
-         Core2.f80(m, l5 + 464L, l6, l8);
+         f87(m, l5 + 464L, l6, l8);
          if ((b[((int) l5) - 60256] & 0xff) != 1) { break L5; }
          Core1.f24(m, l5 + 144L, Words.get32(b, ((int) l5) - 60248));
          if ((b[((int) l5) - 60576] & 0xff) != 1) { break L5; }
@@ -850,7 +2264,7 @@ static void f86(State m, long l0, int l1, long l2, long l3, long l4) {
          L17: {
           L18: while (true) {
            l8 = l6;
-           Core2.f80(m, l5 + 464L, l7 = Words.get64(b, ((int) l5) - 60240), l9 = Words.get64(b, ((int) l5) - 60232));
+           f87(m, l5 + 464L, l7 = Words.get64(b, ((int) l5) - 60240), l9 = Words.get64(b, ((int) l5) - 60232));
            if ((b[((int) l5) - 60256] & 0xff) != 1) { break L17; }
            Core1.f24(m, l5 + 136L, Words.get32(b, ((int) l5) - 60248));
            l6 = l8 + -1L;
@@ -867,7 +2281,7 @@ static void f86(State m, long l0, int l1, long l2, long l3, long l4) {
        Words.put64(b, ((int) l5) - 60144, 0L);
        Words.put64(b, ((int) l5) - 60152, 0L);
        Words.put64(b, ((int) l5) - 60160, 0L);
-       Core2.f80(m, l5 + 560L, l7, l9);
+       f87(m, l5 + 560L, l7, l9);
        L19: {
         if ((b[((int) l5) - 60160] & 0xff) != 1) { break L19; }
         L20: {
@@ -881,7 +2295,7 @@ static void f86(State m, long l0, int l1, long l2, long l3, long l4) {
          Words.put64(b, ((int) l5) - 60240, 0L);
          Words.put64(b, ((int) l5) - 60248, 0L);
          Words.put64(b, ((int) l5) - 60256, 0L);
-         Core2.f80(m, l5 + 464L, l6, l8);
+         f87(m, l5 + 464L, l6, l8);
          if ((b[((int) l5) - 60256] & 0xff) != 1) { break L5; }
          l6 = Words.get64(b, ((int) l5) - 60232);
          l8 = Words.get64(b, ((int) l5) - 60240);
@@ -891,7 +2305,7 @@ static void f86(State m, long l0, int l1, long l2, long l3, long l4) {
          L22: {
           L23: while (true) {
            l10 = l7;
-           Core2.f80(m, l5 + 464L, l11 = l8, l9 = l6);
+           f87(m, l5 + 464L, l11 = l8, l9 = l6);
            if ((b[((int) l5) - 60256] & 0xff) != 1) { break L22; }
            l6 = Words.get64(b, ((int) l5) - 60232);
            l8 = Words.get64(b, ((int) l5) - 60240);
@@ -902,15 +2316,15 @@ static void f86(State m, long l0, int l1, long l2, long l3, long l4) {
           }
          }
          if (l10 == 0L) { break L5; }
-         if (f88(m, l11, l9) != 0) { break L19; }
+         if (f95(m, l11, l9) != 0) { break L19; }
          break L5;
         }
         l10 = 0L;
-        if (f88(m, l7, l9) == 0) { break L5; }
+        if (f95(m, l7, l9) == 0) { break L5; }
        }
        l8 = 0L;
        l24 = 0;
-       f89(m, l5 + 368L, l1, 0, 0L, 0L, l3, l4);
+       f96(m, l5 + 368L, l1, 0, 0L, 0L, l3, l4);
        if ((b[((int) l5) - 60352] & 0xff) != 1) { break L4; }
        l6 = 0L;
        l7 = Words.get64(b, ((int) l5) - 60328);
@@ -936,8 +2350,8 @@ static void f86(State m, long l0, int l1, long l2, long l3, long l4) {
      Words.put64(b, ((int) l5) - 60120, 0L);
      Words.put64(b, ((int) l5) - 60112, 0L);
      Words.put64(b, ((int) l5) - 60104, 0L);
-     f90(m, l5 + 464L, l3, l4);
-     final int x68 = f86_1(m, l1, l5, l6, l7, l8, l9, l10, l11, l12, l13, l14, l15, l16, l17, l18, l19, l20, l21, l22, l23, l24, l25, l26);
+     f97(m, l5 + 464L, l3, l4);
+     final int x68 = f93_1(m, l1, l5, l6, l7, l8, l9, l10, l11, l12, l13, l14, l15, l16, l17, l18, l19, l20, l21, l22, l23, l24, l25, l26);
      l6 = m.kept[0];
      l7 = m.kept[1];
      l8 = m.kept[2];
@@ -962,17 +2376,17 @@ static void f86(State m, long l0, int l1, long l2, long l3, long l4) {
      switch (x68) {
      case 1: break L3;
      }
-     f92(m, l5 + 320L, l3, l4);
+     f99(m, l5 + 320L, l3, l4);
      L69: {
       if ((b[((int) l5) - 60400] & 0xff) != 1) { break L69; }
       l10 = Words.get64(b, ((int) l5) - 60360);
       l6 = Words.get64(b, ((int) l5) - 60368);
       l7 = Words.get64(b, ((int) l5) - 60376);
-      f82(m, l5 + 288L, l1, l2, Words.get64(b, ((int) l5) - 60392), Words.get64(b, ((int) l5) - 60384));
+      f89(m, l5 + 288L, l1, l2, Words.get64(b, ((int) l5) - 60392), Words.get64(b, ((int) l5) - 60384));
       l8 = Words.get64(b, ((int) l5) - 60416);
       L70: {
        if ((b[((int) l5) - 60432] & 0xff) != 0) { break L70; }
-       f89(m, l5 + 256L, l1, 1, l8, Words.get64(b, ((int) l5) - 60408), l7, l6);
+       f96(m, l5 + 256L, l1, 1, l8, Words.get64(b, ((int) l5) - 60408), l7, l6);
        L71: {
         if ((b[((int) l5) - 60464] & 0xff) == 1) { break L71; }
         l8 = 0L;
@@ -998,7 +2412,7 @@ static void f86(State m, long l0, int l1, long l2, long l3, long l4) {
      Words.put64(b, ((int) l5) - 60152, 0L);
      Words.put64(b, ((int) l5) - 60144, 0L);
      Words.put64(b, ((int) l5) - 60136, 0L);
-     Core2.f80(m, l5 + 464L, l3, l4);
+     f87(m, l5 + 464L, l3, l4);
      L72: {
       if ((b[((int) l5) - 60256] & 0xff) != 1) { break L72; }
       l7 = Words.get64(b, ((int) l5) - 60232);
@@ -1012,11 +2426,11 @@ static void f86(State m, long l0, int l1, long l2, long l3, long l4) {
        if (l24 != 21317) { break L72; }
        l8 = 30L;
       }
-      Core2.f80(m, l5 + 560L, l9, l7);
+      f87(m, l5 + 560L, l9, l7);
       L75: {
        if ((b[((int) l5) - 60160] & 0xff) != 1) { break L75; }
        l24 = Words.get32(b, ((int) l5) - 60152);
-       Core2.f80(m, l5 + 464L, Words.get64(b, ((int) l5) - 60144), Words.get64(b, ((int) l5) - 60136));
+       f87(m, l5 + 464L, Words.get64(b, ((int) l5) - 60144), Words.get64(b, ((int) l5) - 60136));
        if ((l24 + -48) + Integer.MIN_VALUE < -2147483638) { break L72; }
        if (((b[((int) l5) - 60256] & 0xff) & 255) == 1) { break L72; }
        Core2.f63(m, l5 + 8L, l24);
@@ -1028,7 +2442,7 @@ static void f86(State m, long l0, int l1, long l2, long l3, long l4) {
       l7 = 0L;
       break L3;
      }
-     f82(m, l5 + 224L, l1, l2, l3, l4);
+     f89(m, l5 + 224L, l1, l2, l3, l4);
      l8 = Words.get64(b, ((int) l5) - 60480);
      L76: {
       if ((b[((int) l5) - 60496] & 0xff) != 0) { break L76; }
@@ -1058,7 +2472,7 @@ static void f86(State m, long l0, int l1, long l2, long l3, long l4) {
  m.g0 = l5 + 656L;
 }
 
-static void f87(State m, long l0, int l1, long l2, long l3, long l4, long l5) {
+static void f94(State m, long l0, int l1, long l2, long l3, long l4, long l5) {
  final byte[] b = m.bytes;
  long l6 = 0;
  long l7 = 0;
@@ -1071,7 +2485,7 @@ static void f87(State m, long l0, int l1, long l2, long l3, long l4, long l5) {
   Words.put64(b, ((int) l6) - 60624, 0L);
   Words.put64(b, ((int) l6) - 60632, 0L);
   Words.put64(b, ((int) l6) - 60640, 0L);
-  Core2.f80(m, l6 + 80L, l4, l5);
+  f87(m, l6 + 80L, l4, l5);
   L2: {
    L3: {
     L4: {
@@ -1091,7 +2505,7 @@ static void f87(State m, long l0, int l1, long l2, long l3, long l4, long l5) {
        if (!((((Words.get64(b, ((int) l6) - 60664) + (((l3 = (l2 = (l8 = Words.get64(b, ((int) l6) - 60696)) + Words.get64(b, ((int) l6) - 60720)) + Words.get64(b, ((int) l6) - 60672)) + Long.MIN_VALUE < l2 + Long.MIN_VALUE) ? 1L : 0L)) | (l8 = (l2 = Words.get64(b, ((int) l6) - 60712) + ((l2 + Long.MIN_VALUE < l8 + Long.MIN_VALUE) ? 1L : 0L)) + Words.get64(b, ((int) l6) - 60688))) | (Words.get64(b, ((int) l6) - 60680) + ((l8 + Long.MIN_VALUE < l2 + Long.MIN_VALUE) ? 1L : 0L))) == 0L)) { break L3; }
        l2 = Words.get64(b, ((int) l6) - 60704);
       }
-      Core2.f80(m, l6 + 80L, l4, l5);
+      f87(m, l6 + 80L, l4, l5);
       if ((b[((int) l6) - 60640] & 0xff) == 1) { continue L5; }
       break L5;
      }
@@ -1113,7 +2527,7 @@ static void f87(State m, long l0, int l1, long l2, long l3, long l4, long l5) {
  throw State.trap();
 }
 
-static int f88(State m, long l0, long l1) {
+static int f95(State m, long l0, long l1) {
  final byte[] b = m.bytes;
  long l2 = 0;
  long l3 = 0;
@@ -1129,7 +2543,7 @@ static int f88(State m, long l0, long l1) {
   Words.put64(b, ((int) l2) - 60672, 0L);
   Words.put64(b, ((int) l2) - 60680, 0L);
   Words.put64(b, ((int) l2) - 60688, 0L);
-  Core2.f80(m, l2 + 32L, l0, l1);
+  f87(m, l2 + 32L, l0, l1);
   l5 = 1;
   L2: {
    if ((b[((int) l2) - 60688] & 0xff) != 1) { break L2; }
@@ -1144,7 +2558,7 @@ static int f88(State m, long l0, long l1) {
     Words.put64(b, ((int) l2) - 60640, 0L);
     Words.put64(b, ((int) l2) - 60648, 0L);
     Words.put64(b, ((int) l2) - 60656, 0L);
-    Core2.f80(m, l2 + 64L, l4, l3);
+    f87(m, l2 + 64L, l4, l3);
     L4: {
      if ((b[((int) l2) - 60656] & 0xff) == 1) { break L4; }
      l5 = 0;
@@ -1160,7 +2574,7 @@ static int f88(State m, long l0, long l1) {
     Words.put64(b, ((int) l2) - 60656, 0L);
     l6 = 1;
     L5: while (true) {
-     Core2.f80(m, l2 + 64L, l4, l3);
+     f87(m, l2 + 64L, l4, l3);
      if ((l5 = ((b[((int) l2) - 60656] & 0xff) != 1) ? 1 : 0) != 0) { break L2; }
      l3 = Words.get64(b, ((int) l2) - 60632);
      l4 = Words.get64(b, ((int) l2) - 60640);
@@ -1177,7 +2591,7 @@ static int f88(State m, long l0, long l1) {
    Words.put64(b, ((int) l2) - 60648, 0L);
    Words.put64(b, ((int) l2) - 60656, 0L);
    L6: while (true) {
-    Core2.f80(m, l2 + 64L, l0, l1);
+    f87(m, l2 + 64L, l0, l1);
     if ((l5 = ((b[((int) l2) - 60656] & 0xff) != 1) ? 1 : 0) != 0) { break L2; }
     l1 = Words.get64(b, ((int) l2) - 60632);
     l0 = Words.get64(b, ((int) l2) - 60640);
@@ -1196,7 +2610,7 @@ static int f88(State m, long l0, long l1) {
  throw State.trap();
 }
 
-static void f89(State m, long l0, int l1, int l2, long l3, long l4, long l5, long l6) {
+static void f96(State m, long l0, int l1, int l2, long l3, long l4, long l5, long l6) {
  final byte[] b = m.bytes;
  long l7 = 0;
  long l8 = 0;
@@ -1214,7 +2628,7 @@ static void f89(State m, long l0, int l1, int l2, long l3, long l4, long l5, lon
    Words.put64(b, ((int) l7) - 60576, 0L);
    Words.put64(b, ((int) l7) - 60584, 0L);
    Words.put64(b, ((int) l7) - 60592, 0L);
-   Core2.f80(m, l7 + 128L, l5, l6);
+   f87(m, l7 + 128L, l5, l6);
    L3: {
     L4: {
      if ((b[((int) l7) - 60592] & 0xff) != 1) { break L4; }
@@ -1236,7 +2650,7 @@ static void f89(State m, long l0, int l1, int l2, long l3, long l4, long l5, lon
         if ((t9 != 0 ? t8 : 0) != 0) { break L3; }
         l4 = l4 + (((l3 = l10 + l3) + Long.MIN_VALUE < l10 + Long.MIN_VALUE) ? 1L : 0L);
        }
-       Core2.f80(m, l7 + 128L, l9, l8);
+       f87(m, l7 + 128L, l9, l8);
        if ((b[((int) l7) - 60592] & 0xff) == 1) { continue L6; }
        break L4;
       }
@@ -1256,12 +2670,12 @@ static void f89(State m, long l0, int l1, int l2, long l3, long l4, long l5, lon
        if ((t13 != 0 ? t12 : 0) != 0) { break L3; }
        l4 = l4 + (((l3 = l10 + l3) + Long.MIN_VALUE < l10 + Long.MIN_VALUE) ? 1L : 0L);
       }
-      Core2.f80(m, l7 + 128L, l9, l8);
+      f87(m, l7 + 128L, l9, l8);
       if ((b[((int) l7) - 60592] & 0xff) == 1) { continue L10; }
       break L10;
      }
     }
-    f87(m, l7 + 96L, l1, l3, l4, l5, l6);
+    f94(m, l7 + 96L, l1, l3, l4, l5, l6);
     Words.put64(b, ((int) l0) - 60712, 0L);
     Words.put64(b, ((int) l0) - 60720, b[((int) l7) - 60624] & 0xffL);
     Words.put64(b, ((int) (l0 + 16L)) - 60720, Words.get64(b, ((int) l7) - 60608));
@@ -1279,7 +2693,7 @@ static void f89(State m, long l0, int l1, int l2, long l3, long l4, long l5, lon
  m.g0 = l7 + 160L;
 }
 
-static void f90(State m, long l0, long l1, long l2) {
+static void f97(State m, long l0, long l1, long l2) {
  final byte[] b = m.bytes;
  long l3 = 0;
  long l4 = 0;
@@ -1310,7 +2724,7 @@ static void f90(State m, long l0, long l1, long l2) {
   L2: {
    L3: {
     L4: while (true) {
-     Core2.f80(m, l3 + 80L, l5, l6);
+     f87(m, l3 + 80L, l5, l6);
      if ((b[((int) l3) - 60640] & 0xff) != 1) { break L3; }
      l6 = Words.get64(b, ((int) l3) - 60616);
      l5 = Words.get64(b, ((int) l3) - 60624);
@@ -1335,7 +2749,7 @@ static void f90(State m, long l0, long l1, long l2) {
    Words.put64(b, ((int) l3) - 60624, 0L);
    Words.put64(b, ((int) l3) - 60632, 0L);
    Words.put64(b, ((int) l3) - 60640, 0L);
-   Core2.f80(m, l3 + 80L, l1, l2);
+   f87(m, l3 + 80L, l1, l2);
    l10 = 0L;
    l11 = l1;
    l12 = l2;
@@ -1351,7 +2765,7 @@ static void f90(State m, long l0, long l1, long l2) {
     l5 = 1L;
     L9: while (true) {
      l10 = l5;
-     Core2.f80(m, l3 + 80L, l11 = l8, l12 = l9);
+     f87(m, l3 + 80L, l11 = l8, l12 = l9);
      if ((b[((int) l3) - 60640] & 0xff) != 1) { break L8; }
      l9 = Words.get64(b, ((int) l3) - 60616);
      l8 = Words.get64(b, ((int) l3) - 60624);
@@ -1370,7 +2784,7 @@ static void f90(State m, long l0, long l1, long l2) {
    l8 = l12;
    L10: {
     L11: while (true) {
-     Core2.f80(m, l3 + 80L, l6 = l9, l5 = l8);
+     f87(m, l3 + 80L, l6 = l9, l5 = l8);
      if ((b[((int) l3) - 60640] & 0xff) != 1) { break L10; }
      l8 = Words.get64(b, ((int) l3) - 60616);
      l9 = Words.get64(b, ((int) l3) - 60624);
@@ -1386,7 +2800,7 @@ static void f90(State m, long l0, long l1, long l2) {
    Words.put64(b, ((int) l3) - 60624, 0L);
    Words.put64(b, ((int) l3) - 60632, 0L);
    Words.put64(b, ((int) l3) - 60640, 0L);
-   Core2.f80(m, l3 + 80L, l1, l2);
+   f87(m, l3 + 80L, l1, l2);
    l13 = 0;
    L12: {
     if ((b[((int) l3) - 60640] & 0xff) != 1) { break L12; }
@@ -1414,7 +2828,7 @@ static void f90(State m, long l0, long l1, long l2) {
  throw State.trap();
 }
 
-static void f91(State m, long l0, int l1, long l2, long l3, long l4, long l5, long l6, long l7) {
+static void f98(State m, long l0, int l1, long l2, long l3, long l4, long l5, long l6, long l7) {
  final byte[] b = m.bytes;
  long l8 = 0;
  long l9 = 0;
@@ -1427,14 +2841,14 @@ static void f91(State m, long l0, int l1, long l2, long l3, long l4, long l5, lo
    Words.put64(b, ((int) l8) - 60704, 0L);
    Words.put64(b, ((int) l8) - 60712, 0L);
    Words.put64(b, ((int) l8) - 60720, 0L);
-   f87(m, l8, l1, l4, l5, l6, l7);
+   f94(m, l8, l1, l4, l5, l6, l7);
    L3: {
     L4: {
      L5: {
       if ((b[((int) l8) - 60720] & 0xff) != 1) { break L5; }
       l4 = Words.get64(b, ((int) l8) - 60696);
       l5 = Words.get64(b, ((int) l8) - 60704);
-      f87(m, l8, l1, 1L, 0L, l6, l7);
+      f94(m, l8, l1, 1L, 0L, l6, l7);
       if ((b[((int) l8) - 60720] & 0xff) != 1) { break L4; }
       final int t6 = (l2 + Long.MIN_VALUE > (l5 ^ -1L) + Long.MIN_VALUE) ? 1 : 0;
       final int t7 = (l3 + Long.MIN_VALUE > (l9 = l4 ^ -1L) + Long.MIN_VALUE) ? 1 : 0;
@@ -1451,11 +2865,11 @@ static void f91(State m, long l0, int l1, long l2, long l3, long l4, long l5, lo
       Words.put64(b, ((int) l8) - 60680, 0L);
       Words.put64(b, ((int) l8) - 60672, 0L);
       Words.put64(b, ((int) l8) - 60664, 0L);
-      Core2.f80(m, l8 + 64L, l6, l7);
+      f87(m, l8 + 64L, l6, l7);
       l1 = 0;
       L9: {
        if ((b[((int) l8) - 60656] & 0xff) != 1) { break L9; }
-       Core2.f80(m, l8 + 32L, Words.get64(b, ((int) l8) - 60640), Words.get64(b, ((int) l8) - 60632));
+       f87(m, l8 + 32L, Words.get64(b, ((int) l8) - 60640), Words.get64(b, ((int) l8) - 60632));
        l1 = ((b[((int) l8) - 60688] & 0xff) != 1) ? 1 : 0;
       }
       Words.put64(b, ((int) (l0 + 40L)) - 60720, l9);
@@ -1504,7 +2918,7 @@ static void f91(State m, long l0, int l1, long l2, long l3, long l4, long l5, lo
  m.g0 = l8 + 96L;
 }
 
-static void f92(State m, long l0, long l1, long l2) {
+static void f99(State m, long l0, long l1, long l2) {
  final byte[] b = m.bytes;
  long l3 = 0;
  long l4 = 0;
@@ -1539,7 +2953,7 @@ static void f92(State m, long l0, long l1, long l2) {
      L5: {
       L6: {
        L7: while (true) {
-        Core2.f80(m, l3 + 144L, l4, l6 = l5);
+        f87(m, l3 + 144L, l4, l6 = l5);
         if ((b[((int) l3) - 60576] & 0xff) != 1) { break L6; }
         l5 = Words.get64(b, ((int) l3) - 60552);
         l4 = Words.get64(b, ((int) l3) - 60560);
@@ -1549,7 +2963,7 @@ static void f92(State m, long l0, long l1, long l2) {
         }
         break L7;
        }
-       Core2.f80(m, l3 + 80L, l1, l7 = l2 - l6);
+       f87(m, l3 + 80L, l1, l7 = l2 - l6);
        if ((b[((int) l3) - 60640] & 0xff) == 1) { break L5; }
        Words.put64(b, ((int) l0) - 60680, 0L);
        Words.put64(b, ((int) l0) - 60688, 0L);
@@ -1571,7 +2985,7 @@ static void f92(State m, long l0, long l1, long l2) {
      Words.put64(b, ((int) l3) - 60560, 0L);
      Words.put64(b, ((int) l3) - 60568, 0L);
      Words.put64(b, ((int) l3) - 60576, 0L);
-     Core2.f80(m, l3 + 144L, l4, l5);
+     f87(m, l3 + 144L, l4, l5);
      L9: {
       L10: {
        if ((b[((int) l3) - 60576] & 0xff) != 1) { break L10; }
@@ -1587,7 +3001,7 @@ static void f92(State m, long l0, long l1, long l2) {
         l11 = 1L;
         L12: while (true) {
          l6 = l11;
-         Core2.f80(m, l3 + 144L, l9 = l2, l10 = l8);
+         f87(m, l3 + 144L, l9 = l2, l10 = l8);
          if ((b[((int) l3) - 60576] & 0xff) != 1) { break L11; }
          if (((l15 = Words.get32(b, ((int) l3) - 60568)) + -48) + Integer.MIN_VALUE < -2147483638) { break L11; }
          l8 = Words.get64(b, ((int) l3) - 60552);
@@ -1599,7 +3013,7 @@ static void f92(State m, long l0, long l1, long l2) {
         }
        }
        if (l6 == 0L) { break L10; }
-       if (f88(m, l9, l10) != 0) { break L9; }
+       if (f95(m, l9, l10) != 0) { break L9; }
       }
       Words.put64(b, ((int) l0) - 60680, 0L);
       Words.put64(b, ((int) l0) - 60688, 0L);
@@ -1613,7 +3027,7 @@ static void f92(State m, long l0, long l1, long l2) {
      Words.put64(b, ((int) l3) - 60560, 0L);
      Words.put64(b, ((int) l3) - 60568, 0L);
      Words.put64(b, ((int) l3) - 60576, 0L);
-     Core2.f80(m, l3 + 144L, l4, l5);
+     f87(m, l3 + 144L, l4, l5);
      l2 = l4;
      l8 = l5;
      L13: {
@@ -1628,7 +3042,7 @@ static void f92(State m, long l0, long l1, long l2) {
       l8 = l5;
       if ((b[((int) l3) - 60664] & 0xff) != 1) { break L13; }
       L14: while (true) {
-       Core2.f80(m, l3 + 144L, l2 = l11, l8 = l9);
+       f87(m, l3 + 144L, l2 = l11, l8 = l9);
        if ((b[((int) l3) - 60576] & 0xff) != 1) { break L13; }
        if (((l15 = Words.get32(b, ((int) l3) - 60568)) + -48) + Integer.MIN_VALUE < -2147483638) { break L13; }
        l9 = Words.get64(b, ((int) l3) - 60552);
@@ -1646,11 +3060,11 @@ static void f92(State m, long l0, long l1, long l2) {
      Words.put64(b, ((int) l3) - 60600, 0L);
      Words.put64(b, ((int) l3) - 60592, 0L);
      Words.put64(b, ((int) l3) - 60584, 0L);
-     f85(m, l3 + 144L, l1, l7);
+     f92(m, l3 + 144L, l1, l7);
      L15: {
       if ((b[((int) l3) - 60576] & 0xff) != 1) { break L15; }
       l15 = Words.get32(b, ((int) l3) - 60568);
-      f85(m, l3 + 112L, Words.get64(b, ((int) l3) - 60560), Words.get64(b, ((int) l3) - 60552));
+      f92(m, l3 + 112L, Words.get64(b, ((int) l3) - 60560), Words.get64(b, ((int) l3) - 60552));
       if ((b[((int) l3) - 60608] & 0xff) != 1) { break L15; }
       Core2.f61(m, l3 + 40L, Words.get32(b, ((int) l3) - 60600));
       if ((b[((int) l3) - 60680] & 0xff) != 1) { break L15; }
@@ -1668,7 +3082,7 @@ static void f92(State m, long l0, long l1, long l2) {
      Words.put64(b, ((int) l3) - 60592, 0L);
      Words.put64(b, ((int) l3) - 60600, 0L);
      Words.put64(b, ((int) l3) - 60608, 0L);
-     Core2.f80(m, l3 + 112L, l2, l8);
+     f87(m, l3 + 112L, l2, l8);
      if ((b[((int) l3) - 60608] & 0xff) != 1) { break L3; }
      l2 = Words.get64(b, ((int) l3) - 60584);
      l8 = Words.get64(b, ((int) l3) - 60592);
@@ -1682,7 +3096,7 @@ static void f92(State m, long l0, long l1, long l2) {
        Words.put64(b, ((int) l3) - 60560, 0L);
        Words.put64(b, ((int) l3) - 60568, 0L);
        Words.put64(b, ((int) l3) - 60576, 0L);
-       Core2.f80(m, l3 + 144L, l8, l2);
+       f87(m, l3 + 144L, l8, l2);
        if ((b[((int) l3) - 60576] & 0xff) != 1) { break L3; }
        Core2.f61(m, l3 + 16L, Words.get32(b, ((int) l3) - 60568));
        l15 = b[((int) l3) - 60703] & 0xff;
@@ -1703,7 +3117,7 @@ static void f92(State m, long l0, long l1, long l2) {
      l2 = l1;
      l8 = l7;
      L18: while (true) {
-      Core2.f80(m, l3 + 144L, l2, l8);
+      f87(m, l3 + 144L, l2, l8);
       if ((b[((int) l3) - 60576] & 0xff) != 1) { break L3; }
       l8 = Words.get64(b, ((int) l3) - 60552);
       l2 = Words.get64(b, ((int) l3) - 60560);
@@ -1739,7 +3153,7 @@ static void f92(State m, long l0, long l1, long l2) {
  m.g0 = l3 + 176L;
 }
 
-static void f93(State m, long l0, long l1, long l2) {
+static void f100(State m, long l0, long l1, long l2) {
  final byte[] b = m.bytes;
  long l3 = 0;
  long l4 = 0;
@@ -1772,7 +3186,7 @@ static void f93(State m, long l0, long l1, long l2) {
       Words.put64(b, ((int) l3) - 60696, 0L);
       Words.put64(b, ((int) l3) - 60704, 0L);
       Words.put64(b, ((int) l3) - 60712, 0L);
-      Core2.f80(m, l3 + 8L, l1, l2);
+      f87(m, l3 + 8L, l1, l2);
       L6: {
        if ((b[((int) l3) - 60712] & 0xff) != 1) { break L6; }
        l9 = 2;
@@ -1900,18 +3314,18 @@ static void f93(State m, long l0, long l1, long l2) {
              }
              if (l20 == 0) { break L10; }
              l18 = 1;
-             if (f97(m, 1, l7, l6) != 0) { break L26; }
+             if (f104(m, 1, l7, l6) != 0) { break L26; }
              break L10;
             }
             if ((l19 & 255) == 0) { break L10; }
-            if (f97(m, 0, l7, l6) == 0) { break L10; }
+            if (f104(m, 0, l7, l6) == 0) { break L10; }
             l18 = 1;
            }
            l19 = l17;
            l21 = l13;
            break L9;
           }
-          if (f98(m, l3 + 42L, l15, l7, l6) == 0) { break L8; }
+          if (f105(m, l3 + 42L, l15, l7, l6) == 0) { break L8; }
           l19 = l17;
           l21 = l13;
           l18 = l14;
@@ -2027,7 +3441,7 @@ static void f93(State m, long l0, long l1, long l2) {
          l15 = t51 != 0 ? t50 : 0;
          l18 = l18 != 0 ? 0 : 2;
         }
-        Core2.f80(m, l3 + 8L, l7, l6);
+        f87(m, l3 + 8L, l7, l6);
         l4 = l6;
         l5 = l7;
         l10 = l11;
@@ -2068,7 +3482,7 @@ static void f93(State m, long l0, long l1, long l2) {
     break L2;
    }
    L54: {
-    if (f98(m, l3 + 42L, l15, l7, l6) == 0) { break L54; }
+    if (f105(m, l3 + 42L, l15, l7, l6) == 0) { break L54; }
     l14 = 3;
     break L2;
    }
@@ -2099,7 +3513,7 @@ static void f93(State m, long l0, long l1, long l2) {
  m.g0 = l3 + 48L;
 }
 
-static void f94(State m, long l0, int l1, long l2, long l3, long l4) {
+static void f101(State m, long l0, int l1, long l2, long l3, long l4) {
  final byte[] b = m.bytes;
  long l5 = 0;
  long l6 = 0;
@@ -2133,7 +3547,7 @@ static void f94(State m, long l0, int l1, long l2, long l3, long l4) {
          l7 = l4;
          L9: {
           L10: while (true) {
-           Core2.f80(m, l5 + 144L, l6, l7);
+           f87(m, l5 + 144L, l6, l7);
            if ((b[((int) l5) - 60576] & 0xff) != 1) { break L9; }
            l7 = Words.get64(b, ((int) l5) - 60552);
            l6 = Words.get64(b, ((int) l5) - 60560);
@@ -2391,7 +3805,7 @@ static void f94(State m, long l0, int l1, long l2, long l3, long l4) {
  m.g0 = l5 + 176L;
 }
 
-static int f95_1(State m, long l0, int l1, long l2, long l4, long l6, long l8, long l9, long l12, long l13, long l14, long l16, long l17, int l18, int l19, int l20, int l21, int l22, int l23) {
+static int f102_1(State m, long l0, int l1, long l2, long l4, long l6, long l8, long l9, long l12, long l13, long l14, long l16, long l17, int l18, int l19, int l20, int l21, int l22, int l23) {
  final byte[] b = m.bytes;
  int exit = 0;
  PART: {
@@ -2638,7 +4052,7 @@ static int f95_1(State m, long l0, int l1, long l2, long l4, long l6, long l8, l
  return exit;
 }
 
-static void f95(State m, long l0, int l1, long l2, int l3, long l4) {
+static void f102(State m, long l0, int l1, long l2, int l3, long l4) {
  final byte[] b = m.bytes;
  long l5 = 0;
  long l6 = 0;
@@ -2952,7 +4366,7 @@ static void f95(State m, long l0, int l1, long l2, int l3, long l4) {
     Words.put64(b, ((int) l6) - 60632, 0L);
     Words.put64(b, ((int) l6) - 60624, 0L);
     Words.put64(b, ((int) l6) - 60616, 0L);
-    final int x86 = f95_1(m, l0, l1, l2, l4, l6, l8, l9, l12, l13, l14, l16, l17, l18, l19, l20, l21, l22, l23);
+    final int x86 = f102_1(m, l0, l1, l2, l4, l6, l8, l9, l12, l13, l14, l16, l17, l18, l19, l20, l21, l22, l23);
     l4 = m.kept[0];
     l12 = m.kept[1];
     l13 = m.kept[2];
@@ -2992,7 +4406,7 @@ static void f95(State m, long l0, int l1, long l2, int l3, long l4) {
      Words.put64(b, ((int) l6) - 60664, l9);
      Words.put64(b, ((int) l6) - 60672, l10);
      Words.put64(b, ((int) l6) - 60680, l11);
-     f96(m, l6 + 8L, l2, l6 + 40L);
+     f103(m, l6 + 8L, l2, l6 + 40L);
      l4 = 0L;
      l13 = 1L;
      l5 = Words.get64(b, ((int) l6) - 60704);
@@ -3016,7 +4430,7 @@ static void f95(State m, long l0, int l1, long l2, int l3, long l4) {
  m.g0 = l6 + 208L;
 }
 
-static void f96(State m, long l0, long l1, long l2) {
+static void f103(State m, long l0, long l1, long l2) {
  final byte[] b = m.bytes;
  long l3 = 0;
  long l4 = 0;
@@ -3142,7 +4556,7 @@ static void f96(State m, long l0, long l1, long l2) {
  m.g0 = l4 + 16L;
 }
 
-static int f97(State m, int l0, long l1, long l2) {
+static int f104(State m, int l0, long l1, long l2) {
  final byte[] b = m.bytes;
  long l3 = 0;
  long l4 = 0;
@@ -3156,7 +4570,7 @@ static int f97(State m, int l0, long l1, long l2) {
    Words.put64(b, ((int) l3) - 60704, 0L);
    Words.put64(b, ((int) l3) - 60712, 0L);
    Words.put64(b, ((int) l3) - 60720, 0L);
-   Core2.f80(m, l3, l1, l2);
+   f87(m, l3, l1, l2);
    if ((b[((int) l3) - 60720] & 0xff) != 1) { break L1; }
    L3: while (true) {
     l2 = Words.get64(b, ((int) l3) - 60696);
@@ -3174,7 +4588,7 @@ static int f97(State m, int l0, long l1, long l2) {
      }
      l0 = (((l5 & 255) != 0) ? 1 : 0) | l0;
     }
-    Core2.f80(m, l3, l1, l2);
+    f87(m, l3, l1, l2);
     if ((b[((int) l3) - 60720] & 0xff) == 1) { continue L3; }
     break L1;
    }
@@ -3185,7 +4599,7 @@ static int f97(State m, int l0, long l1, long l2) {
  return l0 & 1;
 }
 
-static int f98(State m, long l0, int l1, long l2, long l3) {
+static int f105(State m, long l0, int l1, long l2, long l3) {
  final byte[] b = m.bytes;
  long l4 = 0;
  int l5 = 0;
@@ -3208,7 +4622,7 @@ static int f98(State m, long l0, int l1, long l2, long l3) {
      if (l1 == 20004) { break L4; }
      if (l1 != 20841) { break L1; }
     }
-    Core2.f80(m, l4, l2, l3);
+    f87(m, l4, l2, l3);
     l7 = 1;
     L5: {
      if ((b[((int) l4) - 60720] & 0xff) != 1) { break L5; }
@@ -3262,7 +4676,7 @@ static int f98(State m, long l0, int l1, long l2, long l3) {
  return l7;
 }
 
-static int f99(State m, long l0, long l1, long l2, int l3, int l4, long l5, long l6, long l7) {
+static int f106(State m, long l0, long l1, long l2, int l3, int l4, long l5, long l6, long l7) {
  final byte[] b = m.bytes;
  long l8 = 0;
  long l9 = 0;
@@ -3398,7 +4812,7 @@ static int f99(State m, long l0, long l1, long l2, int l3, int l4, long l5, long
     break L8;
    }
   }
-  l15 = f100(m, l0, l1, l2, l3, l4, l5, l6, l7);
+  l15 = f107(m, l0, l1, l2, l3, l4, l5, l6, l7);
   m.g0 = l8;
   final int t26 = l15;
   return t26;
@@ -3406,7 +4820,7 @@ static int f99(State m, long l0, long l1, long l2, int l3, int l4, long l5, long
  throw State.trap();
 }
 
-static int f100_1(State m, long l0, long l1, long l8, long l9, long l11, long l12, long l13, long l15, long l17, int l19, int l20, int l22, int l23, int l24) {
+static int f107_1(State m, long l0, long l1, long l8, long l9, long l11, long l12, long l13, long l15, long l17, int l19, int l20, int l22, int l23, int l24) {
  final byte[] b = m.bytes;
  int exit = 0;
  PART: {
@@ -3624,7 +5038,7 @@ static int f100_1(State m, long l0, long l1, long l8, long l9, long l11, long l1
        Words.put32(b, ((int) l9) - 60696, l19);
        Words.put64(b, ((int) l9) - 60704, 1L);
       }
-      l22 = f103(m, l9 + 16L);
+      l22 = f110(m, l9 + 16L);
       break L65;
      }
      l22 = 1;
@@ -3645,7 +5059,7 @@ static int f100_1(State m, long l0, long l1, long l8, long l9, long l11, long l1
  return exit;
 }
 
-static int f100_2(State m, long l9, long l11, long l13, long l14, long l16, long l17, long l18, int l19, int l20, int l21, int l24) {
+static int f107_2(State m, long l9, long l11, long l13, long l14, long l16, long l17, long l18, int l19, int l20, int l21, int l24) {
  final byte[] b = m.bytes;
  int exit = 0;
  PART: {
@@ -3740,7 +5154,7 @@ static int f100_2(State m, long l9, long l11, long l13, long l14, long l16, long
           if (l19 == 22810) { break L111; }
           if (l19 != 22909) { break L125; }
          }
-         l20 = f104(m, l19, l11, l17);
+         l20 = f111(m, l19, l11, l17);
          break L111;
         }
         L131: {
@@ -3855,7 +5269,7 @@ static int f100_2(State m, long l9, long l11, long l13, long l14, long l16, long
        Words.put64(b, ((int) l9) - 60698, 0L);
        Words.put64(b, ((int) l9) - 60704, 0L);
       }
-      l21 = f105(m, l9 + 16L);
+      l21 = f112(m, l9 + 16L);
       break L113;
      }
      l21 = 1;
@@ -3877,7 +5291,7 @@ static int f100_2(State m, long l9, long l11, long l13, long l14, long l16, long
  return exit;
 }
 
-static int f100(State m, long l0, long l1, long l2, int l3, int l4, long l5, long l6, long l7) {
+static int f107(State m, long l0, long l1, long l2, int l3, int l4, long l5, long l6, long l7) {
  final byte[] b = m.bytes;
  long l8 = 0;
  long l9 = 0;
@@ -3991,7 +5405,7 @@ static int f100(State m, long l0, long l1, long l2, int l3, int l4, long l5, lon
            if ((l22 & 255) != 1) { break L10; }
            if ((l22 = l23 & 255) == 0) { break L8; }
            if (l22 != 6) { break L9; }
-           if (f101(m, l12, l11) != 0) { continue L5; }
+           if (f108(m, l12, l11) != 0) { continue L5; }
            l19 = l19 + -925824;
            break L6;
           }
@@ -4088,7 +5502,7 @@ static int f100(State m, long l0, long l1, long l2, int l3, int l4, long l5, lon
          if (l23 == 0) { break L6; }
          if ((l22 = l22 & 255) == 0) { break L7; }
          if (l22 != 6) { break L6; }
-         if (f101(m, l12, l11) != 0) { continue L5; }
+         if (f108(m, l12, l11) != 0) { continue L5; }
          break L6;
         }
         l19 = l19 + -925824;
@@ -4097,11 +5511,11 @@ static int f100(State m, long l0, long l1, long l2, int l3, int l4, long l5, lon
        l19 = l19 + -925824;
        break L6;
       }
-      if (f102(m, l3, l4, l12, l11) == 0) { continue L5; }
+      if (f109(m, l3, l4, l12, l11) == 0) { continue L5; }
       l19 = l19 + -925824;
       break L6;
      }
-     if (f102(m, l3, l4, l12, l11) == 0) { continue L5; }
+     if (f109(m, l3, l4, l12, l11) == 0) { continue L5; }
     }
     l15 = l1 - l8;
     L40: {
@@ -4219,10 +5633,10 @@ static int f100(State m, long l0, long l1, long l2, int l3, int l4, long l5, lon
        if (((1 << (l23 = l20 & 255)) & 65470) != 0) { break L60; }
        L61: {
         if (l23 == 0) { break L61; }
-        if (f101(m, l12, l11) == 0) { break L60; }
+        if (f108(m, l12, l11) == 0) { break L60; }
         break L40;
        }
-       if (f102(m, l3, l4, l12, l11) == 0) { break L40; }
+       if (f109(m, l3, l4, l12, l11) == 0) { break L40; }
       }
       L62: {
        if ((l22 + -48) + Integer.MIN_VALUE > -2147483639) { break L62; }
@@ -4237,7 +5651,7 @@ static int f100(State m, long l0, long l1, long l2, int l3, int l4, long l5, lon
       break L41;
      }
     }
-    f100_1(m, l0, l1, l8, l9, l11, l12, l13, l15, l17, l19, l20, l22, l23, l24);
+    f107_1(m, l0, l1, l8, l9, l11, l12, l13, l15, l17, l19, l20, l22, l23, l24);
     l11 = m.kept[0];
     l12 = m.kept[1];
     l17 = m.kept[2];
@@ -4246,7 +5660,7 @@ static int f100(State m, long l0, long l1, long l2, int l3, int l4, long l5, lon
     l22 = (int) m.kept[5];
     l23 = (int) m.kept[6];
     l24 = (int) m.kept[7];
-    f100_2(m, l9, l11, l13, l14, l16, l17, l18, l19, l20, l21, l24);
+    f107_2(m, l9, l11, l13, l14, l16, l17, l18, l19, l20, l21, l24);
     l11 = m.kept[0];
     l17 = m.kept[1];
     l18 = m.kept[2];
@@ -4285,7 +5699,7 @@ static int f100(State m, long l0, long l1, long l2, int l3, int l4, long l5, lon
           }
           if (((int) (byte) l24) > -1) { break L159; }
          }
-         f106(m, l9 + 16L, l2, l8);
+         f113(m, l9 + 16L, l2, l8);
          if ((b[((int) l9) - 60704] & 0xff) != 1) { break L159; }
          l21 = b[((int) l9) - 60701] & 0xff;
          l22 = b[((int) l9) - 60703] & 0xff;
@@ -4298,12 +5712,12 @@ static int f100(State m, long l0, long l1, long l2, int l3, int l4, long l5, lon
        if ((l20 | (l23 & ((l19 == 1) ? 1 : 0))) != 0) { break L158; }
        break L157;
       }
-      l22 = f107(m, l2, l8);
+      l22 = f114(m, l2, l8);
       L168: {
        L169: {
         L170: {
          if (l23 == 0) { break L170; }
-         if ((l20 | f108(m, l2, l8)) != 0) { break L169; }
+         if ((l20 | f115(m, l2, l8)) != 0) { break L169; }
          break L168;
         }
         if (l20 == 0) { break L168; }
@@ -4314,7 +5728,7 @@ static int f100(State m, long l0, long l1, long l2, int l3, int l4, long l5, lon
       }
       l21 = 0;
       l22 = (l19 != 0 ? 0 : 2) | l22;
-      if (f109(m, l2, l8) == 0) { break L157; }
+      if (f116(m, l2, l8) == 0) { break L157; }
      }
      l22 = l22 | 4;
     }
@@ -4338,7 +5752,7 @@ static int f100(State m, long l0, long l1, long l2, int l3, int l4, long l5, lon
  throw State.trap();
 }
 
-static int f101(State m, long l0, long l1) {
+static int f108(State m, long l0, long l1) {
  final byte[] b = m.bytes;
  int l2 = 0;
  int l3 = 0;
@@ -4486,7 +5900,7 @@ static int f101(State m, long l0, long l1) {
  return 1;
 }
 
-static int f102(State m, int l0, int l1, long l2, long l3) {
+static int f109(State m, int l0, int l1, long l2, long l3) {
  final byte[] b = m.bytes;
  long l4 = 0;
  long l5 = 0;
@@ -4604,7 +6018,7 @@ static int f102(State m, int l0, int l1, long l2, long l3) {
    }
    l7 = 1;
    if ((l10 & 255) != 6) { break L18; }
-   l7 = f101(m, l2, l3) ^ 1;
+   l7 = f108(m, l2, l3) ^ 1;
   }
   m.g0 = l4;
   final int t26 = l7;
@@ -4613,7 +6027,7 @@ static int f102(State m, int l0, int l1, long l2, long l3) {
  throw State.trap();
 }
 
-static int f103(State m, long l0) {
+static int f110(State m, long l0) {
  final byte[] b = m.bytes;
  int l1 = 0;
  int l2 = 0;
@@ -4718,7 +6132,7 @@ static int f103(State m, long l0) {
  throw State.trap();
 }
 
-static int f104(State m, int l0, long l1, long l2) {
+static int f111(State m, int l0, long l1, long l2) {
  final byte[] b = m.bytes;
  int l3 = 0;
  int l4 = 0;
@@ -4777,7 +6191,7 @@ static int f104(State m, int l0, long l1, long l2) {
  throw State.trap();
 }
 
-static int f105(State m, long l0) {
+static int f112(State m, long l0) {
  final byte[] b = m.bytes;
  int l1 = 0;
  int l2 = 0;
@@ -4882,7 +6296,7 @@ static int f105(State m, long l0) {
  throw State.trap();
 }
 
-static void f106(State m, long l0, long l1, long l2) {
+static void f113(State m, long l0, long l1, long l2) {
  final byte[] b = m.bytes;
  int l3 = 0;
  int l4 = 0;
@@ -4972,7 +6386,7 @@ static void f106(State m, long l0, long l1, long l2) {
  Words.put32(b, ((int) l0) - 60720, 0);
 }
 
-static int f107(State m, long l0, long l1) {
+static int f114(State m, long l0, long l1) {
  final byte[] b = m.bytes;
  int l2 = 0;
  int l3 = 0;
@@ -5045,7 +6459,7 @@ static int f107(State m, long l0, long l1) {
  throw State.trap();
 }
 
-static int f108(State m, long l0, long l1) {
+static int f115(State m, long l0, long l1) {
  final byte[] b = m.bytes;
  int l2 = 0;
  int l3 = 0;
@@ -5106,7 +6520,7 @@ static int f108(State m, long l0, long l1) {
  throw State.trap();
 }
 
-static int f109(State m, long l0, long l1) {
+static int f116(State m, long l0, long l1) {
  final byte[] b = m.bytes;
  long l2 = 0;
  long l3 = 0;
@@ -5349,7 +6763,7 @@ static int f109(State m, long l0, long l1) {
  throw State.trap();
 }
 
-static int f110_1(State m, long l2, long l8, long l12, long l22, long l25, long l26, long l27, int l29, int l31, int l32, int l33, int l39) {
+static int f117_1(State m, long l2, long l8, long l12, long l22, long l25, long l26, long l27, int l29, int l31, int l32, int l33, int l39) {
  final byte[] b = m.bytes;
  int exit = 0;
  PART: {
@@ -5554,7 +6968,7 @@ static int f110_1(State m, long l2, long l8, long l12, long l22, long l25, long 
        Words.put32(b, ((int) l8) - 60568, l29);
        Words.put64(b, ((int) l8) - 60576, 1L);
       }
-      l31 = f103(m, l8 + 144L);
+      l31 = f110(m, l8 + 144L);
       break L24;
      }
      l31 = 1;
@@ -5577,7 +6991,7 @@ static int f110_1(State m, long l2, long l8, long l12, long l22, long l25, long 
  return exit;
 }
 
-static int f110(State m, long l0, long l1, long l2, int l3, int l4, long l5, long l6, long l7) {
+static int f117(State m, long l0, long l1, long l2, int l3, int l4, long l5, long l6, long l7) {
  final byte[] b = m.bytes;
  long l8 = 0;
  long l9 = 0;
@@ -5646,7 +7060,7 @@ static int f110(State m, long l0, long l1, long l2, int l3, int l4, long l5, lon
     l19 = l8 + 162L;
     l9 = 0L;
     L5: while (true) {
-     f111(m, l8 + 24L, l0, l1, l10, l11, l3, l4);
+     f118(m, l8 + 24L, l0, l1, l10, l11, l3, l4);
      if ((b[((int) l8) - 60696] & 0xff) != 1) { break L4; }
      l11 = Words.get64(b, ((int) l8) - 60648);
      l10 = Words.get64(b, ((int) l8) - 60656);
@@ -5656,7 +7070,7 @@ static int f110(State m, long l0, long l1, long l2, int l3, int l4, long l5, lon
      l2 = Words.get64(b, ((int) l8) - 60680);
      l30 = 0;
      m.fill((int) (l8 + 144L), 0, (int) 120L);
-     f112(m, l8 + 144L, l0, l1, l23 = l0 + l2, l24 = l1 - l2, l3, l4);
+     f119(m, l8 + 144L, l0, l1, l23 = l0 + l2, l24 = l1 - l2, l3, l4);
      Words.put32(b, ((int) l8) - 60584, Words.get32(b, ((int) l19) - 60720));
      Words.put16(b, ((int) l8) - 60580, (short) (Words.get16(b, ((int) l19) - 60716) & 0xffff));
      Words.put64(b, ((int) l8) - 60624, Words.get64(b, ((int) l18) - 60720));
@@ -5702,7 +7116,7 @@ static int f110(State m, long l0, long l1, long l2, int l3, int l4, long l5, lon
         Words.put64(b, ((int) l8) - 60440, 0L);
         l35 = 0;
         Words.put32(b, ((int) l8) - 60432, 0);
-        f113(m, l8 + 280L, l33, l8 + 136L);
+        Core4.f120(m, l8 + 280L, l33, l8 + 136L);
         l30 = Words.get32(b, State.far((int) (((l33 & 0xffffffffL) & 255L) << 2L), 87912));
         l34 = 2;
         l36 = 0;
@@ -5723,7 +7137,7 @@ static int f110(State m, long l0, long l1, long l2, int l3, int l4, long l5, lon
         l35 = Words.get16(b, ((int) l8) - 60436) & 0xffff;
         l29 = b[((int) l8) - 60437] & 0xff;
         l27 = b[((int) l8) - 60438] & 0xffL;
-        l34 = f114(m, l22, l2, l8 + 144L, l23, l24);
+        l34 = Core4.f121(m, l22, l2, l8 + 144L, l23, l24);
         L11: {
          L12: {
           L13: {
@@ -5757,7 +7171,7 @@ static int f110(State m, long l0, long l1, long l2, int l3, int l4, long l5, lon
             }
             b[((int) l8) - 60443] = (byte) l29;
             Words.put16(b, ((int) l8) - 60442, (short) l35);
-            f115(m, l8 + 16L, l31, l23, l24, l8 + 277L);
+            Core4.f122(m, l8 + 16L, l31, l23, l24, l8 + 277L);
             l36 = l35 & 255;
             l37 = l35 >>> 8;
             final int t19 = b[((int) l8) - 60703] & 0xff;
@@ -5782,7 +7196,7 @@ static int f110(State m, long l0, long l1, long l2, int l3, int l4, long l5, lon
        l23 = Words.get64(b, ((int) l8) - 60488);
        l35 = 0;
        m.fill((int) (l8 + 144L), 0, (int) 112L);
-       Core2.f72(m, l8 + 144L, l26, l27, l23, l28);
+       Core2.f79(m, l8 + 144L, l26, l27, l23, l28);
        l34 = 2;
        L21: {
         if ((b[((int) l8) - 60576] & 0xff) != 1) { break L21; }
@@ -5802,7 +7216,7 @@ static int f110(State m, long l0, long l1, long l2, int l3, int l4, long l5, lon
         Words.put64(b, ((int) l14) - 60712, Words.get64(b, ((int) l8) - 60632));
         Words.put64(b, ((int) l8) - 60360, l28);
         Words.put64(b, ((int) l8) - 60368, l23);
-        l34 = f116(m, l8 + 280L);
+        l34 = Core4.f123(m, l8 + 280L);
        }
        l30 = 10;
        l36 = 0;
@@ -5815,7 +7229,7 @@ static int f110(State m, long l0, long l1, long l2, int l3, int l4, long l5, lon
       l35 = l29;
       l38 = 0;
      }
-     f110_1(m, l2, l8, l12, l22, l25, l26, l27, l29, l31, l32, l33, l39);
+     f117_1(m, l2, l8, l12, l22, l25, l26, l27, l29, l31, l32, l33, l39);
      l25 = m.kept[0];
      l26 = m.kept[1];
      l27 = m.kept[2];
@@ -5915,7 +7329,7 @@ static int f110(State m, long l0, long l1, long l2, int l3, int l4, long l5, lon
              if (l29 == 22810) { break L69; }
              if (l29 != 22909) { break L83; }
             }
-            l33 = f104(m, l29, l27, l26);
+            l33 = f111(m, l29, l27, l26);
             break L69;
            }
            L89: {
@@ -6030,7 +7444,7 @@ static int f110(State m, long l0, long l1, long l2, int l3, int l4, long l5, lon
           Words.put64(b, ((int) l8) - 60570, 0L);
           Words.put64(b, ((int) l8) - 60576, 0L);
          }
-         l39 = f105(m, l8 + 144L);
+         l39 = f112(m, l8 + 144L);
          break L71;
         }
         l39 = 1;
@@ -6071,7 +7485,7 @@ static int f110(State m, long l0, long l1, long l2, int l3, int l4, long l5, lon
            }
            if (((int) (byte) l41) > -1) { break L116; }
           }
-          f106(m, l8 + 144L, l21, l20);
+          f113(m, l8 + 144L, l21, l20);
           if ((b[((int) l8) - 60576] & 0xff) != 1) { break L116; }
           l40 = b[((int) l8) - 60573] & 0xff;
           l29 = b[((int) l8) - 60575] & 0xff;
@@ -6087,12 +7501,12 @@ static int f110(State m, long l0, long l1, long l2, int l3, int l4, long l5, lon
         if ((l33 | (l32 & ((l31 == 1) ? 1 : 0))) != 0) { break L115; }
         break L114;
        }
-       l29 = f107(m, l21, l20);
+       l29 = f114(m, l21, l20);
        L127: {
         L128: {
          L129: {
           if (l32 == 0) { break L129; }
-          if ((l33 | f108(m, l21, l20)) != 0) { break L128; }
+          if ((l33 | f115(m, l21, l20)) != 0) { break L128; }
           break L127;
          }
          if (l33 == 0) { break L127; }
@@ -6109,7 +7523,7 @@ static int f110(State m, long l0, long l1, long l2, int l3, int l4, long l5, lon
        final int t133 = l31;
        l29 = (t133 != 0 ? 0 : t132) | l29;
        l27 = l20 + l2;
-       if (f109(m, l21, l20) == 0) { break L114; }
+       if (f116(m, l21, l20) == 0) { break L114; }
       }
       l29 = l29 | 4;
      }
@@ -6119,7 +7533,7 @@ static int f110(State m, long l0, long l1, long l2, int l3, int l4, long l5, lon
      Words.put64(b, ((int) l8) - 60560, l21);
      Words.put64(b, ((int) l8) - 60568, l2);
      Words.put64(b, ((int) l8) - 60576, l22);
-     Core4.f117(m, l8 + 8L, l8 + 144L);
+     Core4.f124(m, l8 + 8L, l8 + 144L);
      l32 = b[((int) l8) - 60711] & 0xff;
      l33 = b[((int) l8) - 60712] & 0xff;
      Words.put32(b, ((int) (l5 + 52L)) - 60720, 0);
@@ -6153,7 +7567,7 @@ static int f110(State m, long l0, long l1, long l2, int l3, int l4, long l5, lon
  throw State.trap();
 }
 
-static void f111(State m, long l0, long l1, long l2, long l3, long l4, int l5, int l6) {
+static void f118(State m, long l0, long l1, long l2, long l3, long l4, int l5, int l6) {
  final byte[] b = m.bytes;
  long l7 = 0;
  long l8 = 0;
@@ -6297,9 +7711,9 @@ static void f111(State m, long l0, long l1, long l2, long l3, long l4, int l5, i
         if (l12 + Integer.MIN_VALUE < -2147483601) { break L9; }
         if ((l12 + -65292) + Integer.MIN_VALUE < -2147483645) { break L9; }
        }
-       if (Core4.f118(m, l12) == 0) { break L8; }
+       if (Core4.f125(m, l12) == 0) { break L8; }
       }
-      f112(m, l7 + 8L, l1, l2, l3, l4, l5, l6);
+      f119(m, l7 + 8L, l1, l2, l3, l4, l5, l6);
       if ((b[((int) l7) - 60712] & 0xff) != 1) { break L8; }
       l8 = Words.get64(b, ((int) l7) - 60600);
       l9 = Words.get64(b, ((int) l7) - 60608);
@@ -6348,7 +7762,7 @@ static void f111(State m, long l0, long l1, long l2, long l3, long l4, int l5, i
  m.g0 = l7 + 128L;
 }
 
-static int f112_1(State m, long l1, long l2, long l3, long l4, int l5, int l6, long l7, long l8, long l9, long l10, long l11, long l12, long l13, long l14, long l15, long l16, long l17, long l18, long l19, long l20, long l21, int l22, int l23, int l24, int l25, int l26) {
+static int f119_1(State m, long l1, long l2, long l3, long l4, int l5, int l6, long l7, long l8, long l9, long l10, long l11, long l12, long l13, long l14, long l15, long l16, long l17, long l18, long l19, long l20, long l21, int l22, int l23, int l24, int l25, int l26) {
  final byte[] b = m.bytes;
  int exit = 0;
  PART: {
@@ -6425,7 +7839,7 @@ static int f112_1(State m, long l1, long l2, long l3, long l4, int l5, int l6, l
         Words.put64(b, ((int) l7) - 60640, 0L);
         Words.put64(b, ((int) l7) - 60648, 0L);
         Words.put64(b, ((int) l7) - 60656, 0L);
-        Core4.f124(m, l7 + 64L, l1, l2, l13 = l10 + l14, l18 = l8 - l14, l5, l6);
+        Core4.f131(m, l7 + 64L, l1, l2, l13 = l10 + l14, l18 = l8 - l14, l5, l6);
         if ((b[((int) l7) - 60656] & 0xff) != 1) { break L78; }
         l15 = Words.get64(b, ((int) l7) - 60648);
         l14 = Words.get64(b, ((int) l7) - 60640);
@@ -6437,7 +7851,7 @@ static int f112_1(State m, long l1, long l2, long l3, long l4, int l5, int l6, l
         Words.put64(b, ((int) l7) - 60640, 0L);
         Words.put64(b, ((int) l7) - 60648, 0L);
         Words.put64(b, ((int) l7) - 60656, 0L);
-        Core2.f75(m, l7 + 64L, l3, l11, 1);
+        f82(m, l7 + 64L, l3, l11, 1);
         if ((b[((int) l7) - 60656] & 0xff) != 0) { break L76; }
         if (((b[((int) l7) - 60608] & 0xff) & 255) == 3) { break L76; }
         if (Words.get64(b, ((int) l7) - 60632) <= -1L) { break L76; }
@@ -6448,7 +7862,7 @@ static int f112_1(State m, long l1, long l2, long l3, long l4, int l5, int l6, l
         Words.put64(b, ((int) l7) - 60696, l9);
         Words.put64(b, ((int) l7) - 60704, l1);
         l4 = 0L;
-        if (Core4.f125(m, l7 + 16L) != 0) { break L78; }
+        if (Core4.f132(m, l7 + 16L) != 0) { break L78; }
         Words.put64(b, ((int) l7) - 60600, 0L);
         Words.put64(b, ((int) l7) - 60608, 0L);
         Words.put64(b, ((int) l7) - 60616, 0L);
@@ -6457,7 +7871,7 @@ static int f112_1(State m, long l1, long l2, long l3, long l4, int l5, int l6, l
         Words.put64(b, ((int) l7) - 60640, 0L);
         Words.put64(b, ((int) l7) - 60648, 0L);
         Words.put64(b, ((int) l7) - 60656, 0L);
-        Core2.f75(m, l7 + 64L, l13, l16 = l18 - l14, 1);
+        f82(m, l7 + 64L, l13, l16 = l18 - l14, 1);
         if ((b[((int) l7) - 60656] & 0xff) != 0) { break L76; }
         if (((b[((int) l7) - 60608] & 0xff) & 255) == 3) { break L76; }
         if (Words.get64(b, ((int) l7) - 60632) <= -1L) { break L76; }
@@ -6468,11 +7882,11 @@ static int f112_1(State m, long l1, long l2, long l3, long l4, int l5, int l6, l
         Words.put64(b, ((int) l7) - 60696, l2 = l2 - l18);
         Words.put64(b, ((int) l7) - 60704, l1);
         l4 = 0L;
-        if (Core4.f125(m, l7 + 16L) != 0) { break L78; }
+        if (Core4.f132(m, l7 + 16L) != 0) { break L78; }
         l4 = 0L;
-        if (Core4.f126(m, l1, l9, l15, l14) != 0) { break L78; }
+        if (Core4.f133(m, l1, l9, l15, l14) != 0) { break L78; }
         l4 = 0L;
-        if (Core4.f127(m, l1, l9) == 0) { break L77; }
+        if (Core4.f134(m, l1, l9) == 0) { break L77; }
        }
        l1 = l10;
        l9 = l8;
@@ -6622,8 +8036,8 @@ static int f112_1(State m, long l1, long l2, long l3, long l4, int l5, int l6, l
          }
         }
         if ((l20 != 0L) ^ (l21 != 0L)) { break L79; }
-        if (Core4.f128(m, l3, l11) != 0) { break L79; }
-        if (Core4.f128(m, l13, l16) != 0) { break L79; }
+        if (Core4.f135(m, l3, l11) != 0) { break L79; }
+        if (Core4.f135(m, l13, l16) != 0) { break L79; }
         L102: {
          if (l16 == 0L) { break L102; }
          l22 = (l24 = (int) b[((int) l13) - 60720]) & 255;
@@ -6738,7 +8152,7 @@ static int f112_1(State m, long l1, long l2, long l3, long l4, int l5, int l6, l
          if (l22 == 65306) { break L79; }
          if (l22 == 215) { break L79; }
         }
-        Core2.f72(m, l7 + 64L, l3, l11, l13, l16);
+        Core2.f79(m, l7 + 64L, l3, l11, l13, l16);
         if ((b[((int) l7) - 60656] & 0xff) != 1) { break L79; }
        }
        l12 = 1L;
@@ -6793,7 +8207,7 @@ static int f112_1(State m, long l1, long l2, long l3, long l4, int l5, int l6, l
  return exit;
 }
 
-static void f112(State m, long l0, long l1, long l2, long l3, long l4, int l5, int l6) {
+static void f119(State m, long l0, long l1, long l2, long l3, long l4, int l5, int l6) {
  final byte[] b = m.bytes;
  long l7 = 0;
  long l8 = 0;
@@ -6836,11 +8250,11 @@ static void f112(State m, long l0, long l1, long l2, long l3, long l4, int l5, i
        l9 = l2 - l4;
        l10 = 83372L;
        L7: {
-        if (Core4.f119(m, l3, l4) != 0) { break L7; }
+        if (Core4.f126(m, l3, l4) != 0) { break L7; }
         l11 = 0L;
         break L1;
        }
-       Core4.f120(m, l7 + 64L, l3, l4);
+       Core4.f127(m, l7 + 64L, l3, l4);
        l11 = Words.get64(b, ((int) l7) - 60632);
        l12 = Words.get64(b, ((int) l7) - 60640);
        L8: {
@@ -6868,7 +8282,7 @@ static void f112(State m, long l0, long l1, long l2, long l3, long l4, int l5, i
         }
         l22 = (((l22 + -48) + Integer.MIN_VALUE < -2147483638) | ((l22 + -65296) + Integer.MIN_VALUE < -2147483638)) ? 1 : 0;
        }
-       Core4.f121(m, l7, l22, l12, l11);
+       Core4.f128(m, l7, l22, l12, l11);
        L13: {
         if (!(Words.get64(b, ((int) l7) - 60712) == 0L)) { break L13; }
         l11 = 0L;
@@ -7086,7 +8500,7 @@ static void f112(State m, long l0, long l1, long l2, long l3, long l4, int l5, i
   l11 = 1L;
  }
  l22 = 0;
- Core4.f122(m, l7 + 16L, l1, l9, l3, l4, 0, l10, l11);
+ Core4.f129(m, l7 + 16L, l1, l9, l3, l4, 0, l10, l11);
  l12 = Words.get64(b, ((int) l7) - 60680);
  l13 = Words.get64(b, ((int) l7) - 60688);
  l14 = Words.get64(b, ((int) l7) - 60696);
@@ -7116,7 +8530,7 @@ static void f112(State m, long l0, long l1, long l2, long l3, long l4, int l5, i
     l24 = ((l27 << 6) | ((l26 << 12) | ((l24 << 18) & 1835008))) | ((b[((int) l3) - 60717] & 0xff) & 63);
    }
    l8 = 0L;
-   if (Core4.f118(m, l24) == 0) { break L50; }
+   if (Core4.f125(m, l24) == 0) { break L50; }
    Words.put64(b, ((int) l7) - 60632, 0L);
    Words.put64(b, ((int) l7) - 60640, 0L);
    Words.put64(b, ((int) l7) - 60648, 0L);
@@ -7124,14 +8538,14 @@ static void f112(State m, long l0, long l1, long l2, long l3, long l4, int l5, i
    Words.put64(b, ((int) l7) - 60688, 0L);
    Words.put64(b, ((int) l7) - 60696, 0L);
    Words.put64(b, ((int) l7) - 60704, 0L);
-   Core4.f123(m, l7 + 16L, 21, l3, l4);
+   Core4.f130(m, l7 + 16L, 21, l3, l4);
    l10 = 0L;
    l11 = 0L;
    l8 = 0L;
    l24 = 1;
    L55: {
     if ((b[((int) l7) - 60704] & 0xff) != 1) { break L55; }
-    Core4.f122(m, l7 + 64L, l1, l9, l3, l4, 1, 85060L, 9L);
+    Core4.f129(m, l7 + 64L, l1, l9, l3, l4, 1, 85060L, 9L);
     l24 = ((b[((int) l7) - 60656] & 0xff) == 0) ? 1 : 0;
     l10 = Words.get64(b, ((int) l7) - 60632);
     l11 = Words.get64(b, ((int) l7) - 60640);
@@ -7144,11 +8558,11 @@ static void f112(State m, long l0, long l1, long l2, long l3, long l4, int l5, i
    Words.put64(b, ((int) l7) - 60688, 0L);
    Words.put64(b, ((int) l7) - 60696, 0L);
    Words.put64(b, ((int) l7) - 60704, 0L);
-   Core4.f123(m, l7 + 16L, 22, l3, l4);
+   Core4.f130(m, l7 + 16L, 22, l3, l4);
    L56: {
     L57: {
      if ((b[((int) l7) - 60704] & 0xff) != 1) { break L57; }
-     Core4.f122(m, l7 + 64L, l1, l9, l3, l4, 2, 85060L, 9L);
+     Core4.f129(m, l7 + 64L, l1, l9, l3, l4, 2, 85060L, 9L);
      l15 = Words.get64(b, ((int) l7) - 60632);
      l16 = Words.get64(b, ((int) l7) - 60640);
      l17 = Words.get64(b, ((int) l7) - 60648);
@@ -7209,7 +8623,7 @@ static void f112(State m, long l0, long l1, long l2, long l3, long l4, int l5, i
      }
      l12 = l12 + l13;
     }
-    Core4.f124(m, l7 + 64L, l1, l2, l1 + l12, l2 - l12, l5, l6);
+    Core4.f131(m, l7 + 64L, l1, l2, l1 + l12, l2 - l12, l5, l6);
     if ((b[((int) l7) - 60656] & 0xff) != 1) { break L63; }
     if (Words.get64(b, ((int) l7) - 60640) != l10) { break L59; }
    }
@@ -7225,8 +8639,8 @@ static void f112(State m, long l0, long l1, long l2, long l3, long l4, int l5, i
   Words.put64(b, ((int) l7) - 60640, 0L);
   Words.put64(b, ((int) l7) - 60648, 0L);
   Words.put64(b, ((int) l7) - 60656, 0L);
-  Core4.f124(m, l7 + 64L, l1, l2, l3, l4, l5, l6);
-  f112_1(m, l1, l2, l3, l4, l5, l6, l7, l8, l9, l10, l11, l12, l13, l14, l15, l16, l17, l18, l19, l20, l21, l22, l23, l24, l25, l26);
+  Core4.f131(m, l7 + 64L, l1, l2, l3, l4, l5, l6);
+  f119_1(m, l1, l2, l3, l4, l5, l6, l7, l8, l9, l10, l11, l12, l13, l14, l15, l16, l17, l18, l19, l20, l21, l22, l23, l24, l25, l26);
   l1 = m.kept[0];
   l2 = m.kept[1];
   l3 = m.kept[2];
@@ -7270,907 +8684,5 @@ static void f112(State m, long l0, long l1, long l2, long l3, long l4, int l5, i
   Words.put64(b, ((int) (l0 + 8L)) - 60720, l17);
  }
  m.g0 = l7 + 176L;
-}
-
-static void f113(State m, long l0, int l1, long l2) {
- final byte[] b = m.bytes;
- int l3 = 0;
- int l4 = 0;
- int l5 = 0;
- int l6 = 0;
- int l7 = 0;
- int l8 = 0;
- int l9 = 0;
- int l10 = 0;
- int l11 = 0;
- int l12 = 0;
- int l13 = 0;
- L1: {
-  L2: {
-   L3: {
-    L4: {
-     L5: {
-      L6: {
-       L7: {
-        L8: {
-         if (m.g0 < 16L) { break L8; }
-         l3 = Words.get16(b, ((int) l2) - 60716) & 0xffff;
-         l4 = Words.get16(b, ((int) l2) - 60718) & 0xffff;
-         l5 = Words.get16(b, ((int) l2) - 60720) & 0xffff;
-         L9: {
-          L10: {
-           L11: {
-            L12: {
-             L13: {
-              L14: {
-               L15: {
-                L16: {
-                 L17: {
-                  L18: {
-                   L19: {
-                    L20: {
-                     L21: {
-                      L22: {
-                       L23: {
-                        L24: {
-                         L25: {
-                          L26: {
-                           L27: {
-                            L28: {
-                             L29: {
-                              L30: {
-                               L31: {
-                                L32: {
-                                 L33: {
-                                  L34: {
-                                   L35: {
-                                    switch ((int) ((l1 & 0xffffffffL) & 255L)) {
-                                    case 1: break L33;
-                                    case 2: break L34;
-                                    case 3: break L32;
-                                    case 4: case 12: break L31;
-                                    case 7: break L26;
-                                    case 8: case 9: break L25;
-                                    case 10: case 11: break L24;
-                                    case 13: break L30;
-                                    case 14: case 20: break L23;
-                                    case 15: case 16: case 17: case 21: break L22;
-                                    case 18: break L21;
-                                    case 19: break L20;
-                                    case 22: break L19;
-                                    case 23: break L18;
-                                    case 24: break L17;
-                                    case 25: break L16;
-                                    case 26: case 27: break L14;
-                                    case 28: break L13;
-                                    case 29: break L12;
-                                    case 30: case 31: break L11;
-                                    default: break L35;
-                                    }
-                                   }
-                                   if (((l4 + -1) & 65535) + Integer.MIN_VALUE > -2147483637) { break L5; }
-                                   L36: {
-                                    L37: {
-                                     if ((l4 & 65535) != 2) { break L37; }
-                                     l6 = 28;
-                                     if (((l1 = ((l5 & 65535) + Integer.MIN_VALUE < -2147483548) ? 2000 : l5) & 3) != 0) { break L36; }
-                                     final int t38 = (((int) (((l1 = l1 & 65535) & 0xffffffffL) % 400L)) != 0) ? 28 : 29;
-                                     final int t39 = (int) ((l1 & 0xffffffffL) % 100L);
-                                     l6 = t39 != 0 ? 29 : t38;
-                                     break L36;
-                                    }
-                                    final int t40 = ((l1 = l4 & 13) == 9) ? 30 : 31;
-                                    final int t41 = (l1 == 4) ? 1 : 0;
-                                    l6 = t41 != 0 ? 30 : t40;
-                                   }
-                                   l1 = 0;
-                                   if (((l3 + -1) & 65535) + Integer.MIN_VALUE > -2147483394) { break L4; }
-                                   l7 = 0;
-                                   l8 = 0;
-                                   l9 = 0;
-                                   l10 = 0;
-                                   l11 = 0;
-                                   l12 = 0;
-                                   l13 = 0;
-                                   if (l3 + Integer.MIN_VALUE > l6 + Integer.MIN_VALUE) { break L1; }
-                                   l13 = ((l3 << 24) | ((l4 << 8) & 65280)) | 65537;
-                                   l12 = (l5 & 65280) >>> 8;
-                                   l1 = 1;
-                                   l7 = 0;
-                                   l8 = 0;
-                                   l9 = 1;
-                                   l10 = 0;
-                                   l11 = l5;
-                                   break L1;
-                                  }
-                                  if (((l4 + -1) & 65535) + Integer.MIN_VALUE > -2147483637) { break L5; }
-                                  l5 = 29;
-                                  L42: {
-                                   if ((l4 & 65535) == 2) { break L42; }
-                                   final int t43 = ((l1 = l4 & 13) == 9) ? 30 : 31;
-                                   final int t44 = (l1 == 4) ? 1 : 0;
-                                   l5 = t44 != 0 ? 30 : t43;
-                                  }
-                                  l1 = 0;
-                                  if (((l3 + -1) & 65535) + Integer.MIN_VALUE > -2147483394) { break L4; }
-                                  l7 = 0;
-                                  l8 = 0;
-                                  l9 = 0;
-                                  l10 = 0;
-                                  l11 = 0;
-                                  l12 = 0;
-                                  l13 = 0;
-                                  if (l3 + Integer.MIN_VALUE > l5 + Integer.MIN_VALUE) { break L1; }
-                                  l13 = ((l3 << 24) | ((l4 << 8) & 65280)) | 65537;
-                                  break L29;
-                                 }
-                                 L45: {
-                                  if (((l3 + -1) & 65535) + Integer.MIN_VALUE > -2147483637) { break L45; }
-                                  l12 = (l4 & 65280) >>> 8;
-                                  l1 = 1;
-                                  l13 = ((l3 << 8) | 1) & 65281;
-                                  l7 = 0;
-                                  l8 = 0;
-                                  l9 = 1;
-                                  l10 = 0;
-                                  l11 = l4;
-                                  break L1;
-                                 }
-                                 Words.put32(b, ((int) l0) - 60712, 0);
-                                 Words.put64(b, ((int) l0) - 60720, 0L);
-                                 return;
-                                }
-                                l12 = l3 >>> 8;
-                                l7 = 0;
-                                l1 = 1;
-                                l8 = 0;
-                                l9 = 1;
-                                l10 = 0;
-                                break L9;
-                               }
-                               L46: {
-                                if (((l3 + -1) & 65535) + Integer.MIN_VALUE > -2147483637) { break L46; }
-                                l1 = 1;
-                                l13 = ((l3 << 8) | 1) & 65281;
-                                l7 = 0;
-                                break L28;
-                               }
-                               Words.put32(b, ((int) l0) - 60712, 0);
-                               Words.put64(b, ((int) l0) - 60720, 0L);
-                               return;
-                              }
-                              if (((l3 + -1) & 65535) + Integer.MIN_VALUE > -2147483618) { break L27; }
-                              l13 = (l3 << 24) | 65536;
-                             }
-                             l7 = 0;
-                             l1 = 1;
-                            }
-                            l8 = 0;
-                            l9 = 0;
-                            l10 = 0;
-                            l11 = 0;
-                            l12 = 0;
-                            break L1;
-                           }
-                           Words.put32(b, ((int) l0) - 60712, 0);
-                           Words.put64(b, ((int) l0) - 60720, 0L);
-                           return;
-                          }
-                          l8 = 0;
-                          l12 = (l11 = ((l1 = ((l4 & 65535) + Integer.MIN_VALUE < l3 + Integer.MIN_VALUE) ? 1 : 0) != 0) ? l3 : 0) >>> 8;
-                          l10 = ((l9 = l1 != 0 ? l4 : 0) & 65280) >>> 8;
-                          l7 = l1;
-                          break L2;
-                         }
-                         if (((l4 + -1) & 65535) + Integer.MIN_VALUE > -2147483637) { break L5; }
-                         l1 = 0;
-                         if (((l3 + -1) & 65535) + Integer.MIN_VALUE > -2147483637) { break L4; }
-                         l7 = 0;
-                         l8 = 0;
-                         l9 = 0;
-                         l10 = 0;
-                         l11 = 0;
-                         l12 = 0;
-                         l13 = 0;
-                         if ((l4 & 65535) + Integer.MIN_VALUE >= l3 + Integer.MIN_VALUE) { break L1; }
-                         l10 = 0;
-                         l7 = 2;
-                         break L7;
-                        }
-                        if (((l4 + -1) & 65535) + Integer.MIN_VALUE > -2147483618) { break L5; }
-                        l1 = 0;
-                        if (((l3 + -1) & 65535) + Integer.MIN_VALUE > -2147483618) { break L4; }
-                        l7 = 0;
-                        l8 = 0;
-                        l9 = 0;
-                        l10 = 0;
-                        l11 = 0;
-                        l12 = 0;
-                        l13 = 0;
-                        if ((l4 & 65535) + Integer.MIN_VALUE >= l3 + Integer.MIN_VALUE) { break L1; }
-                        l10 = 0;
-                        l7 = 3;
-                        break L7;
-                       }
-                       L47: {
-                        L48: {
-                         if ((l7 = l5 & 65535) + Integer.MIN_VALUE > -2147483625) { break L48; }
-                         if ((l4 & 65535) + Integer.MIN_VALUE > -2147483589) { break L48; }
-                         if (l3 + Integer.MIN_VALUE < -2147483588) { break L47; }
-                        }
-                        l1 = 0;
-                        if (l7 != 24) { break L4; }
-                        l7 = 0;
-                        l8 = 0;
-                        l9 = 0;
-                        l10 = 0;
-                        l11 = 0;
-                        l12 = 0;
-                        l13 = 0;
-                        if (((l3 | l4) & 65535) != 0) { break L1; }
-                       }
-                       l11 = 0;
-                       l7 = 4;
-                       l1 = 1;
-                       l8 = l5;
-                       l9 = l4;
-                       l10 = l3;
-                       l12 = 0;
-                       break L2;
-                      }
-                      L49: {
-                       L50: {
-                        if ((l7 = l4 & 65535) + Integer.MIN_VALUE > -2147483625) { break L50; }
-                        if (l3 + Integer.MIN_VALUE < -2147483588) { break L49; }
-                       }
-                       l1 = 0;
-                       if (l7 != 24) { break L4; }
-                       l7 = 0;
-                       l8 = 0;
-                       l9 = 0;
-                       l10 = 0;
-                       l11 = 0;
-                       l12 = 0;
-                       l13 = 0;
-                       if (l3 != 0) { break L1; }
-                      }
-                      l10 = 0;
-                      l7 = 4;
-                      break L7;
-                     }
-                     if (l3 + Integer.MIN_VALUE > -2147483625) { break L5; }
-                     l10 = 0;
-                     l9 = 30;
-                     l7 = 4;
-                     l1 = 1;
-                     l8 = l3;
-                     break L3;
-                    }
-                    L51: {
-                     if (((l3 + -1) & 65535) + Integer.MIN_VALUE > -2147483646) { break L51; }
-                     if ((l4 & 65535) + Integer.MIN_VALUE > -2147483625) { break L5; }
-                     l9 = l3 * 15;
-                     l10 = 0;
-                     l7 = 4;
-                     l1 = 1;
-                     l8 = l4;
-                     break L3;
-                    }
-                    Words.put32(b, ((int) l0) - 60712, 0);
-                    Words.put64(b, ((int) l0) - 60720, 0L);
-                    return;
-                   }
-                   l9 = 0;
-                   l8 = ((l1 = (l3 + Integer.MIN_VALUE < -2147483623) ? 1 : 0) != 0) ? l3 : 0;
-                   l7 = l1 != 0 ? 4 : 0;
-                   l10 = 0;
-                   break L3;
-                  }
-                  if (l3 + Integer.MIN_VALUE > -2147483589) { break L5; }
-                  L52: {
-                   if ((l5 & 65535) == 0) { break L52; }
-                   if ((l4 & 65535) + Integer.MIN_VALUE > -2147483589) { break L5; }
-                  }
-                  l12 = (l4 & 65280) >>> 8;
-                  l10 = (l5 & 65280) >>> 8;
-                  l8 = 0;
-                  l7 = 5;
-                  l1 = 1;
-                  l9 = l5;
-                  break L15;
-                 }
-                 L53: {
-                  if ((l4 & 65535) == 0) { break L53; }
-                  if (l3 + Integer.MIN_VALUE > -2147483589) { break L5; }
-                 }
-                 l12 = l3 >>> 8;
-                 l10 = (l4 & 65280) >>> 8;
-                 l8 = 0;
-                 l7 = 5;
-                 break L10;
-                }
-                if (l3 + Integer.MIN_VALUE > -2147483589) { break L5; }
-                l12 = (l4 & 65280) >>> 8;
-                l8 = 0;
-                l7 = 5;
-                l1 = 1;
-                l9 = 0;
-                l10 = 0;
-               }
-               l11 = l4;
-               l13 = l3;
-               break L1;
-              }
-              l10 = l3 >>> 8;
-              l8 = 0;
-              l7 = 6;
-              l1 = 1;
-              break L6;
-             }
-             if (l3 + Integer.MIN_VALUE > -2147483549) { break L5; }
-             l10 = (l4 & 65280) >>> 8;
-             l8 = 0;
-             l1 = 1;
-             l7 = 7;
-             l9 = l4;
-             l11 = l3;
-             l12 = 1;
-             break L2;
-            }
-            if (l3 + Integer.MIN_VALUE > -2147483549) { break L5; }
-            l10 = (l4 & 65280) >>> 8;
-            l8 = 0;
-            l12 = 2;
-            l7 = 7;
-            break L10;
-           }
-           l7 = 8;
-           l12 = l3 >>> 8;
-           l10 = (l4 & 65280) >>> 8;
-           l8 = 0;
-          }
-          l1 = 1;
-          l9 = l4;
-         }
-         l11 = l3;
-         break L2;
-        }
-        throw State.trap();
-       }
-       l1 = 1;
-       l8 = l4;
-      }
-      l9 = l3;
-      break L3;
-     }
-     l1 = 0;
-    }
-    l7 = 0;
-    l8 = 0;
-    l9 = 0;
-    l10 = 0;
-   }
-   l11 = 0;
-   l12 = 0;
-  }
-  l13 = 0;
- }
- Words.put16(b, ((int) l0) - 60720, (short) l1);
- Words.put32(b, ((int) (l0 + 8L)) - 60720, l13);
- b[((int) (l0 + 3L)) - 60720] = (byte) l8;
- b[((int) (l0 + 2L)) - 60720] = (byte) l7;
- Words.put16(b, ((int) (l0 + 6L)) - 60720, (short) ((l12 << 8) | (l11 & 255)));
- Words.put16(b, ((int) (l0 + 4L)) - 60720, (short) ((l10 << 8) | (l9 & 255)));
-}
-
-static int f114(State m, long l0, long l1, long l2, long l3, long l4) {
- final byte[] b = m.bytes;
- long l5 = 0;
- long l6 = 0;
- long l7 = 0;
- long l8 = 0;
- long l9 = 0;
- int l10 = 0;
- int l11 = 0;
- int l12 = 0;
- int l13 = 0;
- int l14 = 0;
- int l15 = 0;
- int l16 = 0;
- m.g0 = l5 = m.g0 - 96L;
- L1: {
-  L2: {
-   L3: {
-    if ((l5 = l5) < 16L) { break L3; }
-    l10 = b[((int) l2) - 60719] & 0xff;
-    l11 = b[((int) l2) - 60720] & 0xff;
-    l13 = (int) ((((l12 = Words.get16(b, ((int) l2) - 60714) & 0xffff) & 65535) & 0xffffffffL) % 100L);
-    L4: {
-     if (l4 == 0L) { break L4; }
-     if ((l10 & 255) != 3) { break L4; }
-     if (l13 != 0) { break L4; }
-     l6 = Words.get64(b, ((int) l2) - 60704);
-     l13 = (l14 = (int) b[((int) l3) - 60720]) & 255;
-     L5: {
-      if (l14 > -1) { break L5; }
-      l15 = (b[((int) l3) - 60719] & 0xff) & 63;
-      L6: {
-       if (l14 + Integer.MIN_VALUE > 2147483615) { break L6; }
-       l13 = ((l13 << 6) & 1984) | l15;
-       break L5;
-      }
-      l16 = (b[((int) l3) - 60718] & 0xff) & 63;
-      L7: {
-       if (l14 + Integer.MIN_VALUE > 2147483631) { break L7; }
-       l13 = ((l15 << 6) | ((l13 << 12) & 61440)) | l16;
-       break L5;
-      }
-      l13 = ((l16 << 6) | ((l15 << 12) | ((l13 << 18) & 1835008))) | ((b[((int) l3) - 60717] & 0xff) & 63);
-     }
-     if (l6 == 0L) { break L4; }
-     if (((l13 + -58) + Integer.MIN_VALUE < 2147483638) & ((l13 + -65306) + Integer.MIN_VALUE < 2147483638)) { break L4; }
-     if ((l13 = (int) b[((int) (l2 = Words.get64(b, ((int) l2) - 60712))) - 60720]) > -1) { break L4; }
-     if (l13 + Integer.MIN_VALUE < 2147483616) { break L4; }
-     l14 = l13 & 255;
-     l15 = (b[((int) l2) - 60719] & 0xff) & 63;
-     l16 = (b[((int) l2) - 60718] & 0xff) & 63;
-     L8: {
-      L9: {
-       if (l13 + Integer.MIN_VALUE > 2147483631) { break L9; }
-       l14 = ((l15 << 6) | ((l14 << 12) & 61440)) | l16;
-       break L8;
-      }
-      l14 = ((l16 << 6) | ((l15 << 12) | ((l14 << 18) & 1835008))) | ((b[((int) l2) - 60717] & 0xff) & 63);
-     }
-     l13 = 1;
-     L10: {
-      if (l14 > 26468) { break L10; }
-      if (l14 == 20358) { break L1; }
-      if (l14 == 21069) { break L1; }
-      if (l14 != 21382) { break L4; }
-      break L1;
-     }
-     L11: {
-      if (l14 > 38290) { break L11; }
-      if (l14 == 26469) { break L1; }
-      if (l14 != 27511) { break L4; }
-      break L1;
-     }
-     if (l14 == 38291) { break L1; }
-     if (l14 == 38388) { break L1; }
-    }
-    Words.put64(b, ((int) l5) - 60640, 0L);
-    Words.put64(b, ((int) l5) - 60648, 0L);
-    Words.put64(b, ((int) l5) - 60656, 0L);
-    Words.put64(b, ((int) l5) - 60664, 0L);
-    Core4.f120(m, l5 + 56L, l3, l4);
-    if ((l10 & 255) + Integer.MIN_VALUE > -2147483647) { break L2; }
-    l7 = Words.get64(b, ((int) l5) - 60656);
-    l8 = Words.get64(b, ((int) l5) - 60664);
-    if (Core4.f145(m, 85072L, 1L, 85076L, 1L, l0, l1) != 0) { break L2; }
-    l2 = l8;
-    l9 = l7;
-    L12: {
-     L13: while (true) {
-      if (l9 == 0L) { break L12; }
-      l13 = (l14 = (int) b[((int) l2) - 60720]) & 255;
-      l6 = 1L;
-      L14: {
-       if (l14 > -1) { break L14; }
-       l15 = (b[((int) l2) - 60719] & 0xff) & 63;
-       L15: {
-        if (l14 + Integer.MIN_VALUE > 2147483615) { break L15; }
-        l13 = ((l13 << 6) & 1984) | l15;
-        l6 = 2L;
-        break L14;
-       }
-       l16 = (b[((int) l2) - 60718] & 0xff) & 63;
-       L16: {
-        if (l14 + Integer.MIN_VALUE > 2147483631) { break L16; }
-        l13 = ((l15 << 6) | ((l13 << 12) & 61440)) | l16;
-        l6 = 3L;
-        break L14;
-       }
-       l13 = ((l16 << 6) | ((l15 << 12) | ((l13 << 18) & 1835008))) | ((b[((int) l2) - 60717] & 0xff) & 63);
-       l6 = 4L;
-      }
-      L17: {
-       if (l13 == 30334) { break L17; }
-       l9 = l9 - l6;
-       l2 = l2 + l6;
-       if (l13 != 21313) { continue L13; }
-      }
-      break L13;
-     }
-     l13 = 1;
-     break L1;
-    }
-    Words.put32(b, ((int) l5) - 60720, 0);
-    L18: {
-     L19: {
-      L20: {
-       L21: {
-        if ((l2 = l7 + -1L) + Long.MIN_VALUE > -9223372036854775806L) { break L21; }
-        L22: {
-         switch ((int) l2) {
-         case 1: break L21;
-         case 2: break L22;
-         default: break L18;
-         }
-        }
-        if (Words.get32(b, State.far((int) (l2 = ((((l14 = (((b[((int) l8) - 60719] & 0xff) << 8) | (l13 = b[((int) l8) - 60720] & 0xff)) | ((b[((int) l8) - 60718] & 0xff) << 16)) & 0xffffffffL) * 953497L) >>> 22L) & 1016L), 66852)) != l14) { break L20; }
-        if (((b[((int) (l2 + 66856L)) - 60720] & 0xff) & 255) == 2) { break L20; }
-        l13 = 1;
-        break L1;
-       }
-       if (l7 + Long.MIN_VALUE > -9223372036854775804L) { break L2; }
-       if (l7 == 0L) { break L19; }
-       l13 = b[((int) l8) - 60720] & 0xff;
-      }
-      if (((int) (byte) l13) > -1) { break L2; }
-     }
-     f106(m, l5, l8, l7);
-     l13 = 1;
-     if ((b[((int) l5) - 60720] & 0xff) != 1) { break L2; }
-     if (((b[((int) l5) - 60717] & 0xff) & 1) != 0) { break L1; }
-     break L2;
-    }
-    if ((((b[((int) l8) - 60720] & 0xff) + -58) & 255) + Integer.MIN_VALUE >= -2147483402) { break L2; }
-    l13 = 1;
-    break L1;
-   }
-   throw State.trap();
-  }
-  L23: {
-   if ((l10 & 255) + Integer.MIN_VALUE > -2147483644) { break L23; }
-   l13 = 1;
-   if (Core5.f156(m, l0, l1) != 0) { break L1; }
-   if (Core4.f145(m, 85080L, 2L, 85088L, 9L, l0, l1) != 0) { break L1; }
-  }
-  Words.put64(b, ((int) l5) - 60664, 0L);
-  Words.put64(b, ((int) l5) - 60656, 0L);
-  Words.put64(b, ((int) l5) - 60648, 0L);
-  Words.put64(b, ((int) l5) - 60640, 0L);
-  Words.put64(b, ((int) l5) - 60688, 0L);
-  Words.put64(b, ((int) l5) - 60680, 0L);
-  Words.put64(b, ((int) l5) - 60672, 0L);
-  Words.put64(b, ((int) l5) - 60720, 0L);
-  Words.put64(b, ((int) l5) - 60712, 0L);
-  Words.put64(b, ((int) l5) - 60704, 0L);
-  Words.put64(b, ((int) l5) - 60696, 0L);
-  Core4.f120(m, l5 + 56L, l3, l4);
-  Core4.f123(m, l5 + 32L, 3, Words.get64(b, ((int) l5) - 60648), Words.get64(b, ((int) l5) - 60640));
-  L24: {
-   if ((b[((int) l5) - 60688] & 0xff) != 1) { break L24; }
-   Core4.f120(m, l5, Words.get64(b, ((int) l5) - 60680), Words.get64(b, ((int) l5) - 60672));
-   if ((l11 & 255) != 0) { break L24; }
-   if ((l10 & 255) != 15) { break L24; }
-   if ((l12 & 65535) + Integer.MIN_VALUE > -2147483639) { break L24; }
-   l2 = Words.get64(b, ((int) l5) - 60712);
-   l6 = Words.get64(b, ((int) l5) - 60720);
-   L25: {
-    if (l1 == 0L) { break L25; }
-    if (((int) b[((int) ((l9 = l0 + l1) + -1L)) - 60720]) > -1) { break L25; }
-    l7 = -2L;
-    L26: {
-     if ((b[((int) (l9 + -2L)) - 60720] & 0xff) + Integer.MIN_VALUE > -2147483457) { break L26; }
-     l7 = ((b[((int) (l9 + -3L)) - 60720] & 0xff) + Integer.MIN_VALUE > -2147483457) ? -3L : -4L;
-    }
-    if ((l13 = (int) b[((int) (l9 = (l0 + l7) + l1)) - 60720]) > -1) { break L25; }
-    if (l13 + Integer.MIN_VALUE < 2147483616) { break L25; }
-    l14 = l13 & 255;
-    l10 = (b[((int) l9) - 60719] & 0xff) & 63;
-    l15 = (b[((int) l9) - 60718] & 0xff) & 63;
-    L27: {
-     L28: {
-      if (l13 + Integer.MIN_VALUE > 2147483631) { break L28; }
-      l13 = ((l10 << 6) | ((l14 << 12) & 61440)) | l15;
-      break L27;
-     }
-     l13 = ((l15 << 6) | ((l10 << 12) | ((l14 << 18) & 1835008))) | ((b[((int) l9) - 60717] & 0xff) & 63);
-    }
-    if (l13 == 21495) { break L24; }
-    if (l13 == 26085) { break L24; }
-    if (l13 == 34399) { break L24; }
-   }
-   Words.put32(b, ((int) l5) - 60628, 0);
-   L29: {
-    L30: {
-     L31: {
-      L32: {
-       if ((l9 = l2 + -1L) + Long.MIN_VALUE > -9223372036854775806L) { break L32; }
-       L33: {
-        switch ((int) l9) {
-        case 1: break L32;
-        case 2: break L33;
-        default: break L29;
-        }
-       }
-       if (Words.get32(b, State.far((int) (l9 = ((((l14 = (((b[((int) l6) - 60719] & 0xff) << 8) | (l13 = b[((int) l6) - 60720] & 0xff)) | ((b[((int) l6) - 60718] & 0xff) << 16)) & 0xffffffffL) * 953497L) >>> 22L) & 1016L), 66852)) != l14) { break L31; }
-       if (((b[((int) (l9 + 66856L)) - 60720] & 0xff) & 255) == 2) { break L31; }
-       l13 = 1;
-       break L1;
-      }
-      if (l2 + Long.MIN_VALUE > -9223372036854775804L) { break L24; }
-      if (l2 == 0L) { break L30; }
-      l13 = b[((int) l6) - 60720] & 0xff;
-     }
-     if (((int) (byte) l13) > -1) { break L24; }
-    }
-    f106(m, l5 + 92L, l6, l2);
-    l13 = 1;
-    if ((b[((int) l5) - 60628] & 0xff) != 1) { break L24; }
-    if (((b[((int) l5) - 60625] & 0xff) & 1) != 0) { break L1; }
-    break L24;
-   }
-   if ((((b[((int) l6) - 60720] & 0xff) + -58) & 255) + Integer.MIN_VALUE >= -2147483402) { break L24; }
-   l13 = 1;
-   break L1;
-  }
-  Words.put64(b, ((int) l5) - 60664, 0L);
-  Words.put64(b, ((int) l5) - 60656, 0L);
-  Words.put64(b, ((int) l5) - 60648, 0L);
-  Words.put64(b, ((int) l5) - 60720, 0L);
-  Words.put64(b, ((int) l5) - 60712, 0L);
-  Words.put64(b, ((int) l5) - 60704, 0L);
-  Core4.f133(m, l5 + 56L, 83924L, 1L, 83672L, 2L, l3, l4);
-  l13 = 1;
-  L34: {
-   if ((b[((int) l5) - 60664] & 0xff) != 1) { break L34; }
-   Core4.f133(m, l5, 83568L, 1L, 85168L, 3L, Words.get64(b, ((int) l5) - 60656), Words.get64(b, ((int) l5) - 60648));
-   if ((b[((int) l5) - 60720] & 0xff) == 1) { break L1; }
-  }
-  L35: {
-   if (l1 == 0L) { break L35; }
-   if (((int) b[((int) ((l2 = l0 + l1) + -1L)) - 60720]) > -1) { break L35; }
-   l6 = -2L;
-   L36: {
-    if ((b[((int) (l2 + -2L)) - 60720] & 0xff) + Integer.MIN_VALUE > -2147483457) { break L36; }
-    l6 = ((b[((int) (l2 + -3L)) - 60720] & 0xff) + Integer.MIN_VALUE > -2147483457) ? -3L : -4L;
-   }
-   if ((l13 = (int) b[((int) (l2 = (l0 + l6) + l1)) - 60720]) > -1) { break L35; }
-   if (l13 + Integer.MIN_VALUE < 2147483616) { break L35; }
-   l14 = l13 & 255;
-   l10 = (b[((int) l2) - 60719] & 0xff) & 63;
-   l15 = (b[((int) l2) - 60718] & 0xff) & 63;
-   L37: {
-    L38: {
-     if (l13 + Integer.MIN_VALUE > 2147483631) { break L38; }
-     l14 = ((l10 << 6) | ((l14 << 12) & 61440)) | l15;
-     break L37;
-    }
-    l14 = ((l15 << 6) | ((l10 << 12) | ((l14 << 18) & 1835008))) | ((b[((int) l2) - 60717] & 0xff) & 63);
-   }
-   l13 = 1;
-   if (l14 == 9675) { break L1; }
-   if (l14 == 9711) { break L1; }
-  }
-  l13 = Core5.f157(m, l0, l1);
- }
- m.g0 = l5 + 96L;
- return l13;
-}
-
-static void f115(State m, long l0, int l1, long l2, long l3, long l4) {
- final byte[] b = m.bytes;
- int l5 = 0;
- int l6 = 0;
- int l7 = 0;
- int l8 = 0;
- int l9 = 0;
- int l10 = 0;
- int l11 = 0;
- L1: {
-  L2: {
-   L3: {
-    L4: {
-     L5: {
-      L6: {
-       L7: {
-        if (m.g0 < 16L) { break L7; }
-        l5 = b[((int) l4) - 60718] & 0xff;
-        l6 = b[((int) l4) - 60719] & 0xff;
-        if ((((l7 = b[((int) l4) - 60720] & 0xff) + -13) & 255) + Integer.MIN_VALUE < -2147483404) { break L5; }
-        L8: {
-         if ((l1 & 255) == 1) { break L8; }
-         l1 = 0;
-         break L2;
-        }
-        if (l3 == 0L) { break L4; }
-        l1 = (l8 = (int) b[((int) l2) - 60720]) & 255;
-        l4 = 1L;
-        L9: {
-         if (l8 > -1) { break L9; }
-         l9 = (b[((int) l2) - 60719] & 0xff) & 63;
-         L10: {
-          if (l8 + Integer.MIN_VALUE > 2147483615) { break L10; }
-          l1 = ((l1 << 6) & 1984) | l9;
-          l4 = 2L;
-          break L9;
-         }
-         l10 = (b[((int) l2) - 60718] & 0xff) & 63;
-         L11: {
-          if (l8 + Integer.MIN_VALUE > 2147483631) { break L11; }
-          l1 = ((l9 << 6) | ((l1 << 12) & 61440)) | l10;
-          l4 = 3L;
-          break L9;
-         }
-         l1 = ((l10 << 6) | ((l9 << 12) | ((l1 << 18) & 1835008))) | ((b[((int) l2) - 60717] & 0xff) & 63);
-         l4 = 4L;
-        }
-        if (l3 == l4) { break L4; }
-        l9 = (l8 = (int) b[((int) (l4 = l2 + l4)) - 60720]) & 255;
-        L12: {
-         if (l8 > -1) { break L12; }
-         l10 = (b[((int) l4) - 60719] & 0xff) & 63;
-         L13: {
-          if (l8 + Integer.MIN_VALUE > 2147483615) { break L13; }
-          l9 = ((l9 << 6) & 1984) | l10;
-          break L12;
-         }
-         l11 = (b[((int) l4) - 60718] & 0xff) & 63;
-         L14: {
-          if (l8 + Integer.MIN_VALUE > 2147483631) { break L14; }
-          l9 = ((l10 << 6) | ((l9 << 12) & 61440)) | l11;
-          break L12;
-         }
-         l9 = ((l11 << 6) | ((l10 << 12) | ((l9 << 18) & 1835008))) | ((b[((int) l4) - 60717] & 0xff) & 63);
-        }
-        L15: {
-         L16: {
-          L17: {
-           L18: {
-            L19: {
-             L20: {
-              if (l1 > 24402) { break L20; }
-              L21: {
-               if (l1 > 20939) { break L21; }
-               L22: {
-                switch (l1 + -19978) {
-                case 0: break L5;
-                case 1: break L6;
-                default: break L22;
-                }
-               }
-               if (l1 == 20013) { break L17; }
-               if (l1 != 20170) { break L4; }
-               break L19;
-              }
-              L23: {
-               switch (l1 + -21320) {
-               case 0: break L16;
-               case 1: break L4;
-               case 2: break L15;
-               default: break L23;
-               }
-              }
-              if (l1 == 20940) { break L18; }
-              if (l1 != 22812) { break L4; }
-              break L15;
-             }
-             L24: {
-              if (l1 > 27490) { break L24; }
-              L25: {
-               if (l1 > 26125) { break L25; }
-               if (l1 == 24403) { break L19; }
-               if (l1 != 26089) { break L4; }
-               break L5;
-              }
-              if (l1 == 26126) { break L19; }
-              if (l1 != 26152) { break L4; }
-              break L19;
-             }
-             L26: {
-              if (l1 > 28164) { break L26; }
-              if (l1 == 27491) { break L17; }
-              if (l1 == 28145) { break L15; }
-              break L4;
-             }
-             if (l1 == 28165) { break L5; }
-             if (l1 != 30070) { break L4; }
-            }
-            if (l9 == 26089) { break L5; }
-            if (l9 != 26216) { break L4; }
-            break L5;
-           }
-           l7 = ((l7 & 255) == 12) ? 0 : l7;
-           break L5;
-          }
-          final int t27 = l7 | 12;
-          final int t28 = l7;
-          final int t29 = ((l7 & 255) + Integer.MIN_VALUE < -2147483645) ? 1 : 0;
-          l7 = t29 != 0 ? t27 : t28;
-          break L5;
-         }
-         if (l9 != 22812) { break L6; }
-        }
-        final int t30 = l7;
-        final int t31 = l7 + 12;
-        final int t32 = ((l7 & 255) + Integer.MIN_VALUE < -2147483643) ? 1 : 0;
-        l7 = t32 != 0 ? t30 : t31;
-        break L5;
-       }
-       throw State.trap();
-      }
-      final int t33 = l7 + 12;
-      final int t34 = ((l7 & 255) == 12) ? 1 : 0;
-      l7 = t34 != 0 ? 12 : t33;
-     }
-     l1 = 1;
-     break L3;
-    }
-    l1 = ((l8 = l7 & 255) + Integer.MIN_VALUE > -2147483644) ? 1 : 0;
-    if (l8 + Integer.MIN_VALUE < -2147483643) { break L2; }
-    l7 = l7 + 12;
-   }
-   if ((l7 & 255) != 24) { break L1; }
-   if (((l6 | l5) & 255) == 0) { break L1; }
-  }
-  l7 = 0;
- }
- b[((int) l0) - 60719] = (byte) l7;
- b[((int) l0) - 60720] = (byte) l1;
-}
-
-static int f116(State m, long l0) {
- final byte[] b = m.bytes;
- long l1 = 0;
- long l2 = 0;
- long l3 = 0;
- int l4 = 0;
- int l5 = 0;
- int l6 = 0;
- int l7 = 0;
- m.g0 = l1 = m.g0 - 160L;
- m.copy((int) ((l1 = l1) + 24L), (int) l0, (int) 88L);
- L1: {
-  if (l1 < 16L) { break L1; }
-  l2 = Words.get64(b, ((int) l0) - 60632);
-  L2: {
-   L3: {
-    if ((l3 = Words.get64(b, ((int) l0) - 60624)) == 0L) { break L3; }
-    if ((l4 = (int) b[((int) l2) - 60720]) > -1) { break L3; }
-    if (l4 + Integer.MIN_VALUE < 2147483616) { break L3; }
-    l5 = l4 & 255;
-    l6 = (b[((int) l2) - 60719] & 0xff) & 63;
-    l7 = (b[((int) l2) - 60718] & 0xff) & 63;
-    L4: {
-     L5: {
-      if (l4 + Integer.MIN_VALUE > 2147483631) { break L5; }
-      l5 = ((l6 << 6) | ((l5 << 12) & 61440)) | l7;
-      break L4;
-     }
-     l5 = ((l7 << 6) | ((l6 << 12) | ((l5 << 18) & 1835008))) | ((b[((int) l2) - 60717] & 0xff) & 63);
-    }
-    l4 = 1;
-    if (l5 == 25104) { break L2; }
-    if (l5 == 25240) { break L2; }
-   }
-   Words.put64(b, ((int) l1) - 60568, Words.get64(b, ((int) l0) - 60680));
-   Words.put64(b, ((int) l1) - 60576, Words.get64(b, ((int) l0) - 60688));
-   Words.put64(b, ((int) l1) - 60584, Words.get64(b, ((int) l0) - 60696));
-   Words.put64(b, ((int) l1) - 60592, Words.get64(b, ((int) l0) - 60704));
-   Words.put64(b, ((int) l1) - 60600, Words.get64(b, ((int) l0) - 60712));
-   Words.put64(b, ((int) l1) - 60608, Words.get64(b, ((int) l0) - 60720));
-   Core4.f117(m, l1 + 16L, l1 + 112L);
-   L6: {
-    if ((b[((int) l1) - 60704] & 0xff) != 1) { break L6; }
-    l4 = 1;
-    if (((1 << ((b[((int) l1) - 60703] & 0xff) & 255)) & 23) != 0) { break L2; }
-   }
-   Words.put64(b, ((int) l1) - 60584, Words.get64(b, ((int) l1) - 60616));
-   Words.put64(b, ((int) l1) - 60592, Words.get64(b, ((int) l1) - 60624));
-   Words.put64(b, ((int) l1) - 60600, Words.get64(b, ((int) l1) - 60632));
-   Words.put64(b, ((int) l1) - 60608, Words.get64(b, ((int) l1) - 60640));
-   Words.put64(b, ((int) l1) - 60568, l3);
-   Words.put64(b, ((int) l1) - 60576, l2);
-   Core4.f117(m, l1 + 8L, l1 + 112L);
-   l4 = (((b[((int) l1) - 60712] & 0xff) == 1) ? 1 : 0) & (23 >>> ((b[((int) l1) - 60711] & 0xff) & 63));
-  }
-  m.g0 = l1 + 160L;
-  final int t7 = l4;
-  return t7;
- }
- throw State.trap();
 }
 }

@@ -2,7 +2,909 @@
 package chinesenumber;
 
 final class Core4 {
-static int f117_1(State m, long l1, long l2, long l3, long l4, long l5, long l6, long l7, long l8, long l9, long l10, int l12, int l13, int l14, int l15, int l16, int l17, int l18) {
+static void f120(State m, long l0, int l1, long l2) {
+ final byte[] b = m.bytes;
+ int l3 = 0;
+ int l4 = 0;
+ int l5 = 0;
+ int l6 = 0;
+ int l7 = 0;
+ int l8 = 0;
+ int l9 = 0;
+ int l10 = 0;
+ int l11 = 0;
+ int l12 = 0;
+ int l13 = 0;
+ L1: {
+  L2: {
+   L3: {
+    L4: {
+     L5: {
+      L6: {
+       L7: {
+        L8: {
+         if (m.g0 < 16L) { break L8; }
+         l3 = Words.get16(b, ((int) l2) - 60716) & 0xffff;
+         l4 = Words.get16(b, ((int) l2) - 60718) & 0xffff;
+         l5 = Words.get16(b, ((int) l2) - 60720) & 0xffff;
+         L9: {
+          L10: {
+           L11: {
+            L12: {
+             L13: {
+              L14: {
+               L15: {
+                L16: {
+                 L17: {
+                  L18: {
+                   L19: {
+                    L20: {
+                     L21: {
+                      L22: {
+                       L23: {
+                        L24: {
+                         L25: {
+                          L26: {
+                           L27: {
+                            L28: {
+                             L29: {
+                              L30: {
+                               L31: {
+                                L32: {
+                                 L33: {
+                                  L34: {
+                                   L35: {
+                                    switch ((int) ((l1 & 0xffffffffL) & 255L)) {
+                                    case 1: break L33;
+                                    case 2: break L34;
+                                    case 3: break L32;
+                                    case 4: case 12: break L31;
+                                    case 7: break L26;
+                                    case 8: case 9: break L25;
+                                    case 10: case 11: break L24;
+                                    case 13: break L30;
+                                    case 14: case 20: break L23;
+                                    case 15: case 16: case 17: case 21: break L22;
+                                    case 18: break L21;
+                                    case 19: break L20;
+                                    case 22: break L19;
+                                    case 23: break L18;
+                                    case 24: break L17;
+                                    case 25: break L16;
+                                    case 26: case 27: break L14;
+                                    case 28: break L13;
+                                    case 29: break L12;
+                                    case 30: case 31: break L11;
+                                    default: break L35;
+                                    }
+                                   }
+                                   if (((l4 + -1) & 65535) + Integer.MIN_VALUE > -2147483637) { break L5; }
+                                   L36: {
+                                    L37: {
+                                     if ((l4 & 65535) != 2) { break L37; }
+                                     l6 = 28;
+                                     if (((l1 = ((l5 & 65535) + Integer.MIN_VALUE < -2147483548) ? 2000 : l5) & 3) != 0) { break L36; }
+                                     final int t38 = (((int) (((l1 = l1 & 65535) & 0xffffffffL) % 400L)) != 0) ? 28 : 29;
+                                     final int t39 = (int) ((l1 & 0xffffffffL) % 100L);
+                                     l6 = t39 != 0 ? 29 : t38;
+                                     break L36;
+                                    }
+                                    final int t40 = ((l1 = l4 & 13) == 9) ? 30 : 31;
+                                    final int t41 = (l1 == 4) ? 1 : 0;
+                                    l6 = t41 != 0 ? 30 : t40;
+                                   }
+                                   l1 = 0;
+                                   if (((l3 + -1) & 65535) + Integer.MIN_VALUE > -2147483394) { break L4; }
+                                   l7 = 0;
+                                   l8 = 0;
+                                   l9 = 0;
+                                   l10 = 0;
+                                   l11 = 0;
+                                   l12 = 0;
+                                   l13 = 0;
+                                   if (l3 + Integer.MIN_VALUE > l6 + Integer.MIN_VALUE) { break L1; }
+                                   l13 = ((l3 << 24) | ((l4 << 8) & 65280)) | 65537;
+                                   l12 = (l5 & 65280) >>> 8;
+                                   l1 = 1;
+                                   l7 = 0;
+                                   l8 = 0;
+                                   l9 = 1;
+                                   l10 = 0;
+                                   l11 = l5;
+                                   break L1;
+                                  }
+                                  if (((l4 + -1) & 65535) + Integer.MIN_VALUE > -2147483637) { break L5; }
+                                  l5 = 29;
+                                  L42: {
+                                   if ((l4 & 65535) == 2) { break L42; }
+                                   final int t43 = ((l1 = l4 & 13) == 9) ? 30 : 31;
+                                   final int t44 = (l1 == 4) ? 1 : 0;
+                                   l5 = t44 != 0 ? 30 : t43;
+                                  }
+                                  l1 = 0;
+                                  if (((l3 + -1) & 65535) + Integer.MIN_VALUE > -2147483394) { break L4; }
+                                  l7 = 0;
+                                  l8 = 0;
+                                  l9 = 0;
+                                  l10 = 0;
+                                  l11 = 0;
+                                  l12 = 0;
+                                  l13 = 0;
+                                  if (l3 + Integer.MIN_VALUE > l5 + Integer.MIN_VALUE) { break L1; }
+                                  l13 = ((l3 << 24) | ((l4 << 8) & 65280)) | 65537;
+                                  break L29;
+                                 }
+                                 L45: {
+                                  if (((l3 + -1) & 65535) + Integer.MIN_VALUE > -2147483637) { break L45; }
+                                  l12 = (l4 & 65280) >>> 8;
+                                  l1 = 1;
+                                  l13 = ((l3 << 8) | 1) & 65281;
+                                  l7 = 0;
+                                  l8 = 0;
+                                  l9 = 1;
+                                  l10 = 0;
+                                  l11 = l4;
+                                  break L1;
+                                 }
+                                 Words.put32(b, ((int) l0) - 60712, 0);
+                                 Words.put64(b, ((int) l0) - 60720, 0L);
+                                 return;
+                                }
+                                l12 = l3 >>> 8;
+                                l7 = 0;
+                                l1 = 1;
+                                l8 = 0;
+                                l9 = 1;
+                                l10 = 0;
+                                break L9;
+                               }
+                               L46: {
+                                if (((l3 + -1) & 65535) + Integer.MIN_VALUE > -2147483637) { break L46; }
+                                l1 = 1;
+                                l13 = ((l3 << 8) | 1) & 65281;
+                                l7 = 0;
+                                break L28;
+                               }
+                               Words.put32(b, ((int) l0) - 60712, 0);
+                               Words.put64(b, ((int) l0) - 60720, 0L);
+                               return;
+                              }
+                              if (((l3 + -1) & 65535) + Integer.MIN_VALUE > -2147483618) { break L27; }
+                              l13 = (l3 << 24) | 65536;
+                             }
+                             l7 = 0;
+                             l1 = 1;
+                            }
+                            l8 = 0;
+                            l9 = 0;
+                            l10 = 0;
+                            l11 = 0;
+                            l12 = 0;
+                            break L1;
+                           }
+                           Words.put32(b, ((int) l0) - 60712, 0);
+                           Words.put64(b, ((int) l0) - 60720, 0L);
+                           return;
+                          }
+                          l8 = 0;
+                          l12 = (l11 = ((l1 = ((l4 & 65535) + Integer.MIN_VALUE < l3 + Integer.MIN_VALUE) ? 1 : 0) != 0) ? l3 : 0) >>> 8;
+                          l10 = ((l9 = l1 != 0 ? l4 : 0) & 65280) >>> 8;
+                          l7 = l1;
+                          break L2;
+                         }
+                         if (((l4 + -1) & 65535) + Integer.MIN_VALUE > -2147483637) { break L5; }
+                         l1 = 0;
+                         if (((l3 + -1) & 65535) + Integer.MIN_VALUE > -2147483637) { break L4; }
+                         l7 = 0;
+                         l8 = 0;
+                         l9 = 0;
+                         l10 = 0;
+                         l11 = 0;
+                         l12 = 0;
+                         l13 = 0;
+                         if ((l4 & 65535) + Integer.MIN_VALUE >= l3 + Integer.MIN_VALUE) { break L1; }
+                         l10 = 0;
+                         l7 = 2;
+                         break L7;
+                        }
+                        if (((l4 + -1) & 65535) + Integer.MIN_VALUE > -2147483618) { break L5; }
+                        l1 = 0;
+                        if (((l3 + -1) & 65535) + Integer.MIN_VALUE > -2147483618) { break L4; }
+                        l7 = 0;
+                        l8 = 0;
+                        l9 = 0;
+                        l10 = 0;
+                        l11 = 0;
+                        l12 = 0;
+                        l13 = 0;
+                        if ((l4 & 65535) + Integer.MIN_VALUE >= l3 + Integer.MIN_VALUE) { break L1; }
+                        l10 = 0;
+                        l7 = 3;
+                        break L7;
+                       }
+                       L47: {
+                        L48: {
+                         if ((l7 = l5 & 65535) + Integer.MIN_VALUE > -2147483625) { break L48; }
+                         if ((l4 & 65535) + Integer.MIN_VALUE > -2147483589) { break L48; }
+                         if (l3 + Integer.MIN_VALUE < -2147483588) { break L47; }
+                        }
+                        l1 = 0;
+                        if (l7 != 24) { break L4; }
+                        l7 = 0;
+                        l8 = 0;
+                        l9 = 0;
+                        l10 = 0;
+                        l11 = 0;
+                        l12 = 0;
+                        l13 = 0;
+                        if (((l3 | l4) & 65535) != 0) { break L1; }
+                       }
+                       l11 = 0;
+                       l7 = 4;
+                       l1 = 1;
+                       l8 = l5;
+                       l9 = l4;
+                       l10 = l3;
+                       l12 = 0;
+                       break L2;
+                      }
+                      L49: {
+                       L50: {
+                        if ((l7 = l4 & 65535) + Integer.MIN_VALUE > -2147483625) { break L50; }
+                        if (l3 + Integer.MIN_VALUE < -2147483588) { break L49; }
+                       }
+                       l1 = 0;
+                       if (l7 != 24) { break L4; }
+                       l7 = 0;
+                       l8 = 0;
+                       l9 = 0;
+                       l10 = 0;
+                       l11 = 0;
+                       l12 = 0;
+                       l13 = 0;
+                       if (l3 != 0) { break L1; }
+                      }
+                      l10 = 0;
+                      l7 = 4;
+                      break L7;
+                     }
+                     if (l3 + Integer.MIN_VALUE > -2147483625) { break L5; }
+                     l10 = 0;
+                     l9 = 30;
+                     l7 = 4;
+                     l1 = 1;
+                     l8 = l3;
+                     break L3;
+                    }
+                    L51: {
+                     if (((l3 + -1) & 65535) + Integer.MIN_VALUE > -2147483646) { break L51; }
+                     if ((l4 & 65535) + Integer.MIN_VALUE > -2147483625) { break L5; }
+                     l9 = l3 * 15;
+                     l10 = 0;
+                     l7 = 4;
+                     l1 = 1;
+                     l8 = l4;
+                     break L3;
+                    }
+                    Words.put32(b, ((int) l0) - 60712, 0);
+                    Words.put64(b, ((int) l0) - 60720, 0L);
+                    return;
+                   }
+                   l9 = 0;
+                   l8 = ((l1 = (l3 + Integer.MIN_VALUE < -2147483623) ? 1 : 0) != 0) ? l3 : 0;
+                   l7 = l1 != 0 ? 4 : 0;
+                   l10 = 0;
+                   break L3;
+                  }
+                  if (l3 + Integer.MIN_VALUE > -2147483589) { break L5; }
+                  L52: {
+                   if ((l5 & 65535) == 0) { break L52; }
+                   if ((l4 & 65535) + Integer.MIN_VALUE > -2147483589) { break L5; }
+                  }
+                  l12 = (l4 & 65280) >>> 8;
+                  l10 = (l5 & 65280) >>> 8;
+                  l8 = 0;
+                  l7 = 5;
+                  l1 = 1;
+                  l9 = l5;
+                  break L15;
+                 }
+                 L53: {
+                  if ((l4 & 65535) == 0) { break L53; }
+                  if (l3 + Integer.MIN_VALUE > -2147483589) { break L5; }
+                 }
+                 l12 = l3 >>> 8;
+                 l10 = (l4 & 65280) >>> 8;
+                 l8 = 0;
+                 l7 = 5;
+                 break L10;
+                }
+                if (l3 + Integer.MIN_VALUE > -2147483589) { break L5; }
+                l12 = (l4 & 65280) >>> 8;
+                l8 = 0;
+                l7 = 5;
+                l1 = 1;
+                l9 = 0;
+                l10 = 0;
+               }
+               l11 = l4;
+               l13 = l3;
+               break L1;
+              }
+              l10 = l3 >>> 8;
+              l8 = 0;
+              l7 = 6;
+              l1 = 1;
+              break L6;
+             }
+             if (l3 + Integer.MIN_VALUE > -2147483549) { break L5; }
+             l10 = (l4 & 65280) >>> 8;
+             l8 = 0;
+             l1 = 1;
+             l7 = 7;
+             l9 = l4;
+             l11 = l3;
+             l12 = 1;
+             break L2;
+            }
+            if (l3 + Integer.MIN_VALUE > -2147483549) { break L5; }
+            l10 = (l4 & 65280) >>> 8;
+            l8 = 0;
+            l12 = 2;
+            l7 = 7;
+            break L10;
+           }
+           l7 = 8;
+           l12 = l3 >>> 8;
+           l10 = (l4 & 65280) >>> 8;
+           l8 = 0;
+          }
+          l1 = 1;
+          l9 = l4;
+         }
+         l11 = l3;
+         break L2;
+        }
+        throw State.trap();
+       }
+       l1 = 1;
+       l8 = l4;
+      }
+      l9 = l3;
+      break L3;
+     }
+     l1 = 0;
+    }
+    l7 = 0;
+    l8 = 0;
+    l9 = 0;
+    l10 = 0;
+   }
+   l11 = 0;
+   l12 = 0;
+  }
+  l13 = 0;
+ }
+ Words.put16(b, ((int) l0) - 60720, (short) l1);
+ Words.put32(b, ((int) (l0 + 8L)) - 60720, l13);
+ b[((int) (l0 + 3L)) - 60720] = (byte) l8;
+ b[((int) (l0 + 2L)) - 60720] = (byte) l7;
+ Words.put16(b, ((int) (l0 + 6L)) - 60720, (short) ((l12 << 8) | (l11 & 255)));
+ Words.put16(b, ((int) (l0 + 4L)) - 60720, (short) ((l10 << 8) | (l9 & 255)));
+}
+
+static int f121(State m, long l0, long l1, long l2, long l3, long l4) {
+ final byte[] b = m.bytes;
+ long l5 = 0;
+ long l6 = 0;
+ long l7 = 0;
+ long l8 = 0;
+ long l9 = 0;
+ int l10 = 0;
+ int l11 = 0;
+ int l12 = 0;
+ int l13 = 0;
+ int l14 = 0;
+ int l15 = 0;
+ int l16 = 0;
+ m.g0 = l5 = m.g0 - 96L;
+ L1: {
+  L2: {
+   L3: {
+    if ((l5 = l5) < 16L) { break L3; }
+    l10 = b[((int) l2) - 60719] & 0xff;
+    l11 = b[((int) l2) - 60720] & 0xff;
+    l13 = (int) ((((l12 = Words.get16(b, ((int) l2) - 60714) & 0xffff) & 65535) & 0xffffffffL) % 100L);
+    L4: {
+     if (l4 == 0L) { break L4; }
+     if ((l10 & 255) != 3) { break L4; }
+     if (l13 != 0) { break L4; }
+     l6 = Words.get64(b, ((int) l2) - 60704);
+     l13 = (l14 = (int) b[((int) l3) - 60720]) & 255;
+     L5: {
+      if (l14 > -1) { break L5; }
+      l15 = (b[((int) l3) - 60719] & 0xff) & 63;
+      L6: {
+       if (l14 + Integer.MIN_VALUE > 2147483615) { break L6; }
+       l13 = ((l13 << 6) & 1984) | l15;
+       break L5;
+      }
+      l16 = (b[((int) l3) - 60718] & 0xff) & 63;
+      L7: {
+       if (l14 + Integer.MIN_VALUE > 2147483631) { break L7; }
+       l13 = ((l15 << 6) | ((l13 << 12) & 61440)) | l16;
+       break L5;
+      }
+      l13 = ((l16 << 6) | ((l15 << 12) | ((l13 << 18) & 1835008))) | ((b[((int) l3) - 60717] & 0xff) & 63);
+     }
+     if (l6 == 0L) { break L4; }
+     if (((l13 + -58) + Integer.MIN_VALUE < 2147483638) & ((l13 + -65306) + Integer.MIN_VALUE < 2147483638)) { break L4; }
+     if ((l13 = (int) b[((int) (l2 = Words.get64(b, ((int) l2) - 60712))) - 60720]) > -1) { break L4; }
+     if (l13 + Integer.MIN_VALUE < 2147483616) { break L4; }
+     l14 = l13 & 255;
+     l15 = (b[((int) l2) - 60719] & 0xff) & 63;
+     l16 = (b[((int) l2) - 60718] & 0xff) & 63;
+     L8: {
+      L9: {
+       if (l13 + Integer.MIN_VALUE > 2147483631) { break L9; }
+       l14 = ((l15 << 6) | ((l14 << 12) & 61440)) | l16;
+       break L8;
+      }
+      l14 = ((l16 << 6) | ((l15 << 12) | ((l14 << 18) & 1835008))) | ((b[((int) l2) - 60717] & 0xff) & 63);
+     }
+     l13 = 1;
+     L10: {
+      if (l14 > 26468) { break L10; }
+      if (l14 == 20358) { break L1; }
+      if (l14 == 21069) { break L1; }
+      if (l14 != 21382) { break L4; }
+      break L1;
+     }
+     L11: {
+      if (l14 > 38290) { break L11; }
+      if (l14 == 26469) { break L1; }
+      if (l14 != 27511) { break L4; }
+      break L1;
+     }
+     if (l14 == 38291) { break L1; }
+     if (l14 == 38388) { break L1; }
+    }
+    Words.put64(b, ((int) l5) - 60640, 0L);
+    Words.put64(b, ((int) l5) - 60648, 0L);
+    Words.put64(b, ((int) l5) - 60656, 0L);
+    Words.put64(b, ((int) l5) - 60664, 0L);
+    f127(m, l5 + 56L, l3, l4);
+    if ((l10 & 255) + Integer.MIN_VALUE > -2147483647) { break L2; }
+    l7 = Words.get64(b, ((int) l5) - 60656);
+    l8 = Words.get64(b, ((int) l5) - 60664);
+    if (f152(m, 85072L, 1L, 85076L, 1L, l0, l1) != 0) { break L2; }
+    l2 = l8;
+    l9 = l7;
+    L12: {
+     L13: while (true) {
+      if (l9 == 0L) { break L12; }
+      l13 = (l14 = (int) b[((int) l2) - 60720]) & 255;
+      l6 = 1L;
+      L14: {
+       if (l14 > -1) { break L14; }
+       l15 = (b[((int) l2) - 60719] & 0xff) & 63;
+       L15: {
+        if (l14 + Integer.MIN_VALUE > 2147483615) { break L15; }
+        l13 = ((l13 << 6) & 1984) | l15;
+        l6 = 2L;
+        break L14;
+       }
+       l16 = (b[((int) l2) - 60718] & 0xff) & 63;
+       L16: {
+        if (l14 + Integer.MIN_VALUE > 2147483631) { break L16; }
+        l13 = ((l15 << 6) | ((l13 << 12) & 61440)) | l16;
+        l6 = 3L;
+        break L14;
+       }
+       l13 = ((l16 << 6) | ((l15 << 12) | ((l13 << 18) & 1835008))) | ((b[((int) l2) - 60717] & 0xff) & 63);
+       l6 = 4L;
+      }
+      L17: {
+       if (l13 == 30334) { break L17; }
+       l9 = l9 - l6;
+       l2 = l2 + l6;
+       if (l13 != 21313) { continue L13; }
+      }
+      break L13;
+     }
+     l13 = 1;
+     break L1;
+    }
+    Words.put32(b, ((int) l5) - 60720, 0);
+    L18: {
+     L19: {
+      L20: {
+       L21: {
+        if ((l2 = l7 + -1L) + Long.MIN_VALUE > -9223372036854775806L) { break L21; }
+        L22: {
+         switch ((int) l2) {
+         case 1: break L21;
+         case 2: break L22;
+         default: break L18;
+         }
+        }
+        if (Words.get32(b, State.far((int) (l2 = ((((l14 = (((b[((int) l8) - 60719] & 0xff) << 8) | (l13 = b[((int) l8) - 60720] & 0xff)) | ((b[((int) l8) - 60718] & 0xff) << 16)) & 0xffffffffL) * 953497L) >>> 22L) & 1016L), 66852)) != l14) { break L20; }
+        if (((b[((int) (l2 + 66856L)) - 60720] & 0xff) & 255) == 2) { break L20; }
+        l13 = 1;
+        break L1;
+       }
+       if (l7 + Long.MIN_VALUE > -9223372036854775804L) { break L2; }
+       if (l7 == 0L) { break L19; }
+       l13 = b[((int) l8) - 60720] & 0xff;
+      }
+      if (((int) (byte) l13) > -1) { break L2; }
+     }
+     Core3.f113(m, l5, l8, l7);
+     l13 = 1;
+     if ((b[((int) l5) - 60720] & 0xff) != 1) { break L2; }
+     if (((b[((int) l5) - 60717] & 0xff) & 1) != 0) { break L1; }
+     break L2;
+    }
+    if ((((b[((int) l8) - 60720] & 0xff) + -58) & 255) + Integer.MIN_VALUE >= -2147483402) { break L2; }
+    l13 = 1;
+    break L1;
+   }
+   throw State.trap();
+  }
+  L23: {
+   if ((l10 & 255) + Integer.MIN_VALUE > -2147483644) { break L23; }
+   l13 = 1;
+   if (Core5.f163(m, l0, l1) != 0) { break L1; }
+   if (f152(m, 85080L, 2L, 85088L, 9L, l0, l1) != 0) { break L1; }
+  }
+  Words.put64(b, ((int) l5) - 60664, 0L);
+  Words.put64(b, ((int) l5) - 60656, 0L);
+  Words.put64(b, ((int) l5) - 60648, 0L);
+  Words.put64(b, ((int) l5) - 60640, 0L);
+  Words.put64(b, ((int) l5) - 60688, 0L);
+  Words.put64(b, ((int) l5) - 60680, 0L);
+  Words.put64(b, ((int) l5) - 60672, 0L);
+  Words.put64(b, ((int) l5) - 60720, 0L);
+  Words.put64(b, ((int) l5) - 60712, 0L);
+  Words.put64(b, ((int) l5) - 60704, 0L);
+  Words.put64(b, ((int) l5) - 60696, 0L);
+  f127(m, l5 + 56L, l3, l4);
+  f130(m, l5 + 32L, 3, Words.get64(b, ((int) l5) - 60648), Words.get64(b, ((int) l5) - 60640));
+  L24: {
+   if ((b[((int) l5) - 60688] & 0xff) != 1) { break L24; }
+   f127(m, l5, Words.get64(b, ((int) l5) - 60680), Words.get64(b, ((int) l5) - 60672));
+   if ((l11 & 255) != 0) { break L24; }
+   if ((l10 & 255) != 15) { break L24; }
+   if ((l12 & 65535) + Integer.MIN_VALUE > -2147483639) { break L24; }
+   l2 = Words.get64(b, ((int) l5) - 60712);
+   l6 = Words.get64(b, ((int) l5) - 60720);
+   L25: {
+    if (l1 == 0L) { break L25; }
+    if (((int) b[((int) ((l9 = l0 + l1) + -1L)) - 60720]) > -1) { break L25; }
+    l7 = -2L;
+    L26: {
+     if ((b[((int) (l9 + -2L)) - 60720] & 0xff) + Integer.MIN_VALUE > -2147483457) { break L26; }
+     l7 = ((b[((int) (l9 + -3L)) - 60720] & 0xff) + Integer.MIN_VALUE > -2147483457) ? -3L : -4L;
+    }
+    if ((l13 = (int) b[((int) (l9 = (l0 + l7) + l1)) - 60720]) > -1) { break L25; }
+    if (l13 + Integer.MIN_VALUE < 2147483616) { break L25; }
+    l14 = l13 & 255;
+    l10 = (b[((int) l9) - 60719] & 0xff) & 63;
+    l15 = (b[((int) l9) - 60718] & 0xff) & 63;
+    L27: {
+     L28: {
+      if (l13 + Integer.MIN_VALUE > 2147483631) { break L28; }
+      l13 = ((l10 << 6) | ((l14 << 12) & 61440)) | l15;
+      break L27;
+     }
+     l13 = ((l15 << 6) | ((l10 << 12) | ((l14 << 18) & 1835008))) | ((b[((int) l9) - 60717] & 0xff) & 63);
+    }
+    if (l13 == 21495) { break L24; }
+    if (l13 == 26085) { break L24; }
+    if (l13 == 34399) { break L24; }
+   }
+   Words.put32(b, ((int) l5) - 60628, 0);
+   L29: {
+    L30: {
+     L31: {
+      L32: {
+       if ((l9 = l2 + -1L) + Long.MIN_VALUE > -9223372036854775806L) { break L32; }
+       L33: {
+        switch ((int) l9) {
+        case 1: break L32;
+        case 2: break L33;
+        default: break L29;
+        }
+       }
+       if (Words.get32(b, State.far((int) (l9 = ((((l14 = (((b[((int) l6) - 60719] & 0xff) << 8) | (l13 = b[((int) l6) - 60720] & 0xff)) | ((b[((int) l6) - 60718] & 0xff) << 16)) & 0xffffffffL) * 953497L) >>> 22L) & 1016L), 66852)) != l14) { break L31; }
+       if (((b[((int) (l9 + 66856L)) - 60720] & 0xff) & 255) == 2) { break L31; }
+       l13 = 1;
+       break L1;
+      }
+      if (l2 + Long.MIN_VALUE > -9223372036854775804L) { break L24; }
+      if (l2 == 0L) { break L30; }
+      l13 = b[((int) l6) - 60720] & 0xff;
+     }
+     if (((int) (byte) l13) > -1) { break L24; }
+    }
+    Core3.f113(m, l5 + 92L, l6, l2);
+    l13 = 1;
+    if ((b[((int) l5) - 60628] & 0xff) != 1) { break L24; }
+    if (((b[((int) l5) - 60625] & 0xff) & 1) != 0) { break L1; }
+    break L24;
+   }
+   if ((((b[((int) l6) - 60720] & 0xff) + -58) & 255) + Integer.MIN_VALUE >= -2147483402) { break L24; }
+   l13 = 1;
+   break L1;
+  }
+  Words.put64(b, ((int) l5) - 60664, 0L);
+  Words.put64(b, ((int) l5) - 60656, 0L);
+  Words.put64(b, ((int) l5) - 60648, 0L);
+  Words.put64(b, ((int) l5) - 60720, 0L);
+  Words.put64(b, ((int) l5) - 60712, 0L);
+  Words.put64(b, ((int) l5) - 60704, 0L);
+  f140(m, l5 + 56L, 83924L, 1L, 83672L, 2L, l3, l4);
+  l13 = 1;
+  L34: {
+   if ((b[((int) l5) - 60664] & 0xff) != 1) { break L34; }
+   f140(m, l5, 83568L, 1L, 85168L, 3L, Words.get64(b, ((int) l5) - 60656), Words.get64(b, ((int) l5) - 60648));
+   if ((b[((int) l5) - 60720] & 0xff) == 1) { break L1; }
+  }
+  L35: {
+   if (l1 == 0L) { break L35; }
+   if (((int) b[((int) ((l2 = l0 + l1) + -1L)) - 60720]) > -1) { break L35; }
+   l6 = -2L;
+   L36: {
+    if ((b[((int) (l2 + -2L)) - 60720] & 0xff) + Integer.MIN_VALUE > -2147483457) { break L36; }
+    l6 = ((b[((int) (l2 + -3L)) - 60720] & 0xff) + Integer.MIN_VALUE > -2147483457) ? -3L : -4L;
+   }
+   if ((l13 = (int) b[((int) (l2 = (l0 + l6) + l1)) - 60720]) > -1) { break L35; }
+   if (l13 + Integer.MIN_VALUE < 2147483616) { break L35; }
+   l14 = l13 & 255;
+   l10 = (b[((int) l2) - 60719] & 0xff) & 63;
+   l15 = (b[((int) l2) - 60718] & 0xff) & 63;
+   L37: {
+    L38: {
+     if (l13 + Integer.MIN_VALUE > 2147483631) { break L38; }
+     l14 = ((l10 << 6) | ((l14 << 12) & 61440)) | l15;
+     break L37;
+    }
+    l14 = ((l15 << 6) | ((l10 << 12) | ((l14 << 18) & 1835008))) | ((b[((int) l2) - 60717] & 0xff) & 63);
+   }
+   l13 = 1;
+   if (l14 == 9675) { break L1; }
+   if (l14 == 9711) { break L1; }
+  }
+  l13 = Core5.f164(m, l0, l1);
+ }
+ m.g0 = l5 + 96L;
+ return l13;
+}
+
+static void f122(State m, long l0, int l1, long l2, long l3, long l4) {
+ final byte[] b = m.bytes;
+ int l5 = 0;
+ int l6 = 0;
+ int l7 = 0;
+ int l8 = 0;
+ int l9 = 0;
+ int l10 = 0;
+ int l11 = 0;
+ L1: {
+  L2: {
+   L3: {
+    L4: {
+     L5: {
+      L6: {
+       L7: {
+        if (m.g0 < 16L) { break L7; }
+        l5 = b[((int) l4) - 60718] & 0xff;
+        l6 = b[((int) l4) - 60719] & 0xff;
+        if ((((l7 = b[((int) l4) - 60720] & 0xff) + -13) & 255) + Integer.MIN_VALUE < -2147483404) { break L5; }
+        L8: {
+         if ((l1 & 255) == 1) { break L8; }
+         l1 = 0;
+         break L2;
+        }
+        if (l3 == 0L) { break L4; }
+        l1 = (l8 = (int) b[((int) l2) - 60720]) & 255;
+        l4 = 1L;
+        L9: {
+         if (l8 > -1) { break L9; }
+         l9 = (b[((int) l2) - 60719] & 0xff) & 63;
+         L10: {
+          if (l8 + Integer.MIN_VALUE > 2147483615) { break L10; }
+          l1 = ((l1 << 6) & 1984) | l9;
+          l4 = 2L;
+          break L9;
+         }
+         l10 = (b[((int) l2) - 60718] & 0xff) & 63;
+         L11: {
+          if (l8 + Integer.MIN_VALUE > 2147483631) { break L11; }
+          l1 = ((l9 << 6) | ((l1 << 12) & 61440)) | l10;
+          l4 = 3L;
+          break L9;
+         }
+         l1 = ((l10 << 6) | ((l9 << 12) | ((l1 << 18) & 1835008))) | ((b[((int) l2) - 60717] & 0xff) & 63);
+         l4 = 4L;
+        }
+        if (l3 == l4) { break L4; }
+        l9 = (l8 = (int) b[((int) (l4 = l2 + l4)) - 60720]) & 255;
+        L12: {
+         if (l8 > -1) { break L12; }
+         l10 = (b[((int) l4) - 60719] & 0xff) & 63;
+         L13: {
+          if (l8 + Integer.MIN_VALUE > 2147483615) { break L13; }
+          l9 = ((l9 << 6) & 1984) | l10;
+          break L12;
+         }
+         l11 = (b[((int) l4) - 60718] & 0xff) & 63;
+         L14: {
+          if (l8 + Integer.MIN_VALUE > 2147483631) { break L14; }
+          l9 = ((l10 << 6) | ((l9 << 12) & 61440)) | l11;
+          break L12;
+         }
+         l9 = ((l11 << 6) | ((l10 << 12) | ((l9 << 18) & 1835008))) | ((b[((int) l4) - 60717] & 0xff) & 63);
+        }
+        L15: {
+         L16: {
+          L17: {
+           L18: {
+            L19: {
+             L20: {
+              if (l1 > 24402) { break L20; }
+              L21: {
+               if (l1 > 20939) { break L21; }
+               L22: {
+                switch (l1 + -19978) {
+                case 0: break L5;
+                case 1: break L6;
+                default: break L22;
+                }
+               }
+               if (l1 == 20013) { break L17; }
+               if (l1 != 20170) { break L4; }
+               break L19;
+              }
+              L23: {
+               switch (l1 + -21320) {
+               case 0: break L16;
+               case 1: break L4;
+               case 2: break L15;
+               default: break L23;
+               }
+              }
+              if (l1 == 20940) { break L18; }
+              if (l1 != 22812) { break L4; }
+              break L15;
+             }
+             L24: {
+              if (l1 > 27490) { break L24; }
+              L25: {
+               if (l1 > 26125) { break L25; }
+               if (l1 == 24403) { break L19; }
+               if (l1 != 26089) { break L4; }
+               break L5;
+              }
+              if (l1 == 26126) { break L19; }
+              if (l1 != 26152) { break L4; }
+              break L19;
+             }
+             L26: {
+              if (l1 > 28164) { break L26; }
+              if (l1 == 27491) { break L17; }
+              if (l1 == 28145) { break L15; }
+              break L4;
+             }
+             if (l1 == 28165) { break L5; }
+             if (l1 != 30070) { break L4; }
+            }
+            if (l9 == 26089) { break L5; }
+            if (l9 != 26216) { break L4; }
+            break L5;
+           }
+           l7 = ((l7 & 255) == 12) ? 0 : l7;
+           break L5;
+          }
+          final int t27 = l7 | 12;
+          final int t28 = l7;
+          final int t29 = ((l7 & 255) + Integer.MIN_VALUE < -2147483645) ? 1 : 0;
+          l7 = t29 != 0 ? t27 : t28;
+          break L5;
+         }
+         if (l9 != 22812) { break L6; }
+        }
+        final int t30 = l7;
+        final int t31 = l7 + 12;
+        final int t32 = ((l7 & 255) + Integer.MIN_VALUE < -2147483643) ? 1 : 0;
+        l7 = t32 != 0 ? t30 : t31;
+        break L5;
+       }
+       throw State.trap();
+      }
+      final int t33 = l7 + 12;
+      final int t34 = ((l7 & 255) == 12) ? 1 : 0;
+      l7 = t34 != 0 ? 12 : t33;
+     }
+     l1 = 1;
+     break L3;
+    }
+    l1 = ((l8 = l7 & 255) + Integer.MIN_VALUE > -2147483644) ? 1 : 0;
+    if (l8 + Integer.MIN_VALUE < -2147483643) { break L2; }
+    l7 = l7 + 12;
+   }
+   if ((l7 & 255) != 24) { break L1; }
+   if (((l6 | l5) & 255) == 0) { break L1; }
+  }
+  l7 = 0;
+ }
+ b[((int) l0) - 60719] = (byte) l7;
+ b[((int) l0) - 60720] = (byte) l1;
+}
+
+static int f123(State m, long l0) {
+ final byte[] b = m.bytes;
+ long l1 = 0;
+ long l2 = 0;
+ long l3 = 0;
+ int l4 = 0;
+ int l5 = 0;
+ int l6 = 0;
+ int l7 = 0;
+ m.g0 = l1 = m.g0 - 160L;
+ m.copy((int) ((l1 = l1) + 24L), (int) l0, (int) 88L);
+ L1: {
+  if (l1 < 16L) { break L1; }
+  l2 = Words.get64(b, ((int) l0) - 60632);
+  L2: {
+   L3: {
+    if ((l3 = Words.get64(b, ((int) l0) - 60624)) == 0L) { break L3; }
+    if ((l4 = (int) b[((int) l2) - 60720]) > -1) { break L3; }
+    if (l4 + Integer.MIN_VALUE < 2147483616) { break L3; }
+    l5 = l4 & 255;
+    l6 = (b[((int) l2) - 60719] & 0xff) & 63;
+    l7 = (b[((int) l2) - 60718] & 0xff) & 63;
+    L4: {
+     L5: {
+      if (l4 + Integer.MIN_VALUE > 2147483631) { break L5; }
+      l5 = ((l6 << 6) | ((l5 << 12) & 61440)) | l7;
+      break L4;
+     }
+     l5 = ((l7 << 6) | ((l6 << 12) | ((l5 << 18) & 1835008))) | ((b[((int) l2) - 60717] & 0xff) & 63);
+    }
+    l4 = 1;
+    if (l5 == 25104) { break L2; }
+    if (l5 == 25240) { break L2; }
+   }
+   Words.put64(b, ((int) l1) - 60568, Words.get64(b, ((int) l0) - 60680));
+   Words.put64(b, ((int) l1) - 60576, Words.get64(b, ((int) l0) - 60688));
+   Words.put64(b, ((int) l1) - 60584, Words.get64(b, ((int) l0) - 60696));
+   Words.put64(b, ((int) l1) - 60592, Words.get64(b, ((int) l0) - 60704));
+   Words.put64(b, ((int) l1) - 60600, Words.get64(b, ((int) l0) - 60712));
+   Words.put64(b, ((int) l1) - 60608, Words.get64(b, ((int) l0) - 60720));
+   f124(m, l1 + 16L, l1 + 112L);
+   L6: {
+    if ((b[((int) l1) - 60704] & 0xff) != 1) { break L6; }
+    l4 = 1;
+    if (((1 << ((b[((int) l1) - 60703] & 0xff) & 255)) & 23) != 0) { break L2; }
+   }
+   Words.put64(b, ((int) l1) - 60584, Words.get64(b, ((int) l1) - 60616));
+   Words.put64(b, ((int) l1) - 60592, Words.get64(b, ((int) l1) - 60624));
+   Words.put64(b, ((int) l1) - 60600, Words.get64(b, ((int) l1) - 60632));
+   Words.put64(b, ((int) l1) - 60608, Words.get64(b, ((int) l1) - 60640));
+   Words.put64(b, ((int) l1) - 60568, l3);
+   Words.put64(b, ((int) l1) - 60576, l2);
+   f124(m, l1 + 8L, l1 + 112L);
+   l4 = (((b[((int) l1) - 60712] & 0xff) == 1) ? 1 : 0) & (23 >>> ((b[((int) l1) - 60711] & 0xff) & 63));
+  }
+  m.g0 = l1 + 160L;
+  final int t7 = l4;
+  return t7;
+ }
+ throw State.trap();
+}
+
+static int f124_1(State m, long l1, long l2, long l3, long l4, long l5, long l6, long l7, long l8, long l9, long l10, int l12, int l13, int l14, int l15, int l16, int l17, int l18) {
  final byte[] b = m.bytes;
  int exit = 0;
  PART: {
@@ -46,7 +948,7 @@ static int f117_1(State m, long l1, long l2, long l3, long l4, long l5, long l6,
           l1 = l5;
           l9 = l6;
           if (l15 == 25104) { break L12; }
-          l15 = f131(m, 85180L, 31L, 83568L, 1L, l7, l8);
+          l15 = f138(m, 85180L, 31L, 83568L, 1L, l7, l8);
           if (l13 > -1) { break L9; }
           if (l15 != 0) { break L9; }
           if (l13 + Integer.MIN_VALUE < 2147483616) { break L3; }
@@ -172,7 +1074,7 @@ static int f117_1(State m, long l1, long l2, long l3, long l4, long l5, long l6,
        if (l15 == 37328) { break L30; }
        if (l15 != 31186) { break L4; }
       }
-      if (f131(m, 85304L, 1L, 83564L, 1L, l5, l6) == 0) { break L4; }
+      if (f138(m, 85304L, 1L, 83564L, 1L, l5, l6) == 0) { break L4; }
       exit = 2; break PART;
      }
      if (l15 != 0) { exit = 2; break PART; }
@@ -191,7 +1093,7 @@ static int f117_1(State m, long l1, long l2, long l3, long l4, long l5, long l6,
     l1 = 4L;
    }
    if (l13 != 20998) { break L3; }
-   if (f131(m, 84212L, 1L, 84696L, 2L, l7 + l1, l8 - l1) != 0) { exit = 2; break PART; }
+   if (f138(m, 84212L, 1L, 84696L, 2L, l7 + l1, l8 - l1) != 0) { exit = 2; break PART; }
   }
  }
  m.kept[0] = l1;
@@ -214,7 +1116,7 @@ static int f117_1(State m, long l1, long l2, long l3, long l4, long l5, long l6,
  return exit;
 }
 
-static int f117_2(State m, long l1, long l2, long l3, long l4, long l5, long l6, long l7, long l8, long l9, long l10, int l12, int l13, int l14, int l15, int l16, int l17, int l18, int l19, int l20, int l21) {
+static int f124_2(State m, long l1, long l2, long l3, long l4, long l5, long l6, long l7, long l8, long l9, long l10, int l12, int l13, int l14, int l15, int l16, int l17, int l18, int l19, int l20, int l21) {
  final byte[] b = m.bytes;
  int exit = 0;
  PART: {
@@ -385,7 +1287,7 @@ static int f117_2(State m, long l1, long l2, long l3, long l4, long l5, long l6,
         }
         L87: {
          if (l15 != 24180) { break L87; }
-         if (f131(m, 83548L, 1L, 85560L, 2L, l7, l8) == 0) { break L55; }
+         if (f138(m, 83548L, 1L, 85560L, 2L, l7, l8) == 0) { break L55; }
         }
         L88: {
          L89: {
@@ -561,7 +1463,7 @@ static int f117_2(State m, long l1, long l2, long l3, long l4, long l5, long l6,
  return exit;
 }
 
-static int f117_3(State m, long l1, long l2, long l5, long l6, long l7, long l8, long l9, long l10, int l13, int l14, int l15, int l16, int l17, int l18) {
+static int f124_3(State m, long l1, long l2, long l5, long l6, long l7, long l8, long l9, long l10, int l13, int l14, int l15, int l16, int l17, int l18) {
  final byte[] b = m.bytes;
  int exit = 0;
  PART: {
@@ -750,7 +1652,7 @@ static int f117_3(State m, long l1, long l2, long l5, long l6, long l7, long l8,
  return exit;
 }
 
-static int f117_4(State m, long l1, long l3, long l4, long l7, long l8, long l10, int l12, int l13, int l14, int l15, int l16, int l18, int l20) {
+static int f124_4(State m, long l1, long l3, long l4, long l7, long l8, long l10, int l12, int l13, int l14, int l15, int l16, int l18, int l20) {
  final byte[] b = m.bytes;
  int exit = 0;
  PART: {
@@ -875,7 +1777,7 @@ static int f117_4(State m, long l1, long l3, long l4, long l7, long l8, long l10
  return exit;
 }
 
-static int f117_5(State m, long l1, long l2, long l3, long l4, long l5, long l6, long l9, long l10, int l13, int l14, int l15, int l16, int l17, int l18, int l20, int l21) {
+static int f124_5(State m, long l1, long l2, long l3, long l4, long l5, long l6, long l9, long l10, int l13, int l14, int l15, int l16, int l17, int l18, int l20, int l21) {
  final byte[] b = m.bytes;
  int exit = 0;
  PART: {
@@ -987,7 +1889,7 @@ static int f117_5(State m, long l1, long l2, long l3, long l4, long l5, long l6,
      l9 = 4L;
     }
     if (l13 != 21313) { break L162; }
-    if (f131(m, 85568L, 4L, 83556L, 2L, l10 + l9, l1 - l9) == 0) { break L162; }
+    if (f138(m, 85568L, 4L, 83556L, 2L, l10 + l9, l1 - l9) == 0) { break L162; }
    }
    L181: {
     if (l18 != 0) { break L181; }
@@ -1024,7 +1926,7 @@ static int f117_5(State m, long l1, long l2, long l3, long l4, long l5, long l6,
     default: break L181;
     }
    }
-   if (f145(m, 83888L, 1L, 83880L, 2L, l3, l4) == 0) { break L162; }
+   if (f152(m, 83888L, 1L, 83880L, 2L, l3, l4) == 0) { break L162; }
    l15 = 4;
    l13 = 1;
    exit = 2; break PART;
@@ -1043,7 +1945,7 @@ static int f117_5(State m, long l1, long l2, long l3, long l4, long l5, long l6,
  return exit;
 }
 
-static int f117_6(State m, long l1, long l2, long l5, long l9, long l10, int l13, int l14, int l15, int l16, int l17, int l20) {
+static int f124_6(State m, long l1, long l2, long l5, long l9, long l10, int l13, int l14, int l15, int l16, int l17, int l20) {
  final byte[] b = m.bytes;
  int exit = 0;
  PART: {
@@ -1148,7 +2050,7 @@ static int f117_6(State m, long l1, long l2, long l5, long l9, long l10, int l13
  return exit;
 }
 
-static void f117(State m, long l0, long l1) {
+static void f124(State m, long l0, long l1) {
  final byte[] b = m.bytes;
  long l2 = 0;
  long l3 = 0;
@@ -1173,7 +2075,7 @@ static void f117(State m, long l0, long l1) {
  m.g0 = l2 = m.g0 - 96L;
  L1: {
   L2: {
-   final int x34 = f117_1(m, l1, l2, l3, l4, l5, l6, l7, l8, l9, l10, l12, l13, l14, l15, l16, l17, l18);
+   final int x34 = f124_1(m, l1, l2, l3, l4, l5, l6, l7, l8, l9, l10, l12, l13, l14, l15, l16, l17, l18);
    l1 = m.kept[0];
    l2 = m.kept[1];
    l3 = m.kept[2];
@@ -1196,7 +2098,7 @@ static void f117(State m, long l0, long l1) {
    case 2: break L2;
    }
    L35: {
-    if (Core5.f158(m, l3, l4, l5, l6, l7, l8) == 0) { break L35; }
+    if (Core5.f165(m, l3, l4, l5, l6, l7, l8) == 0) { break L35; }
     l15 = 0;
     l13 = 1;
     break L1;
@@ -1290,7 +2192,7 @@ static void f117(State m, long l0, long l1) {
    L49: {
     L50: {
      L51: {
-      final int x110 = f117_2(m, l1, l2, l3, l4, l5, l6, l7, l8, l9, l10, l12, l13, l14, l15, l16, l17, l18, l19, l20, l21);
+      final int x110 = f124_2(m, l1, l2, l3, l4, l5, l6, l7, l8, l9, l10, l12, l13, l14, l15, l16, l17, l18, l19, l20, l21);
       l1 = m.kept[0];
       l9 = m.kept[1];
       l10 = m.kept[2];
@@ -1307,7 +2209,7 @@ static void f117(State m, long l0, long l1) {
       case 2: break L1;
       case 3: break L51;
       }
-      final int x136 = f117_3(m, l1, l2, l5, l6, l7, l8, l9, l10, l13, l14, l15, l16, l17, l18);
+      final int x136 = f124_3(m, l1, l2, l5, l6, l7, l8, l9, l10, l13, l14, l15, l16, l17, l18);
       l1 = m.kept[0];
       l9 = m.kept[1];
       l10 = m.kept[2];
@@ -1326,7 +2228,7 @@ static void f117(State m, long l0, long l1) {
       if (l13 == 36000) { break L49; }
       if (l13 == 36127) { break L49; }
      }
-     final int x153 = f117_4(m, l1, l3, l4, l7, l8, l10, l12, l13, l14, l15, l16, l18, l20);
+     final int x153 = f124_4(m, l1, l3, l4, l7, l8, l10, l12, l13, l14, l15, l16, l18, l20);
      l1 = m.kept[0];
      l10 = m.kept[1];
      l13 = (int) m.kept[2];
@@ -1366,7 +2268,7 @@ static void f117(State m, long l0, long l1) {
            l13 = ((l16 << 6) | ((l14 << 12) | ((l13 << 18) & 1835008))) | ((b[((int) l5) - 60717] & 0xff) & 63);
            l1 = 4L;
           }
-          final int x186 = f117_5(m, l1, l2, l3, l4, l5, l6, l9, l10, l13, l14, l15, l16, l17, l18, l20, l21);
+          final int x186 = f124_5(m, l1, l2, l3, l4, l5, l6, l9, l10, l13, l14, l15, l16, l17, l18, l20, l21);
           l1 = m.kept[0];
           l9 = m.kept[1];
           l10 = m.kept[2];
@@ -1493,7 +2395,7 @@ static void f117(State m, long l0, long l1) {
            }
            l13 = ((l16 << 6) | ((l14 << 12) | ((l13 << 18) & 1835008))) | ((b[((int) l1) - 60717] & 0xff) & 63);
           }
-          final int x219 = f117_6(m, l1, l2, l5, l9, l10, l13, l14, l15, l16, l17, l20);
+          final int x219 = f124_6(m, l1, l2, l5, l9, l10, l13, l14, l15, l16, l17, l20);
           l1 = m.kept[0];
           l9 = m.kept[1];
           l10 = m.kept[2];
@@ -1621,11 +2523,11 @@ static void f117(State m, long l0, long l1) {
          }
          l9 = l7 - l10;
          l1 = l1 + l10;
-         if (Core5.f159(m, l13) != 0) { continue L233; }
+         if (Core5.f166(m, l13) != 0) { continue L233; }
          break L233;
         }
        }
-       l15 = ((l13 = Core5.f160(m, l16, l5, l6, l11, l8 - l7)) != 0) ? 5 : 0;
+       l15 = ((l13 = Core5.f167(m, l16, l5, l6, l11, l8 - l7)) != 0) ? 5 : 0;
        if (l18 != 0) { break L1; }
        if (l13 != 0) { break L1; }
        break L154;
@@ -1713,11 +2615,11 @@ static void f117(State m, long l0, long l1) {
         }
         l13 = ((l12 << 6) | ((l16 << 12) | ((l13 << 18) & 1835008))) | ((b[((int) l9) - 60717] & 0xff) & 63);
        }
-       if (Core5.f159(m, l13) != 0) { continue L246; }
+       if (Core5.f166(m, l13) != 0) { continue L246; }
        break L246;
       }
      }
-     l15 = ((l13 = Core5.f160(m, l14, l3 + l1, l7 - l1, l5, l6)) != 0) ? 5 : 0;
+     l15 = ((l13 = Core5.f167(m, l14, l3 + l1, l7 - l1, l5, l6)) != 0) ? 5 : 0;
      break L1;
     }
     l15 = 2;
@@ -1733,7 +2635,7 @@ static void f117(State m, long l0, long l1) {
  m.g0 = l2 + 96L;
 }
 
-static int f118(State m, int l0) {
+static int f125(State m, int l0) {
  int l1 = 0;
  L1: {
   L2: {
@@ -1804,7 +2706,7 @@ static int f118(State m, int l0) {
  return l1;
 }
 
-static int f119(State m, long l0, long l1) {
+static int f126(State m, long l0, long l1) {
  final byte[] b = m.bytes;
  int l2 = 0;
  int l3 = 0;
@@ -1880,7 +2782,7 @@ static int f119(State m, long l0, long l1) {
  return l2;
 }
 
-static void f120(State m, long l0, long l1, long l2) {
+static void f127(State m, long l0, long l1, long l2) {
  final byte[] b = m.bytes;
  long l3 = 0;
  long l4 = 0;
@@ -1991,7 +2893,7 @@ static void f120(State m, long l0, long l1, long l2) {
  throw State.trap();
 }
 
-static void f121(State m, long l0, int l1, long l2, long l3) {
+static void f128(State m, long l0, int l1, long l2, long l3) {
  final byte[] b = m.bytes;
  long l4 = 0;
  long l5 = 0;
@@ -2065,7 +2967,7 @@ static void f121(State m, long l0, int l1, long l2, long l3) {
  throw State.trap();
 }
 
-static int f122_1(State m, long l1, long l2, long l8, long l9, long l13, long l14, long l15, long l16, long l18, long l20, long l21, long l22, long l23, long l24, long l25, int l27, int l28, int l29, int l30, int l31, int l32) {
+static int f129_1(State m, long l1, long l2, long l8, long l9, long l13, long l14, long l15, long l16, long l18, long l20, long l21, long l22, long l23, long l24, long l25, int l27, int l28, int l29, int l30, int l31, int l32) {
  final byte[] b = m.bytes;
  int exit = 0;
  PART: {
@@ -2097,7 +2999,7 @@ static int f122_1(State m, long l1, long l2, long l8, long l9, long l13, long l1
      if (l30 == 38047) { break L53; }
      if (l30 != 37912) { break L50; }
     }
-    if (f131(m, 83680L, 2L, 84880L, 1L, l20, l9) == 0) { exit = 2; break PART; }
+    if (f138(m, 83680L, 2L, 84880L, 1L, l20, l9) == 0) { exit = 2; break PART; }
    }
    L54: {
     L55: {
@@ -2190,8 +3092,8 @@ static int f122_1(State m, long l1, long l2, long l8, long l9, long l13, long l1
       if (l30 == 30070) { break L55; }
      }
      L71: {
-      if (f131(m, 84884L, 1L, 84888L, 1L, l20, l9) != 0) { break L71; }
-      if (f131(m, 84892L, 4L, 84908L, 7L, l20, l9) != 0) { break L71; }
+      if (f138(m, 84884L, 1L, 84888L, 1L, l20, l9) != 0) { break L71; }
+      if (f138(m, 84892L, 4L, 84908L, 7L, l20, l9) != 0) { break L71; }
       if (l27 != 0) { break L54; }
       if ((l27 = (int) b[((int) l20) - 60720]) > -1) { break L54; }
       if (l27 + Integer.MIN_VALUE < 2147483616) { break L54; }
@@ -2207,7 +3109,7 @@ static int f122_1(State m, long l1, long l2, long l8, long l9, long l13, long l1
        l27 = ((l32 << 6) | ((l29 << 12) | ((l30 << 18) & 1835008))) | ((b[((int) l20) - 60717] & 0xff) & 63);
       }
       if (l27 != 21069) { break L54; }
-      if (f131(m, 84936L, 1L, 84940L, 30L, l20, l9) != 0) { break L54; }
+      if (f138(m, 84936L, 1L, 84940L, 30L, l20, l9) != 0) { break L54; }
      }
      if (l28 != 0) { break L55; }
      if (((int) b[((int) l16) - 60720]) > -1) { break L55; }
@@ -2260,11 +3162,11 @@ static int f122_1(State m, long l1, long l2, long l8, long l9, long l13, long l1
     }
     if ((l21 & 281470681743360L) != 4294967296L) { exit = 2; break PART; }
    }
-   if (f132(m, 84852L, 7L, l1, l2) != 0) { exit = 2; break PART; }
+   if (f139(m, 84852L, 7L, l1, l2) != 0) { exit = 2; break PART; }
    Words.put64(b, ((int) l8) - 60648, 0L);
    Words.put64(b, ((int) l8) - 60656, 0L);
    Words.put64(b, ((int) l8) - 60664, 0L);
-   f123(m, l8 + 56L, 14, l20, l9);
+   f130(m, l8 + 56L, 14, l20, l9);
    if ((b[((int) l8) - 60664] & 0xff) != 1) { exit = 1; break PART; }
    l22 = Words.get64(b, ((int) l8) - 60656);
    L81: {
@@ -2296,7 +3198,7 @@ static int f122_1(State m, long l1, long l2, long l8, long l9, long l13, long l1
     Words.put64(b, ((int) l8) - 60624, 0L);
     Words.put64(b, ((int) l8) - 60632, 0L);
     Words.put64(b, ((int) l8) - 60640, 0L);
-    f130(m, l8 + 80L, 0, 4, l8 + 112L);
+    f137(m, l8 + 80L, 0, 4, l8 + 112L);
     if ((b[((int) l8) - 60640] & 0xff) != 1) { break L81; }
     Words.put64(b, ((int) l8) - 60592, l24 = Words.get64(b, ((int) l18) - 60704));
     Words.put64(b, ((int) l8) - 60600, l25 = Words.get64(b, ((int) l18) - 60712));
@@ -2304,14 +3206,14 @@ static int f122_1(State m, long l1, long l2, long l8, long l9, long l13, long l1
     Words.put64(b, ((int) l8) - 60584, 0L);
     Words.put64(b, ((int) l8) - 60576, 0L);
     Words.put64(b, ((int) l8) - 60568, 0L);
-    f121(m, l8 + 40L, (b[((int) l8) - 60602] & 0xff) & 1, l25, l24);
-    f123(m, l8 + 136L, 4, Words.get64(b, ((int) l8) - 60680), Words.get64(b, ((int) l8) - 60672));
+    f128(m, l8 + 40L, (b[((int) l8) - 60602] & 0xff) & 1, l25, l24);
+    f130(m, l8 + 136L, 4, Words.get64(b, ((int) l8) - 60680), Words.get64(b, ((int) l8) - 60672));
     if ((b[((int) l8) - 60584] & 0xff) == 1) { exit = 2; break PART; }
    }
    Words.put64(b, ((int) l8) - 60624, 0L);
    Words.put64(b, ((int) l8) - 60632, 0L);
    Words.put64(b, ((int) l8) - 60640, 0L);
-   f123(m, l8 + 80L, 21, l22, l23);
+   f130(m, l8 + 80L, 21, l22, l23);
    L86: {
     if ((b[((int) l8) - 60640] & 0xff) != 1) { break L86; }
     l24 = Words.get64(b, ((int) l8) - 60632);
@@ -2322,7 +3224,7 @@ static int f122_1(State m, long l1, long l2, long l8, long l9, long l13, long l1
     Words.put64(b, ((int) l8) - 60624, 0L);
     Words.put64(b, ((int) l8) - 60632, 0L);
     Words.put64(b, ((int) l8) - 60640, 0L);
-    f130(m, l8 + 80L, 0, 4, l8 + 112L);
+    f137(m, l8 + 80L, 0, 4, l8 + 112L);
     if ((b[((int) l8) - 60640] & 0xff) != 1) { break L86; }
     Words.put64(b, ((int) l8) - 60592, l24 = Words.get64(b, ((int) l18) - 60704));
     Words.put64(b, ((int) l8) - 60600, l25 = Words.get64(b, ((int) l18) - 60712));
@@ -2330,14 +3232,14 @@ static int f122_1(State m, long l1, long l2, long l8, long l9, long l13, long l1
     Words.put64(b, ((int) l8) - 60584, 0L);
     Words.put64(b, ((int) l8) - 60576, 0L);
     Words.put64(b, ((int) l8) - 60568, 0L);
-    f121(m, l8 + 24L, (b[((int) l8) - 60602] & 0xff) & 1, l25, l24);
-    f123(m, l8 + 136L, 4, Words.get64(b, ((int) l8) - 60696), Words.get64(b, ((int) l8) - 60688));
+    f128(m, l8 + 24L, (b[((int) l8) - 60602] & 0xff) & 1, l25, l24);
+    f130(m, l8 + 136L, 4, Words.get64(b, ((int) l8) - 60696), Words.get64(b, ((int) l8) - 60688));
     if ((b[((int) l8) - 60584] & 0xff) == 1) { exit = 2; break PART; }
    }
    Words.put64(b, ((int) l8) - 60624, 0L);
    Words.put64(b, ((int) l8) - 60632, 0L);
    Words.put64(b, ((int) l8) - 60640, 0L);
-   f123(m, l8 + 80L, 22, l22, l23);
+   f130(m, l8 + 80L, 22, l22, l23);
    if ((b[((int) l8) - 60640] & 0xff) != 1) { exit = 1; break PART; }
    l22 = Words.get64(b, ((int) l8) - 60632);
    Words.put64(b, ((int) l8) - 60592, Words.get64(b, ((int) l8) - 60624));
@@ -2347,7 +3249,7 @@ static int f122_1(State m, long l1, long l2, long l8, long l9, long l13, long l1
    Words.put64(b, ((int) l8) - 60624, 0L);
    Words.put64(b, ((int) l8) - 60632, 0L);
    Words.put64(b, ((int) l8) - 60640, 0L);
-   f130(m, l8 + 80L, 0, 4, l8 + 112L);
+   f137(m, l8 + 80L, 0, 4, l8 + 112L);
    if ((b[((int) l8) - 60640] & 0xff) != 1) { exit = 1; break PART; }
    Words.put64(b, ((int) l8) - 60592, l22 = Words.get64(b, ((int) l18) - 60704));
    Words.put64(b, ((int) l8) - 60600, l23 = Words.get64(b, ((int) l18) - 60712));
@@ -2355,8 +3257,8 @@ static int f122_1(State m, long l1, long l2, long l8, long l9, long l13, long l1
    Words.put64(b, ((int) l8) - 60584, 0L);
    Words.put64(b, ((int) l8) - 60576, 0L);
    Words.put64(b, ((int) l8) - 60568, 0L);
-   f121(m, l8 + 8L, (b[((int) l8) - 60602] & 0xff) & 1, l23, l22);
-   f123(m, l8 + 136L, 4, Words.get64(b, ((int) l8) - 60712), Words.get64(b, ((int) l8) - 60704));
+   f128(m, l8 + 8L, (b[((int) l8) - 60602] & 0xff) & 1, l23, l22);
+   f130(m, l8 + 136L, 4, Words.get64(b, ((int) l8) - 60712), Words.get64(b, ((int) l8) - 60704));
    if ((b[((int) l8) - 60584] & 0xff) == 1) { exit = 2; break PART; }
    exit = 1; break PART;
   }
@@ -2374,7 +3276,7 @@ static int f122_1(State m, long l1, long l2, long l8, long l9, long l13, long l1
  return exit;
 }
 
-static void f122(State m, long l0, long l1, long l2, long l3, long l4, int l5, long l6, long l7) {
+static void f129(State m, long l0, long l1, long l2, long l3, long l4, int l5, long l6, long l7) {
  final byte[] b = m.bytes;
  long l8 = 0;
  long l9 = 0;
@@ -2429,7 +3331,7 @@ static void f122(State m, long l0, long l1, long l2, long l3, long l4, int l5, l
     Words.put64(b, ((int) l8) - 60592, 0L);
     Words.put64(b, ((int) l8) - 60600, 0L);
     Words.put64(b, ((int) l8) - 60608, 0L);
-    f129(m, l8 + 112L, l5, l3, l4);
+    f136(m, l8 + 112L, l5, l3, l4);
     L5: {
      if ((b[((int) l8) - 60608] & 0xff) != 1) { break L5; }
      l9 = Words.get64(b, ((int) l8) - 60600);
@@ -2443,7 +3345,7 @@ static void f122(State m, long l0, long l1, long l2, long l3, long l4, int l5, l
      l9 = Words.get64(b, State.far((int) (l20 = (l19 = l27 & 0xffffffffL) << 3L), 88568));
      l20 = Words.get64(b, State.far((int) l20, 88312));
      L6: while (true) {
-      f130(m, l8 + 80L, b[((int) l9) - 60720] & 0xff, b[((int) (l9 + 1L)) - 60720] & 0xff, l8 + 136L);
+      f137(m, l8 + 80L, b[((int) l9) - 60720] & 0xff, b[((int) (l9 + 1L)) - 60720] & 0xff, l8 + 136L);
       if ((b[((int) l8) - 60640] & 0xff) != 1) { break L5; }
       Words.put64(b, ((int) l8) - 60568, Words.get64(b, ((int) l18) - 60704));
       Words.put64(b, ((int) l8) - 60576, Words.get64(b, ((int) l18) - 60712));
@@ -2610,9 +3512,9 @@ static void f122(State m, long l0, long l1, long l2, long l3, long l4, int l5, l
         if (l30 == 22235) { break L33; }
         if (l30 != 20845) { break L5; }
        }
-       if (f127(m, l1, l23) == 0) { break L5; }
+       if (f134(m, l1, l23) == 0) { break L5; }
       }
-      if (f127(m, l1, l2) != 0) { break L5; }
+      if (f134(m, l1, l2) != 0) { break L5; }
       l22 = 84704L;
       l23 = 4L;
       l29 = 0;
@@ -2683,7 +3585,7 @@ static void f122(State m, long l0, long l1, long l2, long l3, long l4, int l5, l
         break L47;
        }
       }
-      final int x87 = f122_1(m, l1, l2, l8, l9, l13, l14, l15, l16, l18, l20, l21, l22, l23, l24, l25, l27, l28, l29, l30, l31, l32);
+      final int x87 = f129_1(m, l1, l2, l8, l9, l13, l14, l15, l16, l18, l20, l21, l22, l23, l24, l25, l27, l28, l29, l30, l31, l32);
       l22 = m.kept[0];
       l23 = m.kept[1];
       l24 = m.kept[2];
@@ -2698,7 +3600,7 @@ static void f122(State m, long l0, long l1, long l2, long l3, long l4, int l5, l
       case 1: break L5;
       case 2: break L7;
       }
-      if (f132(m, 84836L, 4L, l1, l2) == 0) { break L5; }
+      if (f139(m, 84836L, 4L, l1, l2) == 0) { break L5; }
      }
      l19 = ((l21 << 16L) | (l19 << 8L)) | l17;
      l27 = l26 & 255;
@@ -2729,7 +3631,7 @@ static void f122(State m, long l0, long l1, long l2, long l3, long l4, int l5, l
  throw State.trap();
 }
 
-static int f123_1(State m, int l1, long l2, long l3, long l4, long l5, long l6, int l9, int l10, int l11) {
+static int f130_1(State m, int l1, long l2, long l3, long l4, long l5, long l6, int l9, int l10, int l11) {
  final byte[] b = m.bytes;
  int exit = 0;
  PART: {
@@ -3228,7 +4130,7 @@ static int f123_1(State m, int l1, long l2, long l3, long l4, long l5, long l6, 
  return exit;
 }
 
-static void f123(State m, long l0, int l1, long l2, long l3) {
+static void f130(State m, long l0, int l1, long l2, long l3) {
  final byte[] b = m.bytes;
  long l4 = 0;
  long l5 = 0;
@@ -3260,7 +4162,7 @@ static void f123(State m, long l0, int l1, long l2, long l3) {
            L11: {
             L12: {
              L13: {
-              final int x92 = f123_1(m, l1, l2, l3, l4, l5, l6, l9, l10, l11);
+              final int x92 = f130_1(m, l1, l2, l3, l4, l5, l6, l9, l10, l11);
               l1 = (int) m.kept[0];
               l2 = m.kept[1];
               l3 = m.kept[2];
@@ -3409,7 +4311,7 @@ static void f123(State m, long l0, int l1, long l2, long l3) {
             Words.put64(b, ((int) l4) - 60488, 0L);
             Words.put64(b, ((int) l4) - 60480, 0L);
             l3 = 1L;
-            f133(m, l4 + 248L, 83668L, 1L, 83672L, 2L, l5, l6);
+            f140(m, l4 + 248L, 83668L, 1L, 83672L, 2L, l5, l6);
             L110: {
              L111: {
               if ((b[((int) l4) - 60472] & 0xff) != 1) { break L111; }
@@ -3417,7 +4319,7 @@ static void f123(State m, long l0, int l1, long l2, long l3) {
               Words.put64(b, ((int) l4) - 60488, Words.get64(b, ((int) l4) - 60464));
               break L110;
              }
-             f133(m, l4 + 224L, 83680L, 2L, 83688L, 2L, l5, l6);
+             f140(m, l4 + 224L, 83680L, 2L, 83688L, 2L, l5, l6);
              l3 = b[((int) l4) - 60496] & 0xffL;
             }
             Words.put64(b, ((int) l4) - 60688, l3);
@@ -3425,16 +4327,16 @@ static void f123(State m, long l0, int l1, long l2, long l3) {
             Words.put64(b, ((int) l4) - 60672, Words.get64(b, ((int) l4) - 60480));
             break L2;
            }
-           f134(m, l4 + 32L, 20998, l2, l3);
+           f141(m, l4 + 32L, 20998, l2, l3);
            break L2;
           }
-          f134(m, l4 + 32L, 31186, l2, l3);
+          f141(m, l4 + 32L, 31186, l2, l3);
           break L2;
          }
-         f133(m, l4 + 8L, 83608L, 2L, 83568L, 1L, l2, l3);
+         f140(m, l4 + 8L, 83608L, 2L, 83568L, 1L, l2, l3);
          L112: {
           if ((b[((int) l4) - 60712] & 0xff) != 1) { break L112; }
-          f135(m, l4 + 32L, Words.get64(b, ((int) l4) - 60704), Words.get64(b, ((int) l4) - 60696));
+          f142(m, l4 + 32L, Words.get64(b, ((int) l4) - 60704), Words.get64(b, ((int) l4) - 60696));
           break L2;
          }
          Words.put64(b, ((int) l0) - 60704, 0L);
@@ -3442,7 +4344,7 @@ static void f123(State m, long l0, int l1, long l2, long l3) {
          Words.put64(b, ((int) l0) - 60720, 0L);
          break L1;
         }
-        f133(m, l4 + 32L, 83616L, 13L, 83568L, 1L, l2, l3);
+        f140(m, l4 + 32L, 83616L, 13L, 83568L, 1L, l2, l3);
         break L2;
        }
        Words.put64(b, ((int) l4) - 60456, 0L);
@@ -3475,7 +4377,7 @@ static void f123(State m, long l0, int l1, long l2, long l3) {
          if (l1 == 24213) { break L3; }
          if (l1 == 26411) { break L3; }
         }
-        f133(m, l4 + 248L, 83728L, 3L, 83740L, 1L, l2, l3);
+        f140(m, l4 + 248L, 83728L, 3L, 83740L, 1L, l2, l3);
         L118: {
          if ((b[((int) l4) - 60472] & 0xff) != 1) { break L118; }
          Words.put64(b, ((int) l4) - 60672, Words.get64(b, ((int) l4) - 60456));
@@ -3584,7 +4486,7 @@ static void f123(State m, long l0, int l1, long l2, long l3) {
       Words.put64(b, ((int) l4) - 60648, 0L);
       Words.put64(b, ((int) l4) - 60656, 0L);
       Words.put64(b, ((int) l4) - 60664, 0L);
-      f133(m, l4 + 224L, 83788L, 3L, 83800L, 1L, l2, l3);
+      f140(m, l4 + 224L, 83788L, 3L, 83800L, 1L, l2, l3);
       L127: {
        if ((b[((int) l4) - 60496] & 0xff) != 1) { break L127; }
        Words.put64(b, ((int) l4) - 60688, 1L);
@@ -3592,7 +4494,7 @@ static void f123(State m, long l0, int l1, long l2, long l3) {
        Words.put64(b, ((int) l4) - 60672, Words.get64(b, ((int) l4) - 60480));
        break L2;
       }
-      f133(m, l4 + 200L, 83804L, 4L, 83820L, 1L, l2, l3);
+      f140(m, l4 + 200L, 83804L, 4L, 83820L, 1L, l2, l3);
       L128: {
        if ((b[((int) l4) - 60520] & 0xff) != 1) { break L128; }
        Words.put64(b, ((int) l4) - 60688, 1L);
@@ -3600,7 +4502,7 @@ static void f123(State m, long l0, int l1, long l2, long l3) {
        Words.put64(b, ((int) l4) - 60672, Words.get64(b, ((int) l4) - 60504));
        break L2;
       }
-      f133(m, l4 + 176L, 83824L, 1L, 83828L, 1L, l2, l3);
+      f140(m, l4 + 176L, 83824L, 1L, 83828L, 1L, l2, l3);
       L129: {
        if ((b[((int) l4) - 60544] & 0xff) != 1) { break L129; }
        Words.put64(b, ((int) l4) - 60688, 1L);
@@ -3608,7 +4510,7 @@ static void f123(State m, long l0, int l1, long l2, long l3) {
        Words.put64(b, ((int) l4) - 60672, Words.get64(b, ((int) l4) - 60528));
        break L2;
       }
-      f133(m, l4 + 152L, 83832L, 5L, 83852L, 3L, l2, l3);
+      f140(m, l4 + 152L, 83832L, 5L, 83852L, 3L, l2, l3);
       L130: {
        if ((b[((int) l4) - 60568] & 0xff) != 1) { break L130; }
        Words.put64(b, ((int) l4) - 60688, 1L);
@@ -3616,7 +4518,7 @@ static void f123(State m, long l0, int l1, long l2, long l3) {
        Words.put64(b, ((int) l4) - 60672, Words.get64(b, ((int) l4) - 60552));
        break L2;
       }
-      f133(m, l4 + 128L, 83864L, 3L, 83876L, 1L, l2, l3);
+      f140(m, l4 + 128L, 83864L, 3L, 83876L, 1L, l2, l3);
       L131: {
        if ((b[((int) l4) - 60592] & 0xff) != 1) { break L131; }
        Words.put64(b, ((int) l4) - 60688, 1L);
@@ -3624,7 +4526,7 @@ static void f123(State m, long l0, int l1, long l2, long l3) {
        Words.put64(b, ((int) l4) - 60672, Words.get64(b, ((int) l4) - 60576));
        break L2;
       }
-      f133(m, l4 + 104L, 83880L, 2L, 83888L, 1L, l2, l3);
+      f140(m, l4 + 104L, 83880L, 2L, 83888L, 1L, l2, l3);
       L132: {
        if ((b[((int) l4) - 60616] & 0xff) != 1) { break L132; }
        Words.put64(b, ((int) l4) - 60688, 1L);
@@ -3632,7 +4534,7 @@ static void f123(State m, long l0, int l1, long l2, long l3) {
        Words.put64(b, ((int) l4) - 60672, Words.get64(b, ((int) l4) - 60600));
        break L2;
       }
-      f133(m, l4 + 80L, 83892L, 2L, 83900L, 4L, l2, l3);
+      f140(m, l4 + 80L, 83892L, 2L, 83900L, 4L, l2, l3);
       L133: {
        if ((b[((int) l4) - 60640] & 0xff) != 1) { break L133; }
        Words.put64(b, ((int) l4) - 60688, 1L);
@@ -3640,7 +4542,7 @@ static void f123(State m, long l0, int l1, long l2, long l3) {
        Words.put64(b, ((int) l4) - 60672, Words.get64(b, ((int) l4) - 60624));
        break L2;
       }
-      f133(m, l4 + 56L, 83820L, 1L, 83916L, 2L, l2, l3);
+      f140(m, l4 + 56L, 83820L, 1L, 83916L, 2L, l2, l3);
       L134: {
        if ((b[((int) l4) - 60664] & 0xff) != 1) { break L134; }
        Words.put64(b, ((int) l4) - 60688, 1L);
@@ -3648,7 +4550,7 @@ static void f123(State m, long l0, int l1, long l2, long l3) {
        Words.put64(b, ((int) l4) - 60672, Words.get64(b, ((int) l4) - 60648));
        break L2;
       }
-      f136(m, l4 + 248L, l2, l3);
+      f143(m, l4 + 248L, l2, l3);
       Words.put64(b, ((int) l4) - 60688, b[((int) l4) - 60472] & 0xffL);
       Words.put64(b, ((int) l4) - 60680, Words.get64(b, ((int) l4) - 60464));
       Words.put64(b, ((int) l4) - 60672, Words.get64(b, ((int) l4) - 60456));
@@ -3687,14 +4589,14 @@ static void f123(State m, long l0, int l1, long l2, long l3) {
         l3 = l3 - l5;
         break L136;
        }
-       f133(m, l4 + 224L, 83696L, 1L, 83700L, 1L, l2, l3);
+       f140(m, l4 + 224L, 83696L, 1L, 83700L, 1L, l2, l3);
        L141: {
         if ((b[((int) l4) - 60496] & 0xff) != 1) { break L141; }
         l3 = Words.get64(b, ((int) l4) - 60480);
         l2 = Words.get64(b, ((int) l4) - 60488);
         break L136;
        }
-       f133(m, l4 + 248L, 83704L, 2L, 83712L, 1L, l2, l3);
+       f140(m, l4 + 248L, 83704L, 2L, 83712L, 1L, l2, l3);
        if ((b[((int) l4) - 60472] & 0xff) != 1) { break L135; }
        l3 = Words.get64(b, ((int) l4) - 60456);
        l2 = Words.get64(b, ((int) l4) - 60464);
@@ -3770,7 +4672,7 @@ static void f123(State m, long l0, int l1, long l2, long l3) {
  m.g0 = l4 + 272L;
 }
 
-static void f124(State m, long l0, long l1, long l2, long l3, long l4, int l5, int l6) {
+static void f131(State m, long l0, long l1, long l2, long l3, long l4, int l5, int l6) {
  final byte[] b = m.bytes;
  long l7 = 0;
  long l8 = 0;
@@ -3879,13 +4781,13 @@ static void f124(State m, long l0, long l1, long l2, long l3, long l4, int l5, i
          if ((l13 + -991120) + Integer.MIN_VALUE >= -2147483638) { break L22; }
          break L3;
         }
-        if (f147(m, l5, l6, l12, l15, l16, l3, l4) == 0) { break L22; }
-        if (f148(m, l5, l6, l1, l8, l12, l3, l4) == 0) { break L3; }
+        if (f154(m, l5, l6, l12, l15, l16, l3, l4) == 0) { break L22; }
+        if (Core5.f155(m, l5, l6, l1, l8, l12, l3, l4) == 0) { break L3; }
        }
        l10 = 0L;
        l11 = 0L;
        l9 = 0L;
-       if (Core5.f149(m, l5, l6, l1, l8, l12, l3, l4) != 0) { break L3; }
+       if (Core5.f156(m, l5, l6, l1, l8, l12, l3, l4) != 0) { break L3; }
        break L2;
       }
       l10 = 0L;
@@ -3991,13 +4893,13 @@ static void f124(State m, long l0, long l1, long l2, long l3, long l4, int l5, i
        l10 = 0L;
        l11 = 0L;
        l9 = 0L;
-       if (Core3.f102(m, l5, l6, l3, l4) != 0) { break L3; }
+       if (Core3.f109(m, l5, l6, l3, l4) != 0) { break L3; }
        break L2;
       }
       l10 = 0L;
       l11 = 0L;
       l9 = 0L;
-      if (Core3.f101(m, l3, l4) == 0) { break L3; }
+      if (Core3.f108(m, l3, l4) == 0) { break L3; }
       break L2;
      }
      L41: {
@@ -4125,13 +5027,13 @@ static void f124(State m, long l0, long l1, long l2, long l3, long l4, int l5, i
        if ((l12 + -65296) + Integer.MIN_VALUE >= -2147483638) { break L65; }
        break L3;
       }
-      if (f147(m, l5, l6, l12, l13, l15, l3, l4) == 0) { break L65; }
-      if (f148(m, l5, l6, l1, l8, l12, l3, l4) == 0) { break L3; }
+      if (f154(m, l5, l6, l12, l13, l15, l3, l4) == 0) { break L65; }
+      if (Core5.f155(m, l5, l6, l1, l8, l12, l3, l4) == 0) { break L3; }
      }
      l10 = 0L;
      l11 = 0L;
      l9 = 0L;
-     if (Core5.f149(m, l5, l6, l1, l8, l12, l3, l4) != 0) { break L3; }
+     if (Core5.f156(m, l5, l6, l1, l8, l12, l3, l4) != 0) { break L3; }
      break L2;
     }
     l10 = 0L;
@@ -4237,15 +5139,15 @@ static void f124(State m, long l0, long l1, long l2, long l3, long l4, int l5, i
      l10 = 0L;
      l11 = 0L;
      l9 = 0L;
-     if (Core3.f102(m, l5, l6, l3, l4) != 0) { break L3; }
+     if (Core3.f109(m, l5, l6, l3, l4) != 0) { break L3; }
      break L2;
     }
     l10 = 0L;
     l11 = 0L;
     l9 = 0L;
-    if (Core3.f101(m, l3, l4) != 0) { break L2; }
+    if (Core3.f108(m, l3, l4) != 0) { break L2; }
    }
-   Core5.f150(m, l7, l5, l6, l1, l2, l12, l3, l4);
+   Core5.f157(m, l7, l5, l6, l1, l2, l12, l3, l4);
    l10 = 1L;
    l9 = Words.get64(b, ((int) l7) - 60712);
    l11 = Words.get64(b, ((int) l7) - 60720);
@@ -4259,7 +5161,7 @@ static void f124(State m, long l0, long l1, long l2, long l3, long l4, int l5, i
  throw State.trap();
 }
 
-static int f125(State m, long l0) {
+static int f132(State m, long l0) {
  final byte[] b = m.bytes;
  long l1 = 0;
  long l2 = 0;
@@ -4479,7 +5381,7 @@ static int f125(State m, long l0) {
     Words.put32(b, ((int) l1) - 60712, l12);
     Words.put64(b, ((int) l1) - 60720, 1L);
    }
-   final int t47 = Core3.f103(m, l1);
+   final int t47 = Core3.f110(m, l1);
   }
   l9 = 0;
  }
@@ -4570,7 +5472,7 @@ static int f125(State m, long l0) {
        if (l12 == 22810) { break L48; }
        if (l12 != 22909) { break L60; }
       }
-      l10 = Core3.f104(m, l12, l0, l6);
+      l10 = Core3.f111(m, l12, l0, l6);
       break L48;
      }
      L66: {
@@ -4685,7 +5587,7 @@ static int f125(State m, long l0) {
     Words.put64(b, ((int) l1) - 60704, 0L);
     Words.put64(b, ((int) l1) - 60696, 0L);
    }
-   final int t92 = Core3.f105(m, l1);
+   final int t92 = Core3.f112(m, l1);
   }
   l10 = 0;
  }
@@ -4693,7 +5595,7 @@ static int f125(State m, long l0) {
   L94: {
    L95: {
     if (l9 == 0) { break L95; }
-    if ((l10 | Core3.f108(m, l3, l4)) == 0) { break L94; }
+    if ((l10 | Core3.f115(m, l3, l4)) == 0) { break L94; }
     l12 = 1;
     break L93;
    }
@@ -4701,13 +5603,13 @@ static int f125(State m, long l0) {
    l12 = 1;
    break L93;
   }
-  l12 = Core3.f109(m, l3, l4);
+  l12 = Core3.f116(m, l3, l4);
  }
  m.g0 = l1 + 32L;
  return l12;
 }
 
-static int f126(State m, long l0, long l1, long l2, long l3) {
+static int f133(State m, long l0, long l1, long l2, long l3) {
  final byte[] b = m.bytes;
  long l4 = 0;
  long l5 = 0;
@@ -5131,7 +6033,7 @@ static int f126(State m, long l0, long l1, long l2, long l3) {
  return l7;
 }
 
-static int f127(State m, long l0, long l1) {
+static int f134(State m, long l0, long l1) {
  final byte[] b = m.bytes;
  long l2 = 0;
  long l3 = 0;
@@ -5169,8 +6071,8 @@ static int f127(State m, long l0, long l1) {
     if (l6 == 36913) { break L2; }
    }
    l5 = 1;
-   if (f145(m, 83700L, 1L, 83696L, 1L, l0, l1) != 0) { break L2; }
-   l5 = f145(m, 83712L, 1L, 83704L, 2L, l0, l1);
+   if (f152(m, 83700L, 1L, 83696L, 1L, l0, l1) != 0) { break L2; }
+   l5 = f152(m, 83712L, 1L, 83704L, 2L, l0, l1);
   }
   m.g0 = l2;
   final int t7 = l5;
@@ -5179,7 +6081,7 @@ static int f127(State m, long l0, long l1) {
  throw State.trap();
 }
 
-static int f128(State m, long l0, long l1) {
+static int f135(State m, long l0, long l1) {
  final byte[] b = m.bytes;
  int l2 = 0;
  int l3 = 0;
@@ -5243,7 +6145,7 @@ static int f128(State m, long l0, long l1) {
  throw State.trap();
 }
 
-static void f129(State m, long l0, int l1, long l2, long l3) {
+static void f136(State m, long l0, int l1, long l2, long l3) {
  final byte[] b = m.bytes;
  long l4 = 0;
  long l5 = 0;
@@ -5299,10 +6201,10 @@ static void f129(State m, long l0, int l1, long l2, long l3) {
      Words.put64(b, ((int) l4) - 60712, l3);
      break L2;
     }
-    f123(m, l4 + 8L, 21, l2, l3);
+    f130(m, l4 + 8L, 21, l2, l3);
     break L2;
    }
-   f123(m, l4 + 8L, 22, l2, l3);
+   f130(m, l4 + 8L, 22, l2, l3);
   }
   Words.put64(b, ((int) l0) - 60720, b[((int) l4) - 60712] & 0xffL);
   Words.put64(b, ((int) (l0 + 8L)) - 60720, Words.get64(b, ((int) l4) - 60704));
@@ -5313,7 +6215,7 @@ static void f129(State m, long l0, int l1, long l2, long l3) {
  throw State.trap();
 }
 
-static int f130_1(State m, long l0, int l1, int l2, long l3, long l4, long l5, long l6, long l7, long l8, long l9, long l10, int l12, int l13, int l14, int l15, int l16, int l17, int l18, int l19, int l20) {
+static int f137_1(State m, long l0, int l1, int l2, long l3, long l4, long l5, long l6, long l7, long l8, long l9, long l10, int l12, int l13, int l14, int l15, int l16, int l17, int l18, int l19, int l20) {
  final byte[] b = m.bytes;
  int exit = 0;
  PART: {
@@ -5327,14 +6229,14 @@ static int f130_1(State m, long l0, int l1, int l2, long l3, long l4, long l5, l
      default: break L25;
      }
     }
-    f121(m, l4 + 152L, l12 & 1, l6, l5);
+    f128(m, l4 + 152L, l12 & 1, l6, l5);
     l9 = Words.get64(b, ((int) l4) - 60560);
     l7 = Words.get64(b, ((int) l4) - 60568);
     Words.put64(b, ((int) l4) - 60488, 0L);
     Words.put64(b, ((int) l4) - 60496, 0L);
     Words.put64(b, ((int) l4) - 60504, 0L);
     Words.put64(b, ((int) l4) - 60512, 0L);
-    f120(m, l4 + 208L, l7, l9);
+    f127(m, l4 + 208L, l7, l9);
     l5 = Words.get64(b, ((int) l4) - 60512);
     L26: {
      if ((l19 = ((l10 = Words.get64(b, ((int) l4) - 60504)) == 0L) ? 1 : 0) != 0) { break L26; }
@@ -5410,35 +6312,35 @@ static int f130_1(State m, long l0, int l1, int l2, long l3, long l4, long l5, l
                 default: break L45;
                 }
                }
-               f137(m, l4 + 8L, l5, l10);
+               f144(m, l4 + 8L, l5, l10);
                l18 = Words.get16(b, ((int) l4) - 60710) & 0xffff;
                l12 = b[((int) l4) - 60712] & 0xff;
                exit = 3; break PART;
               }
-              f138(m, l4 + 16L, l5, l10);
+              f145(m, l4 + 16L, l5, l10);
               l18 = Words.get16(b, ((int) l4) - 60702) & 0xffff;
               l12 = b[((int) l4) - 60704] & 0xff;
               exit = 3; break PART;
              }
-             f138(m, l4 + 32L, l5, l10);
+             f145(m, l4 + 32L, l5, l10);
              l12 = 1;
              L46: {
               if ((b[((int) l4) - 60688] & 0xff) != 1) { break L46; }
               l18 = Words.get16(b, ((int) l4) - 60686) & 0xffff;
               exit = 3; break PART;
              }
-             f139(m, l4 + 24L, l5, l10);
+             f146(m, l4 + 24L, l5, l10);
              l18 = Words.get16(b, ((int) l4) - 60694) & 0xffff;
              l12 = b[((int) l4) - 60696] & 0xff;
              exit = 3; break PART;
             }
-            f140(m, l4 + 40L, l5, l10);
+            f147(m, l4 + 40L, l5, l10);
             final int t47 = b[((int) l4) - 60679] & 0xff;
             final int t48 = l12 = (b[((int) l4) - 60680] & 0xff) & 1;
             l18 = t48 != 0 ? t47 : 0;
             exit = 3; break PART;
            }
-           f140(m, l4 + 56L, l5, l10);
+           f147(m, l4 + 56L, l5, l10);
            l12 = 1;
            L49: {
             L50: {
@@ -5446,7 +6348,7 @@ static int f130_1(State m, long l0, int l1, int l2, long l3, long l4, long l5, l
              l18 = (b[((int) l4) - 60663] & 0xff) & 255;
              break L49;
             }
-            f141(m, l4 + 48L, l5, l10);
+            f148(m, l4 + 48L, l5, l10);
             final int t51 = (b[((int) l4) - 60671] & 0xff) & 255;
             final int t52 = (l12 = b[((int) l4) - 60672] & 0xff) & 1;
             l18 = t52 != 0 ? t51 : 0;
@@ -5478,7 +6380,7 @@ static int f130_1(State m, long l0, int l1, int l2, long l3, long l4, long l5, l
            l12 = 0;
            l18 = 0;
            if (l10 == l3) { break L53; }
-           f140(m, l4 + 64L, l5, l10);
+           f147(m, l4 + 64L, l5, l10);
            final int t58 = (b[((int) l4) - 60655] & 0xff) & 255;
            final int t59 = (l12 = b[((int) l4) - 60656] & 0xff) & 1;
            l18 = t59 != 0 ? t58 : 0;
@@ -5486,13 +6388,13 @@ static int f130_1(State m, long l0, int l1, int l2, long l3, long l4, long l5, l
           l12 = l12 & 1;
           exit = 3; break PART;
          }
-         f141(m, l4 + 72L, l5, l10);
+         f148(m, l4 + 72L, l5, l10);
          final int t60 = b[((int) l4) - 60647] & 0xff;
          final int t61 = l12 = (b[((int) l4) - 60648] & 0xff) & 1;
          l18 = t61 != 0 ? t60 : 0;
          exit = 3; break PART;
         }
-        f139(m, l4 + 80L, l5, l10);
+        f146(m, l4 + 80L, l5, l10);
         l18 = Words.get16(b, ((int) l4) - 60638) & 0xffff;
         l12 = b[((int) l4) - 60640] & 0xff;
         exit = 3; break PART;
@@ -5551,7 +6453,7 @@ static int f130_1(State m, long l0, int l1, int l2, long l3, long l4, long l5, l
        if (l20 != 22235) { exit = 4; break PART; }
        exit = 8; break PART;
       }
-      f142(m, l4 + 120L, l5, l10);
+      f149(m, l4 + 120L, l5, l10);
       l12 = 1;
       L69: {
        if ((b[((int) l4) - 60600] & 0xff) != 1) { break L69; }
@@ -5629,7 +6531,7 @@ static int f130_1(State m, long l0, int l1, int l2, long l3, long l4, long l5, l
       if (l20 != 22235) { exit = 14; break PART; }
       exit = 13; break PART;
      }
-     f142(m, l4 + 128L, l5, l10);
+     f149(m, l4 + 128L, l5, l10);
      final int t79 = b[((int) l4) - 60591] & 0xff;
      final int t80 = l12 = (b[((int) l4) - 60592] & 0xff) & 1;
      l18 = t80 != 0 ? t79 : 0;
@@ -5666,7 +6568,7 @@ static int f130_1(State m, long l0, int l1, int l2, long l3, long l4, long l5, l
      L86: {
       L87: {
        if (l10 == l3) { break L87; }
-       f142(m, l4 + 144L, l5, l10);
+       f149(m, l4 + 144L, l5, l10);
        l18 = b[((int) l4) - 60575] & 0xff;
        l12 = b[((int) l4) - 60576] & 0xff;
        break L86;
@@ -5682,8 +6584,8 @@ static int f130_1(State m, long l0, int l1, int l2, long l3, long l4, long l5, l
     l12 = l12 & 1;
     exit = 3; break PART;
    }
-   f121(m, l4 + 168L, l12 & 1, l6, l5);
-   f123(m, l4 + 184L, l2, Words.get64(b, ((int) l4) - 60552), Words.get64(b, ((int) l4) - 60544));
+   f128(m, l4 + 168L, l12 & 1, l6, l5);
+   f130(m, l4 + 184L, l2, Words.get64(b, ((int) l4) - 60552), Words.get64(b, ((int) l4) - 60544));
    L90: {
     if ((b[((int) l4) - 60536] & 0xff) != 1) { break L90; }
     l19 = 0;
@@ -5718,7 +6620,7 @@ static int f130_1(State m, long l0, int l1, int l2, long l3, long l4, long l5, l
  return exit;
 }
 
-static void f130(State m, long l0, int l1, int l2, long l3) {
+static void f137(State m, long l0, int l1, int l2, long l3) {
  final byte[] b = m.bytes;
  long l4 = 0;
  long l5 = 0;
@@ -5779,7 +6681,7 @@ static void f130(State m, long l0, int l1, int l2, long l3) {
                        l20 = l11;
                        l8 = l6;
                        l3 = l5;
-                       final int x91 = f130_1(m, l0, l1, l2, l3, l4, l5, l6, l7, l8, l9, l10, l12, l13, l14, l15, l16, l17, l18, l19, l20);
+                       final int x91 = f137_1(m, l0, l1, l2, l3, l4, l5, l6, l7, l8, l9, l10, l12, l13, l14, l15, l16, l17, l18, l19, l20);
                        l3 = m.kept[0];
                        l5 = m.kept[1];
                        l6 = m.kept[2];
@@ -6112,7 +7014,7 @@ static void f130(State m, long l0, int l1, int l2, long l3) {
  m.g0 = l4 + 240L;
 }
 
-static int f131(State m, long l0, long l1, long l2, long l3, long l4, long l5) {
+static int f138(State m, long l0, long l1, long l2, long l3, long l4, long l5) {
  final byte[] b = m.bytes;
  int l6 = 0;
  int l7 = 0;
@@ -6189,7 +7091,7 @@ static int f131(State m, long l0, long l1, long l2, long l3, long l4, long l5) {
  throw State.trap();
 }
 
-static int f132(State m, long l0, long l1, long l2, long l3) {
+static int f139(State m, long l0, long l1, long l2, long l3) {
  final byte[] b = m.bytes;
  long l4 = 0;
  long l5 = 0;
@@ -6281,7 +7183,7 @@ static int f132(State m, long l0, long l1, long l2, long l3) {
  throw State.trap();
 }
 
-static void f133(State m, long l0, long l1, long l2, long l3, long l4, long l5, long l6) {
+static void f140(State m, long l0, long l1, long l2, long l3, long l4, long l5, long l6) {
  final byte[] b = m.bytes;
  int l7 = 0;
  int l8 = 0;
@@ -6398,7 +7300,7 @@ static void f133(State m, long l0, long l1, long l2, long l3, long l4, long l5, 
  Words.put64(b, ((int) (l0 + 8L)) - 60720, l2);
 }
 
-static void f134(State m, long l0, int l1, long l2, long l3) {
+static void f141(State m, long l0, int l1, long l2, long l3) {
  final byte[] b = m.bytes;
  long l4 = 0;
  long l5 = 0;
@@ -6414,7 +7316,7 @@ static void f134(State m, long l0, int l1, long l2, long l3) {
   Words.put64(b, ((int) l4) - 60704, 0L);
   Words.put64(b, ((int) l4) - 60712, 0L);
   Words.put32(b, ((int) l4) - 60716, l1);
-  f133(m, l4 + 8L, l4 + 4L, 1L, 83680L, 2L, l2, l3);
+  f140(m, l4 + 8L, l4 + 4L, 1L, 83680L, 2L, l2, l3);
   L2: {
    L3: {
     if ((b[((int) l4) - 60712] & 0xff) != 1) { break L3; }
@@ -6463,7 +7365,7 @@ static void f134(State m, long l0, int l1, long l2, long l3) {
  throw State.trap();
 }
 
-static void f135(State m, long l0, long l1, long l2) {
+static void f142(State m, long l0, long l1, long l2) {
  final byte[] b = m.bytes;
  long l3 = 0;
  long l4 = 0;
@@ -6490,7 +7392,7 @@ static void f135(State m, long l0, long l1, long l2) {
    Words.put64(b, ((int) l3) - 60624, 0L);
    Words.put64(b, ((int) l3) - 60616, 0L);
    Words.put64(b, ((int) l3) - 60608, 0L);
-   f133(m, l3 + 120L, 83668L, 1L, 83672L, 2L, l1, l2);
+   f140(m, l3 + 120L, 83668L, 1L, 83672L, 2L, l1, l2);
    L3: {
     L4: {
      L5: {
@@ -6499,7 +7401,7 @@ static void f135(State m, long l0, long l1, long l2) {
       Words.put64(b, ((int) l3) - 60664, Words.get64(b, ((int) l3) - 60592));
       break L4;
      }
-     f133(m, l3 + 96L, 83680L, 2L, 83688L, 2L, l1, l2);
+     f140(m, l3 + 96L, 83680L, 2L, 83688L, 2L, l1, l2);
      Words.put64(b, ((int) l3) - 60664, Words.get64(b, ((int) l3) - 60616));
      Words.put64(b, ((int) l3) - 60656, Words.get64(b, ((int) l3) - 60608));
      if ((b[((int) l3) - 60624] & 0xff) != 1) { break L3; }
@@ -6534,7 +7436,7 @@ static void f135(State m, long l0, long l1, long l2) {
     Words.put64(b, ((int) l3) - 60640, l1);
     break L1;
    }
-   f133(m, l3 + 32L, 83696L, 1L, 83700L, 1L, l1, l2);
+   f140(m, l3 + 32L, 83696L, 1L, 83700L, 1L, l1, l2);
    L9: {
     if ((b[((int) l3) - 60688] & 0xff) != 1) { break L9; }
     Words.put64(b, ((int) l0) - 60720, 1L);
@@ -6542,7 +7444,7 @@ static void f135(State m, long l0, long l1, long l2) {
     Words.put64(b, ((int) (l0 + 16L)) - 60720, Words.get64(b, ((int) l3) - 60672));
     break L1;
    }
-   f133(m, l3 + 8L, 83704L, 2L, 83712L, 1L, l1, l2);
+   f140(m, l3 + 8L, 83704L, 2L, 83712L, 1L, l1, l2);
    L10: {
     if ((b[((int) l3) - 60712] & 0xff) != 1) { break L10; }
     Words.put64(b, ((int) l0) - 60720, 1L);
@@ -6550,7 +7452,7 @@ static void f135(State m, long l0, long l1, long l2) {
     Words.put64(b, ((int) (l0 + 16L)) - 60720, Words.get64(b, ((int) l3) - 60696));
     break L1;
    }
-   f133(m, l3 + 72L, 83716L, 1L, 83720L, 2L, l1, l2);
+   f140(m, l3 + 72L, 83716L, 1L, 83720L, 2L, l1, l2);
    Words.put64(b, ((int) l0) - 60720, b[((int) l3) - 60648] & 0xffL);
    Words.put64(b, ((int) (l0 + 8L)) - 60720, Words.get64(b, ((int) l3) - 60640));
    Words.put64(b, ((int) (l0 + 16L)) - 60720, Words.get64(b, ((int) l3) - 60632));
@@ -6561,7 +7463,7 @@ static void f135(State m, long l0, long l1, long l2) {
  m.g0 = l3 + 144L;
 }
 
-static void f136(State m, long l0, long l1, long l2) {
+static void f143(State m, long l0, long l1, long l2) {
  final byte[] b = m.bytes;
  long l3 = 0;
  long l4 = 0;
@@ -6595,7 +7497,7 @@ static void f136(State m, long l0, long l1, long l2) {
      if (l5 != 26089) { break L3; }
     }
     Words.put64(b, ((int) l3) - 60712, 1L);
-    f133(m, l3 + 8L, 83924L, 1L, 83556L, 2L, l1 = l1 + l4, l2 = l2 - l4);
+    f140(m, l3 + 8L, 83924L, 1L, 83556L, 2L, l1 = l1 + l4, l2 = l2 - l4);
     Words.put64(b, ((int) (l0 + 16L)) - 60720, ((l5 = ((b[((int) l3) - 60712] & 0xff) != 1) ? 1 : 0) != 0) ? l2 : 0L);
     Words.put64(b, ((int) (l0 + 8L)) - 60720, l5 != 0 ? l1 : 0L);
     Words.put64(b, ((int) l0) - 60720, l5 & 0xffffffffL);
@@ -6611,7 +7513,7 @@ static void f136(State m, long l0, long l1, long l2) {
  m.g0 = l3 + 32L;
 }
 
-static void f137(State m, long l0, long l1, long l2) {
+static void f144(State m, long l0, long l1, long l2) {
  final byte[] b = m.bytes;
  long l3 = 0;
  long l4 = 0;
@@ -6842,16 +7744,16 @@ static void f137(State m, long l0, long l1, long l2) {
     l7 = 0;
     l8 = 0;
     if (l2 != (l1 + l4)) { break L2; }
-    f143(m, l3 + 24L, l9);
+    f150(m, l3 + 24L, l9);
     l8 = b[((int) l3) - 60696] & 0xff;
     l13 = b[((int) l3) - 60695] & 0xff;
-    f143(m, l3 + 16L, l10);
+    f150(m, l3 + 16L, l10);
     l9 = b[((int) l3) - 60704] & 0xff;
     l14 = b[((int) l3) - 60703] & 0xff;
-    f143(m, l3 + 8L, l11);
+    f150(m, l3 + 8L, l11);
     l10 = b[((int) l3) - 60712] & 0xff;
     l11 = b[((int) l3) - 60711] & 0xff;
-    f143(m, l3, l12);
+    f150(m, l3, l12);
     l7 = 0;
     L37: {
      if (((l9 = (l10 = l10 & (b[((int) l3) - 60720] & 0xff)) & (l8 = l9 & l8)) & 1) != 0) { break L37; }
@@ -6877,7 +7779,7 @@ static void f137(State m, long l0, long l1, long l2) {
  throw State.trap();
 }
 
-static void f138(State m, long l0, long l1, long l2) {
+static void f145(State m, long l0, long l1, long l2) {
  final byte[] b = m.bytes;
  long l3 = 0;
  long l4 = 0;
@@ -6896,7 +7798,7 @@ static void f138(State m, long l0, long l1, long l2) {
       L6: {
        L7: {
         if ((l3 = l3) < 16L) { break L7; }
-        f137(m, l3 + 24L, l1, l2);
+        f144(m, l3 + 24L, l1, l2);
         l6 = 1;
         L8: {
          if ((b[((int) l3) - 60696] & 0xff) != 1) { break L8; }
@@ -7028,7 +7930,7 @@ static void f138(State m, long l0, long l1, long l2) {
    l6 = 0;
    l7 = 0;
    if (((b[((int) l3) - 60712] & 0xff) & 1) == 0) { break L2; }
-   f144(m, l3, l8, b[((int) l3) - 60711] & 0xff);
+   f151(m, l3, l8, b[((int) l3) - 60711] & 0xff);
    final int t24 = (b[((int) l3) - 60719] & 0xff) & 255;
    final int t25 = (l6 = b[((int) l3) - 60720] & 0xff) & 1;
    l7 = t25 != 0 ? t24 : 0;
@@ -7040,7 +7942,7 @@ static void f138(State m, long l0, long l1, long l2) {
  m.g0 = l3 + 32L;
 }
 
-static void f139(State m, long l0, long l1, long l2) {
+static void f146(State m, long l0, long l1, long l2) {
  final byte[] b = m.bytes;
  long l3 = 0;
  long l4 = 0;
@@ -7063,7 +7965,7 @@ static void f139(State m, long l0, long l1, long l2) {
       L6: {
        L7: {
         if ((l3 = l3) < 16L) { break L7; }
-        f140(m, l3 + 56L, l1, l2);
+        f147(m, l3 + 56L, l1, l2);
         l7 = 1;
         L8: {
          if ((b[((int) l3) - 60664] & 0xff) != 1) { break L8; }
@@ -7271,14 +8173,14 @@ static void f139(State m, long l0, long l1, long l2) {
     l10 = 0;
     break L34;
    }
-   f140(m, l3 + 16L, l4, l2);
+   f147(m, l3 + 16L, l4, l2);
    l9 = 1;
    L40: {
     if ((b[((int) l3) - 60704] & 0xff) != 1) { break L40; }
     l10 = b[((int) l3) - 60703] & 0xff;
     break L34;
    }
-   f141(m, l3 + 8L, l4, l2);
+   f148(m, l3 + 8L, l4, l2);
    l9 = (b[((int) l3) - 60712] & 0xff) & 1;
    l10 = b[((int) l3) - 60711] & 0xff;
   }
@@ -7291,7 +8193,7 @@ static void f139(State m, long l0, long l1, long l2) {
  m.g0 = l3 + 64L;
 }
 
-static void f140(State m, long l0, long l1, long l2) {
+static void f147(State m, long l0, long l1, long l2) {
  final byte[] b = m.bytes;
  long l3 = 0;
  long l4 = 0;
@@ -7624,7 +8526,7 @@ static void f140(State m, long l0, long l1, long l2) {
  m.g0 = l3 + 64L;
 }
 
-static void f141(State m, long l0, long l1, long l2) {
+static void f148(State m, long l0, long l1, long l2) {
  final byte[] b = m.bytes;
  long l3 = 0;
  long l4 = 0;
@@ -7747,7 +8649,7 @@ static void f141(State m, long l0, long l1, long l2) {
  m.g0 = l3 + 16L;
 }
 
-static void f142(State m, long l0, long l1, long l2) {
+static void f149(State m, long l0, long l1, long l2) {
  final byte[] b = m.bytes;
  long l3 = 0;
  long l4 = 0;
@@ -7833,7 +8735,7 @@ static void f142(State m, long l0, long l1, long l2) {
  throw State.trap();
 }
 
-static void f143(State m, long l0, int l1) {
+static void f150(State m, long l0, int l1) {
  final byte[] b = m.bytes;
  long l2 = 0;
  int l3 = 0;
@@ -7887,7 +8789,7 @@ static void f143(State m, long l0, int l1) {
  m.g0 = l2 + 16L;
 }
 
-static void f144(State m, long l0, int l1, int l2) {
+static void f151(State m, long l0, int l1, int l2) {
  final byte[] b = m.bytes;
  int l3 = 0;
  L1: {
@@ -7909,7 +8811,7 @@ static void f144(State m, long l0, int l1, int l2) {
  throw State.trap();
 }
 
-static int f145(State m, long l0, long l1, long l2, long l3, long l4, long l5) {
+static int f152(State m, long l0, long l1, long l2, long l3, long l4, long l5) {
  final byte[] b = m.bytes;
  long l6 = 0;
  long l7 = 0;
@@ -7997,7 +8899,7 @@ static int f145(State m, long l0, long l1, long l2, long l3, long l4, long l5) {
  return l9;
 }
 
-static int f146(State m, long l0, long l1, long l2, long l3) {
+static int f153(State m, long l0, long l1, long l2, long l3) {
  final byte[] b = m.bytes;
  int l4 = 0;
  int l5 = 0;
@@ -8054,7 +8956,7 @@ static int f146(State m, long l0, long l1, long l2, long l3) {
  throw State.trap();
 }
 
-static int f147(State m, int l0, int l1, int l2, int l3, int l4, long l5, long l6) {
+static int f154(State m, int l0, int l1, int l2, int l3, int l4, long l5, long l6) {
  long l7 = 0;
  int l8 = 0;
  L1: {
@@ -8118,11 +9020,11 @@ static int f147(State m, int l0, int l1, int l2, int l3, int l4, long l5, long l
      if (((1 << (l3 = l4 & 255)) & 65470) != 0) { break L2; }
      L14: {
       if (l3 != 0) { break L14; }
-      if (Core3.f102(m, l0, l1, l5, l6) == 0) { break L4; }
+      if (Core3.f109(m, l0, l1, l5, l6) == 0) { break L4; }
       m.g0 = l7;
       return 1;
      }
-     if (Core3.f101(m, l5, l6) != 0) { break L4; }
+     if (Core3.f108(m, l5, l6) != 0) { break L4; }
      m.g0 = l7;
      return 1;
     }
@@ -8137,409 +9039,5 @@ static int f147(State m, int l0, int l1, int l2, int l3, int l4, long l5, long l
   return t15;
  }
  throw State.trap();
-}
-
-static int f148(State m, int l0, int l1, long l2, long l3, int l4, long l5, long l6) {
- final byte[] b = m.bytes;
- long l7 = 0;
- long l8 = 0;
- int l9 = 0;
- int l10 = 0;
- int l11 = 0;
- int l12 = 0;
- int l13 = 0;
- m.g0 = l7 = m.g0 - 16L;
- L1: {
-  L2: {
-   L3: {
-    L4: {
-     if ((l7 = l7) < 16L) { break L4; }
-     L5: {
-      L6: {
-       if (l4 == 20841) { break L6; }
-       if (l4 != 20004) { break L5; }
-      }
-      if (Core5.f151(m, l0, l1, l2, l3) == 0) { break L5; }
-      L7: {
-       L8: {
-        L9: {
-         L10: {
-          L11: {
-           if (l6 + Long.MIN_VALUE < -9223372036854775805L) { break L11; }
-           if (((l9 = b[((int) l5) - 60720] & 0xff) & 240) != 224) { break L10; }
-           if (Words.get32(b, ((int) ((l8 = ((((l12 = (((l10 = b[((int) l5) - 60719] & 0xff) << 8) | ((l11 = b[((int) l5) - 60718] & 0xff) << 16)) | l9) & 0xffffffffL) * 953497L) >>> 22L) & 1016L) + 66852L)) - 60720) == l12) { break L9; }
-           l12 = 1;
-           break L1;
-          }
-          L12: {
-           if (!(l6 == 0L)) { break L12; }
-           l12 = 1;
-           break L1;
-          }
-          l9 = b[((int) l5) - 60720] & 0xff;
-         }
-         L13: {
-          if (((int) (byte) l9) > -1) { break L13; }
-          l12 = (b[((int) l5) - 60719] & 0xff) & 63;
-          L14: {
-           if (l9 + Integer.MIN_VALUE > -2147483425) { break L14; }
-           l9 = ((l9 << 6) & 1984) | l12;
-           break L13;
-          }
-          l10 = (b[((int) l5) - 60718] & 0xff) & 63;
-          L15: {
-           if (l9 + Integer.MIN_VALUE > -2147483409) { break L15; }
-           l9 = ((l12 << 6) | ((l9 << 12) & 61440)) | l10;
-           break L13;
-          }
-          l9 = ((l10 << 6) | ((l12 << 12) | ((l9 << 18) & 1835008))) | ((b[((int) l5) - 60717] & 0xff) & 63);
-         }
-         L16: {
-          if ((l9 + -2048) + Integer.MIN_VALUE > -2147420161) { break L16; }
-          if (Words.get32(b, ((int) ((l8 = ((((l12 = (((l9 >>> 12) | ((l9 << 2) & 16128)) | ((l9 << 16) & 4128768)) | 8421600) & 0xffffffffL) * 953497L) >>> 22L) & 1016L) + 66852L)) - 60720) == l12) { break L8; }
-          l12 = 1;
-          break L1;
-         }
-         L17: {
-          if ((l10 = l9 + -48) + Integer.MIN_VALUE >= -2147483638) { break L17; }
-          l11 = 0;
-          break L7;
-         }
-         l12 = 1;
-         break L1;
-        }
-        l9 = (((l9 << 12) | l11) + (l10 << 6)) + -925824;
-       }
-       l10 = b[((int) (l8 + 66857L)) - 60720] & 0xff;
-       l12 = 1;
-       l11 = 0;
-       L18: {
-        switch ((int) (b[((int) (l8 + 66856L)) - 60720] & 0xffL)) {
-        case 1: break L18;
-        case 2: break L1;
-        default: break L7;
-        }
-       }
-       l11 = 1;
-       l12 = 1;
-       if ((l1 & 255) + Integer.MIN_VALUE < (l10 & 255) + Integer.MIN_VALUE) { break L1; }
-      }
-      l12 = 1;
-      L19: {
-       if ((l0 & 1) != 0) { break L19; }
-       L20: {
-        L21: {
-         if (l9 > 29589) { break L21; }
-         L22: {
-          if (l9 > 22776) { break L22; }
-          if (l9 == 20191) { break L1; }
-          if (l9 == 20237) { break L1; }
-          if (l9 != 20336) { break L20; }
-          break L1;
-         }
-         L23: {
-          if (l9 > 25419) { break L23; }
-          if (l9 == 22777) { break L1; }
-          if (l9 != 25342) { break L20; }
-          break L1;
-         }
-         if (l9 == 25420) { break L1; }
-         if (l9 != 26578) { break L20; }
-         break L1;
-        }
-        L24: {
-         if (l9 > 36143) { break L24; }
-         L25: {
-          switch (l9 + -36014) {
-          case 0: case 5: break L1;
-          case 1: case 2: case 3: case 4: break L20;
-          default: break L25;
-          }
-         }
-         if (l9 == 29590) { break L1; }
-         if (l9 != 32902) { break L20; }
-         break L1;
-        }
-        if (l9 == 36144) { break L1; }
-        if (l9 == 38470) { break L1; }
-        if (l9 == 38520) { break L1; }
-       }
-       l12 = 1;
-       if (((((l9 + -21445) + Integer.MIN_VALUE > 2147483643) ? 1 : 0) | (l11 ^ 1)) != 0) { break L1; }
-       if ((l10 & 255) != 1) { break L5; }
-       break L1;
-      }
-      l12 = 1;
-      if ((l11 & (((l10 & 255) != 1) ? 1 : 0)) != 1) { break L1; }
-     }
-     L26: {
-      if ((l12 = (l4 == 20491) ? 1 : 0) != 0) { break L26; }
-      if (l4 == 20010) { break L26; }
-      l12 = ((l4 == 20010) ? 1 : 0) | l12;
-      break L3;
-     }
-     l10 = Core5.f151(m, l0, l1, l2, l3);
-     if (l6 == 0L) { break L2; }
-     l12 = (l9 = (int) b[((int) l5) - 60720]) & 255;
-     l8 = 1L;
-     L27: {
-      if (l9 > -1) { break L27; }
-      l11 = (b[((int) l5) - 60719] & 0xff) & 63;
-      L28: {
-       if (l9 + Integer.MIN_VALUE > 2147483615) { break L28; }
-       l12 = ((l12 << 6) & 1984) | l11;
-       l8 = 2L;
-       break L27;
-      }
-      l13 = (b[((int) l5) - 60718] & 0xff) & 63;
-      L29: {
-       if (l9 + Integer.MIN_VALUE > 2147483631) { break L29; }
-       l12 = ((l11 << 6) | ((l12 << 12) & 61440)) | l13;
-       l8 = 3L;
-       break L27;
-      }
-      l12 = ((l13 << 6) | ((l11 << 12) | ((l12 << 18) & 1835008))) | ((b[((int) l5) - 60717] & 0xff) & 63);
-      l8 = 4L;
-     }
-     L30: {
-      if ((l9 = (l12 == 33836) ? 1 : 0) != 0) { break L30; }
-      if (l12 == 19975) { break L30; }
-      l12 = ((l12 == 19975) ? 1 : 0) | l9;
-      break L3;
-     }
-     l12 = 1;
-     if (l10 == 0) { break L1; }
-     if (l6 == l8) { break L2; }
-     l9 = (l10 = (int) b[((int) (l8 = l5 + l8)) - 60720]) & 255;
-     L31: {
-      if (l10 > -1) { break L31; }
-      l11 = (b[((int) l8) - 60719] & 0xff) & 63;
-      L32: {
-       if (l10 + Integer.MIN_VALUE > 2147483615) { break L32; }
-       l9 = ((l9 << 6) & 1984) | l11;
-       break L31;
-      }
-      l13 = (b[((int) l8) - 60718] & 0xff) & 63;
-      L33: {
-       if (l10 + Integer.MIN_VALUE > 2147483631) { break L33; }
-       l9 = ((l11 << 6) | ((l9 << 12) & 61440)) | l13;
-       break L31;
-      }
-      l9 = ((l13 << 6) | ((l11 << 12) | ((l9 << 18) & 1835008))) | ((b[((int) l8) - 60717] & 0xff) & 63);
-     }
-     if ((l9 + -19968) + Integer.MIN_VALUE < -2147462656) { break L1; }
-     break L2;
-    }
-    throw State.trap();
-   }
-   if (l12 == 0) { break L2; }
-   l12 = 1;
-   break L1;
-  }
-  l12 = 0;
-  L34: {
-   if (l4 == 21315) { break L34; }
-   if (l4 != 20191) { break L1; }
-  }
-  if (l6 == 0L) { break L1; }
-  l4 = (l9 = (int) b[((int) l5) - 60720]) & 255;
-  L35: {
-   if (l9 > -1) { break L35; }
-   l10 = (b[((int) l5) - 60719] & 0xff) & 63;
-   L36: {
-    if (l9 + Integer.MIN_VALUE > 2147483615) { break L36; }
-    l4 = ((l4 << 6) & 1984) | l10;
-    break L35;
-   }
-   l11 = (b[((int) l5) - 60718] & 0xff) & 63;
-   L37: {
-    if (l9 + Integer.MIN_VALUE > 2147483631) { break L37; }
-    l4 = ((l10 << 6) | ((l4 << 12) & 61440)) | l11;
-    break L35;
-   }
-   l4 = ((l11 << 6) | ((l10 << 12) | ((l4 << 18) & 1835008))) | ((b[((int) l5) - 60717] & 0xff) & 63);
-  }
-  L38: {
-   L39: {
-    if (l4 > 24084) { break L39; }
-    L40: {
-     if (l4 > 21344) { break L40; }
-     if (l4 == 20239) { break L38; }
-     if (l4 == 20811) { break L38; }
-     break L1;
-    }
-    if (l4 == 21345) { break L38; }
-    if (l4 == 23433) { break L38; }
-    break L1;
-   }
-   L41: {
-    if (l4 > 29925) { break L41; }
-    if (l4 == 24085) { break L38; }
-    if (l4 == 28966) { break L38; }
-    break L1;
-   }
-   if (l4 == 29926) { break L38; }
-   if (l4 == 36203) { break L38; }
-   if (l4 != 31859) { break L1; }
-  }
-  if (l3 == 0L) { break L1; }
-  L42: {
-   if ((l4 = (int) b[((int) ((l5 = l2 + l3) + -1L)) - 60720]) >= 0) { break L42; }
-   l6 = -2L;
-   L43: {
-    if ((b[((int) (l5 + -2L)) - 60720] & 0xff) + Integer.MIN_VALUE > -2147483457) { break L43; }
-    l6 = ((b[((int) (l5 + -3L)) - 60720] & 0xff) + Integer.MIN_VALUE > -2147483457) ? -3L : -4L;
-   }
-   l4 = (l12 = (int) b[((int) (l5 = (l2 + l6) + l3)) - 60720]) & 255;
-   if (l12 > -1) { break L42; }
-   l9 = (b[((int) l5) - 60719] & 0xff) & 63;
-   L44: {
-    if (l12 + Integer.MIN_VALUE > 2147483615) { break L44; }
-    l4 = ((l4 << 6) & 1984) | l9;
-    break L42;
-   }
-   l10 = (b[((int) l5) - 60718] & 0xff) & 63;
-   L45: {
-    if (l12 + Integer.MIN_VALUE > 2147483631) { break L45; }
-    l4 = ((l9 << 6) | ((l4 << 12) & 61440)) | l10;
-    break L42;
-   }
-   l4 = ((l10 << 6) | ((l9 << 12) | ((l4 << 18) & 1835008))) | ((b[((int) l5) - 60717] & 0xff) & 63);
-  }
-  L46: {
-   L47: {
-    L48: {
-     L49: {
-      L50: {
-       L51: {
-        if ((l4 + -2048) + Integer.MIN_VALUE > -2147420161) { break L51; }
-        if (Words.get32(b, State.far((int) (l5 = ((((l12 = (((l4 >>> 12) | ((l4 << 2) & 16128)) | ((l4 << 16) & 4128768)) | 8421600) & 0xffffffffL) * 953497L) >>> 22L) & 1016L), 66852)) != l12) { break L46; }
-        l12 = b[((int) (l5 + 66857L)) - 60720] & 0xff;
-        l9 = 0;
-        switch ((int) (b[((int) (l5 + 66856L)) - 60720] & 0xffL)) {
-        case 1: break L50;
-        case 2: break L46;
-        default: break L49;
-        }
-       }
-       if ((l4 + -58) + Integer.MIN_VALUE < 2147483638) { break L46; }
-       if ((l0 & 1) != 0) { break L46; }
-       l12 = l4 + -48;
-       l9 = 0;
-       break L48;
-      }
-      if ((l1 & 255) + Integer.MIN_VALUE < (l12 & 255) + Integer.MIN_VALUE) { break L46; }
-      l9 = 1;
-     }
-     if ((l0 & 1) != 0) { break L47; }
-    }
-    L52: {
-     L53: {
-      if (l4 > 29589) { break L53; }
-      L54: {
-       if (l4 > 22776) { break L54; }
-       if (l4 == 20191) { break L46; }
-       if (l4 == 20237) { break L46; }
-       if (l4 != 20336) { break L52; }
-       break L46;
-      }
-      L55: {
-       if (l4 > 25419) { break L55; }
-       if (l4 == 22777) { break L46; }
-       if (l4 == 25342) { break L46; }
-       break L52;
-      }
-      if (l4 == 25420) { break L46; }
-      if (l4 == 26578) { break L46; }
-      break L52;
-     }
-     L56: {
-      if (l4 > 36143) { break L56; }
-      L57: {
-       switch (l4 + -36014) {
-       case 0: case 5: break L46;
-       case 1: case 2: case 3: case 4: break L52;
-       default: break L57;
-       }
-      }
-      if (l4 == 29590) { break L46; }
-      if (l4 == 32902) { break L46; }
-      break L52;
-     }
-     if (l4 == 36144) { break L46; }
-     if (l4 == 38470) { break L46; }
-     if (l4 == 38520) { break L46; }
-    }
-    if ((l4 + -21441) + Integer.MIN_VALUE < -2147483644) { break L46; }
-   }
-   if (l9 == 0) { break L46; }
-   if ((l12 & 255) == 0) { break L46; }
-   l12 = 1;
-   break L1;
-  }
-  L58: while (true) {
-   L59: {
-    if ((l4 = (int) b[((int) (l2 + (l5 = l3 + -1L))) - 60720]) >= 0) { break L59; }
-    l5 = -2L;
-    L60: {
-     if ((b[((int) ((l6 = l2 + l3) + -2L)) - 60720] & 0xff) + Integer.MIN_VALUE > -2147483457) { break L60; }
-     l5 = ((b[((int) (l6 + -3L)) - 60720] & 0xff) + Integer.MIN_VALUE > -2147483457) ? -3L : -4L;
-    }
-    l4 = (l12 = (int) b[((int) (l3 = l2 + (l5 = l5 + l3))) - 60720]) & 255;
-    if (l12 > -1) { break L59; }
-    l0 = (b[((int) l3) - 60719] & 0xff) & 63;
-    L61: {
-     if (l12 + Integer.MIN_VALUE > 2147483615) { break L61; }
-     l4 = ((l4 << 6) & 1984) | l0;
-     break L59;
-    }
-    l1 = (b[((int) l3) - 60718] & 0xff) & 63;
-    L62: {
-     if (l12 + Integer.MIN_VALUE > 2147483631) { break L62; }
-     l4 = ((l0 << 6) | ((l4 << 12) & 61440)) | l1;
-     break L59;
-    }
-    l4 = ((l1 << 6) | ((l0 << 12) | ((l4 << 18) & 1835008))) | ((b[((int) l3) - 60717] & 0xff) & 63);
-   }
-   Core2.f63(m, l7 + 8L, l4);
-   if ((l12 = ((l5 != 0L) & (((l4 + -65296) + Integer.MIN_VALUE < -2147483638) | ((b[((int) l7) - 60712] & 0xff) == 1))) ? 1 : 0) != 1) { break L1; }
-   L63: {
-    if ((l4 = (int) b[((int) ((l3 = l2 + l5) + -1L)) - 60720]) >= 0) { break L63; }
-    l6 = -2L;
-    L64: {
-     if ((b[((int) (l3 + -2L)) - 60720] & 0xff) + Integer.MIN_VALUE > -2147483457) { break L64; }
-     l6 = ((b[((int) (l3 + -3L)) - 60720] & 0xff) + Integer.MIN_VALUE > -2147483457) ? -3L : -4L;
-    }
-    l4 = (l0 = (int) b[((int) (l3 = (l2 + l6) + l5)) - 60720]) & 255;
-    if (l0 > -1) { break L63; }
-    l1 = (b[((int) l3) - 60719] & 0xff) & 63;
-    L65: {
-     if (l0 + Integer.MIN_VALUE > 2147483615) { break L65; }
-     l4 = ((l4 << 6) & 1984) | l1;
-     break L63;
-    }
-    l9 = (b[((int) l3) - 60718] & 0xff) & 63;
-    L66: {
-     if (l0 + Integer.MIN_VALUE > 2147483631) { break L66; }
-     l4 = ((l1 << 6) | ((l4 << 12) & 61440)) | l9;
-     break L63;
-    }
-    l4 = ((l9 << 6) | ((l1 << 12) | ((l4 << 18) & 1835008))) | ((b[((int) l3) - 60717] & 0xff) & 63);
-   }
-   L67: {
-    if (l4 > 40669) { break L67; }
-    if (l4 == 46) { break L1; }
-    l3 = l5;
-    if (l4 != 28857) { continue L58; }
-    break L1;
-   }
-   if (l4 == 65294) { break L1; }
-   l3 = l5;
-   if (l4 != 40670) { continue L58; }
-   break L58;
-  }
- }
- m.g0 = l7 + 16L;
- return l12;
 }
 }

@@ -2,7 +2,411 @@
 package chinesenumber;
 
 final class Core5 {
-static int f149_1(State m, int l0, int l1, long l2, long l3, int l4, long l5, long l6, long l7, long l8, long l9, int l10, int l11, int l12, int l13) {
+static int f155(State m, int l0, int l1, long l2, long l3, int l4, long l5, long l6) {
+ final byte[] b = m.bytes;
+ long l7 = 0;
+ long l8 = 0;
+ int l9 = 0;
+ int l10 = 0;
+ int l11 = 0;
+ int l12 = 0;
+ int l13 = 0;
+ m.g0 = l7 = m.g0 - 16L;
+ L1: {
+  L2: {
+   L3: {
+    L4: {
+     if ((l7 = l7) < 16L) { break L4; }
+     L5: {
+      L6: {
+       if (l4 == 20841) { break L6; }
+       if (l4 != 20004) { break L5; }
+      }
+      if (f158(m, l0, l1, l2, l3) == 0) { break L5; }
+      L7: {
+       L8: {
+        L9: {
+         L10: {
+          L11: {
+           if (l6 + Long.MIN_VALUE < -9223372036854775805L) { break L11; }
+           if (((l9 = b[((int) l5) - 60720] & 0xff) & 240) != 224) { break L10; }
+           if (Words.get32(b, ((int) ((l8 = ((((l12 = (((l10 = b[((int) l5) - 60719] & 0xff) << 8) | ((l11 = b[((int) l5) - 60718] & 0xff) << 16)) | l9) & 0xffffffffL) * 953497L) >>> 22L) & 1016L) + 66852L)) - 60720) == l12) { break L9; }
+           l12 = 1;
+           break L1;
+          }
+          L12: {
+           if (!(l6 == 0L)) { break L12; }
+           l12 = 1;
+           break L1;
+          }
+          l9 = b[((int) l5) - 60720] & 0xff;
+         }
+         L13: {
+          if (((int) (byte) l9) > -1) { break L13; }
+          l12 = (b[((int) l5) - 60719] & 0xff) & 63;
+          L14: {
+           if (l9 + Integer.MIN_VALUE > -2147483425) { break L14; }
+           l9 = ((l9 << 6) & 1984) | l12;
+           break L13;
+          }
+          l10 = (b[((int) l5) - 60718] & 0xff) & 63;
+          L15: {
+           if (l9 + Integer.MIN_VALUE > -2147483409) { break L15; }
+           l9 = ((l12 << 6) | ((l9 << 12) & 61440)) | l10;
+           break L13;
+          }
+          l9 = ((l10 << 6) | ((l12 << 12) | ((l9 << 18) & 1835008))) | ((b[((int) l5) - 60717] & 0xff) & 63);
+         }
+         L16: {
+          if ((l9 + -2048) + Integer.MIN_VALUE > -2147420161) { break L16; }
+          if (Words.get32(b, ((int) ((l8 = ((((l12 = (((l9 >>> 12) | ((l9 << 2) & 16128)) | ((l9 << 16) & 4128768)) | 8421600) & 0xffffffffL) * 953497L) >>> 22L) & 1016L) + 66852L)) - 60720) == l12) { break L8; }
+          l12 = 1;
+          break L1;
+         }
+         L17: {
+          if ((l10 = l9 + -48) + Integer.MIN_VALUE >= -2147483638) { break L17; }
+          l11 = 0;
+          break L7;
+         }
+         l12 = 1;
+         break L1;
+        }
+        l9 = (((l9 << 12) | l11) + (l10 << 6)) + -925824;
+       }
+       l10 = b[((int) (l8 + 66857L)) - 60720] & 0xff;
+       l12 = 1;
+       l11 = 0;
+       L18: {
+        switch ((int) (b[((int) (l8 + 66856L)) - 60720] & 0xffL)) {
+        case 1: break L18;
+        case 2: break L1;
+        default: break L7;
+        }
+       }
+       l11 = 1;
+       l12 = 1;
+       if ((l1 & 255) + Integer.MIN_VALUE < (l10 & 255) + Integer.MIN_VALUE) { break L1; }
+      }
+      l12 = 1;
+      L19: {
+       if ((l0 & 1) != 0) { break L19; }
+       L20: {
+        L21: {
+         if (l9 > 29589) { break L21; }
+         L22: {
+          if (l9 > 22776) { break L22; }
+          if (l9 == 20191) { break L1; }
+          if (l9 == 20237) { break L1; }
+          if (l9 != 20336) { break L20; }
+          break L1;
+         }
+         L23: {
+          if (l9 > 25419) { break L23; }
+          if (l9 == 22777) { break L1; }
+          if (l9 != 25342) { break L20; }
+          break L1;
+         }
+         if (l9 == 25420) { break L1; }
+         if (l9 != 26578) { break L20; }
+         break L1;
+        }
+        L24: {
+         if (l9 > 36143) { break L24; }
+         L25: {
+          switch (l9 + -36014) {
+          case 0: case 5: break L1;
+          case 1: case 2: case 3: case 4: break L20;
+          default: break L25;
+          }
+         }
+         if (l9 == 29590) { break L1; }
+         if (l9 != 32902) { break L20; }
+         break L1;
+        }
+        if (l9 == 36144) { break L1; }
+        if (l9 == 38470) { break L1; }
+        if (l9 == 38520) { break L1; }
+       }
+       l12 = 1;
+       if (((((l9 + -21445) + Integer.MIN_VALUE > 2147483643) ? 1 : 0) | (l11 ^ 1)) != 0) { break L1; }
+       if ((l10 & 255) != 1) { break L5; }
+       break L1;
+      }
+      l12 = 1;
+      if ((l11 & (((l10 & 255) != 1) ? 1 : 0)) != 1) { break L1; }
+     }
+     L26: {
+      if ((l12 = (l4 == 20491) ? 1 : 0) != 0) { break L26; }
+      if (l4 == 20010) { break L26; }
+      l12 = ((l4 == 20010) ? 1 : 0) | l12;
+      break L3;
+     }
+     l10 = f158(m, l0, l1, l2, l3);
+     if (l6 == 0L) { break L2; }
+     l12 = (l9 = (int) b[((int) l5) - 60720]) & 255;
+     l8 = 1L;
+     L27: {
+      if (l9 > -1) { break L27; }
+      l11 = (b[((int) l5) - 60719] & 0xff) & 63;
+      L28: {
+       if (l9 + Integer.MIN_VALUE > 2147483615) { break L28; }
+       l12 = ((l12 << 6) & 1984) | l11;
+       l8 = 2L;
+       break L27;
+      }
+      l13 = (b[((int) l5) - 60718] & 0xff) & 63;
+      L29: {
+       if (l9 + Integer.MIN_VALUE > 2147483631) { break L29; }
+       l12 = ((l11 << 6) | ((l12 << 12) & 61440)) | l13;
+       l8 = 3L;
+       break L27;
+      }
+      l12 = ((l13 << 6) | ((l11 << 12) | ((l12 << 18) & 1835008))) | ((b[((int) l5) - 60717] & 0xff) & 63);
+      l8 = 4L;
+     }
+     L30: {
+      if ((l9 = (l12 == 33836) ? 1 : 0) != 0) { break L30; }
+      if (l12 == 19975) { break L30; }
+      l12 = ((l12 == 19975) ? 1 : 0) | l9;
+      break L3;
+     }
+     l12 = 1;
+     if (l10 == 0) { break L1; }
+     if (l6 == l8) { break L2; }
+     l9 = (l10 = (int) b[((int) (l8 = l5 + l8)) - 60720]) & 255;
+     L31: {
+      if (l10 > -1) { break L31; }
+      l11 = (b[((int) l8) - 60719] & 0xff) & 63;
+      L32: {
+       if (l10 + Integer.MIN_VALUE > 2147483615) { break L32; }
+       l9 = ((l9 << 6) & 1984) | l11;
+       break L31;
+      }
+      l13 = (b[((int) l8) - 60718] & 0xff) & 63;
+      L33: {
+       if (l10 + Integer.MIN_VALUE > 2147483631) { break L33; }
+       l9 = ((l11 << 6) | ((l9 << 12) & 61440)) | l13;
+       break L31;
+      }
+      l9 = ((l13 << 6) | ((l11 << 12) | ((l9 << 18) & 1835008))) | ((b[((int) l8) - 60717] & 0xff) & 63);
+     }
+     if ((l9 + -19968) + Integer.MIN_VALUE < -2147462656) { break L1; }
+     break L2;
+    }
+    throw State.trap();
+   }
+   if (l12 == 0) { break L2; }
+   l12 = 1;
+   break L1;
+  }
+  l12 = 0;
+  L34: {
+   if (l4 == 21315) { break L34; }
+   if (l4 != 20191) { break L1; }
+  }
+  if (l6 == 0L) { break L1; }
+  l4 = (l9 = (int) b[((int) l5) - 60720]) & 255;
+  L35: {
+   if (l9 > -1) { break L35; }
+   l10 = (b[((int) l5) - 60719] & 0xff) & 63;
+   L36: {
+    if (l9 + Integer.MIN_VALUE > 2147483615) { break L36; }
+    l4 = ((l4 << 6) & 1984) | l10;
+    break L35;
+   }
+   l11 = (b[((int) l5) - 60718] & 0xff) & 63;
+   L37: {
+    if (l9 + Integer.MIN_VALUE > 2147483631) { break L37; }
+    l4 = ((l10 << 6) | ((l4 << 12) & 61440)) | l11;
+    break L35;
+   }
+   l4 = ((l11 << 6) | ((l10 << 12) | ((l4 << 18) & 1835008))) | ((b[((int) l5) - 60717] & 0xff) & 63);
+  }
+  L38: {
+   L39: {
+    if (l4 > 24084) { break L39; }
+    L40: {
+     if (l4 > 21344) { break L40; }
+     if (l4 == 20239) { break L38; }
+     if (l4 == 20811) { break L38; }
+     break L1;
+    }
+    if (l4 == 21345) { break L38; }
+    if (l4 == 23433) { break L38; }
+    break L1;
+   }
+   L41: {
+    if (l4 > 29925) { break L41; }
+    if (l4 == 24085) { break L38; }
+    if (l4 == 28966) { break L38; }
+    break L1;
+   }
+   if (l4 == 29926) { break L38; }
+   if (l4 == 36203) { break L38; }
+   if (l4 != 31859) { break L1; }
+  }
+  if (l3 == 0L) { break L1; }
+  L42: {
+   if ((l4 = (int) b[((int) ((l5 = l2 + l3) + -1L)) - 60720]) >= 0) { break L42; }
+   l6 = -2L;
+   L43: {
+    if ((b[((int) (l5 + -2L)) - 60720] & 0xff) + Integer.MIN_VALUE > -2147483457) { break L43; }
+    l6 = ((b[((int) (l5 + -3L)) - 60720] & 0xff) + Integer.MIN_VALUE > -2147483457) ? -3L : -4L;
+   }
+   l4 = (l12 = (int) b[((int) (l5 = (l2 + l6) + l3)) - 60720]) & 255;
+   if (l12 > -1) { break L42; }
+   l9 = (b[((int) l5) - 60719] & 0xff) & 63;
+   L44: {
+    if (l12 + Integer.MIN_VALUE > 2147483615) { break L44; }
+    l4 = ((l4 << 6) & 1984) | l9;
+    break L42;
+   }
+   l10 = (b[((int) l5) - 60718] & 0xff) & 63;
+   L45: {
+    if (l12 + Integer.MIN_VALUE > 2147483631) { break L45; }
+    l4 = ((l9 << 6) | ((l4 << 12) & 61440)) | l10;
+    break L42;
+   }
+   l4 = ((l10 << 6) | ((l9 << 12) | ((l4 << 18) & 1835008))) | ((b[((int) l5) - 60717] & 0xff) & 63);
+  }
+  L46: {
+   L47: {
+    L48: {
+     L49: {
+      L50: {
+       L51: {
+        if ((l4 + -2048) + Integer.MIN_VALUE > -2147420161) { break L51; }
+        if (Words.get32(b, State.far((int) (l5 = ((((l12 = (((l4 >>> 12) | ((l4 << 2) & 16128)) | ((l4 << 16) & 4128768)) | 8421600) & 0xffffffffL) * 953497L) >>> 22L) & 1016L), 66852)) != l12) { break L46; }
+        l12 = b[((int) (l5 + 66857L)) - 60720] & 0xff;
+        l9 = 0;
+        switch ((int) (b[((int) (l5 + 66856L)) - 60720] & 0xffL)) {
+        case 1: break L50;
+        case 2: break L46;
+        default: break L49;
+        }
+       }
+       if ((l4 + -58) + Integer.MIN_VALUE < 2147483638) { break L46; }
+       if ((l0 & 1) != 0) { break L46; }
+       l12 = l4 + -48;
+       l9 = 0;
+       break L48;
+      }
+      if ((l1 & 255) + Integer.MIN_VALUE < (l12 & 255) + Integer.MIN_VALUE) { break L46; }
+      l9 = 1;
+     }
+     if ((l0 & 1) != 0) { break L47; }
+    }
+    L52: {
+     L53: {
+      if (l4 > 29589) { break L53; }
+      L54: {
+       if (l4 > 22776) { break L54; }
+       if (l4 == 20191) { break L46; }
+       if (l4 == 20237) { break L46; }
+       if (l4 != 20336) { break L52; }
+       break L46;
+      }
+      L55: {
+       if (l4 > 25419) { break L55; }
+       if (l4 == 22777) { break L46; }
+       if (l4 == 25342) { break L46; }
+       break L52;
+      }
+      if (l4 == 25420) { break L46; }
+      if (l4 == 26578) { break L46; }
+      break L52;
+     }
+     L56: {
+      if (l4 > 36143) { break L56; }
+      L57: {
+       switch (l4 + -36014) {
+       case 0: case 5: break L46;
+       case 1: case 2: case 3: case 4: break L52;
+       default: break L57;
+       }
+      }
+      if (l4 == 29590) { break L46; }
+      if (l4 == 32902) { break L46; }
+      break L52;
+     }
+     if (l4 == 36144) { break L46; }
+     if (l4 == 38470) { break L46; }
+     if (l4 == 38520) { break L46; }
+    }
+    if ((l4 + -21441) + Integer.MIN_VALUE < -2147483644) { break L46; }
+   }
+   if (l9 == 0) { break L46; }
+   if ((l12 & 255) == 0) { break L46; }
+   l12 = 1;
+   break L1;
+  }
+  L58: while (true) {
+   L59: {
+    if ((l4 = (int) b[((int) (l2 + (l5 = l3 + -1L))) - 60720]) >= 0) { break L59; }
+    l5 = -2L;
+    L60: {
+     if ((b[((int) ((l6 = l2 + l3) + -2L)) - 60720] & 0xff) + Integer.MIN_VALUE > -2147483457) { break L60; }
+     l5 = ((b[((int) (l6 + -3L)) - 60720] & 0xff) + Integer.MIN_VALUE > -2147483457) ? -3L : -4L;
+    }
+    l4 = (l12 = (int) b[((int) (l3 = l2 + (l5 = l5 + l3))) - 60720]) & 255;
+    if (l12 > -1) { break L59; }
+    l0 = (b[((int) l3) - 60719] & 0xff) & 63;
+    L61: {
+     if (l12 + Integer.MIN_VALUE > 2147483615) { break L61; }
+     l4 = ((l4 << 6) & 1984) | l0;
+     break L59;
+    }
+    l1 = (b[((int) l3) - 60718] & 0xff) & 63;
+    L62: {
+     if (l12 + Integer.MIN_VALUE > 2147483631) { break L62; }
+     l4 = ((l0 << 6) | ((l4 << 12) & 61440)) | l1;
+     break L59;
+    }
+    l4 = ((l1 << 6) | ((l0 << 12) | ((l4 << 18) & 1835008))) | ((b[((int) l3) - 60717] & 0xff) & 63);
+   }
+   Core2.f63(m, l7 + 8L, l4);
+   if ((l12 = ((l5 != 0L) & (((l4 + -65296) + Integer.MIN_VALUE < -2147483638) | ((b[((int) l7) - 60712] & 0xff) == 1))) ? 1 : 0) != 1) { break L1; }
+   L63: {
+    if ((l4 = (int) b[((int) ((l3 = l2 + l5) + -1L)) - 60720]) >= 0) { break L63; }
+    l6 = -2L;
+    L64: {
+     if ((b[((int) (l3 + -2L)) - 60720] & 0xff) + Integer.MIN_VALUE > -2147483457) { break L64; }
+     l6 = ((b[((int) (l3 + -3L)) - 60720] & 0xff) + Integer.MIN_VALUE > -2147483457) ? -3L : -4L;
+    }
+    l4 = (l0 = (int) b[((int) (l3 = (l2 + l6) + l5)) - 60720]) & 255;
+    if (l0 > -1) { break L63; }
+    l1 = (b[((int) l3) - 60719] & 0xff) & 63;
+    L65: {
+     if (l0 + Integer.MIN_VALUE > 2147483615) { break L65; }
+     l4 = ((l4 << 6) & 1984) | l1;
+     break L63;
+    }
+    l9 = (b[((int) l3) - 60718] & 0xff) & 63;
+    L66: {
+     if (l0 + Integer.MIN_VALUE > 2147483631) { break L66; }
+     l4 = ((l1 << 6) | ((l4 << 12) & 61440)) | l9;
+     break L63;
+    }
+    l4 = ((l9 << 6) | ((l1 << 12) | ((l4 << 18) & 1835008))) | ((b[((int) l3) - 60717] & 0xff) & 63);
+   }
+   L67: {
+    if (l4 > 40669) { break L67; }
+    if (l4 == 46) { break L1; }
+    l3 = l5;
+    if (l4 != 28857) { continue L58; }
+    break L1;
+   }
+   if (l4 == 65294) { break L1; }
+   l3 = l5;
+   if (l4 != 40670) { continue L58; }
+   break L58;
+  }
+ }
+ m.g0 = l7 + 16L;
+ return l12;
+}
+
+static int f156_1(State m, int l0, int l1, long l2, long l3, int l4, long l5, long l6, long l7, long l8, long l9, int l10, int l11, int l12, int l13) {
  final byte[] b = m.bytes;
  int exit = 0;
  PART: {
@@ -98,7 +502,7 @@ static int f149_1(State m, int l0, int l1, long l2, long l3, int l4, long l5, lo
       if ((l4 + -65296) + Integer.MIN_VALUE < -2147483638) { exit = 4; break PART; }
      }
      L27: {
-      if (f151(m, l0, l1, l2, l3) != 0) { break L27; }
+      if (f158(m, l0, l1, l2, l3) != 0) { break L27; }
       l10 = 0;
       exit = 4; break PART;
      }
@@ -512,7 +916,7 @@ static int f149_1(State m, int l0, int l1, long l2, long l3, int l4, long l5, lo
     l10 = (((l4 + -48) + Integer.MIN_VALUE < -2147483638) | ((l4 + -65296) + Integer.MIN_VALUE < -2147483638)) ? 1 : 0;
     exit = 4; break PART;
    }
-   l10 = f152(m, l2, l3, l5, l6);
+   l10 = f159(m, l2, l3, l5, l6);
    exit = 4; break PART;
   }
  }
@@ -531,7 +935,7 @@ static int f149_1(State m, int l0, int l1, long l2, long l3, int l4, long l5, lo
  return exit;
 }
 
-static int f149_2(State m, int l0, int l1, long l2, long l3, int l4, long l5, long l6, int l10, int l11, int l12, int l13) {
+static int f156_2(State m, int l0, int l1, long l2, long l3, int l4, long l5, long l6, int l10, int l11, int l12, int l13) {
  final byte[] b = m.bytes;
  int exit = 0;
  PART: {
@@ -632,7 +1036,7 @@ static int f149_2(State m, int l0, int l1, long l2, long l3, int l4, long l5, lo
      if ((l4 + -21441) + Integer.MIN_VALUE < -2147483644) { break L121; }
     }
     if ((l11 & 255) != 6) { exit = 1; break PART; }
-    if (Core3.f101(m, l5, l6) == 0) { exit = 1; break PART; }
+    if (Core3.f108(m, l5, l6) == 0) { exit = 1; break PART; }
    }
    l10 = 1;
    if (l4 == 37) { exit = 1; break PART; }
@@ -652,7 +1056,7 @@ static int f149_2(State m, int l0, int l1, long l2, long l3, int l4, long l5, lo
  return exit;
 }
 
-static int f149_3(State m, int l0, int l1, long l2, long l3, int l4, long l5, long l6, long l8, int l10, int l11, int l12, int l13) {
+static int f156_3(State m, int l0, int l1, long l2, long l3, int l4, long l5, long l6, long l8, int l10, int l11, int l12, int l13) {
  final byte[] b = m.bytes;
  int exit = 0;
  PART: {
@@ -718,7 +1122,7 @@ static int f149_3(State m, int l0, int l1, long l2, long l3, int l4, long l5, lo
     l11 = l11 != 0 ? 0 : 2;
    }
    L186: {
-    if (Core4.f147(m, l0, l1, l4, l11, l10, l5, l6) != 0) { break L186; }
+    if (Core4.f154(m, l0, l1, l4, l11, l10, l5, l6) != 0) { break L186; }
     l10 = 0;
     exit = 1; break PART;
    }
@@ -757,7 +1161,7 @@ static int f149_3(State m, int l0, int l1, long l2, long l3, int l4, long l5, lo
    }
    if (l4 != 20043) { continue L167; }
    l10 = 1;
-   if (f153(m, l0, l1, l2 + l8, l6 - (l3 + l8)) == 0) { continue L167; }
+   if (f160(m, l0, l1, l2 + l8, l6 - (l3 + l8)) == 0) { continue L167; }
    exit = 1; break PART;
   }
  }
@@ -774,7 +1178,7 @@ static int f149_3(State m, int l0, int l1, long l2, long l3, int l4, long l5, lo
  return exit;
 }
 
-static int f149_4(State m, long l3, int l4, long l5, long l6, int l10, int l11, int l12, int l13) {
+static int f156_4(State m, long l3, int l4, long l5, long l6, int l10, int l11, int l12, int l13) {
  final byte[] b = m.bytes;
  int exit = 0;
  PART: {
@@ -850,7 +1254,7 @@ static int f149_4(State m, long l3, int l4, long l5, long l6, int l10, int l11, 
  return exit;
 }
 
-static int f149_5(State m, int l0, int l1, int l4, long l7, int l10, int l11, int l12) {
+static int f156_5(State m, int l0, int l1, int l4, long l7, int l10, int l11, int l12) {
  final byte[] b = m.bytes;
  int exit = 0;
  PART: {
@@ -959,7 +1363,7 @@ static int f149_5(State m, int l0, int l1, int l4, long l7, int l10, int l11, in
  return exit;
 }
 
-static int f149_6(State m, int l4, long l5, long l6, long l8, int l10, int l11, int l12) {
+static int f156_6(State m, int l4, long l5, long l6, long l8, int l10, int l11, int l12) {
  final byte[] b = m.bytes;
  int exit = 0;
  PART: {
@@ -1007,7 +1411,7 @@ static int f149_6(State m, int l4, long l5, long l6, long l8, int l10, int l11, 
  return exit;
 }
 
-static int f149(State m, int l0, int l1, long l2, long l3, int l4, long l5, long l6) {
+static int f156(State m, int l0, int l1, long l2, long l3, int l4, long l5, long l6) {
  final byte[] b = m.bytes;
  long l7 = 0;
  long l8 = 0;
@@ -1029,7 +1433,7 @@ static int f149(State m, int l0, int l1, long l2, long l3, int l4, long l5, long
          L9: {
           L10: {
            L11: {
-            final int x106 = f149_1(m, l0, l1, l2, l3, l4, l5, l6, l7, l8, l9, l10, l11, l12, l13);
+            final int x106 = f156_1(m, l0, l1, l2, l3, l4, l5, l6, l7, l8, l9, l10, l11, l12, l13);
             l0 = (int) m.kept[0];
             l1 = (int) m.kept[1];
             l3 = m.kept[2];
@@ -1054,7 +1458,7 @@ static int f149(State m, int l0, int l1, long l2, long l3, int l4, long l5, long
             case 9: break L7;
             case 10: break L5;
             }
-            l4 = f152(m, l2, l3, l5, l6);
+            l4 = f159(m, l2, l3, l5, l6);
             L107: {
              if (!(l3 == 0L)) { break L107; }
              l10 = 0;
@@ -1138,7 +1542,7 @@ static int f149(State m, int l0, int l1, long l2, long l3, int l4, long l5, long
             if ((l4 + -48) + Integer.MIN_VALUE < -2147483638) { break L119; }
             if ((l4 + -65296) + Integer.MIN_VALUE > -2147483639) { break L2; }
            }
-           final int x143 = f149_2(m, l0, l1, l2, l3, l4, l5, l6, l10, l11, l12, l13);
+           final int x143 = f156_2(m, l0, l1, l2, l3, l4, l5, l6, l10, l11, l12, l13);
            l2 = m.kept[0];
            l3 = m.kept[1];
            l4 = (int) m.kept[2];
@@ -1154,7 +1558,7 @@ static int f149(State m, int l0, int l1, long l2, long l3, int l4, long l5, long
            l10 = 0;
            break L2;
           }
-          l4 = f151(m, l0, l1, l2, l3);
+          l4 = f158(m, l0, l1, l2, l3);
           L144: {
            if (!(l6 == 0L)) { break L144; }
            l10 = 0;
@@ -1190,7 +1594,7 @@ static int f149(State m, int l0, int l1, long l2, long l3, int l4, long l5, long
           }
           l10 = 0;
           if (l4 != 20043) { break L2; }
-          l10 = f153(m, l0, l1, l5 + l3, l6 - l3);
+          l10 = f160(m, l0, l1, l5 + l3, l6 - l3);
           break L2;
          }
          L150: {
@@ -1235,12 +1639,12 @@ static int f149(State m, int l0, int l1, long l2, long l3, int l4, long l5, long
           break L2;
          }
          l10 = 0;
-         if (f151(m, l0, l1, l2, l8) == 0) { break L2; }
-         l10 = f153(m, l0, l1, l5, l6);
+         if (f158(m, l0, l1, l2, l8) == 0) { break L2; }
+         l10 = f160(m, l0, l1, l5, l6);
          break L2;
         }
         l10 = 1;
-        if (f151(m, l0, l1, l2, l3) != 0) { break L2; }
+        if (f158(m, l0, l1, l2, l3) != 0) { break L2; }
         l10 = 0;
         if (l3 == 0L) { break L2; }
         l10 = 0;
@@ -1296,11 +1700,11 @@ static int f149(State m, int l0, int l1, long l2, long l3, int l4, long l5, long
         break L2;
        }
        L166: {
-        if (f151(m, l0, l1, l2, l3) != 0) { break L166; }
+        if (f158(m, l0, l1, l2, l3) != 0) { break L166; }
         l10 = 0;
         break L2;
        }
-       final int x191 = f149_3(m, l0, l1, l2, l3, l4, l5, l6, l8, l10, l11, l12, l13);
+       final int x191 = f156_3(m, l0, l1, l2, l3, l4, l5, l6, l8, l10, l11, l12, l13);
        l2 = m.kept[0];
        l3 = m.kept[1];
        l4 = (int) m.kept[2];
@@ -1357,11 +1761,11 @@ static int f149(State m, int l0, int l1, long l2, long l3, int l4, long l5, long
        break L2;
       }
       L200: {
-       if (f151(m, l0, l1, l2, l8) == 0) { break L200; }
+       if (f158(m, l0, l1, l2, l8) == 0) { break L200; }
        l10 = 0;
        break L2;
       }
-      final int x219 = f149_4(m, l3, l4, l5, l6, l10, l11, l12, l13);
+      final int x219 = f156_4(m, l3, l4, l5, l6, l10, l11, l12, l13);
       l3 = m.kept[0];
       l4 = (int) m.kept[1];
       l5 = m.kept[2];
@@ -1373,14 +1777,14 @@ static int f149(State m, int l0, int l1, long l2, long l3, int l4, long l5, long
       switch (x219) {
       case 1: break L2;
       }
-      final int x237 = f149_5(m, l0, l1, l4, l7, l10, l11, l12);
+      final int x237 = f156_5(m, l0, l1, l4, l7, l10, l11, l12);
       l10 = (int) m.kept[0];
       switch (x237) {
       case 1: break L2;
       }
       l10 = 1;
       if (l4 != 19968) { break L2; }
-      if (f154(m, l0, l1, l5, l6) != 0) { break L2; }
+      if (f161(m, l0, l1, l5, l6) != 0) { break L2; }
       L238: {
        if (!(l6 == 0L)) { break L238; }
        l10 = 0;
@@ -1419,12 +1823,12 @@ static int f149(State m, int l0, int l1, long l2, long l3, int l4, long l5, long
       break L2;
      }
      L244: {
-      if (f154(m, l0, l1, l5, l6) != 0) { break L244; }
+      if (f161(m, l0, l1, l5, l6) != 0) { break L244; }
       l10 = 0;
       break L2;
      }
      l10 = 0;
-     if (f151(m, l0, l1, l2, l3) != 0) { break L2; }
+     if (f158(m, l0, l1, l2, l3) != 0) { break L2; }
      l10 = 1;
      if (l3 == 0L) { break L2; }
      l10 = 0;
@@ -1517,7 +1921,7 @@ static int f149(State m, int l0, int l1, long l2, long l3, int l4, long l5, long
      l4 = ((l12 << 6) | ((l11 << 12) | ((l4 << 18) & 1835008))) | ((b[((int) l5) - 60717] & 0xff) & 63);
      l8 = 4L;
     }
-    final int x265 = f149_6(m, l4, l5, l6, l8, l10, l11, l12);
+    final int x265 = f156_6(m, l4, l5, l6, l8, l10, l11, l12);
     l4 = (int) m.kept[0];
     l5 = m.kept[1];
     l10 = (int) m.kept[2];
@@ -1526,7 +1930,7 @@ static int f149(State m, int l0, int l1, long l2, long l3, int l4, long l5, long
     switch (x265) {
     case 1: break L2;
     }
-    l10 = f155(m, l0, l1, l2, l3);
+    l10 = f162(m, l0, l1, l2, l3);
     break L2;
    }
    L266: {
@@ -1587,7 +1991,7 @@ static int f149(State m, int l0, int l1, long l2, long l3, int l4, long l5, long
     if (l4 == 65293) { break L275; }
     if (l4 != 8722) { break L2; }
    }
-   l10 = f155(m, l0, l1, l2, l5);
+   l10 = f162(m, l0, l1, l2, l5);
   }
   m.g0 = l7 + 32L;
   final int t276 = l10;
@@ -1596,7 +2000,7 @@ static int f149(State m, int l0, int l1, long l2, long l3, int l4, long l5, long
  throw State.trap();
 }
 
-static void f150(State m, long l0, int l1, int l2, long l3, long l4, int l5, long l6, long l7) {
+static void f157(State m, long l0, int l1, int l2, long l3, long l4, int l5, long l6, long l7) {
  final byte[] b = m.bytes;
  long l8 = 0;
  long l9 = 0;
@@ -1751,10 +2155,10 @@ static void f150(State m, long l0, int l1, int l2, long l3, long l4, int l5, lon
         if ((l5 + -65296) + Integer.MIN_VALUE >= -2147483638) { break L34; }
         break L21;
        }
-       if (Core4.f147(m, l1, l2, l5, l15, l16, l6, l7) == 0) { break L34; }
-       if (Core4.f148(m, l1, l2, l3, l11, l5, l6, l7) == 0) { break L21; }
+       if (Core4.f154(m, l1, l2, l5, l15, l16, l6, l7) == 0) { break L34; }
+       if (f155(m, l1, l2, l3, l11, l5, l6, l7) == 0) { break L21; }
       }
-      if (f149(m, l1, l2, l3, l11, l5, l6, l7) != 0) { break L21; }
+      if (f156(m, l1, l2, l3, l11, l5, l6, l7) != 0) { break L21; }
       break L2;
      }
      L36: {
@@ -1812,10 +2216,10 @@ static void f150(State m, long l0, int l1, int l2, long l3, long l4, int l5, lon
      if (((1 << (l13 = l16 & 255)) & 65470) != 0) { break L21; }
      L45: {
       if (l13 == 0) { break L45; }
-      if (Core3.f101(m, l6, l7) == 0) { break L21; }
+      if (Core3.f108(m, l6, l7) == 0) { break L21; }
       break L2;
      }
-     if (Core3.f102(m, l1, l2, l6, l7) == 0) { break L2; }
+     if (Core3.f109(m, l1, l2, l6, l7) == 0) { break L2; }
     }
     L46: {
      L47: {
@@ -1867,7 +2271,7 @@ static void f150(State m, long l0, int l1, int l2, long l3, long l4, int l5, lon
  throw State.trap();
 }
 
-static int f151(State m, int l0, int l1, long l2, long l3) {
+static int f158(State m, int l0, int l1, long l2, long l3) {
  final byte[] b = m.bytes;
  long l4 = 0;
  long l5 = 0;
@@ -1922,7 +2326,7 @@ static int f151(State m, int l0, int l1, long l2, long l3) {
    l8 = t14 != 0 ? t13 : 0;
    l9 = l9 != 0 ? 0 : 2;
   }
-  l7 = Core4.f147(m, l0, l1, l7, l9, l8, 83372L, 0L);
+  l7 = Core4.f154(m, l0, l1, l7, l9, l8, 83372L, 0L);
   m.g0 = l4;
   final int t15 = l7;
   return t15;
@@ -1930,7 +2334,7 @@ static int f151(State m, int l0, int l1, long l2, long l3) {
  throw State.trap();
 }
 
-static int f152(State m, long l0, long l1, long l2, long l3) {
+static int f159(State m, long l0, long l1, long l2, long l3) {
  final byte[] b = m.bytes;
  long l4 = 0;
  long l5 = 0;
@@ -2366,7 +2770,7 @@ static int f152(State m, long l0, long l1, long l2, long l3) {
  throw State.trap();
 }
 
-static int f153(State m, int l0, int l1, long l2, long l3) {
+static int f160(State m, int l0, int l1, long l2, long l3) {
  final byte[] b = m.bytes;
  long l4 = 0;
  long l5 = 0;
@@ -2439,7 +2843,7 @@ static int f153(State m, int l0, int l1, long l2, long l3) {
    l10 = l6 != 0 ? 0 : 2;
   }
   L20: {
-   if (Core4.f147(m, l0, l1, l7, l10, l9, l2, l3) == 0) { break L20; }
+   if (Core4.f154(m, l0, l1, l7, l10, l9, l2, l3) == 0) { break L20; }
    m.g0 = l4;
    return 1;
   }
@@ -2456,7 +2860,7 @@ static int f153(State m, int l0, int l1, long l2, long l3) {
     if (l7 == 65293) { break L22; }
     if (l7 != 36127) { break L21; }
    }
-   l6 = f154(m, l0, l1, l2, l3);
+   l6 = f161(m, l0, l1, l2, l3);
   }
   m.g0 = l4;
   final int t24 = l6;
@@ -2465,7 +2869,7 @@ static int f153(State m, int l0, int l1, long l2, long l3) {
  throw State.trap();
 }
 
-static int f154(State m, int l0, int l1, long l2, long l3) {
+static int f161(State m, int l0, int l1, long l2, long l3) {
  final byte[] b = m.bytes;
  long l4 = 0;
  long l5 = 0;
@@ -2537,7 +2941,7 @@ static int f154(State m, int l0, int l1, long l2, long l3) {
    l9 = t19 != 0 ? t18 : 0;
    l10 = l6 != 0 ? 0 : 2;
   }
-  l7 = Core4.f147(m, l0, l1, l7, l10, l9, l2, l3);
+  l7 = Core4.f154(m, l0, l1, l7, l10, l9, l2, l3);
   m.g0 = l4;
   final int t20 = l7;
   return t20;
@@ -2545,7 +2949,7 @@ static int f154(State m, int l0, int l1, long l2, long l3) {
  throw State.trap();
 }
 
-static int f155(State m, int l0, int l1, long l2, long l3) {
+static int f162(State m, int l0, int l1, long l2, long l3) {
  final byte[] b = m.bytes;
  long l4 = 0;
  long l5 = 0;
@@ -2557,7 +2961,7 @@ static int f155(State m, int l0, int l1, long l2, long l3) {
   if ((l4 = m.g0) < 16L) { break L1; }
   l7 = 0;
   L2: {
-   if (f151(m, l0, l1, l2, l3) != 0) { break L2; }
+   if (f158(m, l0, l1, l2, l3) != 0) { break L2; }
    l7 = 1;
    if (l3 == 0L) { break L2; }
    L3: {
@@ -2618,7 +3022,7 @@ static int f155(State m, int l0, int l1, long l2, long l3) {
  throw State.trap();
 }
 
-static int f156(State m, long l0, long l1) {
+static int f163(State m, long l0, long l1) {
  final byte[] b = m.bytes;
  long l2 = 0;
  long l3 = 0;
@@ -2772,22 +3176,22 @@ static int f156(State m, long l0, long l1) {
                        if (l6 == 38742) { break L5; }
                        break L3;
                       }
-                      l6 = Core4.f146(m, 85124L, 1L, l0, l3);
+                      l6 = Core4.f153(m, 85124L, 1L, l0, l3);
                       m.g0 = l2;
                       final int t40 = l6;
                       return t40;
                      }
-                     l6 = Core4.f146(m, 85128L, 1L, l0, l3);
+                     l6 = Core4.f153(m, 85128L, 1L, l0, l3);
                      m.g0 = l2;
                      final int t41 = l6;
                      return t41;
                     }
-                    l6 = Core4.f146(m, 85132L, 1L, l0, l3);
+                    l6 = Core4.f153(m, 85132L, 1L, l0, l3);
                     m.g0 = l2;
                     final int t42 = l6;
                     return t42;
                    }
-                   l6 = Core4.f146(m, 85136L, 1L, l0, l3);
+                   l6 = Core4.f153(m, 85136L, 1L, l0, l3);
                    m.g0 = l2;
                    final int t43 = l6;
                    return t43;
@@ -2816,7 +3220,7 @@ static int f156(State m, long l0, long l1) {
                   final int t47 = ((l6 == 21688) | (l6 == 20803)) ? 1 : 0;
                   return t47;
                  }
-                 l6 = Core4.f146(m, 85140L, 3L, l0, l3);
+                 l6 = Core4.f153(m, 85140L, 3L, l0, l3);
                  m.g0 = l2;
                  final int t48 = l6;
                  return t48;
@@ -2845,7 +3249,7 @@ static int f156(State m, long l0, long l1) {
                 final int t52 = ((l6 == 23459) | (l6 == 27491)) ? 1 : 0;
                 return t52;
                }
-               l6 = Core4.f146(m, 85152L, 2L, l0, l3);
+               l6 = Core4.f153(m, 85152L, 2L, l0, l3);
                m.g0 = l2;
                final int t53 = l6;
                return t53;
@@ -2915,12 +3319,12 @@ static int f156(State m, long l0, long l1) {
            final int t63 = (((l6 + -35998) & -129) == 0) ? 1 : 0;
            return t63;
           }
-          l6 = Core4.f146(m, 85160L, 2L, l0, l3);
+          l6 = Core4.f153(m, 85160L, 2L, l0, l3);
           m.g0 = l2;
           final int t64 = l6;
           return t64;
          }
-         l6 = Core4.f146(m, 85076L, 1L, l0, l3);
+         l6 = Core4.f153(m, 85076L, 1L, l0, l3);
          m.g0 = l2;
          final int t65 = l6;
          return t65;
@@ -3025,7 +3429,7 @@ static int f156(State m, long l0, long l1) {
  return (l6 == 22825) ? 1 : 0;
 }
 
-static int f157(State m, long l0, long l1) {
+static int f164(State m, long l0, long l1) {
  final byte[] b = m.bytes;
  long l2 = 0;
  long l3 = 0;
@@ -3101,7 +3505,7 @@ static int f157(State m, long l0, long l1) {
  return l5;
 }
 
-static int f158_1(State m, long l0, long l1, long l2, long l3, long l6, long l7, long l8, long l9, int l10, int l11, int l12, int l13, int l14, int l15, int l16, int l17) {
+static int f165_1(State m, long l0, long l1, long l2, long l3, long l6, long l7, long l8, long l9, int l10, int l11, int l12, int l13, int l14, int l15, int l16, int l17) {
  final byte[] b = m.bytes;
  int exit = 0;
  PART: {
@@ -3486,7 +3890,7 @@ static int f158_1(State m, long l0, long l1, long l2, long l3, long l6, long l7,
  return exit;
 }
 
-static int f158_2(State m, long l0, long l1, long l2, long l3, long l4, long l5, int l16, int l17, int l18, int l19) {
+static int f165_2(State m, long l0, long l1, long l2, long l3, long l4, long l5, int l16, int l17, int l18, int l19) {
  final byte[] b = m.bytes;
  int exit = 0;
  PART: {
@@ -3510,9 +3914,9 @@ static int f158_2(State m, long l0, long l1, long l2, long l3, long l4, long l5,
    }
    if (l16 != 20108) { break L73; }
    if (l3 != (l0 + l1)) { break L73; }
-   if (Core4.f131(m, 85396L, 1L, 85400L, 2L, l4, l5) != 0) { exit = 1; break PART; }
-   if (Core4.f131(m, 85408L, 1L, 85412L, 1L, l4, l5) != 0) { exit = 1; break PART; }
-   if (Core4.f131(m, 83552L, 1L, 85416L, 2L, l4, l5) != 0) { exit = 1; break PART; }
+   if (Core4.f138(m, 85396L, 1L, 85400L, 2L, l4, l5) != 0) { exit = 1; break PART; }
+   if (Core4.f138(m, 85408L, 1L, 85412L, 1L, l4, l5) != 0) { exit = 1; break PART; }
+   if (Core4.f138(m, 83552L, 1L, 85416L, 2L, l4, l5) != 0) { exit = 1; break PART; }
   }
  }
  m.kept[0] = l0;
@@ -3523,7 +3927,7 @@ static int f158_2(State m, long l0, long l1, long l2, long l3, long l4, long l5,
  return exit;
 }
 
-static int f158_3(State m, long l0, long l1, long l2, long l3, long l4, long l5, int l15, int l16, int l17, int l18, int l19) {
+static int f165_3(State m, long l0, long l1, long l2, long l3, long l4, long l5, int l15, int l16, int l17, int l18, int l19) {
  final byte[] b = m.bytes;
  int exit = 0;
  PART: {
@@ -3565,8 +3969,8 @@ static int f158_3(State m, long l0, long l1, long l2, long l3, long l4, long l5,
     if (l16 == 22823) { exit = 1; break PART; }
     if (l16 == 33324) { exit = 1; break PART; }
    }
-   if (Core4.f131(m, 85424L, 2L, 85432L, 2L, l4, l5) != 0) { exit = 1; break PART; }
-   if (Core4.f131(m, 85440L, 2L, 85448L, 1L, l4, l5) != 0) { exit = 1; break PART; }
+   if (Core4.f138(m, 85424L, 2L, 85432L, 2L, l4, l5) != 0) { exit = 1; break PART; }
+   if (Core4.f138(m, 85440L, 2L, 85448L, 1L, l4, l5) != 0) { exit = 1; break PART; }
   }
  }
  m.kept[0] = l0;
@@ -3577,7 +3981,7 @@ static int f158_3(State m, long l0, long l1, long l2, long l3, long l4, long l5,
  return exit;
 }
 
-static int f158_4(State m, long l0, long l1, long l2, long l3, long l4, long l5, int l11, int l12, int l13, int l14, int l15, int l16, int l17, int l18, int l19) {
+static int f165_4(State m, long l0, long l1, long l2, long l3, long l4, long l5, int l11, int l12, int l13, int l14, int l15, int l16, int l17, int l18, int l19) {
  final byte[] b = m.bytes;
  int exit = 0;
  PART: {
@@ -3651,7 +4055,7 @@ static int f158_4(State m, long l0, long l1, long l2, long l3, long l4, long l5,
     }
     if (l16 == 22823) { exit = 1; break PART; }
    }
-   if (Core4.f131(m, 85452L, 2L, 85460L, 1L, l4, l5) != 0) { exit = 1; break PART; }
+   if (Core4.f138(m, 85452L, 2L, 85460L, 1L, l4, l5) != 0) { exit = 1; break PART; }
   }
  }
  m.kept[0] = l0;
@@ -3663,7 +4067,7 @@ static int f158_4(State m, long l0, long l1, long l2, long l3, long l4, long l5,
  return exit;
 }
 
-static int f158_5(State m, long l0, long l1, long l2, long l3, long l4, long l5, int l15, int l16, int l17, int l18, int l19) {
+static int f165_5(State m, long l0, long l1, long l2, long l3, long l4, long l5, int l15, int l16, int l17, int l18, int l19) {
  final byte[] b = m.bytes;
  int exit = 0;
  PART: {
@@ -3712,9 +4116,9 @@ static int f158_5(State m, long l0, long l1, long l2, long l3, long l4, long l5,
     if (l16 == 22238) { exit = 1; break PART; }
     if (l16 == 25918) { exit = 1; break PART; }
    }
-   if (Core4.f131(m, 85464L, 1L, 83700L, 1L, l4, l5) != 0) { exit = 1; break PART; }
-   if (Core4.f131(m, 85468L, 2L, 85464L, 1L, l4, l5) != 0) { exit = 1; break PART; }
-   if (Core4.f131(m, 85476L, 2L, 85484L, 1L, l4, l5) != 0) { exit = 1; break PART; }
+   if (Core4.f138(m, 85464L, 1L, 83700L, 1L, l4, l5) != 0) { exit = 1; break PART; }
+   if (Core4.f138(m, 85468L, 2L, 85464L, 1L, l4, l5) != 0) { exit = 1; break PART; }
+   if (Core4.f138(m, 85476L, 2L, 85484L, 1L, l4, l5) != 0) { exit = 1; break PART; }
   }
  }
  m.kept[0] = l0;
@@ -3725,7 +4129,7 @@ static int f158_5(State m, long l0, long l1, long l2, long l3, long l4, long l5,
  return exit;
 }
 
-static int f158_6(State m, long l0, long l1, long l2, long l3, long l4, long l7, int l15, int l16, int l17, int l18, int l19) {
+static int f165_6(State m, long l0, long l1, long l2, long l3, long l4, long l7, int l15, int l16, int l17, int l18, int l19) {
  final byte[] b = m.bytes;
  int exit = 0;
  PART: {
@@ -3794,7 +4198,7 @@ static int f158_6(State m, long l0, long l1, long l2, long l3, long l4, long l7,
  return exit;
 }
 
-static int f158_7(State m, long l0, long l1, long l2, long l3, long l4, long l7, int l15, int l16, int l17, int l18, int l19) {
+static int f165_7(State m, long l0, long l1, long l2, long l3, long l4, long l7, int l15, int l16, int l17, int l18, int l19) {
  final byte[] b = m.bytes;
  int exit = 0;
  PART: {
@@ -3864,7 +4268,7 @@ static int f158_7(State m, long l0, long l1, long l2, long l3, long l4, long l7,
  return exit;
 }
 
-static int f158_8(State m, long l0, long l1, long l2, long l3, long l4, long l7, int l15, int l16, int l17, int l18, int l19) {
+static int f165_8(State m, long l0, long l1, long l2, long l3, long l4, long l7, int l15, int l16, int l17, int l18, int l19) {
  final byte[] b = m.bytes;
  int exit = 0;
  PART: {
@@ -3949,7 +4353,7 @@ static int f158_8(State m, long l0, long l1, long l2, long l3, long l4, long l7,
  return exit;
 }
 
-static int f158_9(State m, long l0, long l1, long l2, long l3, long l4, long l5, long l7, int l15, int l16, int l17, int l18, int l19) {
+static int f165_9(State m, long l0, long l1, long l2, long l3, long l4, long l5, long l7, int l15, int l16, int l17, int l18, int l19) {
  final byte[] b = m.bytes;
  int exit = 0;
  PART: {
@@ -4007,7 +4411,7 @@ static int f158_9(State m, long l0, long l1, long l2, long l3, long l4, long l5,
     }
     if (l16 == 21490) { exit = 1; break PART; }
    }
-   if (Core4.f131(m, 85488L, 2L, 85496L, 2L, l4, l5) != 0) { exit = 1; break PART; }
+   if (Core4.f138(m, 85488L, 2L, 85496L, 2L, l4, l5) != 0) { exit = 1; break PART; }
   }
  }
  m.kept[0] = l0;
@@ -4020,7 +4424,7 @@ static int f158_9(State m, long l0, long l1, long l2, long l3, long l4, long l5,
  return exit;
 }
 
-static int f158_10(State m, long l0, long l1, long l2, long l3, long l4, long l7, int l15, int l16, int l17, int l18, int l19) {
+static int f165_10(State m, long l0, long l1, long l2, long l3, long l4, long l7, int l15, int l16, int l17, int l18, int l19) {
  final byte[] b = m.bytes;
  int exit = 0;
  PART: {
@@ -4088,7 +4492,7 @@ static int f158_10(State m, long l0, long l1, long l2, long l3, long l4, long l7
  return exit;
 }
 
-static int f158_11(State m, long l0, long l1, long l2, long l3, long l4, int l15, int l16, int l17, int l18, int l19) {
+static int f165_11(State m, long l0, long l1, long l2, long l3, long l4, int l15, int l16, int l17, int l18, int l19) {
  final byte[] b = m.bytes;
  int exit = 0;
  PART: {
@@ -4138,7 +4542,7 @@ static int f158_11(State m, long l0, long l1, long l2, long l3, long l4, int l15
  return exit;
 }
 
-static int f158_12(State m, long l0, long l1, long l2, long l3, long l4, long l7, int l15, int l16, int l17, int l18, int l19) {
+static int f165_12(State m, long l0, long l1, long l2, long l3, long l4, long l7, int l15, int l16, int l17, int l18, int l19) {
  final byte[] b = m.bytes;
  int exit = 0;
  PART: {
@@ -4223,7 +4627,7 @@ static int f158_12(State m, long l0, long l1, long l2, long l3, long l4, long l7
  return exit;
 }
 
-static int f158_13(State m, long l0, long l1, long l2, long l3, long l4, long l5, int l11, int l12, int l13, int l14, int l16, int l17, int l18, int l19) {
+static int f165_13(State m, long l0, long l1, long l2, long l3, long l4, long l5, int l11, int l12, int l13, int l14, int l16, int l17, int l18, int l19) {
  final byte[] b = m.bytes;
  int exit = 0;
  PART: {
@@ -4280,7 +4684,7 @@ static int f158_13(State m, long l0, long l1, long l2, long l3, long l4, long l5
     if (l16 != 33836) { break L191; }
     if (l3 != (l0 + l1)) { break L191; }
    }
-   if (Core4.f131(m, 85504L, 1L, 85508L, 1L, l4, l5) != 0) { exit = 1; break PART; }
+   if (Core4.f138(m, 85504L, 1L, 85508L, 1L, l4, l5) != 0) { exit = 1; break PART; }
   }
  }
  m.kept[0] = l0;
@@ -4292,7 +4696,7 @@ static int f158_13(State m, long l0, long l1, long l2, long l3, long l4, long l5
  return exit;
 }
 
-static int f158_14(State m, long l0, long l1, long l2, long l3, long l4, long l7, int l11, int l12, int l13, int l14, int l15, int l16, int l17, int l18, int l19) {
+static int f165_14(State m, long l0, long l1, long l2, long l3, long l4, long l7, int l11, int l12, int l13, int l14, int l15, int l16, int l17, int l18, int l19) {
  final byte[] b = m.bytes;
  int exit = 0;
  PART: {
@@ -4449,7 +4853,7 @@ static int f158_14(State m, long l0, long l1, long l2, long l3, long l4, long l7
  return exit;
 }
 
-static int f158_15(State m, long l0, long l1, long l2, long l3, long l5, int l15, int l16, int l17, int l18) {
+static int f165_15(State m, long l0, long l1, long l2, long l3, long l5, int l15, int l16, int l17, int l18) {
  final byte[] b = m.bytes;
  int exit = 0;
  PART: {
@@ -4502,7 +4906,7 @@ static int f158_15(State m, long l0, long l1, long l2, long l3, long l5, int l15
  return exit;
 }
 
-static int f158(State m, long l0, long l1, long l2, long l3, long l4, long l5) {
+static int f165(State m, long l0, long l1, long l2, long l3, long l4, long l5) {
  final byte[] b = m.bytes;
  long l6 = 0;
  long l7 = 0;
@@ -4521,7 +4925,7 @@ static int f158(State m, long l0, long l1, long l2, long l3, long l4, long l5) {
  L1: {
   L2: {
    L3: {
-    final int x59 = f158_1(m, l0, l1, l2, l3, l6, l7, l8, l9, l10, l11, l12, l13, l14, l15, l16, l17);
+    final int x59 = f165_1(m, l0, l1, l2, l3, l6, l7, l8, l9, l10, l11, l12, l13, l14, l15, l16, l17);
     l6 = m.kept[0];
     l7 = m.kept[1];
     l8 = m.kept[2];
@@ -4569,12 +4973,12 @@ static int f158(State m, long l0, long l1, long l2, long l3, long l4, long l5) {
     if (l10 != 20845) { break L2; }
    }
    if (l7 == (0L - l3)) { break L2; }
-   if (Core4.f127(m, l0, l1) == 0) { break L2; }
+   if (Core4.f134(m, l0, l1) == 0) { break L2; }
    m.g0 = l6;
    return 1;
   }
   l10 = 1;
-  if (f157(m, l0, l1) != 0) { break L1; }
+  if (f164(m, l0, l1) != 0) { break L1; }
   L64: {
    if ((l15 = (l5 == 0L) ? 1 : 0) != 0) { break L64; }
    if ((l11 = (int) b[((int) l4) - 60720]) > -1) { break L64; }
@@ -4591,9 +4995,9 @@ static int f158(State m, long l0, long l1, long l2, long l3, long l4, long l5) {
     l11 = ((l14 << 6) | ((l13 << 12) | ((l12 << 18) & 1835008))) | ((b[((int) l4) - 60717] & 0xff) & 63);
    }
    if (l11 != 24180) { break L64; }
-   if (f156(m, l0, l1) != 0) { break L1; }
+   if (f163(m, l0, l1) != 0) { break L1; }
   }
-  l11 = Core4.f131(m, 85308L, 9L, 85344L, 13L, l2, l3);
+  l11 = Core4.f138(m, 85308L, 9L, 85344L, 13L, l2, l3);
   L67: {
    if (!(l3 == 0L)) { break L67; }
    m.g0 = l6;
@@ -4627,7 +5031,7 @@ static int f158(State m, long l0, long l1, long l2, long l3, long l4, long l5) {
    l16 = ((l14 << 6) | ((l13 << 12) | ((l12 << 18) & 1835008))) | ((b[((int) l2) - 60717] & 0xff) & 63);
    l1 = 4L;
   }
-  final int x76 = f158_2(m, l0, l1, l2, l3, l4, l5, l16, l17, l18, l19);
+  final int x76 = f165_2(m, l0, l1, l2, l3, l4, l5, l16, l17, l18, l19);
   l0 = m.kept[0];
   l16 = (int) m.kept[1];
   l17 = (int) m.kept[2];
@@ -4646,7 +5050,7 @@ static int f158(State m, long l0, long l1, long l2, long l3, long l4, long l5) {
    l16 = ((l14 << 6) | ((l13 << 12) | ((l12 << 18) & 1835008))) | ((b[((int) l2) - 60717] & 0xff) & 63);
    l1 = 4L;
   }
-  final int x85 = f158_3(m, l0, l1, l2, l3, l4, l5, l15, l16, l17, l18, l19);
+  final int x85 = f165_3(m, l0, l1, l2, l3, l4, l5, l15, l16, l17, l18, l19);
   l0 = m.kept[0];
   l16 = (int) m.kept[1];
   l17 = (int) m.kept[2];
@@ -4665,7 +5069,7 @@ static int f158(State m, long l0, long l1, long l2, long l3, long l4, long l5) {
    l16 = ((l14 << 6) | ((l13 << 12) | ((l12 << 18) & 1835008))) | ((b[((int) l2) - 60717] & 0xff) & 63);
    l1 = 4L;
   }
-  final int x100 = f158_4(m, l0, l1, l2, l3, l4, l5, l11, l12, l13, l14, l15, l16, l17, l18, l19);
+  final int x100 = f165_4(m, l0, l1, l2, l3, l4, l5, l11, l12, l13, l14, l15, l16, l17, l18, l19);
   l0 = m.kept[0];
   l1 = m.kept[1];
   l16 = (int) m.kept[2];
@@ -4685,7 +5089,7 @@ static int f158(State m, long l0, long l1, long l2, long l3, long l4, long l5) {
    l16 = ((l14 << 6) | ((l13 << 12) | ((l12 << 18) & 1835008))) | ((b[((int) l2) - 60717] & 0xff) & 63);
    l1 = 4L;
   }
-  final int x110 = f158_5(m, l0, l1, l2, l3, l4, l5, l15, l16, l17, l18, l19);
+  final int x110 = f165_5(m, l0, l1, l2, l3, l4, l5, l15, l16, l17, l18, l19);
   l0 = m.kept[0];
   l16 = (int) m.kept[1];
   l17 = (int) m.kept[2];
@@ -4704,7 +5108,7 @@ static int f158(State m, long l0, long l1, long l2, long l3, long l4, long l5) {
    l16 = ((l14 << 6) | ((l13 << 12) | ((l12 << 18) & 1835008))) | ((b[((int) l2) - 60717] & 0xff) & 63);
    l1 = 4L;
   }
-  final int x120 = f158_6(m, l0, l1, l2, l3, l4, l7, l15, l16, l17, l18, l19);
+  final int x120 = f165_6(m, l0, l1, l2, l3, l4, l7, l15, l16, l17, l18, l19);
   l0 = m.kept[0];
   l1 = m.kept[1];
   l7 = m.kept[2];
@@ -4725,7 +5129,7 @@ static int f158(State m, long l0, long l1, long l2, long l3, long l4, long l5) {
    l16 = ((l14 << 6) | ((l13 << 12) | ((l12 << 18) & 1835008))) | ((b[((int) l2) - 60717] & 0xff) & 63);
    l1 = 4L;
   }
-  final int x130 = f158_7(m, l0, l1, l2, l3, l4, l7, l15, l16, l17, l18, l19);
+  final int x130 = f165_7(m, l0, l1, l2, l3, l4, l7, l15, l16, l17, l18, l19);
   l0 = m.kept[0];
   l1 = m.kept[1];
   l7 = m.kept[2];
@@ -4746,7 +5150,7 @@ static int f158(State m, long l0, long l1, long l2, long l3, long l4, long l5) {
    l16 = ((l14 << 6) | ((l13 << 12) | ((l12 << 18) & 1835008))) | ((b[((int) l2) - 60717] & 0xff) & 63);
    l1 = 4L;
   }
-  final int x142 = f158_8(m, l0, l1, l2, l3, l4, l7, l15, l16, l17, l18, l19);
+  final int x142 = f165_8(m, l0, l1, l2, l3, l4, l7, l15, l16, l17, l18, l19);
   l0 = m.kept[0];
   l1 = m.kept[1];
   l7 = m.kept[2];
@@ -4767,7 +5171,7 @@ static int f158(State m, long l0, long l1, long l2, long l3, long l4, long l5) {
    l16 = ((l14 << 6) | ((l13 << 12) | ((l12 << 18) & 1835008))) | ((b[((int) l2) - 60717] & 0xff) & 63);
    l1 = 4L;
   }
-  final int x153 = f158_9(m, l0, l1, l2, l3, l4, l5, l7, l15, l16, l17, l18, l19);
+  final int x153 = f165_9(m, l0, l1, l2, l3, l4, l5, l7, l15, l16, l17, l18, l19);
   l0 = m.kept[0];
   l1 = m.kept[1];
   l7 = m.kept[2];
@@ -4788,7 +5192,7 @@ static int f158(State m, long l0, long l1, long l2, long l3, long l4, long l5) {
    l16 = ((l14 << 6) | ((l13 << 12) | ((l12 << 18) & 1835008))) | ((b[((int) l2) - 60717] & 0xff) & 63);
    l1 = 4L;
   }
-  final int x163 = f158_10(m, l0, l1, l2, l3, l4, l7, l15, l16, l17, l18, l19);
+  final int x163 = f165_10(m, l0, l1, l2, l3, l4, l7, l15, l16, l17, l18, l19);
   l0 = m.kept[0];
   l1 = m.kept[1];
   l7 = m.kept[2];
@@ -4809,7 +5213,7 @@ static int f158(State m, long l0, long l1, long l2, long l3, long l4, long l5) {
    l16 = ((l14 << 6) | ((l13 << 12) | ((l12 << 18) & 1835008))) | ((b[((int) l2) - 60717] & 0xff) & 63);
    l1 = 4L;
   }
-  final int x171 = f158_11(m, l0, l1, l2, l3, l4, l15, l16, l17, l18, l19);
+  final int x171 = f165_11(m, l0, l1, l2, l3, l4, l15, l16, l17, l18, l19);
   l0 = m.kept[0];
   l16 = (int) m.kept[1];
   l17 = (int) m.kept[2];
@@ -4828,7 +5232,7 @@ static int f158(State m, long l0, long l1, long l2, long l3, long l4, long l5) {
    l16 = ((l14 << 6) | ((l13 << 12) | ((l12 << 18) & 1835008))) | ((b[((int) l2) - 60717] & 0xff) & 63);
    l1 = 4L;
   }
-  final int x183 = f158_12(m, l0, l1, l2, l3, l4, l7, l15, l16, l17, l18, l19);
+  final int x183 = f165_12(m, l0, l1, l2, l3, l4, l7, l15, l16, l17, l18, l19);
   l0 = m.kept[0];
   l1 = m.kept[1];
   l7 = m.kept[2];
@@ -4869,7 +5273,7 @@ static int f158(State m, long l0, long l1, long l2, long l3, long l4, long l5) {
    }
    if (l14 != 20843) { break L186; }
    if (l3 != (l0 + l1)) { break L186; }
-   if (Core4.f131(m, 83548L, 1L, 84232L, 2L, l4, l5) != 0) { break L1; }
+   if (Core4.f138(m, 83548L, 1L, 84232L, 2L, l4, l5) != 0) { break L1; }
   }
   l14 = (b[((int) l2) - 60718] & 0xff) & 63;
   L189: {
@@ -4882,7 +5286,7 @@ static int f158(State m, long l0, long l1, long l2, long l3, long l4, long l5) {
    l16 = ((l14 << 6) | ((l13 << 12) | ((l12 << 18) & 1835008))) | ((b[((int) l2) - 60717] & 0xff) & 63);
    l1 = 4L;
   }
-  final int x200 = f158_13(m, l0, l1, l2, l3, l4, l5, l11, l12, l13, l14, l16, l17, l18, l19);
+  final int x200 = f165_13(m, l0, l1, l2, l3, l4, l5, l11, l12, l13, l14, l16, l17, l18, l19);
   l0 = m.kept[0];
   l1 = m.kept[1];
   l16 = (int) m.kept[2];
@@ -4902,7 +5306,7 @@ static int f158(State m, long l0, long l1, long l2, long l3, long l4, long l5) {
    l16 = ((l14 << 6) | ((l13 << 12) | ((l12 << 18) & 1835008))) | ((b[((int) l2) - 60717] & 0xff) & 63);
    l1 = 4L;
   }
-  final int x223 = f158_14(m, l0, l1, l2, l3, l4, l7, l11, l12, l13, l14, l15, l16, l17, l18, l19);
+  final int x223 = f165_14(m, l0, l1, l2, l3, l4, l7, l11, l12, l13, l14, l15, l16, l17, l18, l19);
   l0 = m.kept[0];
   l1 = m.kept[1];
   l7 = m.kept[2];
@@ -4944,7 +5348,7 @@ static int f158(State m, long l0, long l1, long l2, long l3, long l4, long l5) {
    }
    if (l15 != 21315) { break L226; }
    if (l3 != (l0 + l1)) { break L226; }
-   if (Core4.f131(m, 85136L, 1L, 83924L, 1L, l4, l5) != 0) { break L1; }
+   if (Core4.f138(m, 85136L, 1L, 83924L, 1L, l4, l5) != 0) { break L1; }
   }
   L229: {
    L230: {
@@ -4976,8 +5380,8 @@ static int f158(State m, long l0, long l1, long l2, long l3, long l4, long l5) {
    }
    if (l15 != 21313) { break L231; }
    if (l3 != (l0 + l1)) { break L231; }
-   if (Core4.f131(m, 85512L, 1L, 85516L, 1L, l4, l5) != 0) { break L1; }
-   if (Core4.f131(m, 83548L, 1L, 85520L, 1L, l4, l5) != 0) { break L1; }
+   if (Core4.f138(m, 85512L, 1L, 85516L, 1L, l4, l5) != 0) { break L1; }
+   if (Core4.f138(m, 83548L, 1L, 85520L, 1L, l4, l5) != 0) { break L1; }
   }
   L234: {
    L235: {
@@ -5009,7 +5413,7 @@ static int f158(State m, long l0, long l1, long l2, long l3, long l4, long l5) {
    }
    if (l15 != 21313) { break L236; }
    if (l3 != (l0 + l1)) { break L236; }
-   if (Core4.f131(m, 85524L, 1L, 85528L, 1L, l4, l5) != 0) { break L1; }
+   if (Core4.f138(m, 85524L, 1L, 85528L, 1L, l4, l5) != 0) { break L1; }
   }
   L239: {
    L240: {
@@ -5041,7 +5445,7 @@ static int f158(State m, long l0, long l1, long l2, long l3, long l4, long l5) {
    }
    if (l15 != 21313) { break L241; }
    if (l3 != (l0 + l1)) { break L241; }
-   if (Core4.f131(m, 85532L, 1L, 85536L, 1L, l4, l5) != 0) { break L1; }
+   if (Core4.f138(m, 85532L, 1L, 85536L, 1L, l4, l5) != 0) { break L1; }
   }
   L244: {
    L245: {
@@ -5073,7 +5477,7 @@ static int f158(State m, long l0, long l1, long l2, long l3, long l4, long l5) {
    }
    if (l15 != 20116) { break L246; }
    if (l3 != (l0 + l1)) { break L246; }
-   if (Core4.f131(m, 85540L, 4L, 85556L, 1L, l4, l5) != 0) { break L1; }
+   if (Core4.f138(m, 85540L, 4L, 85556L, 1L, l4, l5) != 0) { break L1; }
   }
   L249: {
    L250: {
@@ -5085,7 +5489,7 @@ static int f158(State m, long l0, long l1, long l2, long l3, long l4, long l5) {
    l15 = ((l14 << 6) | ((l13 << 12) | ((l12 << 18) & 1835008))) | ((b[((int) l2) - 60717] & 0xff) & 63);
    l1 = 4L;
   }
-  final int x256 = f158_15(m, l0, l1, l2, l3, l5, l15, l16, l17, l18);
+  final int x256 = f165_15(m, l0, l1, l2, l3, l5, l15, l16, l17, l18);
   l0 = m.kept[0];
   l1 = m.kept[1];
   l5 = m.kept[2];
@@ -5178,7 +5582,7 @@ static int f158(State m, long l0, long l1, long l2, long l3, long l4, long l5) {
  return l10;
 }
 
-static int f159(State m, int l0) {
+static int f166(State m, int l0) {
  final byte[] b = m.bytes;
  long l1 = 0;
  long l2 = 0;
@@ -5254,7 +5658,7 @@ static int f159(State m, int l0) {
  throw State.trap();
 }
 
-static int f160(State m, int l0, long l1, long l2, long l3, long l4) {
+static int f167(State m, int l0, long l1, long l2, long l3, long l4) {
  final byte[] b = m.bytes;
  long l5 = 0;
  long l6 = 0;
@@ -5366,7 +5770,7 @@ static int f160(State m, int l0, long l1, long l2, long l3, long l4) {
       Words.put64(b, ((int) l5) - 60616, 0L);
       Words.put64(b, ((int) l5) - 60624, 0L);
       l19 = 1;
-      Core2.f75(m, l5 + 96L, l1, l2, 1);
+      Core3.f82(m, l5 + 96L, l1, l2, 1);
       l6 = Words.get64(b, ((int) l5) - 60584);
       l7 = Words.get64(b, ((int) l5) - 60592);
       l8 = Words.get64(b, ((int) l5) - 60600);
@@ -5381,7 +5785,7 @@ static int f160(State m, int l0, long l1, long l2, long l3, long l4) {
       Words.put64(b, ((int) l5) - 60608, 0L);
       Words.put64(b, ((int) l5) - 60616, 0L);
       Words.put64(b, ((int) l5) - 60624, 0L);
-      Core2.f75(m, l5 + 96L, l3, l4, 1);
+      Core3.f82(m, l5 + 96L, l3, l4, 1);
       L16: {
        if ((l0 | ((b[((int) l5) - 60624] & 0xff) & 255)) == 0) { break L16; }
        l19 = 0;
@@ -5492,7 +5896,7 @@ static int f160(State m, int l0, long l1, long l2, long l3, long l4) {
       Words.put64(b, ((int) l5) - 60608, 0L);
       Words.put64(b, ((int) l5) - 60616, 0L);
       Words.put64(b, ((int) l5) - 60624, 0L);
-      Core2.f75(m, l5 + 96L, l3, l10, 1);
+      Core3.f82(m, l5 + 96L, l3, l10, 1);
       l19 = 0;
       if ((b[((int) l5) - 60624] & 0xff) != 0) { break L1; }
       l12 = Words.get64(b, ((int) l5) - 60584);
@@ -5628,7 +6032,7 @@ static int f160(State m, int l0, long l1, long l2, long l3, long l4) {
  return l19;
 }
 
-static int f161_1(State m, long l8, long l11, long l14, long l15, long l16, long l17, long l18, int l20, int l21, int l22, int l23, int l24) {
+static int f168_1(State m, long l8, long l11, long l14, long l15, long l16, long l17, long l18, int l20, int l21, int l22, int l23, int l24) {
  final byte[] b = m.bytes;
  int exit = 0;
  PART: {
@@ -5833,7 +6237,7 @@ static int f161_1(State m, long l8, long l11, long l14, long l15, long l16, long
        Words.put32(b, ((int) l8) - 60704, l23);
        Words.put64(b, ((int) l8) - 60712, 1L);
       }
-      l22 = Core3.f103(m, l8 + 8L);
+      l22 = Core3.f110(m, l8 + 8L);
       break L7;
      }
      l22 = 1;
@@ -5857,7 +6261,7 @@ static int f161_1(State m, long l8, long l11, long l14, long l15, long l16, long
  return exit;
 }
 
-static int f161(State m, long l0, long l1, long l2, int l3, int l4, long l5, long l6, long l7) {
+static int f168(State m, long l0, long l1, long l2, int l3, int l4, long l5, long l6, long l7) {
  final byte[] b = m.bytes;
  long l8 = 0;
  long l9 = 0;
@@ -5906,14 +6310,14 @@ static int f161(State m, long l0, long l1, long l2, int l3, int l4, long l5, lon
     Words.put64(b, ((int) l8) - 60704, 0L);
     Words.put64(b, ((int) l8) - 60712, 0L);
     if (l2 == 0L) { break L2; }
-    f162(m, l8 + 8L, l3, l4, l0, l1, l10, l2);
+    f169(m, l8 + 8L, l3, l4, l0, l1, l10, l2);
     if ((b[((int) l8) - 60712] & 0xff) != 1) { break L2; }
     l12 = Words.get64(b, ((int) l8) - 60680);
     l13 = Words.get64(b, ((int) l8) - 60688);
     l14 = Words.get64(b, ((int) l8) - 60704);
     l2 = Words.get64(b, ((int) l8) - 60664);
     l10 = Words.get64(b, ((int) l8) - 60672);
-    f161_1(m, l8, l11, l14, l15, l16, l17, l18, l20, l21, l22, l23, l24);
+    f168_1(m, l8, l11, l14, l15, l16, l17, l18, l20, l21, l22, l23, l24);
     l15 = m.kept[0];
     l16 = m.kept[1];
     l17 = m.kept[2];
@@ -6014,7 +6418,7 @@ static int f161(State m, long l0, long l1, long l2, int l3, int l4, long l5, lon
             if (l23 == 22810) { break L52; }
             if (l23 != 22909) { break L66; }
            }
-           l21 = Core3.f104(m, l23, l16, l17);
+           l21 = Core3.f111(m, l23, l16, l17);
            break L52;
           }
           L72: {
@@ -6129,7 +6533,7 @@ static int f161(State m, long l0, long l1, long l2, int l3, int l4, long l5, lon
          Words.put64(b, ((int) l8) - 60706, 0L);
          Words.put64(b, ((int) l8) - 60712, 0L);
         }
-        l24 = Core3.f105(m, l8 + 8L);
+        l24 = Core3.f112(m, l8 + 8L);
         break L54;
        }
        l24 = 1;
@@ -6172,7 +6576,7 @@ static int f161(State m, long l0, long l1, long l2, int l3, int l4, long l5, lon
           }
           if (((int) (byte) l25) > -1) { break L99; }
          }
-         Core3.f106(m, l8 + 8L, l13, l12);
+         Core3.f113(m, l8 + 8L, l13, l12);
          if ((b[((int) l8) - 60712] & 0xff) != 1) { break L99; }
          l22 = b[((int) l8) - 60709] & 0xff;
          l24 = b[((int) l8) - 60711] & 0xff;
@@ -6185,12 +6589,12 @@ static int f161(State m, long l0, long l1, long l2, int l3, int l4, long l5, lon
        if ((l21 | (l20 & ((l24 == 1) ? 1 : 0))) != 0) { break L98; }
        break L97;
       }
-      l24 = Core3.f107(m, l13, l12);
+      l24 = Core3.f114(m, l13, l12);
       L108: {
        L109: {
         L110: {
          if (l20 == 0) { break L110; }
-         if ((l21 | Core3.f108(m, l13, l12)) != 0) { break L109; }
+         if ((l21 | Core3.f115(m, l13, l12)) != 0) { break L109; }
          break L108;
         }
         if (l21 == 0) { break L108; }
@@ -6201,7 +6605,7 @@ static int f161(State m, long l0, long l1, long l2, int l3, int l4, long l5, lon
       }
       l22 = 0;
       l23 = (l23 != 0 ? 0 : 2) | l24;
-      if (Core3.f109(m, l13, l12) == 0) { break L97; }
+      if (Core3.f116(m, l13, l12) == 0) { break L97; }
      }
      l23 = l23 | 4;
     }
@@ -6211,7 +6615,7 @@ static int f161(State m, long l0, long l1, long l2, int l3, int l4, long l5, lon
     Words.put64(b, ((int) l8) - 60696, l13);
     Words.put64(b, ((int) l8) - 60704, l15);
     Words.put64(b, ((int) l8) - 60712, l14);
-    Core4.f117(m, l8, l8 + 8L);
+    Core4.f124(m, l8, l8 + 8L);
     l20 = b[((int) l8) - 60719] & 0xff;
     l21 = b[((int) l8) - 60720] & 0xff;
     Words.put32(b, ((int) (l5 + 20L)) - 60720, 0);
@@ -6237,7 +6641,7 @@ static int f161(State m, long l0, long l1, long l2, int l3, int l4, long l5, lon
  throw State.trap();
 }
 
-static void f162(State m, long l0, int l1, int l2, long l3, long l4, long l5, long l6) {
+static void f169(State m, long l0, int l1, int l2, long l3, long l4, long l5, long l6) {
  final byte[] b = m.bytes;
  long l7 = 0;
  long l8 = 0;
@@ -6350,10 +6754,10 @@ static void f162(State m, long l0, int l1, int l2, long l3, long l4, long l5, lo
              if ((l11 + -991120) + Integer.MIN_VALUE >= -2147483638) { break L26; }
              break L2;
             }
-            if (Core4.f147(m, l1, l2, l12, l14, l15, l5, l6) == 0) { break L26; }
-            if (Core4.f148(m, l1, l2, l3, l10, l12, l5, l6) == 0) { break L2; }
+            if (Core4.f154(m, l1, l2, l12, l14, l15, l5, l6) == 0) { break L26; }
+            if (f155(m, l1, l2, l3, l10, l12, l5, l6) == 0) { break L2; }
            }
-           if (f149(m, l1, l2, l3, l10, l12, l5, l6) == 0) { continue L4; }
+           if (f156(m, l1, l2, l3, l10, l12, l5, l6) == 0) { continue L4; }
            break L2;
           }
           L28: {
@@ -6410,7 +6814,7 @@ static void f162(State m, long l0, int l1, int l2, long l3, long l4, long l5, lo
           if ((l14 & 255) != 1) { break L2; }
           if ((l11 = l15 & 255) == 0) { break L7; }
           if (l11 != 6) { break L2; }
-          if (Core3.f101(m, l5, l6) != 0) { continue L4; }
+          if (Core3.f108(m, l5, l6) != 0) { continue L4; }
           break L2;
          }
          if (l9 == 0L) { break L6; }
@@ -6533,10 +6937,10 @@ static void f162(State m, long l0, int l1, int l2, long l3, long l4, long l5, lo
            if ((l12 + -65296) + Integer.MIN_VALUE >= -2147483638) { break L60; }
            break L2;
           }
-          if (Core4.f147(m, l1, l2, l12, l11, l14, l5, l6) == 0) { break L60; }
-          if (Core4.f148(m, l1, l2, l3, l10, l12, l5, l6) == 0) { break L2; }
+          if (Core4.f154(m, l1, l2, l12, l11, l14, l5, l6) == 0) { break L60; }
+          if (f155(m, l1, l2, l3, l10, l12, l5, l6) == 0) { break L2; }
          }
-         if (f149(m, l1, l2, l3, l10, l12, l5, l6) == 0) { continue L4; }
+         if (f156(m, l1, l2, l3, l10, l12, l5, l6) == 0) { continue L4; }
          break L2;
         }
         L62: {
@@ -6593,10 +6997,10 @@ static void f162(State m, long l0, int l1, int l2, long l3, long l4, long l5, lo
         if ((l11 & 255) != 1) { break L2; }
         if ((l11 = l14 & 255) == 0) { break L5; }
         if (l11 != 6) { break L2; }
-        if (Core3.f101(m, l5, l6) != 0) { continue L4; }
+        if (Core3.f108(m, l5, l6) != 0) { continue L4; }
         break L2;
        }
-       if (Core3.f102(m, l1, l2, l5, l6) == 0) { continue L4; }
+       if (Core3.f109(m, l1, l2, l5, l6) == 0) { continue L4; }
        break L2;
       }
       Words.put64(b, ((int) l0) - 60672, 0L);
@@ -6608,13 +7012,13 @@ static void f162(State m, long l0, int l1, int l2, long l3, long l4, long l5, lo
       Words.put64(b, ((int) l0) - 60720, 0L);
       break L1;
      }
-     if (Core3.f102(m, l1, l2, l5, l6) == 0) { continue L4; }
+     if (Core3.f109(m, l1, l2, l5, l6) == 0) { continue L4; }
      break L2;
     }
    }
    throw State.trap();
   }
-  f150(m, l8, l1, l2, l3, l4, l12, l5, l6);
+  f157(m, l8, l1, l2, l3, l4, l12, l5, l6);
   l6 = Words.get64(b, ((int) l8) - 60720);
   Words.put64(b, ((int) (l0 + 48L)) - 60720, l5 = Words.get64(b, ((int) l8) - 60712));
   Words.put64(b, ((int) (l0 + 40L)) - 60720, l6);
@@ -6627,7 +7031,7 @@ static void f162(State m, long l0, int l1, int l2, long l3, long l4, long l5, lo
  m.g0 = l8 + 16L;
 }
 
-static void f163(State m, long l0, int l1, long l2, long l3) {
+static void f170(State m, long l0, int l1, long l2, long l3) {
  final byte[] b = m.bytes;
  long l4 = 0;
  long l5 = 0;
@@ -6822,7 +7226,7 @@ static void f163(State m, long l0, int l1, long l2, long l3) {
  m.g0 = l5 + 16L;
 }
 
-static void f164(State m, long l0, int l1, int l2, int l3, long l4, long l5) {
+static void f171(State m, long l0, int l1, int l2, int l3, long l4, long l5) {
  final byte[] b = m.bytes;
  long l6 = 0;
  long l7 = 0;
@@ -7208,7 +7612,7 @@ static void f164(State m, long l0, int l1, int l2, int l3, long l4, long l5) {
   }
   L74: {
    if ((l2 & 255) == 0) { break L74; }
-   l13 = f165(m, l4, l5, l13, l6) & 255;
+   l13 = f172(m, l4, l5, l13, l6) & 255;
    break L72;
   }
   l13 = 33620992 >>> (l13 << 3);
@@ -7218,7 +7622,7 @@ static void f164(State m, long l0, int l1, int l2, int l3, long l4, long l5) {
  m.g0 = l7 + 32L;
 }
 
-static int f165(State m, long l0, long l1, int l2, long l3) {
+static int f172(State m, long l0, long l1, int l2, long l3) {
  final byte[] b = m.bytes;
  long l4 = 0;
  long l5 = 0;
@@ -7284,7 +7688,7 @@ static int f165(State m, long l0, long l1, int l2, long l3) {
       Words.put64(b, ((int) l5) - 60688, 0L);
       Words.put64(b, ((int) l5) - 60696, 0L);
       Words.put64(b, ((int) l5) - 60704, 0L);
-      f166(m, l5 + 16L, l0 + l4, l1 - l4);
+      f173(m, l5 + 16L, l0 + l4, l1 - l4);
       l2 = 3;
       if ((b[((int) l5) - 60704] & 0xff) != 1) { break L1; }
       l2 = 4;
@@ -7303,7 +7707,7 @@ static int f165(State m, long l0, long l1, int l2, long l3) {
        Words.put64(b, ((int) l5) - 60656, 0L);
        Words.put64(b, ((int) l5) - 60664, 0L);
        Words.put64(b, ((int) l5) - 60672, 0L);
-       f166(m, l5 + 48L, l3, l4);
+       f173(m, l5 + 48L, l3, l4);
        final int t16 = (((b[((int) l5) - 60664] & 0xff) & 255) != 0) ? 3 : 5;
        final int t17 = ((b[((int) l5) - 60672] & 0xff) != 1) ? 1 : 0;
        final int t18 = t17 != 0 ? 3 : t16;
@@ -7318,7 +7722,7 @@ static int f165(State m, long l0, long l1, int l2, long l3) {
       Words.put64(b, ((int) l5) - 60656, 0L);
       Words.put64(b, ((int) l5) - 60664, 0L);
       Words.put64(b, ((int) l5) - 60672, 0L);
-      f166(m, l5 + 48L, l3, l4);
+      f173(m, l5 + 48L, l3, l4);
       L20: {
        if ((l8 = (((b[((int) l5) - 60672] & 0xff) == 1) & (((b[((int) l5) - 60664] & 0xff) & 255) == 1)) ? 1 : 0) != 1) { break L20; }
        final int t21 = l7 & 255;
@@ -7338,7 +7742,7 @@ static int f165(State m, long l0, long l1, int l2, long l3) {
       Words.put64(b, ((int) l5) - 60656, 0L);
       Words.put64(b, ((int) l5) - 60664, 0L);
       Words.put64(b, ((int) l5) - 60672, 0L);
-      f166(m, l5 + 48L, l3, l4);
+      f173(m, l5 + 48L, l3, l4);
       if ((b[((int) l5) - 60672] & 0xff) != 1) { break L2; }
       L25: {
        L26: while (true) {
@@ -7346,7 +7750,7 @@ static int f165(State m, long l0, long l1, int l2, long l3) {
          if ((b[((int) l5) - 60664] & 0xff) != 1) { break L27; }
          if ((l2 = (b[((int) l5) - 60663] & 0xff) & 255) + Integer.MIN_VALUE >= (l8 = l7 & 255) + Integer.MIN_VALUE) { break L25; }
         }
-        f166(m, l5 + 48L, Words.get64(b, ((int) l5) - 60656), Words.get64(b, ((int) l5) - 60648));
+        f173(m, l5 + 48L, Words.get64(b, ((int) l5) - 60656), Words.get64(b, ((int) l5) - 60648));
         if ((b[((int) l5) - 60672] & 0xff) == 1) { continue L26; }
         break L2;
        }
@@ -7369,7 +7773,7 @@ static int f165(State m, long l0, long l1, int l2, long l3) {
  return l2;
 }
 
-static void f166(State m, long l0, long l1, long l2) {
+static void f173(State m, long l0, long l1, long l2) {
  final byte[] b = m.bytes;
  int l3 = 0;
  int l4 = 0;
@@ -7520,7 +7924,7 @@ static void f166(State m, long l0, long l1, long l2) {
  b[((int) (l0 + 8L)) - 60720] = (byte) l4;
 }
 
-static int f167(State m, long l0, long l1, int l2, int l3, int l4, long l5) {
+static int f174(State m, long l0, long l1, int l2, int l3, int l4, long l5) {
  final byte[] b = m.bytes;
  long l6 = 0;
  long l7 = 0;
@@ -7988,7 +8392,7 @@ static int f167(State m, long l0, long l1, int l2, int l3, int l4, long l5) {
  return l2;
 }
 
-static int f168(State m, long l0, long l1, int l2, int l3, int l4, long l5) {
+static int f175(State m, long l0, long l1, int l2, int l3, int l4, long l5) {
  final byte[] b = m.bytes;
  long l6 = 0;
  long l7 = 0;
@@ -8102,7 +8506,7 @@ static int f168(State m, long l0, long l1, int l2, int l3, int l4, long l5) {
  return l3;
 }
 
-static int f169(State m, long l0, long l1, int l2, long l3) {
+static int f176(State m, long l0, long l1, int l2, long l3) {
  final byte[] b = m.bytes;
  long l4 = 0;
  int l5 = 0;
@@ -8110,16 +8514,16 @@ static int f169(State m, long l0, long l1, int l2, long l3) {
  m.g0 = l4 = m.g0 - 16L;
  L1: {
   if ((l4 = l4) < 16L) { break L1; }
-  f163(m, l4 + 8L, l2, l0, l1);
+  f170(m, l4 + 8L, l2, l0, l1);
   l5 = b[((int) l4) - 60711] & 0xff;
   l6 = b[((int) l4) - 60712] & 0xff;
   L2: {
    L3: {
     if ((l2 & 255) + Integer.MIN_VALUE < -2147483643) { break L3; }
-    l2 = f167(m, l0, l1, l2, l6, l5, l3);
+    l2 = f174(m, l0, l1, l2, l6, l5, l3);
     break L2;
    }
-   l2 = f168(m, l0, l1, l2, l6, l5, l3);
+   l2 = f175(m, l0, l1, l2, l6, l5, l3);
   }
   m.g0 = l4 + 16L;
   final int t4 = l2;
@@ -8128,7 +8532,7 @@ static int f169(State m, long l0, long l1, int l2, long l3) {
  throw State.trap();
 }
 
-static int f170(State m, long l0, long l1) {
+static int f177(State m, long l0, long l1) {
  final byte[] b = m.bytes;
  long l2 = 0;
  long l3 = 0;
@@ -8402,7 +8806,7 @@ static int f170(State m, long l0, long l1) {
         break L1;
        }
        L47: {
-        if (f171(m, l7) == 0) { break L47; }
+        if (f178(m, l7) == 0) { break L47; }
         l6 = 1;
         L48: {
          L49: {
@@ -8465,7 +8869,7 @@ static int f170(State m, long l0, long l1) {
      throw State.trap();
     }
     L56: {
-     if (f172(m, l3, l0, l4, l1) != 0) { break L56; }
+     if (Core6.f179(m, l3, l0, l4, l1) != 0) { break L56; }
      l6 = 1;
      break L1;
     }
@@ -8492,7 +8896,7 @@ static int f170(State m, long l0, long l1) {
     if (l7 != 27611) { break L2; }
    }
    l6 = 0;
-   if (f172(m, l3, l0, l4, l1) != 0) { break L1; }
+   if (Core6.f179(m, l3, l0, l4, l1) != 0) { break L1; }
    Words.put32(b, ((int) l2) - 60708, 0);
    L60: {
     L61: {
@@ -8520,7 +8924,7 @@ static int f170(State m, long l0, long l1) {
        }
        if (((int) (byte) l7) > -1) { break L62; }
       }
-      Core3.f106(m, l2 + 12L, l3, l0);
+      Core3.f113(m, l2 + 12L, l3, l0);
       L67: {
        if (!(l1 == 0L)) { break L67; }
        l6 = 1;
@@ -8641,7 +9045,7 @@ static int f170(State m, long l0, long l1) {
  return l6;
 }
 
-static int f171(State m, int l0) {
+static int f178(State m, int l0) {
  int l1 = 0;
  L1: {
   if (m.g0 < 16L) { break L1; }
@@ -8717,364 +9121,5 @@ static int f171(State m, int l0) {
   return t13;
  }
  throw State.trap();
-}
-
-static int f172(State m, long l0, long l1, long l2, long l3) {
- final byte[] b = m.bytes;
- long l4 = 0;
- int l5 = 0;
- int l6 = 0;
- int l7 = 0;
- int l8 = 0;
- int l9 = 0;
- L1: {
-  if ((l4 = m.g0) < 16L) { break L1; }
-  l5 = 0;
-  L2: {
-   if (l1 == 0L) { break L2; }
-   if ((l6 = (int) b[((int) l0) - 60720]) > -1) { break L2; }
-   if (l6 + Integer.MIN_VALUE < 2147483616) { break L2; }
-   l7 = l6 & 255;
-   l8 = (b[((int) l0) - 60719] & 0xff) & 63;
-   l9 = (b[((int) l0) - 60718] & 0xff) & 63;
-   L3: {
-    L4: {
-     if (l6 + Integer.MIN_VALUE > 2147483631) { break L4; }
-     l6 = ((l8 << 6) | ((l7 << 12) & 61440)) | l9;
-     l0 = 3L;
-     break L3;
-    }
-    l6 = ((l9 << 6) | ((l8 << 12) | ((l7 << 18) & 1835008))) | ((b[((int) l0) - 60717] & 0xff) & 63);
-    l0 = 4L;
-   }
-   if (l6 != 19968) { break L2; }
-   if (l1 != l0) { break L2; }
-   if (l3 == 0L) { break L2; }
-   l6 = (l7 = (int) b[((int) l2) - 60720]) & 255;
-   L5: {
-    if (l7 > -1) { break L5; }
-    l8 = (b[((int) l2) - 60719] & 0xff) & 63;
-    L6: {
-     if (l7 + Integer.MIN_VALUE > 2147483615) { break L6; }
-     l6 = ((l6 << 6) & 1984) | l8;
-     break L5;
-    }
-    l9 = (b[((int) l2) - 60718] & 0xff) & 63;
-    L7: {
-     if (l7 + Integer.MIN_VALUE > 2147483631) { break L7; }
-     l6 = ((l8 << 6) | ((l6 << 12) & 61440)) | l9;
-     break L5;
-    }
-    l6 = ((l9 << 6) | ((l8 << 12) | ((l6 << 18) & 1835008))) | ((b[((int) l2) - 60717] & 0xff) & 63);
-   }
-   if ((l6 + -19968) + Integer.MIN_VALUE > -2147462657) { break L2; }
-   if (l6 == 21040) { break L2; }
-   if (l6 == 33267) { break L2; }
-   if (f171(m, l6) != 0) { break L2; }
-   L8: {
-    L9: {
-     if (l6 > 23566) { break L9; }
-     L10: {
-      if (l6 > 20942) { break L10; }
-      if (l6 == 20010) { break L2; }
-      if (l6 == 20056) { break L2; }
-      if (l6 != 20491) { break L8; }
-      break L2;
-     }
-     L11: {
-      if (l6 > 21332) { break L11; }
-      if (l6 == 20943) { break L2; }
-      if (l6 != 21152) { break L8; }
-      break L2;
-     }
-     if (l6 == 21333) { break L2; }
-     if (l6 != 21934) { break L8; }
-     break L2;
-    }
-    L12: {
-     if (l6 > 30339) { break L12; }
-     L13: {
-      if (l6 > 27603) { break L13; }
-      if (l6 == 23567) { break L2; }
-      if (l6 != 26377) { break L8; }
-      break L2;
-     }
-     if (l6 == 27604) { break L2; }
-     if (l6 != 28187) { break L8; }
-     break L2;
-    }
-    L14: {
-     if (l6 > 38046) { break L14; }
-     if (l6 == 30340) { break L2; }
-     if (l6 != 37912) { break L8; }
-     break L2;
-    }
-    if (l6 == 38047) { break L2; }
-    if (l6 == 38500) { break L2; }
-   }
-   l5 = 1;
-  }
-  m.g0 = l4;
-  final int t15 = l5;
-  return t15;
- }
- throw State.trap();
-}
-
-static int f173(State m, long l0, long l1) {
- final byte[] b = m.bytes;
- long l2 = 0;
- long l3 = 0;
- long l4 = 0;
- long l5 = 0;
- int l6 = 0;
- int l7 = 0;
- int l8 = 0;
- int l9 = 0;
- int l10 = 0;
- int l11 = 0;
- m.g0 = l2 = m.g0 - 256L;
- L1: {
-  L2: {
-   L3: {
-    if ((l2 = l2) < 16L) { break L3; }
-    l3 = Words.get64(b, ((int) l1) - 60704);
-    l6 = b[((int) l0) - 60715] & 0xff;
-    l7 = b[((int) l0) - 60716] & 0xff;
-    l8 = b[((int) l0) - 60720] & 0xff;
-    Words.put64(b, ((int) l2) - 60624, l4 = Words.get64(b, ((int) l1) - 60696));
-    Words.put64(b, ((int) l2) - 60632, l3);
-    b[((int) l2) - 60594] = (byte) (b[((int) l0) - 60717] & 0xff);
-    Words.put16(b, ((int) l2) - 60596, (short) (Words.get16(b, ((int) l0) - 60719) & 0xffff));
-    Words.put64(b, ((int) l2) - 60648, Words.get64(b, ((int) l1) - 60720));
-    Words.put64(b, ((int) l2) - 60640, Words.get64(b, ((int) l1) - 60712));
-    Words.put64(b, ((int) l2) - 60616, Words.get64(b, ((int) l1) - 60688));
-    Words.put64(b, ((int) l2) - 60608, Words.get64(b, ((int) l1) - 60680));
-    l9 = 0;
-    if (Core6.f174(m, l8, l2 + 124L, l2 + 72L) == 0) { break L1; }
-    L4: {
-     if (Core6.f175(m, l3, l4) != 0) { break L4; }
-     l6 = Core6.f176(m, l3, l4);
-     L5: {
-      if ((l7 & 255) != 0) { break L5; }
-      if (l6 != 0) { break L1; }
-      l1 = l3;
-      l5 = l4;
-      L6: {
-       L7: while (true) {
-        if (l5 == 0L) { break L6; }
-        l6 = (l7 = (int) b[((int) l1) - 60720]) & 255;
-        l0 = 1L;
-        L8: {
-         if (l7 > -1) { break L8; }
-         l10 = (b[((int) l1) - 60719] & 0xff) & 63;
-         L9: {
-          if (l7 + Integer.MIN_VALUE > 2147483615) { break L9; }
-          l6 = ((l6 << 6) & 1984) | l10;
-          l0 = 2L;
-          break L8;
-         }
-         l11 = (b[((int) l1) - 60718] & 0xff) & 63;
-         L10: {
-          if (l7 + Integer.MIN_VALUE > 2147483631) { break L10; }
-          l6 = ((l10 << 6) | ((l6 << 12) & 61440)) | l11;
-          l0 = 3L;
-          break L8;
-         }
-         l6 = ((l11 << 6) | ((l10 << 12) | ((l6 << 18) & 1835008))) | ((b[((int) l1) - 60717] & 0xff) & 63);
-         l0 = 4L;
-        }
-        l5 = l5 - l0;
-        l1 = l1 + l0;
-        if (l6 != 21448) { continue L7; }
-        break L1;
-       }
-      }
-      Words.put64(b, ((int) l2) - 60528, 0L);
-      Words.put64(b, ((int) l2) - 60536, 0L);
-      Words.put64(b, ((int) l2) - 60544, 0L);
-      Core6.f177(m, l2 + 176L, l3, l4);
-      L11: {
-       if ((b[((int) l2) - 60544] & 0xff) != 1) { break L11; }
-       Core6.f178(m, l2 + 24L, l8, Words.get64(b, ((int) l2) - 60536), Words.get64(b, ((int) l2) - 60528));
-       l9 = b[((int) l2) - 60695] & 0xff;
-       break L1;
-      }
-      if (l4 == 0L) { break L2; }
-      l6 = (l9 = (int) b[((int) l3) - 60720]) & 255;
-      l1 = 1L;
-      L12: {
-       if (l9 > -1) { break L12; }
-       l7 = (b[((int) l3) - 60719] & 0xff) & 63;
-       L13: {
-        if (l9 + Integer.MIN_VALUE > 2147483615) { break L13; }
-        l6 = ((l6 << 6) & 1984) | l7;
-        l1 = 2L;
-        break L12;
-       }
-       l10 = (b[((int) l3) - 60718] & 0xff) & 63;
-       L14: {
-        if (l9 + Integer.MIN_VALUE > 2147483631) { break L14; }
-        l6 = ((l7 << 6) | ((l6 << 12) & 61440)) | l10;
-        l1 = 3L;
-        break L12;
-       }
-       l6 = ((l10 << 6) | ((l7 << 12) | ((l6 << 18) & 1835008))) | ((b[((int) l3) - 60717] & 0xff) & 63);
-       l1 = 4L;
-      }
-      L15: {
-       L16: {
-        if (l6 > 35999) { break L16; }
-        if (l6 == 45) { break L15; }
-        if (l6 == 8722) { break L15; }
-        break L2;
-       }
-       if (l6 == 36000) { break L15; }
-       if (l6 == 65293) { break L15; }
-       if (l6 != 36127) { break L2; }
-      }
-      Core6.f178(m, l2 + 40L, l8, l3 + l1, l4 - l1);
-      l9 = b[((int) l2) - 60679] & 0xff;
-      break L1;
-     }
-     L17: {
-      if (l6 == 0) { break L17; }
-      l1 = l3;
-      l5 = l4;
-      L18: while (true) {
-       if (l5 == 0L) { break L1; }
-       l6 = (l7 = (int) b[((int) l1) - 60720]) & 255;
-       l0 = 1L;
-       L19: {
-        if (l7 > -1) { break L19; }
-        l10 = (b[((int) l1) - 60719] & 0xff) & 63;
-        L20: {
-         if (l7 + Integer.MIN_VALUE > 2147483615) { break L20; }
-         l6 = ((l6 << 6) & 1984) | l10;
-         l0 = 2L;
-         break L19;
-        }
-        l11 = (b[((int) l1) - 60718] & 0xff) & 63;
-        L21: {
-         if (l7 + Integer.MIN_VALUE > 2147483631) { break L21; }
-         l6 = ((l10 << 6) | ((l6 << 12) & 61440)) | l11;
-         l0 = 3L;
-         break L19;
-        }
-        l6 = ((l11 << 6) | ((l10 << 12) | ((l6 << 18) & 1835008))) | ((b[((int) l1) - 60717] & 0xff) & 63);
-        l0 = 4L;
-       }
-       Core2.f61(m, l2 + 64L, l6);
-       L22: {
-        if ((b[((int) l2) - 60656] & 0xff) != 1) { break L22; }
-        if (((b[((int) l2) - 60655] & 0xff) & 255) != 0) { break L17; }
-       }
-       if (l6 == 38646) { break L17; }
-       l1 = l1 + l0;
-       l5 = l5 - l0;
-       if (l6 != 12295) { continue L18; }
-       break L18;
-      }
-     }
-     Words.put64(b, ((int) l2) - 60488, 0L);
-     Words.put64(b, ((int) l2) - 60496, 0L);
-     Words.put64(b, ((int) l2) - 60504, 0L);
-     Words.put64(b, ((int) l2) - 60512, 0L);
-     Words.put64(b, ((int) l2) - 60520, 0L);
-     Words.put64(b, ((int) l2) - 60528, 0L);
-     Words.put64(b, ((int) l2) - 60536, 0L);
-     Words.put64(b, ((int) l2) - 60544, 0L);
-     Core2.f75(m, l2 + 176L, l3, l4, l8);
-     Words.put64(b, ((int) l2) - 60592, Words.get64(b, ((int) l2) - 60528));
-     Words.put64(b, ((int) l2) - 60584, Words.get64(b, ((int) l2) - 60520));
-     Words.put64(b, ((int) l2) - 60576, Words.get64(b, ((int) l2) - 60512));
-     Words.put64(b, ((int) l2) - 60568, Words.get64(b, ((int) l2) - 60504));
-     Words.put64(b, ((int) l2) - 60560, Words.get64(b, ((int) l2) - 60496));
-     Words.put64(b, ((int) l2) - 60552, Words.get64(b, ((int) l2) - 60488));
-     L23: {
-      if ((l6 = b[((int) l2) - 60544] & 0xff) != 0) { break L23; }
-      m.fill((int) (l2 + 176L), 0, (int) 80L);
-      Core2.f52(m, l2 + 48L, l2 + 176L, l2 + 128L);
-     }
-     l9 = (l6 == 0) ? 1 : 0;
-     break L1;
-    }
-    if ((l6 & 1) == 0) { break L1; }
-    l9 = 1;
-    if (l4 == 0L) { break L1; }
-    l8 = 0;
-    L24: while (true) {
-     l6 = (l9 = (int) b[((int) l3) - 60720]) & 255;
-     l1 = 1L;
-     L25: {
-      if (l9 > -1) { break L25; }
-      l7 = (b[((int) l3) - 60719] & 0xff) & 63;
-      L26: {
-       if (l9 + Integer.MIN_VALUE > 2147483615) { break L26; }
-       l6 = ((l6 << 6) & 1984) | l7;
-       l1 = 2L;
-       break L25;
-      }
-      l10 = (b[((int) l3) - 60718] & 0xff) & 63;
-      L27: {
-       if (l9 + Integer.MIN_VALUE > 2147483631) { break L27; }
-       l6 = ((l7 << 6) | ((l6 << 12) & 61440)) | l10;
-       l1 = 3L;
-       break L25;
-      }
-      l6 = ((l10 << 6) | ((l7 << 12) | ((l6 << 18) & 1835008))) | ((b[((int) l3) - 60717] & 0xff) & 63);
-      l1 = 4L;
-     }
-     l4 = l4 - l1;
-     l3 = l3 + l1;
-     l9 = 0;
-     L28: {
-      if ((l8 & 1) != 0) { break L28; }
-      L29: {
-       if (l6 == 65296) { break L29; }
-       if (l6 != 48) { break L28; }
-      }
-      if (l4 == 0L) { break L28; }
-      l9 = (l7 = (int) b[((int) l3) - 60720]) & 255;
-      L30: {
-       if (l7 > -1) { break L30; }
-       l10 = (b[((int) l3) - 60719] & 0xff) & 63;
-       L31: {
-        if (l7 + Integer.MIN_VALUE > 2147483615) { break L31; }
-        l9 = ((l9 << 6) & 1984) | l10;
-        break L30;
-       }
-       l11 = (b[((int) l3) - 60718] & 0xff) & 63;
-       L32: {
-        if (l7 + Integer.MIN_VALUE > 2147483631) { break L32; }
-        l9 = ((l10 << 6) | ((l9 << 12) & 61440)) | l11;
-        break L30;
-       }
-       l9 = ((l11 << 6) | ((l10 << 12) | ((l9 << 18) & 1835008))) | ((b[((int) l3) - 60717] & 0xff) & 63);
-      }
-      l9 = (((l9 + -48) + Integer.MIN_VALUE < -2147483638) | ((l9 + -65296) + Integer.MIN_VALUE < -2147483638)) ? 1 : 0;
-     }
-     Core6.f179(m, l2 + 8L, l9, l6);
-     L33: {
-      L34: {
-       if (((l8 | l9) & 1) == 0) { break L34; }
-       l8 = l8 & (l9 ^ 1);
-       break L33;
-      }
-      l8 = (((l6 + -48) + Integer.MIN_VALUE < -2147483638) | ((l6 + -65296) + Integer.MIN_VALUE < -2147483638)) ? 1 : 0;
-     }
-     if (l4 != 0L) { continue L24; }
-     break L24;
-    }
-    l9 = 1;
-    break L1;
-   }
-   throw State.trap();
-  }
-  Core6.f178(m, l2 + 32L, l8, l3, l4);
-  l9 = b[((int) l2) - 60687] & 0xff;
- }
- m.g0 = l2 + 256L;
- return l9 & 1;
 }
 }

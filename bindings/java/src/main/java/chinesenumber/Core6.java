@@ -2,7 +2,366 @@
 package chinesenumber;
 
 final class Core6 {
-static int f174(State m, int l0, long l1, long l2) {
+static int f179(State m, long l0, long l1, long l2, long l3) {
+ final byte[] b = m.bytes;
+ long l4 = 0;
+ int l5 = 0;
+ int l6 = 0;
+ int l7 = 0;
+ int l8 = 0;
+ int l9 = 0;
+ L1: {
+  if ((l4 = m.g0) < 16L) { break L1; }
+  l5 = 0;
+  L2: {
+   if (l1 == 0L) { break L2; }
+   if ((l6 = (int) b[((int) l0) - 60720]) > -1) { break L2; }
+   if (l6 + Integer.MIN_VALUE < 2147483616) { break L2; }
+   l7 = l6 & 255;
+   l8 = (b[((int) l0) - 60719] & 0xff) & 63;
+   l9 = (b[((int) l0) - 60718] & 0xff) & 63;
+   L3: {
+    L4: {
+     if (l6 + Integer.MIN_VALUE > 2147483631) { break L4; }
+     l6 = ((l8 << 6) | ((l7 << 12) & 61440)) | l9;
+     l0 = 3L;
+     break L3;
+    }
+    l6 = ((l9 << 6) | ((l8 << 12) | ((l7 << 18) & 1835008))) | ((b[((int) l0) - 60717] & 0xff) & 63);
+    l0 = 4L;
+   }
+   if (l6 != 19968) { break L2; }
+   if (l1 != l0) { break L2; }
+   if (l3 == 0L) { break L2; }
+   l6 = (l7 = (int) b[((int) l2) - 60720]) & 255;
+   L5: {
+    if (l7 > -1) { break L5; }
+    l8 = (b[((int) l2) - 60719] & 0xff) & 63;
+    L6: {
+     if (l7 + Integer.MIN_VALUE > 2147483615) { break L6; }
+     l6 = ((l6 << 6) & 1984) | l8;
+     break L5;
+    }
+    l9 = (b[((int) l2) - 60718] & 0xff) & 63;
+    L7: {
+     if (l7 + Integer.MIN_VALUE > 2147483631) { break L7; }
+     l6 = ((l8 << 6) | ((l6 << 12) & 61440)) | l9;
+     break L5;
+    }
+    l6 = ((l9 << 6) | ((l8 << 12) | ((l6 << 18) & 1835008))) | ((b[((int) l2) - 60717] & 0xff) & 63);
+   }
+   if ((l6 + -19968) + Integer.MIN_VALUE > -2147462657) { break L2; }
+   if (l6 == 21040) { break L2; }
+   if (l6 == 33267) { break L2; }
+   if (Core5.f178(m, l6) != 0) { break L2; }
+   L8: {
+    L9: {
+     if (l6 > 23566) { break L9; }
+     L10: {
+      if (l6 > 20942) { break L10; }
+      if (l6 == 20010) { break L2; }
+      if (l6 == 20056) { break L2; }
+      if (l6 != 20491) { break L8; }
+      break L2;
+     }
+     L11: {
+      if (l6 > 21332) { break L11; }
+      if (l6 == 20943) { break L2; }
+      if (l6 != 21152) { break L8; }
+      break L2;
+     }
+     if (l6 == 21333) { break L2; }
+     if (l6 != 21934) { break L8; }
+     break L2;
+    }
+    L12: {
+     if (l6 > 30339) { break L12; }
+     L13: {
+      if (l6 > 27603) { break L13; }
+      if (l6 == 23567) { break L2; }
+      if (l6 != 26377) { break L8; }
+      break L2;
+     }
+     if (l6 == 27604) { break L2; }
+     if (l6 != 28187) { break L8; }
+     break L2;
+    }
+    L14: {
+     if (l6 > 38046) { break L14; }
+     if (l6 == 30340) { break L2; }
+     if (l6 != 37912) { break L8; }
+     break L2;
+    }
+    if (l6 == 38047) { break L2; }
+    if (l6 == 38500) { break L2; }
+   }
+   l5 = 1;
+  }
+  m.g0 = l4;
+  final int t15 = l5;
+  return t15;
+ }
+ throw State.trap();
+}
+
+static int f180(State m, long l0, long l1) {
+ final byte[] b = m.bytes;
+ long l2 = 0;
+ long l3 = 0;
+ long l4 = 0;
+ long l5 = 0;
+ int l6 = 0;
+ int l7 = 0;
+ int l8 = 0;
+ int l9 = 0;
+ int l10 = 0;
+ int l11 = 0;
+ m.g0 = l2 = m.g0 - 256L;
+ L1: {
+  L2: {
+   L3: {
+    if ((l2 = l2) < 16L) { break L3; }
+    l3 = Words.get64(b, ((int) l1) - 60704);
+    l6 = b[((int) l0) - 60715] & 0xff;
+    l7 = b[((int) l0) - 60716] & 0xff;
+    l8 = b[((int) l0) - 60720] & 0xff;
+    Words.put64(b, ((int) l2) - 60624, l4 = Words.get64(b, ((int) l1) - 60696));
+    Words.put64(b, ((int) l2) - 60632, l3);
+    b[((int) l2) - 60594] = (byte) (b[((int) l0) - 60717] & 0xff);
+    Words.put16(b, ((int) l2) - 60596, (short) (Words.get16(b, ((int) l0) - 60719) & 0xffff));
+    Words.put64(b, ((int) l2) - 60648, Words.get64(b, ((int) l1) - 60720));
+    Words.put64(b, ((int) l2) - 60640, Words.get64(b, ((int) l1) - 60712));
+    Words.put64(b, ((int) l2) - 60616, Words.get64(b, ((int) l1) - 60688));
+    Words.put64(b, ((int) l2) - 60608, Words.get64(b, ((int) l1) - 60680));
+    l9 = 0;
+    if (f181(m, l8, l2 + 124L, l2 + 72L) == 0) { break L1; }
+    L4: {
+     if (f182(m, l3, l4) != 0) { break L4; }
+     l6 = f183(m, l3, l4);
+     L5: {
+      if ((l7 & 255) != 0) { break L5; }
+      if (l6 != 0) { break L1; }
+      l1 = l3;
+      l5 = l4;
+      L6: {
+       L7: while (true) {
+        if (l5 == 0L) { break L6; }
+        l6 = (l7 = (int) b[((int) l1) - 60720]) & 255;
+        l0 = 1L;
+        L8: {
+         if (l7 > -1) { break L8; }
+         l10 = (b[((int) l1) - 60719] & 0xff) & 63;
+         L9: {
+          if (l7 + Integer.MIN_VALUE > 2147483615) { break L9; }
+          l6 = ((l6 << 6) & 1984) | l10;
+          l0 = 2L;
+          break L8;
+         }
+         l11 = (b[((int) l1) - 60718] & 0xff) & 63;
+         L10: {
+          if (l7 + Integer.MIN_VALUE > 2147483631) { break L10; }
+          l6 = ((l10 << 6) | ((l6 << 12) & 61440)) | l11;
+          l0 = 3L;
+          break L8;
+         }
+         l6 = ((l11 << 6) | ((l10 << 12) | ((l6 << 18) & 1835008))) | ((b[((int) l1) - 60717] & 0xff) & 63);
+         l0 = 4L;
+        }
+        l5 = l5 - l0;
+        l1 = l1 + l0;
+        if (l6 != 21448) { continue L7; }
+        break L1;
+       }
+      }
+      Words.put64(b, ((int) l2) - 60528, 0L);
+      Words.put64(b, ((int) l2) - 60536, 0L);
+      Words.put64(b, ((int) l2) - 60544, 0L);
+      f184(m, l2 + 176L, l3, l4);
+      L11: {
+       if ((b[((int) l2) - 60544] & 0xff) != 1) { break L11; }
+       f185(m, l2 + 24L, l8, Words.get64(b, ((int) l2) - 60536), Words.get64(b, ((int) l2) - 60528));
+       l9 = b[((int) l2) - 60695] & 0xff;
+       break L1;
+      }
+      if (l4 == 0L) { break L2; }
+      l6 = (l9 = (int) b[((int) l3) - 60720]) & 255;
+      l1 = 1L;
+      L12: {
+       if (l9 > -1) { break L12; }
+       l7 = (b[((int) l3) - 60719] & 0xff) & 63;
+       L13: {
+        if (l9 + Integer.MIN_VALUE > 2147483615) { break L13; }
+        l6 = ((l6 << 6) & 1984) | l7;
+        l1 = 2L;
+        break L12;
+       }
+       l10 = (b[((int) l3) - 60718] & 0xff) & 63;
+       L14: {
+        if (l9 + Integer.MIN_VALUE > 2147483631) { break L14; }
+        l6 = ((l7 << 6) | ((l6 << 12) & 61440)) | l10;
+        l1 = 3L;
+        break L12;
+       }
+       l6 = ((l10 << 6) | ((l7 << 12) | ((l6 << 18) & 1835008))) | ((b[((int) l3) - 60717] & 0xff) & 63);
+       l1 = 4L;
+      }
+      L15: {
+       L16: {
+        if (l6 > 35999) { break L16; }
+        if (l6 == 45) { break L15; }
+        if (l6 == 8722) { break L15; }
+        break L2;
+       }
+       if (l6 == 36000) { break L15; }
+       if (l6 == 65293) { break L15; }
+       if (l6 != 36127) { break L2; }
+      }
+      f185(m, l2 + 40L, l8, l3 + l1, l4 - l1);
+      l9 = b[((int) l2) - 60679] & 0xff;
+      break L1;
+     }
+     L17: {
+      if (l6 == 0) { break L17; }
+      l1 = l3;
+      l5 = l4;
+      L18: while (true) {
+       if (l5 == 0L) { break L1; }
+       l6 = (l7 = (int) b[((int) l1) - 60720]) & 255;
+       l0 = 1L;
+       L19: {
+        if (l7 > -1) { break L19; }
+        l10 = (b[((int) l1) - 60719] & 0xff) & 63;
+        L20: {
+         if (l7 + Integer.MIN_VALUE > 2147483615) { break L20; }
+         l6 = ((l6 << 6) & 1984) | l10;
+         l0 = 2L;
+         break L19;
+        }
+        l11 = (b[((int) l1) - 60718] & 0xff) & 63;
+        L21: {
+         if (l7 + Integer.MIN_VALUE > 2147483631) { break L21; }
+         l6 = ((l10 << 6) | ((l6 << 12) & 61440)) | l11;
+         l0 = 3L;
+         break L19;
+        }
+        l6 = ((l11 << 6) | ((l10 << 12) | ((l6 << 18) & 1835008))) | ((b[((int) l1) - 60717] & 0xff) & 63);
+        l0 = 4L;
+       }
+       Core2.f61(m, l2 + 64L, l6);
+       L22: {
+        if ((b[((int) l2) - 60656] & 0xff) != 1) { break L22; }
+        if (((b[((int) l2) - 60655] & 0xff) & 255) != 0) { break L17; }
+       }
+       if (l6 == 38646) { break L17; }
+       l1 = l1 + l0;
+       l5 = l5 - l0;
+       if (l6 != 12295) { continue L18; }
+       break L18;
+      }
+     }
+     Words.put64(b, ((int) l2) - 60488, 0L);
+     Words.put64(b, ((int) l2) - 60496, 0L);
+     Words.put64(b, ((int) l2) - 60504, 0L);
+     Words.put64(b, ((int) l2) - 60512, 0L);
+     Words.put64(b, ((int) l2) - 60520, 0L);
+     Words.put64(b, ((int) l2) - 60528, 0L);
+     Words.put64(b, ((int) l2) - 60536, 0L);
+     Words.put64(b, ((int) l2) - 60544, 0L);
+     Core3.f82(m, l2 + 176L, l3, l4, l8);
+     Words.put64(b, ((int) l2) - 60592, Words.get64(b, ((int) l2) - 60528));
+     Words.put64(b, ((int) l2) - 60584, Words.get64(b, ((int) l2) - 60520));
+     Words.put64(b, ((int) l2) - 60576, Words.get64(b, ((int) l2) - 60512));
+     Words.put64(b, ((int) l2) - 60568, Words.get64(b, ((int) l2) - 60504));
+     Words.put64(b, ((int) l2) - 60560, Words.get64(b, ((int) l2) - 60496));
+     Words.put64(b, ((int) l2) - 60552, Words.get64(b, ((int) l2) - 60488));
+     L23: {
+      if ((l6 = b[((int) l2) - 60544] & 0xff) != 0) { break L23; }
+      m.fill((int) (l2 + 176L), 0, (int) 80L);
+      Core2.f52(m, l2 + 48L, l2 + 176L, l2 + 128L);
+     }
+     l9 = (l6 == 0) ? 1 : 0;
+     break L1;
+    }
+    if ((l6 & 1) == 0) { break L1; }
+    l9 = 1;
+    if (l4 == 0L) { break L1; }
+    l8 = 0;
+    L24: while (true) {
+     l6 = (l9 = (int) b[((int) l3) - 60720]) & 255;
+     l1 = 1L;
+     L25: {
+      if (l9 > -1) { break L25; }
+      l7 = (b[((int) l3) - 60719] & 0xff) & 63;
+      L26: {
+       if (l9 + Integer.MIN_VALUE > 2147483615) { break L26; }
+       l6 = ((l6 << 6) & 1984) | l7;
+       l1 = 2L;
+       break L25;
+      }
+      l10 = (b[((int) l3) - 60718] & 0xff) & 63;
+      L27: {
+       if (l9 + Integer.MIN_VALUE > 2147483631) { break L27; }
+       l6 = ((l7 << 6) | ((l6 << 12) & 61440)) | l10;
+       l1 = 3L;
+       break L25;
+      }
+      l6 = ((l10 << 6) | ((l7 << 12) | ((l6 << 18) & 1835008))) | ((b[((int) l3) - 60717] & 0xff) & 63);
+      l1 = 4L;
+     }
+     l4 = l4 - l1;
+     l3 = l3 + l1;
+     l9 = 0;
+     L28: {
+      if ((l8 & 1) != 0) { break L28; }
+      L29: {
+       if (l6 == 65296) { break L29; }
+       if (l6 != 48) { break L28; }
+      }
+      if (l4 == 0L) { break L28; }
+      l9 = (l7 = (int) b[((int) l3) - 60720]) & 255;
+      L30: {
+       if (l7 > -1) { break L30; }
+       l10 = (b[((int) l3) - 60719] & 0xff) & 63;
+       L31: {
+        if (l7 + Integer.MIN_VALUE > 2147483615) { break L31; }
+        l9 = ((l9 << 6) & 1984) | l10;
+        break L30;
+       }
+       l11 = (b[((int) l3) - 60718] & 0xff) & 63;
+       L32: {
+        if (l7 + Integer.MIN_VALUE > 2147483631) { break L32; }
+        l9 = ((l10 << 6) | ((l9 << 12) & 61440)) | l11;
+        break L30;
+       }
+       l9 = ((l11 << 6) | ((l10 << 12) | ((l9 << 18) & 1835008))) | ((b[((int) l3) - 60717] & 0xff) & 63);
+      }
+      l9 = (((l9 + -48) + Integer.MIN_VALUE < -2147483638) | ((l9 + -65296) + Integer.MIN_VALUE < -2147483638)) ? 1 : 0;
+     }
+     f186(m, l2 + 8L, l9, l6);
+     L33: {
+      L34: {
+       if (((l8 | l9) & 1) == 0) { break L34; }
+       l8 = l8 & (l9 ^ 1);
+       break L33;
+      }
+      l8 = (((l6 + -48) + Integer.MIN_VALUE < -2147483638) | ((l6 + -65296) + Integer.MIN_VALUE < -2147483638)) ? 1 : 0;
+     }
+     if (l4 != 0L) { continue L24; }
+     break L24;
+    }
+    l9 = 1;
+    break L1;
+   }
+   throw State.trap();
+  }
+  f185(m, l2 + 32L, l8, l3, l4);
+  l9 = b[((int) l2) - 60687] & 0xff;
+ }
+ m.g0 = l2 + 256L;
+ return l9 & 1;
+}
+
+static int f181(State m, int l0, long l1, long l2) {
  final byte[] b = m.bytes;
  long l3 = 0;
  long l4 = 0;
@@ -57,7 +416,7 @@ static int f174(State m, int l0, long l1, long l2) {
         }
         if (((int) (byte) l12) > -1) { break L3; }
        }
-       Core3.f106(m, l3 + 60L, l7, l6);
+       Core3.f113(m, l3 + 60L, l7, l6);
        if ((b[((int) l3) - 60660] & 0xff) != 1) { break L3; }
        if (((b[((int) l3) - 60657] & 0xff) & 1) == 0) { break L3; }
        if (l6 == 0L) { break L2; }
@@ -131,10 +490,10 @@ static int f174(State m, int l0, long l1, long l2) {
        }
        if (l12 == 21319) { break L14; }
       }
-      if (Core4.f131(m, 85596L, 7L, 85624L, 9L, l5, l4) != 0) { break L14; }
-      if (Core4.f131(m, 85660L, 2L, 85668L, 4L, l5, l4) != 0) { break L14; }
-      if (Core4.f131(m, 85684L, 5L, 85704L, 1L, l5, l4) != 0) { break L14; }
-      if (Core4.f131(m, 85304L, 1L, 83564L, 1L, l5, l4) != 0) { break L14; }
+      if (Core4.f138(m, 85596L, 7L, 85624L, 9L, l5, l4) != 0) { break L14; }
+      if (Core4.f138(m, 85660L, 2L, 85668L, 4L, l5, l4) != 0) { break L14; }
+      if (Core4.f138(m, 85684L, 5L, 85704L, 1L, l5, l4) != 0) { break L14; }
+      if (Core4.f138(m, 85304L, 1L, 83564L, 1L, l5, l4) != 0) { break L14; }
       if (l8 == 0L) { break L2; }
       if (((int) b[((int) ((l1 = l2 + l8) + -1L)) - 60720]) > -1) { break L2; }
       l9 = -2L;
@@ -204,7 +563,7 @@ static int f174(State m, int l0, long l1, long l2) {
     Words.put64(b, ((int) l3) - 60640, l7);
     Words.put64(b, ((int) l3) - 60648, l8);
     Words.put64(b, ((int) l3) - 60656, l2);
-    if (Core4.f125(m, l3 + 64L) != 0) { break L2; }
+    if (Core4.f132(m, l3 + 64L) != 0) { break L2; }
    }
    Words.put64(b, ((int) l3) - 60672, l4);
    Words.put64(b, ((int) l3) - 60680, l5);
@@ -212,7 +571,7 @@ static int f174(State m, int l0, long l1, long l2) {
    Words.put64(b, ((int) l3) - 60696, l7);
    Words.put64(b, ((int) l3) - 60704, l8);
    Words.put64(b, ((int) l3) - 60712, l2);
-   Core4.f117(m, l3, l3 + 8L);
+   Core4.f124(m, l3, l3 + 8L);
    L31: {
     if (((b[((int) l3) - 60720] & 0xff) & 1) == 0) { break L31; }
     l11 = 0;
@@ -220,7 +579,7 @@ static int f174(State m, int l0, long l1, long l2) {
     if ((l10 & 1) == 0) { break L1; }
    }
    l11 = 0;
-   if (Core4.f126(m, l2, l8, l5, l4) != 0) { break L1; }
+   if (Core4.f133(m, l2, l8, l5, l4) != 0) { break L1; }
    Words.put64(b, ((int) l3) - 60600, 0L);
    Words.put64(b, ((int) l3) - 60608, 0L);
    Words.put64(b, ((int) l3) - 60616, 0L);
@@ -229,7 +588,7 @@ static int f174(State m, int l0, long l1, long l2) {
    Words.put64(b, ((int) l3) - 60640, 0L);
    Words.put64(b, ((int) l3) - 60648, 0L);
    Words.put64(b, ((int) l3) - 60656, 0L);
-   Core2.f75(m, l3 + 64L, l7, l6, l0);
+   Core3.f82(m, l3 + 64L, l7, l6, l0);
    l11 = ((b[((int) l3) - 60656] & 0xff) == 0) ? 1 : 0;
    break L1;
   }
@@ -239,7 +598,7 @@ static int f174(State m, int l0, long l1, long l2) {
  return l11;
 }
 
-static int f175(State m, long l0, long l1) {
+static int f182(State m, long l0, long l1) {
  final byte[] b = m.bytes;
  int l2 = 0;
  int l3 = 0;
@@ -290,7 +649,7 @@ static int f175(State m, long l0, long l1) {
  throw State.trap();
 }
 
-static int f176(State m, long l0, long l1) {
+static int f183(State m, long l0, long l1) {
  final byte[] b = m.bytes;
  long l2 = 0;
  long l3 = 0;
@@ -346,7 +705,7 @@ static int f176(State m, long l0, long l1) {
     }
     break L3;
    }
-   f180(m, l3 + 8L, l0, l1);
+   f187(m, l3 + 8L, l0, l1);
    l6 = ((b[((int) l3) - 60712] & 0xff) != 1) ? 1 : 0;
   }
   m.g0 = l3 + 48L;
@@ -356,7 +715,7 @@ static int f176(State m, long l0, long l1) {
  throw State.trap();
 }
 
-static void f177(State m, long l0, long l1, long l2) {
+static void f184(State m, long l0, long l1, long l2) {
  final byte[] b = m.bytes;
  int l3 = 0;
  int l4 = 0;
@@ -437,7 +796,7 @@ static void f177(State m, long l0, long l1, long l2) {
  throw State.trap();
 }
 
-static void f178(State m, long l0, int l1, long l2, long l3) {
+static void f185(State m, long l0, int l1, long l2, long l3) {
  final byte[] b = m.bytes;
  long l4 = 0;
  long l5 = 0;
@@ -466,7 +825,7 @@ static void f178(State m, long l0, int l1, long l2, long l3) {
        Words.put64(b, ((int) l4) - 60632, 0L);
        Words.put64(b, ((int) l4) - 60640, 0L);
        Words.put64(b, ((int) l4) - 60648, 0L);
-       f180(m, l4 + 72L, l2, l3);
+       f187(m, l4 + 72L, l2, l3);
        if ((b[((int) l4) - 60648] & 0xff) != 1) { break L2; }
        l5 = Words.get64(b, ((int) l4) - 60616);
        l6 = Words.get64(b, ((int) l4) - 60624);
@@ -480,7 +839,7 @@ static void f178(State m, long l0, int l1, long l2, long l3) {
        Words.put64(b, ((int) l4) - 60592, 0L);
        Words.put64(b, ((int) l4) - 60600, 0L);
        Words.put64(b, ((int) l4) - 60608, 0L);
-       Core2.f75(m, l4 + 112L, l2, l3, l1);
+       Core3.f82(m, l4 + 112L, l2, l3, l1);
        l12 = 0;
        if ((b[((int) l4) - 60608] & 0xff) != 0) { break L1; }
        l9 = Words.get64(b, ((int) l4) - 60584);
@@ -554,7 +913,7 @@ static void f178(State m, long l0, int l1, long l2, long l3) {
          if (l15 == 65293) { break L16; }
          if (l15 != 36127) { break L5; }
         }
-        f181(m, l4 + 40L, l1, l6 + l3, l5 - l3);
+        f188(m, l4 + 40L, l1, l6 + l3, l5 - l3);
         l15 = b[((int) l4) - 60679] & 0xff;
         break L4;
        }
@@ -570,7 +929,7 @@ static void f178(State m, long l0, int l1, long l2, long l3) {
       }
       throw State.trap();
      }
-     f181(m, l4 + 32L, l1, l6, l5);
+     f188(m, l4 + 32L, l1, l6, l5);
      l15 = b[((int) l4) - 60687] & 0xff;
     }
     if ((l15 & 1) == 0) { break L1; }
@@ -588,13 +947,13 @@ static void f178(State m, long l0, int l1, long l2, long l3) {
    Words.put64(b, ((int) l4) - 60592, 0L);
    Words.put64(b, ((int) l4) - 60600, 0L);
    Words.put64(b, ((int) l4) - 60608, 0L);
-   Core2.f75(m, l4 + 112L, l8, l7, l1);
+   Core3.f82(m, l4 + 112L, l8, l7, l1);
    if ((b[((int) l4) - 60608] & 0xff) != 0) { break L1; }
    final int t19 = (Words.get64(b, ((int) l4) - 60592) + Long.MIN_VALUE > -9223372036854774809L) ? 1 : 0;
    final int t20 = ((l3 = Words.get64(b, ((int) l4) - 60584)) > 0L) ? 1 : 0;
    final int t21 = (l3 == 0L) ? 1 : 0;
    if ((t21 != 0 ? t19 : t20) != 0) { break L1; }
-   f181(m, l4 + 8L, l1, l8, l7);
+   f188(m, l4 + 8L, l1, l8, l7);
    l12 = b[((int) l4) - 60711] & 0xff;
    break L1;
   }
@@ -632,11 +991,11 @@ static void f178(State m, long l0, int l1, long l2, long l3) {
     if (l15 == 65285) { break L28; }
     if (l15 != 8240) { break L27; }
    }
-   f181(m, l4 + 64L, l1, l2, l11);
+   f188(m, l4 + 64L, l1, l2, l11);
    l12 = (b[((int) l4) - 60655] & 0xff) & 1;
    break L1;
   }
-  f181(m, l4 + 56L, l1, l2, l3);
+  f188(m, l4 + 56L, l1, l2, l3);
   l12 = b[((int) l4) - 60663] & 0xff;
  }
  b[((int) l0) - 60719] = (byte) l12;
@@ -644,7 +1003,7 @@ static void f178(State m, long l0, int l1, long l2, long l3) {
  m.g0 = l4 + 240L;
 }
 
-static void f179(State m, long l0, int l1, int l2) {
+static void f186(State m, long l0, int l1, int l2) {
  final byte[] b = m.bytes;
  long l3 = 0;
  long l4 = 0;
@@ -748,7 +1107,7 @@ static void f179(State m, long l0, int l1, int l2) {
  Words.put64(b, ((int) l0) - 60720, l4);
 }
 
-static void f180(State m, long l0, long l1, long l2) {
+static void f187(State m, long l0, long l1, long l2) {
  final byte[] b = m.bytes;
  int l3 = 0;
  int l4 = 0;
@@ -840,7 +1199,7 @@ static void f180(State m, long l0, long l1, long l2) {
  throw State.trap();
 }
 
-static void f181(State m, long l0, int l1, long l2, long l3) {
+static void f188(State m, long l0, int l1, long l2, long l3) {
  final byte[] b = m.bytes;
  long l4 = 0;
  long l5 = 0;
@@ -925,7 +1284,7 @@ static void f181(State m, long l0, int l1, long l2, long l3) {
         }
         break L11;
        }
-       f182(m, l4 + 104L, l2, l3);
+       f189(m, l4 + 104L, l2, l3);
        if ((b[((int) l4) - 60616] & 0xff) != 1) { break L8; }
        l7 = Words.get64(b, ((int) l4) - 60584);
        l2 = Words.get64(b, ((int) l4) - 60592);
@@ -939,7 +1298,7 @@ static void f181(State m, long l0, int l1, long l2, long l3) {
        Words.put64(b, ((int) l4) - 60448, 0L);
        Words.put64(b, ((int) l4) - 60456, 0L);
        Words.put64(b, ((int) l4) - 60464, 0L);
-       Core2.f75(m, l4 + 256L, l6, l5, l1);
+       Core3.f82(m, l4 + 256L, l6, l5, l1);
        Words.put64(b, ((int) l4) - 60576, Words.get64(b, ((int) l4) - 60448));
        Words.put64(b, ((int) l4) - 60568, Words.get64(b, ((int) l4) - 60440));
        Words.put64(b, ((int) l4) - 60560, Words.get64(b, ((int) l4) - 60432));
@@ -1013,7 +1372,7 @@ static void f181(State m, long l0, int l1, long l2, long l3) {
      }
     }
     L24: {
-     if (f183(m, l2, l3) == 0) { break L24; }
+     if (f190(m, l2, l3) == 0) { break L24; }
      l16 = 1;
      if (l11 != 0) { break L1; }
      l8 = l4 + 272L;
@@ -1042,7 +1401,7 @@ static void f181(State m, long l0, int l1, long l2, long l3) {
        l5 = 4L;
       }
       L29: {
-       if (f184(m, l13, l9 = l9 + l5, l10 = l10 - l5) == 0) { break L29; }
+       if (f191(m, l13, l9 = l9 + l5, l10 = l10 - l5) == 0) { break L29; }
        L30: {
         L31: {
          if (!((l7 = l3 - l10) == 0L)) { break L31; }
@@ -1087,7 +1446,7 @@ static void f181(State m, long l0, int l1, long l2, long l3) {
        Words.put64(b, ((int) l4) - 60496, 0L);
        Words.put64(b, ((int) l4) - 60504, 0L);
        Words.put64(b, ((int) l4) - 60512, 0L);
-       f185(m, l4 + 208L, l2, l6);
+       f192(m, l4 + 208L, l2, l6);
        l2 = Words.get64(b, ((int) l4) - 60504);
        l5 = Words.get64(b, ((int) l4) - 60512);
        Words.put64(b, ((int) l4) - 60408, 0L);
@@ -1098,7 +1457,7 @@ static void f181(State m, long l0, int l1, long l2, long l3) {
        Words.put64(b, ((int) l4) - 60448, 0L);
        Words.put64(b, ((int) l4) - 60456, 0L);
        Words.put64(b, ((int) l4) - 60464, 0L);
-       Core2.f75(m, l4 + 256L, l5, l2, l1);
+       Core3.f82(m, l4 + 256L, l5, l2, l1);
        Words.put64(b, ((int) l4) - 60576, Words.get64(b, ((int) l8) - 60720));
        Words.put64(b, ((int) l4) - 60568, Words.get64(b, ((int) l8) - 60712));
        Words.put64(b, ((int) l4) - 60560, Words.get64(b, ((int) l8) - 60704));
@@ -1123,7 +1482,7 @@ static void f181(State m, long l0, int l1, long l2, long l3) {
     Words.put64(b, ((int) l4) - 60560, 0L);
     Words.put64(b, ((int) l4) - 60568, 0L);
     Words.put64(b, ((int) l4) - 60576, 0L);
-    f186(m, l4 + 144L, l2, l3);
+    f193(m, l4 + 144L, l2, l3);
     L37: {
      L38: {
       L39: {
@@ -1139,7 +1498,7 @@ static void f181(State m, long l0, int l1, long l2, long l3) {
        Words.put64(b, ((int) l4) - 60448, 0L);
        Words.put64(b, ((int) l4) - 60456, 0L);
        Words.put64(b, ((int) l4) - 60464, 0L);
-       Core2.f75(m, l4 + 256L, l5, l2, l1);
+       Core3.f82(m, l4 + 256L, l5, l2, l1);
        Words.put64(b, ((int) l4) - 60512, Words.get64(b, ((int) l4) - 60448));
        Words.put64(b, ((int) l4) - 60504, Words.get64(b, ((int) l4) - 60440));
        Words.put64(b, ((int) l4) - 60496, Words.get64(b, ((int) l4) - 60432));
@@ -1158,7 +1517,7 @@ static void f181(State m, long l0, int l1, long l2, long l3) {
       Words.put64(b, ((int) l4) - 60448, 0L);
       Words.put64(b, ((int) l4) - 60456, 0L);
       Words.put64(b, ((int) l4) - 60464, 0L);
-      Core2.f75(m, l4 + 256L, l2, l3, l1);
+      Core3.f82(m, l4 + 256L, l2, l3, l1);
       Words.put64(b, ((int) l4) - 60512, Words.get64(b, ((int) l4) - 60448));
       Words.put64(b, ((int) l4) - 60504, Words.get64(b, ((int) l4) - 60440));
       Words.put64(b, ((int) l4) - 60496, Words.get64(b, ((int) l4) - 60432));
@@ -1187,7 +1546,7 @@ static void f181(State m, long l0, int l1, long l2, long l3) {
  m.g0 = l4 + 336L;
 }
 
-static void f182(State m, long l0, long l1, long l2) {
+static void f189(State m, long l0, long l1, long l2) {
  final byte[] b = m.bytes;
  long l3 = 0;
  long l4 = 0;
@@ -1319,7 +1678,7 @@ static void f182(State m, long l0, long l1, long l2) {
  m.g0 = l4 + 16L;
 }
 
-static int f183(State m, long l0, long l1) {
+static int f190(State m, long l0, long l1) {
  final byte[] b = m.bytes;
  long l2 = 0;
  long l3 = 0;
@@ -1370,7 +1729,7 @@ static int f183(State m, long l0, long l1) {
  throw State.trap();
 }
 
-static int f184(State m, int l0, long l1, long l2) {
+static int f191(State m, int l0, long l1, long l2) {
  final byte[] b = m.bytes;
  long l3 = 0;
  long l4 = 0;
@@ -1425,7 +1784,7 @@ static int f184(State m, int l0, long l1, long l2) {
  throw State.trap();
 }
 
-static void f185(State m, long l0, long l1, long l2) {
+static void f192(State m, long l0, long l1, long l2) {
  final byte[] b = m.bytes;
  long l3 = 0;
  long l4 = 0;
@@ -1568,7 +1927,7 @@ static void f185(State m, long l0, long l1, long l2) {
          break L15;
         }
        }
-       if (f184(m, l13, l1, l8 = l2 - l6) != 0) { break L3; }
+       if (f191(m, l13, l1, l8 = l2 - l6) != 0) { break L3; }
        L28: {
         if (l13 == 20491) { break L28; }
         if (l13 != 20010) { break L13; }
@@ -1591,7 +1950,7 @@ static void f185(State m, long l0, long l1, long l2) {
         }
         l12 = ((l17 << 6) | ((l15 << 12) | ((l12 << 18) & 1835008))) | ((b[((int) l10) - 60717] & 0xff) & 63);
        }
-       if (f184(m, l12, l1, l8) != 0) { break L3; }
+       if (f191(m, l12, l1, l8) != 0) { break L3; }
       }
       if (!(l4 == 0L)) { continue L5; }
       break L5;
@@ -1613,7 +1972,7 @@ static void f185(State m, long l0, long l1, long l2) {
  throw State.trap();
 }
 
-static void f186(State m, long l0, long l1, long l2) {
+static void f193(State m, long l0, long l1, long l2) {
  final byte[] b = m.bytes;
  long l3 = 0;
  long l4 = 0;
@@ -1806,7 +2165,7 @@ static void f186(State m, long l0, long l1, long l2) {
  m.g0 = l3 + 32L;
 }
 
-static void f187(State m, long l0, long l1, int l2, long l3, long l4) {
+static void f194(State m, long l0, long l1, int l2, long l3, long l4) {
  final byte[] b = m.bytes;
  long l5 = 0;
  long l6 = 0;
@@ -1835,7 +2194,7 @@ static void f187(State m, long l0, long l1, int l2, long l3, long l4) {
        Words.put64(b, ((int) l5) - 60632, 0L);
        Words.put64(b, ((int) l5) - 60640, 0L);
        Words.put64(b, ((int) l5) - 60648, 0L);
-       f180(m, l5 + 72L, l3, l4);
+       f187(m, l5 + 72L, l3, l4);
        if ((b[((int) l5) - 60648] & 0xff) != 1) { break L2; }
        l6 = Words.get64(b, ((int) l5) - 60616);
        l7 = Words.get64(b, ((int) l5) - 60624);
@@ -1849,7 +2208,7 @@ static void f187(State m, long l0, long l1, int l2, long l3, long l4) {
        Words.put64(b, ((int) l5) - 60592, 0L);
        Words.put64(b, ((int) l5) - 60600, 0L);
        Words.put64(b, ((int) l5) - 60608, 0L);
-       Core2.f75(m, l5 + 112L, l3, l4, l2);
+       Core3.f82(m, l5 + 112L, l3, l4, l2);
        l13 = 0;
        if ((b[((int) l5) - 60608] & 0xff) != 0) { break L1; }
        l10 = Words.get64(b, ((int) l5) - 60584);
@@ -1924,7 +2283,7 @@ static void f187(State m, long l0, long l1, int l2, long l3, long l4) {
          if (l16 != 36127) { break L5; }
         }
         Core2.f53(m, l1, 77252L, 1L);
-        f188(m, l5 + 40L, l1, l2, l7 + l4, l6 - l4);
+        f195(m, l5 + 40L, l1, l2, l7 + l4, l6 - l4);
         l16 = b[((int) l5) - 60679] & 0xff;
         break L4;
        }
@@ -1941,7 +2300,7 @@ static void f187(State m, long l0, long l1, int l2, long l3, long l4) {
       }
       throw State.trap();
      }
-     f188(m, l5 + 32L, l1, l2, l7, l6);
+     f195(m, l5 + 32L, l1, l2, l7, l6);
      l16 = b[((int) l5) - 60687] & 0xff;
     }
     if ((l16 & 1) == 0) { break L1; }
@@ -1960,14 +2319,14 @@ static void f187(State m, long l0, long l1, int l2, long l3, long l4) {
    Words.put64(b, ((int) l5) - 60592, 0L);
    Words.put64(b, ((int) l5) - 60600, 0L);
    Words.put64(b, ((int) l5) - 60608, 0L);
-   Core2.f75(m, l5 + 112L, l9, l8, l2);
+   Core3.f82(m, l5 + 112L, l9, l8, l2);
    if ((b[((int) l5) - 60608] & 0xff) != 0) { break L1; }
    final int t19 = (Words.get64(b, ((int) l5) - 60592) + Long.MIN_VALUE > -9223372036854774809L) ? 1 : 0;
    final int t20 = ((l4 = Words.get64(b, ((int) l5) - 60584)) > 0L) ? 1 : 0;
    final int t21 = (l4 == 0L) ? 1 : 0;
    if ((t21 != 0 ? t19 : t20) != 0) { break L1; }
    Core2.f53(m, l1, 77253L, 1L);
-   f188(m, l5 + 8L, l1, l2, l9, l8);
+   f195(m, l5 + 8L, l1, l2, l9, l8);
    l13 = b[((int) l5) - 60711] & 0xff;
    break L1;
   }
@@ -2005,7 +2364,7 @@ static void f187(State m, long l0, long l1, int l2, long l3, long l4) {
     if (l16 == 65285) { break L28; }
     if (l16 != 8240) { break L27; }
    }
-   f188(m, l5 + 64L, l1, l2, l3, l12);
+   f195(m, l5 + 64L, l1, l2, l3, l12);
    l13 = 1;
    L29: {
     if (((b[((int) l5) - 60655] & 0xff) & 1) != 0) { break L29; }
@@ -2015,7 +2374,7 @@ static void f187(State m, long l0, long l1, int l2, long l3, long l4) {
    Core2.f53(m, l1, l3 + l12, l4 - l12);
    break L1;
   }
-  f188(m, l5 + 56L, l1, l2, l3, l4);
+  f195(m, l5 + 56L, l1, l2, l3, l4);
   l13 = b[((int) l5) - 60663] & 0xff;
  }
  b[((int) l0) - 60719] = (byte) l13;
@@ -2023,7 +2382,7 @@ static void f187(State m, long l0, long l1, int l2, long l3, long l4) {
  m.g0 = l5 + 240L;
 }
 
-static void f188(State m, long l0, long l1, int l2, long l3, long l4) {
+static void f195(State m, long l0, long l1, int l2, long l3, long l4) {
  final byte[] b = m.bytes;
  long l5 = 0;
  long l6 = 0;
@@ -2113,7 +2472,7 @@ static void f188(State m, long l0, long l1, int l2, long l3, long l4) {
        }
        break L11;
       }
-      f182(m, l5 + 88L, l3, l4);
+      f189(m, l5 + 88L, l3, l4);
       L16: {
        if ((b[((int) l5) - 60632] & 0xff) != 1) { break L16; }
        l7 = Words.get64(b, ((int) l5) - 60600);
@@ -2128,7 +2487,7 @@ static void f188(State m, long l0, long l1, int l2, long l3, long l4) {
        Words.put64(b, ((int) l5) - 60464, 0L);
        Words.put64(b, ((int) l5) - 60472, 0L);
        Words.put64(b, ((int) l5) - 60480, 0L);
-       Core2.f75(m, l5 + 240L, l8, l6, l2);
+       Core3.f82(m, l5 + 240L, l8, l6, l2);
        Words.put64(b, ((int) l5) - 60592, Words.get64(b, ((int) l5) - 60464));
        Words.put64(b, ((int) l5) - 60584, Words.get64(b, ((int) l5) - 60456));
        Words.put64(b, ((int) l5) - 60576, Words.get64(b, ((int) l5) - 60448));
@@ -2144,11 +2503,11 @@ static void f188(State m, long l0, long l1, int l2, long l3, long l4) {
        Core2.f52(m, l5 + 8L, l5 + 240L, l5 + 128L);
        Core2.f53(m, l1, Words.get64(b, ((int) l5) - 60712), Words.get64(b, ((int) l5) - 60704));
        Core2.f53(m, l1, 85718L, 1L);
-       f189(m, l1, l9, l7);
+       f196(m, l1, l9, l7);
        break L2;
       }
       L18: {
-       if (f183(m, l3, l4) == 0) { break L18; }
+       if (f190(m, l3, l4) == 0) { break L18; }
        l18 = 1;
        if (l13 != 0) { break L1; }
        l10 = l5 + 256L;
@@ -2177,7 +2536,7 @@ static void f188(State m, long l0, long l1, int l2, long l3, long l4) {
          l6 = 4L;
         }
         L23: {
-         if (f184(m, l15, l11 = l11 + l6, l12 = l12 - l6) == 0) { break L23; }
+         if (f191(m, l15, l11 = l11 + l6, l12 = l12 - l6) == 0) { break L23; }
          l6 = l3;
          l9 = 0L;
          L24: {
@@ -2223,7 +2582,7 @@ static void f188(State m, long l0, long l1, int l2, long l3, long l4) {
          Words.put64(b, ((int) l5) - 60512, 0L);
          Words.put64(b, ((int) l5) - 60520, 0L);
          Words.put64(b, ((int) l5) - 60528, 0L);
-         f185(m, l5 + 192L, l6, l9);
+         f192(m, l5 + 192L, l6, l9);
          l7 = Words.get64(b, ((int) l5) - 60504);
          l9 = Words.get64(b, ((int) l5) - 60512);
          l6 = Words.get64(b, ((int) l5) - 60520);
@@ -2236,7 +2595,7 @@ static void f188(State m, long l0, long l1, int l2, long l3, long l4) {
          Words.put64(b, ((int) l5) - 60464, 0L);
          Words.put64(b, ((int) l5) - 60472, 0L);
          Words.put64(b, ((int) l5) - 60480, 0L);
-         Core2.f75(m, l5 + 240L, l8, l6, l2);
+         Core3.f82(m, l5 + 240L, l8, l6, l2);
          Words.put64(b, ((int) l5) - 60592, Words.get64(b, ((int) l10) - 60720));
          Words.put64(b, ((int) l5) - 60584, Words.get64(b, ((int) l10) - 60712));
          Words.put64(b, ((int) l5) - 60576, Words.get64(b, ((int) l10) - 60704));
@@ -2263,7 +2622,7 @@ static void f188(State m, long l0, long l1, int l2, long l3, long l4) {
       Words.put64(b, ((int) l5) - 60576, 0L);
       Words.put64(b, ((int) l5) - 60584, 0L);
       Words.put64(b, ((int) l5) - 60592, 0L);
-      f186(m, l5 + 128L, l3, l4);
+      f193(m, l5 + 128L, l3, l4);
       L30: {
        L31: {
         if ((b[((int) l5) - 60592] & 0xff) != 1) { break L31; }
@@ -2282,7 +2641,7 @@ static void f188(State m, long l0, long l1, int l2, long l3, long l4) {
         Words.put64(b, ((int) l5) - 60464, 0L);
         Words.put64(b, ((int) l5) - 60472, 0L);
         Words.put64(b, ((int) l5) - 60480, 0L);
-        Core2.f75(m, l5 + 240L, l8, l6, l2);
+        Core3.f82(m, l5 + 240L, l8, l6, l2);
         Words.put64(b, ((int) l5) - 60528, Words.get64(b, ((int) l5) - 60464));
         Words.put64(b, ((int) l5) - 60520, Words.get64(b, ((int) l5) - 60456));
         Words.put64(b, ((int) l5) - 60512, Words.get64(b, ((int) l5) - 60448));
@@ -2301,7 +2660,7 @@ static void f188(State m, long l0, long l1, int l2, long l3, long l4) {
        Words.put64(b, ((int) l5) - 60464, 0L);
        Words.put64(b, ((int) l5) - 60472, 0L);
        Words.put64(b, ((int) l5) - 60480, 0L);
-       Core2.f75(m, l5 + 240L, l3, l4, l2);
+       Core3.f82(m, l5 + 240L, l3, l4, l2);
        Words.put64(b, ((int) l5) - 60528, Words.get64(b, ((int) l5) - 60464));
        Words.put64(b, ((int) l5) - 60520, Words.get64(b, ((int) l5) - 60456));
        Words.put64(b, ((int) l5) - 60512, Words.get64(b, ((int) l5) - 60448));
@@ -2333,7 +2692,7 @@ static void f188(State m, long l0, long l1, int l2, long l3, long l4) {
      }
      throw State.trap();
     }
-    f189(m, l1, l3, l4);
+    f196(m, l1, l3, l4);
     break L2;
    }
    l18 = 0;
@@ -2346,7 +2705,7 @@ static void f188(State m, long l0, long l1, int l2, long l3, long l4) {
  m.g0 = l5 + 320L;
 }
 
-static void f189(State m, long l0, long l1, long l2) {
+static void f196(State m, long l0, long l1, long l2) {
  final byte[] b = m.bytes;
  long l3 = 0;
  long l4 = 0;
@@ -2402,7 +2761,7 @@ static void f189(State m, long l0, long l1, long l2) {
  throw State.trap();
 }
 
-static void f190(State m, long l0, long l1, long l2, int l3) {
+static void f197(State m, long l0, long l1, long l2, int l3) {
  final byte[] b = m.bytes;
  long l4 = 0;
  long l5 = 0;
@@ -2422,7 +2781,7 @@ static void f190(State m, long l0, long l1, long l2, int l3) {
    Words.put64(b, ((int) l4) - 60704, 0L);
    Words.put64(b, ((int) l4) - 60712, 0L);
    Words.put64(b, ((int) l4) - 60720, 0L);
-   Core2.f75(m, l4, l1, l2, l3);
+   Core3.f82(m, l4, l1, l2, l3);
    l7 = 1;
    L3: {
     L4: {
@@ -2462,14 +2821,14 @@ static void f190(State m, long l0, long l1, long l2, int l3) {
     Words.put64(b, ((int) l4) - 60632, 0L);
     Words.put64(b, ((int) l4) - 60624, 0L);
     Words.put64(b, ((int) l4) - 60616, 0L);
-    Core2.f77(m, l4 + 112L, l1, l2);
+    Core3.f84(m, l4 + 112L, l1, l2);
     l2 = Words.get64(b, ((int) l4) - 60584);
     l1 = Words.get64(b, ((int) l4) - 60592);
     L8: {
      if ((b[((int) l4) - 60608] & 0xff) == 1) { break L8; }
-     Core2.f78(m, l4 + 64L, l1, l2);
+     Core3.f85(m, l4 + 64L, l1, l2);
      if ((b[((int) l4) - 60656] & 0xff) != 1) { break L8; }
-     f191(m, l4 + 144L, l3, Words.get64(b, ((int) l4) - 60648), Words.get64(b, ((int) l4) - 60640), Words.get64(b, ((int) l4) - 60624), Words.get64(b, ((int) l4) - 60616));
+     f198(m, l4 + 144L, l3, Words.get64(b, ((int) l4) - 60648), Words.get64(b, ((int) l4) - 60640), Words.get64(b, ((int) l4) - 60624), Words.get64(b, ((int) l4) - 60616));
      l9 = b[((int) l4) - 60574] & 0xff;
      l8 = b[((int) l4) - 60575] & 0xff;
      l7 = b[((int) l4) - 60576] & 0xff;
@@ -2485,11 +2844,11 @@ static void f190(State m, long l0, long l1, long l2, int l3) {
     Words.put64(b, ((int) l4) - 60528, 0L);
     Words.put16(b, ((int) l4) - 60572, (short) 0);
     b[((int) l4) - 60570] = (byte) 0;
-    Core2.f81(m, l4 + 152L, l1, l2);
+    Core3.f88(m, l4 + 152L, l1, l2);
     L9: {
      L10: {
       if ((b[((int) l4) - 60568] & 0xff) != 1) { break L10; }
-      f191(m, l4 + 204L, l3, Words.get64(b, ((int) l4) - 60560), Words.get64(b, ((int) l4) - 60552), Words.get64(b, ((int) l4) - 60536), Words.get64(b, ((int) l4) - 60528));
+      f198(m, l4 + 204L, l3, Words.get64(b, ((int) l4) - 60560), Words.get64(b, ((int) l4) - 60552), Words.get64(b, ((int) l4) - 60536), Words.get64(b, ((int) l4) - 60528));
       l2 = l4 + 204L;
       l9 = b[((int) l4) - 60514] & 0xff;
       l8 = b[((int) l4) - 60515] & 0xff;
@@ -2499,22 +2858,22 @@ static void f190(State m, long l0, long l1, long l2, int l3) {
      Words.put64(b, ((int) l4) - 60496, 0L);
      Words.put64(b, ((int) l4) - 60504, 0L);
      Words.put64(b, ((int) l4) - 60512, 0L);
-     Core3.f85(m, l4 + 208L, l1, l2);
+     Core3.f92(m, l4 + 208L, l1, l2);
      L11: {
       L12: {
        if ((b[((int) l4) - 60512] & 0xff) != 1) { break L12; }
        l7 = Words.get32(b, ((int) l4) - 60504);
-       Core2.f80(m, l4 + 208L, l5 = Words.get64(b, ((int) l4) - 60496), l6 = Words.get64(b, ((int) l4) - 60488));
+       Core3.f87(m, l4 + 208L, l5 = Words.get64(b, ((int) l4) - 60496), l6 = Words.get64(b, ((int) l4) - 60488));
        if ((b[((int) l4) - 60512] & 0xff) != 1) { break L12; }
        L13: {
         if (l7 == 37) { break L13; }
         if (l7 == 65285) { break L13; }
         if (l7 != 8240) { break L12; }
        }
-       f192(m, l4 + 148L, l3, l5, l6);
+       f199(m, l4 + 148L, l3, l5, l6);
        break L11;
       }
-      f192(m, l4 + 148L, l3, l1, l2);
+      f199(m, l4 + 148L, l3, l1, l2);
      }
      l2 = l4 + 148L;
      l9 = b[((int) l4) - 60570] & 0xff;
@@ -2532,7 +2891,7 @@ static void f190(State m, long l0, long l1, long l2, int l3) {
  m.g0 = l4 + 240L;
 }
 
-static void f191(State m, long l0, int l1, long l2, long l3, long l4, long l5) {
+static void f198(State m, long l0, int l1, long l2, long l3, long l4, long l5) {
  final byte[] b = m.bytes;
  long l6 = 0;
  int l7 = 0;
@@ -2545,7 +2904,7 @@ static void f191(State m, long l0, int l1, long l2, long l3, long l4, long l5) {
   Words.put64(b, ((int) l6) - 60704, 0L);
   Words.put64(b, ((int) l6) - 60712, 0L);
   Words.put64(b, ((int) l6) - 60720, 0L);
-  Core3.f83(m, l6, l1, 0L, l2, l3);
+  Core3.f90(m, l6, l1, 0L, l2, l3);
   l7 = 1;
   L2: {
    L3: {
@@ -2579,7 +2938,7 @@ static void f191(State m, long l0, int l1, long l2, long l3, long l4, long l5) {
      Words.put64(b, ((int) l6) - 60632, 0L);
      Words.put16(b, ((int) l6) - 60676, (short) 0);
      b[((int) l6) - 60674] = (byte) 0;
-     Core3.f84(m, l6 + 48L, l1, 0L, l2, l3);
+     Core3.f91(m, l6 + 48L, l1, 0L, l2, l3);
      l7 = 1;
      L8: {
       if ((b[((int) l6) - 60672] & 0xff) == 1) { break L8; }
@@ -2610,7 +2969,7 @@ static void f191(State m, long l0, int l1, long l2, long l3, long l4, long l5) {
       l9 = 1;
       break L2;
      }
-     f192(m, l6 + 44L, l1, l2, l3);
+     f199(m, l6 + 44L, l1, l2, l3);
      final int t13 = b[((int) l6) - 60674] & 0xff;
      final int t14 = l1 = (((b[((int) l6) - 60676] & 0xff) & 255) == 1) ? 1 : 0;
      l7 = t14 != 0 ? t13 : 0;
@@ -2630,7 +2989,7 @@ static void f191(State m, long l0, int l1, long l2, long l3, long l4, long l5) {
    l8 = 0;
    Words.put16(b, ((int) l6) - 60720, (short) 0);
    b[((int) l6) - 60718] = (byte) 0;
-   Core3.f84(m, l6 + 48L, l1, 0L, l4, l5);
+   Core3.f91(m, l6 + 48L, l1, 0L, l4, l5);
    L17: {
     if ((b[((int) l6) - 60672] & 0xff) == 1) { break L17; }
     l9 = 0;
@@ -2655,7 +3014,7 @@ static void f191(State m, long l0, int l1, long l2, long l3, long l4, long l5) {
     l7 = 0;
     break L2;
    }
-   f192(m, l6, l1, l4, l5);
+   f199(m, l6, l1, l4, l5);
    l7 = b[((int) l6) - 60718] & 0xff;
    l8 = b[((int) l6) - 60719] & 0xff;
    l9 = b[((int) l6) - 60720] & 0xff;
@@ -2669,7 +3028,7 @@ static void f191(State m, long l0, int l1, long l2, long l3, long l4, long l5) {
  throw State.trap();
 }
 
-static void f192(State m, long l0, int l1, long l2, long l3) {
+static void f199(State m, long l0, int l1, long l2, long l3) {
  final byte[] b = m.bytes;
  long l4 = 0;
  long l5 = 0;
@@ -2691,7 +3050,7 @@ static void f192(State m, long l0, int l1, long l2, long l3) {
    Words.put64(b, ((int) l4) - 60672, 0L);
    Words.put64(b, ((int) l4) - 60680, 0L);
    Words.put64(b, ((int) l4) - 60688, 0L);
-   Core3.f86(m, l4 + 32L, l1, 0L, l2, l3);
+   Core3.f93(m, l4 + 32L, l1, 0L, l2, l3);
    l11 = 1;
    L3: {
     L4: {
@@ -2725,7 +3084,7 @@ static void f192(State m, long l0, int l1, long l2, long l3) {
     Words.put64(b, ((int) l4) - 60576, 0L);
     Words.put64(b, ((int) l4) - 60584, 0L);
     Words.put64(b, ((int) l4) - 60592, 0L);
-    Core3.f92(m, l4 + 128L, l2, l3);
+    Core3.f99(m, l4 + 128L, l2, l3);
     l5 = Words.get64(b, ((int) l4) - 60584);
     l6 = Words.get64(b, ((int) l4) - 60576);
     l11 = b[((int) l4) - 60592] & 0xff;
@@ -2735,18 +3094,18 @@ static void f192(State m, long l0, int l1, long l2, long l3) {
     Words.put64(b, ((int) l4) - 60624, 0L);
     Words.put64(b, ((int) l4) - 60632, 0L);
     Words.put64(b, ((int) l4) - 60640, 0L);
-    Core3.f93(m, l4 + 80L, l2 = ((l11 = (l11 == 1) ? 1 : 0) != 0) ? l5 : l2, l3 = l11 != 0 ? l6 : l3);
+    Core3.f100(m, l4 + 80L, l2 = ((l11 = (l11 == 1) ? 1 : 0) != 0) ? l5 : l2, l3 = l11 != 0 ? l6 : l3);
     L8: {
      if ((b[((int) l4) - 60640] & 0xff) != 0) { break L8; }
      Words.put64(b, ((int) l4) - 60568, 0L);
      Words.put64(b, ((int) l4) - 60576, 0L);
      Words.put64(b, ((int) l4) - 60584, 0L);
      Words.put64(b, ((int) l4) - 60592, 0L);
-     Core3.f94(m, l4 + 128L, l1, 0L, l2, l3);
+     Core3.f101(m, l4 + 128L, l1, 0L, l2, l3);
      l12 = 0;
      l13 = 0;
      if ((l11 = b[((int) l4) - 60592] & 0xff) == 0) { break L3; }
-     l13 = Core5.f165(m, l2, l3, b[((int) l4) - 60584] & 0xff, Words.get64(b, ((int) l4) - 60576)) & 255;
+     l13 = Core5.f172(m, l2, l3, b[((int) l4) - 60584] & 0xff, Words.get64(b, ((int) l4) - 60576)) & 255;
      break L3;
     }
     l7 = b[((int) (l4 + 127L)) - 60720] & 0xffL;
@@ -2770,13 +3129,13 @@ static void f192(State m, long l0, int l1, long l2, long l3) {
       L11: {
        L12: {
         if (l11 != 1) { break L12; }
-        Core3.f93(m, l4 + 128L, l6, l5);
+        Core3.f100(m, l4 + 128L, l6, l5);
         if ((b[((int) l4) - 60592] & 0xff) == 0) { break L11; }
         Words.put64(b, ((int) l4) - 60496, 0L);
         Words.put64(b, ((int) l4) - 60488, 0L);
         Words.put64(b, ((int) l4) - 60480, 0L);
         Words.put64(b, ((int) l4) - 60472, 0L);
-        Core3.f94(m, l4 + 224L, l1, 0L, l2, l3);
+        Core3.f101(m, l4 + 224L, l1, 0L, l2, l3);
         l11 = 1;
         if ((b[((int) l4) - 60496] & 0xff) == 1) { break L10; }
         l12 = 1;
@@ -2786,7 +3145,7 @@ static void f192(State m, long l0, int l1, long l2, long l3) {
        Words.put64(b, ((int) l4) - 60488, 0L);
        Words.put64(b, ((int) l4) - 60480, 0L);
        Words.put64(b, ((int) l4) - 60472, 0L);
-       Core3.f94(m, l4 + 224L, l1, 0L, l2, l3);
+       Core3.f101(m, l4 + 224L, l1, 0L, l2, l3);
        l11 = 1;
        L13: {
         if ((b[((int) l4) - 60496] & 0xff) == 1) { break L13; }
@@ -2804,14 +3163,14 @@ static void f192(State m, long l0, int l1, long l2, long l3) {
        Words.put64(b, ((int) l4) - 60536, l9);
        l5 = Words.get64(b, ((int) l4) - 60480);
        l1 = b[((int) l4) - 60488] & 0xff;
-       Core3.f96(m, l4 + 16L, 0L, l4 + 184L);
+       Core3.f103(m, l4 + 16L, 0L, l4 + 184L);
        l12 = 1;
        L14: {
         if (l1 != 1) { break L14; }
         if (((b[((int) l4) - 60704] & 0xff) & 255) == 0) { break L14; }
         if (Words.get64(b, ((int) l4) - 60696) + Long.MIN_VALUE >= l5 + Long.MIN_VALUE) { break L3; }
        }
-       l13 = Core5.f165(m, l2, l3, l1, l5) & 255;
+       l13 = Core5.f172(m, l2, l3, l1, l5) & 255;
        break L9;
       }
       Words.put16(b, ((int) l4) - 60540, (short) 0);
@@ -2822,7 +3181,7 @@ static void f192(State m, long l0, int l1, long l2, long l3) {
       Words.put64(b, ((int) l4) - 60488, 0L);
       Words.put64(b, ((int) l4) - 60480, 0L);
       Words.put64(b, ((int) l4) - 60472, 0L);
-      f193(m, l4 + 180L, l1, l9, l8);
+      f200(m, l4 + 180L, l1, l9, l8);
       l11 = 1;
       L15: {
        if ((b[((int) l4) - 60540] & 0xff) != 1) { break L15; }
@@ -2830,7 +3189,7 @@ static void f192(State m, long l0, int l1, long l2, long l3) {
        l12 = b[((int) l4) - 60539] & 0xff;
        break L3;
       }
-      f193(m, l4 + 176L, l1, l6, l5);
+      f200(m, l4 + 176L, l1, l6, l5);
       L16: {
        if ((b[((int) l4) - 60544] & 0xff) != 1) { break L16; }
        l11 = 1;
@@ -2843,7 +3202,7 @@ static void f192(State m, long l0, int l1, long l2, long l3) {
       Words.put64(b, ((int) l4) - 60520, l6);
       Words.put64(b, ((int) l4) - 60528, l8);
       Words.put64(b, ((int) l4) - 60536, l9);
-      Core3.f95(m, l4 + 224L, l1, 0L, l12, l4 + 184L);
+      Core3.f102(m, l4 + 224L, l1, 0L, l12, l4 + 184L);
       l11 = 0;
       l12 = 0;
       l13 = 0;
@@ -2865,13 +3224,13 @@ static void f192(State m, long l0, int l1, long l2, long l3) {
      Words.put64(b, ((int) l4) - 60536, l9);
      l5 = Words.get64(b, ((int) l4) - 60480);
      l1 = b[((int) l4) - 60488] & 0xff;
-     Core3.f96(m, l4, 0L, l4 + 184L);
+     Core3.f103(m, l4, 0L, l4 + 184L);
      L17: {
       if (l1 != 1) { break L17; }
       if (((b[((int) l4) - 60720] & 0xff) & 255) == 0) { break L17; }
       if (Words.get64(b, ((int) l4) - 60712) + Long.MIN_VALUE >= l5 + Long.MIN_VALUE) { break L3; }
      }
-     l13 = Core5.f165(m, l2, l3, l1, l5) & 255;
+     l13 = Core5.f172(m, l2, l3, l1, l5) & 255;
     }
     l12 = 0;
    }
@@ -2885,7 +3244,7 @@ static void f192(State m, long l0, int l1, long l2, long l3) {
  m.g0 = l4 + 256L;
 }
 
-static void f193(State m, long l0, int l1, long l2, long l3) {
+static void f200(State m, long l0, int l1, long l2, long l3) {
  final byte[] b = m.bytes;
  long l4 = 0;
  long l5 = 0;
@@ -3130,7 +3489,7 @@ static void f193(State m, long l0, int l1, long l2, long l3) {
    }
    l12 = 1;
   }
-  l13 = Core5.f165(m, l2, l3, l11, l4) & 255;
+  l13 = Core5.f172(m, l2, l3, l11, l4) & 255;
  }
  b[((int) l0) - 60720] = (byte) l12;
  b[((int) (l0 + 2L)) - 60720] = (byte) l13;
@@ -3138,7 +3497,7 @@ static void f193(State m, long l0, int l1, long l2, long l3) {
  m.g0 = l5 + 128L;
 }
 
-static int f194(State m, long l0, long l1, long l2) {
+static int f201(State m, long l0, long l1, long l2) {
  final byte[] b = m.bytes;
  long l3 = 0;
  long l4 = 0;
@@ -3249,7 +3608,7 @@ static int f194(State m, long l0, long l1, long l2) {
  throw State.trap();
 }
 
-static int f195(State m, long l0, long l1, long l2, long l3, long l4) {
+static int f202(State m, long l0, long l1, long l2, long l3, long l4) {
  final byte[] b = m.bytes;
  long l5 = 0;
  long l6 = 0;
@@ -3305,7 +3664,7 @@ static int f195(State m, long l0, long l1, long l2, long l3, long l4) {
      Words.put64(b, ((int) l5) - 60618, l0 = Words.get64(b, ((int) l6) - 60714));
      Words.put64(b, ((int) l5) - 60646, l4);
      Words.put64(b, ((int) l5) - 60640, l0);
-     if ((l11 = f196(m, l5 + 114L, l9, l8, l5 + 72L, l4 = l1 + l8, l0 = l2 - l8)) == 0) { break L2; }
+     if ((l11 = f203(m, l5 + 114L, l9, l8, l5 + 72L, l4 = l1 + l8, l0 = l2 - l8)) == 0) { break L2; }
      L7: {
       if ((l18 & 1) == 0) { break L7; }
       b[((int) l5) - 60463] = (byte) l12;
@@ -3313,20 +3672,20 @@ static int f195(State m, long l0, long l1, long l2, long l3, long l4) {
       Words.put64(b, ((int) l5) - 60462, Words.get64(b, ((int) l5) - 60624));
       Words.put64(b, ((int) l5) - 60456, Words.get64(b, ((int) l5) - 60618));
       Words.put64(b, ((int) l5) - 60448, l7);
-      if ((f197(m, l9, l8, l5 + 256L, l4, l0) & 1) == 0) { break L7; }
+      if ((f204(m, l9, l8, l5 + 256L, l4, l0) & 1) == 0) { break L7; }
       b[((int) l5) - 60463] = (byte) l12;
       b[((int) l5) - 60464] = (byte) l13;
       Words.put64(b, ((int) l5) - 60462, Words.get64(b, ((int) l5) - 60624));
       Words.put64(b, ((int) l5) - 60456, Words.get64(b, ((int) l5) - 60618));
       Words.put64(b, ((int) l5) - 60448, l7);
-      final int t8 = f197(m, l9, l8, l5 + 256L, l4, l0);
+      final int t8 = f204(m, l9, l8, l5 + 256L, l4, l0);
       break L2;
      }
      l6 = 0L;
      Words.put64(b, ((int) l5) - 60584, 0L);
      Words.put64(b, ((int) l5) - 60592, 0L);
      Words.put64(b, ((int) l5) - 60600, 0L);
-     Core4.f129(m, l5 + 120L, l13, l4, l0);
+     Core4.f136(m, l5 + 120L, l13, l4, l0);
      if ((b[((int) l5) - 60600] & 0xff) != 1) { break L2; }
      l8 = Words.get64(b, ((int) l5) - 60584);
      l7 = Words.get64(b, ((int) l5) - 60592);
@@ -3346,7 +3705,7 @@ static int f195(State m, long l0, long l1, long l2, long l3, long l4) {
       b[((int) l5) - 60346] = (byte) (l16 = l12);
       Words.put32(b, ((int) l5) - 60352, (int) l4);
       Words.put16(b, ((int) l5) - 60348, (short) (l4 >>> 32L));
-      Core4.f130(m, l5 + 144L, b[((int) (l4 = l1 + (l6 << 1L))) - 60720] & 0xff, b[((int) (l0 = l4 + 1L)) - 60720] & 0xff, l5 + 368L);
+      Core4.f137(m, l5 + 144L, b[((int) (l4 = l1 + (l6 << 1L))) - 60720] & 0xff, b[((int) (l0 = l4 + 1L)) - 60720] & 0xff, l5 + 368L);
       if ((b[((int) l5) - 60576] & 0xff) != 1) { break L2; }
       l8 = Words.get64(b, ((int) l5) - 60552);
       l7 = Words.get64(b, ((int) l5) - 60560);
@@ -3359,8 +3718,8 @@ static int f195(State m, long l0, long l1, long l2, long l3, long l4) {
        Words.put64(b, ((int) l5) - 60448, 0L);
        Words.put64(b, ((int) l5) - 60456, 0L);
        Words.put64(b, ((int) l5) - 60464, 0L);
-       Core4.f121(m, l5, l16 & 1, l2, l3);
-       Core4.f120(m, l5 + 256L, Words.get64(b, ((int) l5) - 60720), Words.get64(b, ((int) l5) - 60712));
+       Core4.f128(m, l5, l16 & 1, l2, l3);
+       Core4.f127(m, l5 + 256L, Words.get64(b, ((int) l5) - 60720), Words.get64(b, ((int) l5) - 60712));
        l4 = l2 = Words.get64(b, ((int) l5) - 60464);
        l3 = l10 = Words.get64(b, ((int) l5) - 60456);
        L11: {
@@ -3394,8 +3753,8 @@ static int f195(State m, long l0, long l1, long l2, long l3, long l4) {
          break L10;
         }
        }
-       if ((f198(m, 1, l2, l10) & 1) == 0) { break L10; }
-       final int t16 = f198(m, 1, l2, l10);
+       if ((f205(m, 1, l2, l10) & 1) == 0) { break L10; }
+       final int t16 = f205(m, 1, l2, l10);
       }
       l4 = (Words.get32(b, ((int) l5) - 60568) & 0xffffffffL) | ((Words.get16(b, ((int) (l5 + 156L)) - 60720) & 0xffffL) << 32L);
       if ((l6 = l6 + 1L) != l9) { continue L9; }
@@ -3416,7 +3775,7 @@ static int f195(State m, long l0, long l1, long l2, long l3, long l4) {
     Words.put64(b, ((int) l5) - 60600, Words.get64(b, ((int) l4) - 60720));
     l11 = 0;
     m.fill((int) (l5 + 256L), 0, (int) 112L);
-    Core2.f72(m, l5 + 256L, l7, l3, l2, l8);
+    Core2.f79(m, l5 + 256L, l7, l3, l2, l8);
     if ((b[((int) l5) - 60464] & 0xff) != 1) { break L2; }
     L17: {
      if ((l16 & 1) != 0) { break L17; }
@@ -3435,14 +3794,14 @@ static int f195(State m, long l0, long l1, long l2, long l3, long l4) {
      Words.put64(b, ((int) l5) - 60504, l2);
      Words.put64(b, ((int) l5) - 60488, Words.get64(b, ((int) l5) - 60600));
      Words.put64(b, ((int) l5) - 60480, Words.get64(b, ((int) l5) - 60592));
-     if (Core3.f116(m, l5 + 144L) != 0) { break L2; }
+     if (Core4.f123(m, l5 + 144L) != 0) { break L2; }
     }
     L18: {
-     if (f199(m, l7, l3, l2, l8) == 0) { break L18; }
-     if (f200(m, l15, l7, l3, l2, l8) == 0) { break L2; }
+     if (f206(m, l7, l3, l2, l8) == 0) { break L18; }
+     if (f207(m, l15, l7, l3, l2, l8) == 0) { break L2; }
     }
-    Core2.f73(m, l5 + 16L, l7, l3, l2, l8);
-    if ((f201(m, l15, l7, l3, Words.get64(b, ((int) l5) - 60704), Words.get64(b, ((int) l5) - 60696)) & 1) == 0) { break L2; }
+    Core3.f80(m, l5 + 16L, l7, l3, l2, l8);
+    if ((f208(m, l15, l7, l3, Words.get64(b, ((int) l5) - 60704), Words.get64(b, ((int) l5) - 60696)) & 1) == 0) { break L2; }
     l4 = 0L;
     Words.put64(b, ((int) l5) - 60408, 0L);
     Words.put64(b, ((int) l5) - 60416, 0L);
@@ -3452,7 +3811,7 @@ static int f195(State m, long l0, long l1, long l2, long l3, long l4) {
     Words.put64(b, ((int) l5) - 60448, 0L);
     Words.put64(b, ((int) l5) - 60456, 0L);
     Words.put64(b, ((int) l5) - 60464, 0L);
-    Core2.f75(m, l5 + 256L, l7, l3, 1);
+    Core3.f82(m, l5 + 256L, l7, l3, 1);
     l0 = 83372L;
     L19: {
      if ((b[((int) l5) - 60464] & 0xff) != 0) { break L19; }
@@ -3465,11 +3824,11 @@ static int f195(State m, long l0, long l1, long l2, long l3, long l4) {
      Words.put64(b, ((int) l5) - 60448, 0L);
      Words.put64(b, ((int) l5) - 60456, 0L);
      Words.put64(b, ((int) l5) - 60464, 0L);
-     Core2.f75(m, l5 + 256L, l2, l8, 1);
+     Core3.f82(m, l5 + 256L, l2, l8, 1);
      l0 = ((l16 = ((((b[((int) l5) - 60464] & 0xff) & 255) != 0) | (((b[((int) l5) - 60416] & 0xff) & 255) != 2)) ? 1 : 0) != 0) ? 77254L : 83372L;
      l4 = l16 & 0xffffffffL;
     }
-    l11 = f201(m, l15, l2, l8, l0, l4);
+    l11 = f208(m, l15, l2, l8, l0, l4);
     break L2;
    }
    l6 = Words.get64(b, ((int) l3) - 60696);
@@ -3484,10 +3843,10 @@ static int f195(State m, long l0, long l1, long l2, long l3, long l4) {
    Words.put64(b, ((int) l5) - 60320, Words.get64(b, ((int) (l0 = l3 + 32L)) - 60720));
    Words.put64(b, ((int) l5) - 60312, Words.get64(b, ((int) l0) - 60712));
    l11 = 0;
-   if (f174(m, l13, l5 + 120L, l5 + 368L) == 0) { break L2; }
+   if (f181(m, l13, l5 + 120L, l5 + 368L) == 0) { break L2; }
    L20: {
-    if (f175(m, l4, l6) != 0) { break L20; }
-    l16 = f176(m, l4, l6);
+    if (f182(m, l4, l6) != 0) { break L20; }
+    l16 = f183(m, l4, l6);
     L21: {
      if ((l15 & 255) != 0) { break L21; }
      if (l16 != 0) { break L2; }
@@ -3523,7 +3882,7 @@ static int f195(State m, long l0, long l1, long l2, long l3, long l4) {
        break L2;
       }
      }
-     l11 = f198(m, l13, l4, l6);
+     l11 = f205(m, l13, l4, l6);
      break L2;
     }
     L27: {
@@ -3573,7 +3932,7 @@ static int f195(State m, long l0, long l1, long l2, long l3, long l4) {
     Words.put64(b, ((int) l5) - 60448, 0L);
     Words.put64(b, ((int) l5) - 60456, 0L);
     Words.put64(b, ((int) l5) - 60464, 0L);
-    Core2.f75(m, l5 + 256L, l4, l6, l13);
+    Core3.f82(m, l5 + 256L, l4, l6, l13);
     Words.put64(b, ((int) l5) - 60576, Words.get64(b, ((int) l5) - 60448));
     Words.put64(b, ((int) l5) - 60568, Words.get64(b, ((int) l5) - 60440));
     Words.put64(b, ((int) l5) - 60560, Words.get64(b, ((int) l5) - 60432));
@@ -3643,7 +4002,7 @@ static int f195(State m, long l0, long l1, long l2, long l3, long l4) {
      }
      l17 = (((l17 + -48) + Integer.MIN_VALUE < -2147483638) | ((l17 + -65296) + Integer.MIN_VALUE < -2147483638)) ? 1 : 0;
     }
-    f179(m, l5 + 32L, l17, l16);
+    f186(m, l5 + 32L, l17, l16);
     L43: {
      L44: {
       if (((l13 | l17) & 1) == 0) { break L44; }
@@ -3664,7 +4023,7 @@ static int f195(State m, long l0, long l1, long l2, long l3, long l4) {
  throw State.trap();
 }
 
-static int f196(State m, long l0, long l1, long l2, long l3, long l4, long l5) {
+static int f203(State m, long l0, long l1, long l2, long l3, long l4, long l5) {
  final byte[] b = m.bytes;
  long l6 = 0;
  int l7 = 0;
@@ -3686,7 +4045,7 @@ static int f196(State m, long l0, long l1, long l2, long l3, long l4, long l5) {
   Words.put64(b, ((int) l6) - 60680, 0L);
   Words.put32(b, ((int) l6) - 60688, Words.get32(b, ((int) (l0 = l3 + 2L)) - 60720));
   Words.put16(b, ((int) l6) - 60684, (short) (Words.get16(b, ((int) l0) - 60716) & 0xffff));
-  Core3.f113(m, l6 + 40L, l7, l6 + 32L);
+  Core4.f120(m, l6 + 40L, l7, l6 + 32L);
   L2: {
    if ((b[((int) l6) - 60680] & 0xff) != 1) { break L2; }
    L3: {
@@ -3697,7 +4056,7 @@ static int f196(State m, long l0, long l1, long l2, long l3, long l4, long l5) {
     Words.put16(b, ((int) l6) - 60706, (short) (Words.get16(b, ((int) l0) - 60716) & 0xffff));
     Words.put64(b, ((int) l6) - 60704, Words.get64(b, ((int) (l3 = l3 + 8L)) - 60720));
     Words.put64(b, ((int) l6) - 60696, Words.get64(b, ((int) l3) - 60712));
-    if (Core3.f114(m, l1, l2, l6 + 8L, l4, l5) != 0) { break L2; }
+    if (Core4.f121(m, l1, l2, l6 + 8L, l4, l5) != 0) { break L2; }
    }
    l12 = 1;
    if ((l9 & 1) != 0) { break L2; }
@@ -3707,7 +4066,7 @@ static int f196(State m, long l0, long l1, long l2, long l3, long l4, long l5) {
    Words.put64(b, ((int) l6) - 60648, 0L);
    Words.put64(b, ((int) l6) - 60656, 0L);
    Words.put64(b, ((int) l6) - 60664, 0L);
-   Core4.f120(m, l6 + 56L, l4, l5);
+   Core4.f127(m, l6 + 56L, l4, l5);
    L4: {
     if ((l7 & 254) != 26) { break L4; }
     l3 = Words.get64(b, ((int) l6) - 60656);
@@ -3743,7 +4102,7 @@ static int f196(State m, long l0, long l1, long l2, long l3, long l4, long l5) {
       l12 = 0;
       break L5;
      }
-     Core3.f106(m, l6 + 92L, l0, l3);
+     Core3.f113(m, l6 + 92L, l0, l3);
      l12 = (((b[((int) l6) - 60628] & 0xff) == 1) ? 1 : 0) & (b[((int) l6) - 60625] & 0xff);
     }
     l10 = l12 ^ 1;
@@ -3757,7 +4116,7 @@ static int f196(State m, long l0, long l1, long l2, long l3, long l4, long l5) {
  throw State.trap();
 }
 
-static int f197(State m, long l0, long l1, long l2, long l3, long l4) {
+static int f204(State m, long l0, long l1, long l2, long l3, long l4) {
  final byte[] b = m.bytes;
  long l5 = 0;
  long l6 = 0;
@@ -3777,7 +4136,7 @@ static int f197(State m, long l0, long l1, long l2, long l3, long l4) {
   Words.put64(b, ((int) l5) - 60576, 0L);
   Words.put32(b, ((int) l5) - 60584, Words.get32(b, ((int) l2) - 60718));
   Words.put16(b, ((int) l5) - 60580, (short) (Words.get16(b, ((int) l2) - 60714) & 0xffff));
-  Core3.f113(m, l5 + 144L, l8, l5 + 136L);
+  Core4.f120(m, l5 + 144L, l8, l5 + 136L);
   L2: {
    if ((b[((int) l5) - 60576] & 0xff) != 1) { break L2; }
    l2 = Words.get64(b, ((int) l5) - 60572);
@@ -3791,7 +4150,7 @@ static int f197(State m, long l0, long l1, long l2, long l3, long l4) {
       default: break L5;
       }
      }
-     if (f202(m, l7, l6) != 0) { break L2; }
+     if (f209(m, l7, l6) != 0) { break L2; }
      if ((l2 & 71777214277878015L) != 281479271677953L) { break L2; }
      if (((((int) (l4 = l2 >>> 16L)) + -10000) & 65535) + Integer.MIN_VALUE < -2147427112) { break L2; }
      Words.put64(b, ((int) l5) - 60440, 0L);
@@ -3822,22 +4181,22 @@ static int f197(State m, long l0, long l1, long l2, long l3, long l4) {
      m.fill((int) (l5 + 160L), 0, (int) 80L);
      Core2.f52(m, l5, l5 + 160L, l5 + 240L);
      L6: {
-      if (Core4.f119(m, l7, l6) != 0) { break L6; }
-      Core4.f123(m, l5 + 160L, 21, l7, l6);
+      if (Core4.f126(m, l7, l6) != 0) { break L6; }
+      Core4.f130(m, l5 + 160L, 21, l7, l6);
      }
      l10 = 1;
      break L2;
     }
     b[((int) l5) - 60563] = (byte) (b[((int) l5) - 60573] & 0xff);
     Words.put16(b, ((int) l5) - 60562, (short) l2);
-    if (f203(m, l9, l0, l1, l3, l4, l7, l6) != 0) { break L2; }
-    if (f204(m, l7, l6) != 0) { break L2; }
-    Core3.f115(m, l5 + 96L, l9, l3, l4, l5 + 157L);
+    if (f210(m, l9, l0, l1, l3, l4, l7, l6) != 0) { break L2; }
+    if (f211(m, l7, l6) != 0) { break L2; }
+    Core4.f122(m, l5 + 96L, l9, l3, l4, l5 + 157L);
     if ((b[((int) l5) - 60624] & 0xff) != 1) { break L2; }
     l10 = b[((int) l5) - 60623] & 0xff;
     L7: {
      if ((l9 & 255) != 2) { break L7; }
-     Core4.f123(m, l5 + 160L, 22, l3, l4);
+     Core4.f130(m, l5 + 160L, 22, l3, l4);
     }
     l4 = l2 >>> 8L;
     Words.put64(b, ((int) l5) - 60440, 0L);
@@ -3871,8 +4230,8 @@ static int f197(State m, long l0, long l1, long l2, long l3, long l4) {
      Core2.f52(m, l5 + 48L, l5 + 160L, l5 + 240L);
     }
     L9: {
-     if (Core4.f119(m, l7, l6) != 0) { break L9; }
-     Core4.f123(m, l5 + 160L, 21, l7, l6);
+     if (Core4.f126(m, l7, l6) != 0) { break L9; }
+     Core4.f130(m, l5 + 160L, 21, l7, l6);
     }
     l10 = 1;
     break L2;
@@ -3887,16 +4246,16 @@ static int f197(State m, long l0, long l1, long l2, long l3, long l4) {
    Words.put64(b, ((int) l5) - 60480, ((l2 & 65535L) * 10L) + 5L);
    m.fill((int) (l5 + 160L), 0, (int) 80L);
    Core2.f52(m, l5 + 120L, l5 + 160L, l5 + 240L);
-   f205(m, l5 + 104L, l3, l4);
+   f212(m, l5 + 104L, l3, l4);
    l2 = Words.get64(b, ((int) l5) - 60608);
    l6 = Words.get64(b, ((int) l5) - 60616);
    Words.put64(b, ((int) l5) - 60464, 0L);
    Words.put64(b, ((int) l5) - 60472, 0L);
    Words.put64(b, ((int) l5) - 60480, 0L);
    if (l8 != 26) { break L2; }
-   Core4.f133(m, l5 + 240L, 83608L, 2L, 83568L, 1L, l6, l2);
+   Core4.f140(m, l5 + 240L, 83608L, 2L, 83568L, 1L, l6, l2);
    if ((b[((int) l5) - 60480] & 0xff) != 1) { break L2; }
-   Core4.f135(m, l5 + 160L, Words.get64(b, ((int) l5) - 60472), Words.get64(b, ((int) l5) - 60464));
+   Core4.f142(m, l5 + 160L, Words.get64(b, ((int) l5) - 60472), Words.get64(b, ((int) l5) - 60464));
   }
   m.g0 = l5 + 288L;
   final int t10 = l10;
@@ -3905,7 +4264,7 @@ static int f197(State m, long l0, long l1, long l2, long l3, long l4) {
  throw State.trap();
 }
 
-static int f198(State m, int l0, long l1, long l2) {
+static int f205(State m, int l0, long l1, long l2) {
  final byte[] b = m.bytes;
  long l3 = 0;
  long l4 = 0;
@@ -3921,10 +4280,10 @@ static int f198(State m, int l0, long l1, long l2) {
     Words.put64(b, ((int) l3) - 60680, 0L);
     Words.put64(b, ((int) l3) - 60688, 0L);
     Words.put64(b, ((int) l3) - 60696, 0L);
-    f177(m, l3 + 24L, l1, l2);
+    f184(m, l3 + 24L, l1, l2);
     L4: {
      if ((b[((int) l3) - 60696] & 0xff) != 1) { break L4; }
-     f206(m, l3, l0, Words.get64(b, ((int) l3) - 60688), Words.get64(b, ((int) l3) - 60680));
+     f213(m, l3, l0, Words.get64(b, ((int) l3) - 60688), Words.get64(b, ((int) l3) - 60680));
      l0 = b[((int) l3) - 60719] & 0xff;
      break L1;
     }
@@ -3961,20 +4320,20 @@ static int f198(State m, int l0, long l1, long l2) {
      if (l6 == 65293) { break L8; }
      if (l6 != 36127) { break L2; }
     }
-    f206(m, l3 + 16L, l0, l1 + l4, l2 - l4);
+    f213(m, l3 + 16L, l0, l1 + l4, l2 - l4);
     l0 = b[((int) l3) - 60703] & 0xff;
     break L1;
    }
    throw State.trap();
   }
-  f206(m, l3 + 8L, l0, l1, l2);
+  f213(m, l3 + 8L, l0, l1, l2);
   l0 = b[((int) l3) - 60711] & 0xff;
  }
  m.g0 = l3 + 48L;
  return l0;
 }
 
-static int f199(State m, long l0, long l1, long l2, long l3) {
+static int f206(State m, long l0, long l1, long l2, long l3) {
  final byte[] b = m.bytes;
  int l4 = 0;
  int l5 = 0;
@@ -4056,7 +4415,7 @@ static int f199(State m, long l0, long l1, long l2, long l3) {
  throw State.trap();
 }
 
-static int f200(State m, int l0, long l1, long l2, long l3, long l4) {
+static int f207(State m, int l0, long l1, long l2, long l3, long l4) {
  final byte[] b = m.bytes;
  long l5 = 0;
  long l6 = 0;
@@ -4145,7 +4504,7 @@ static int f200(State m, int l0, long l1, long l2, long l3, long l4) {
  throw State.trap();
 }
 
-static int f201(State m, int l0, long l1, long l2, long l3, long l4) {
+static int f208(State m, int l0, long l1, long l2, long l3, long l4) {
  final byte[] b = m.bytes;
  long l5 = 0;
  int l6 = 0;
@@ -4170,7 +4529,7 @@ static int f201(State m, int l0, long l1, long l2, long l3, long l4) {
    l2 = l7 != 0 ? 0L : l2;
    L5: {
     if ((l0 & 255) != 0) { break L5; }
-    l6 = f198(m, 1, l4, l2);
+    l6 = f205(m, 1, l4, l2);
     break L2;
    }
    Words.put64(b, ((int) l5) - 60504, 0L);
@@ -4181,7 +4540,7 @@ static int f201(State m, int l0, long l1, long l2, long l3, long l4) {
    Words.put64(b, ((int) l5) - 60544, 0L);
    Words.put64(b, ((int) l5) - 60552, 0L);
    Words.put64(b, ((int) l5) - 60560, 0L);
-   Core2.f75(m, l5 + 160L, l4, l2, 1);
+   Core3.f82(m, l5 + 160L, l4, l2, 1);
    Words.put64(b, ((int) l5) - 60608, Words.get64(b, ((int) l5) - 60544));
    Words.put64(b, ((int) l5) - 60600, Words.get64(b, ((int) l5) - 60536));
    Words.put64(b, ((int) l5) - 60592, Words.get64(b, ((int) l5) - 60528));
@@ -4200,7 +4559,7 @@ static int f201(State m, int l0, long l1, long l2, long l3, long l4) {
  throw State.trap();
 }
 
-static int f202(State m, long l0, long l1) {
+static int f209(State m, long l0, long l1) {
  final byte[] b = m.bytes;
  long l2 = 0;
  long l3 = 0;
@@ -4248,8 +4607,8 @@ static int f202(State m, long l0, long l1) {
     }
    }
    if (l8 != l7) { break L2; }
-   if (Core4.f119(m, l2 = l0 + l4, l0 = l1 - l4) == 0) { break L2; }
-   f205(m, l3, l2, l0);
+   if (Core4.f126(m, l2 = l0 + l4, l0 = l1 - l4) == 0) { break L2; }
+   f212(m, l3, l2, l0);
    if (Words.get64(b, ((int) l3) - 60712) == 0L) { break L2; }
    l6 = (l7 = (int) b[((int) (l2 = Words.get64(b, ((int) l3) - 60720))) - 60720]) & 255;
    L8: {
@@ -4301,7 +4660,7 @@ static int f202(State m, long l0, long l1) {
  throw State.trap();
 }
 
-static int f203(State m, int l0, long l1, long l2, long l3, long l4, long l5, long l6) {
+static int f210(State m, int l0, long l1, long l2, long l3, long l4, long l5, long l6) {
  final byte[] b = m.bytes;
  long l7 = 0;
  int l8 = 0;
@@ -4472,13 +4831,13 @@ static int f203(State m, int l0, long l1, long l2, long l3, long l4, long l5, lo
    }
    if (l0 == 12295) { break L1; }
   }
-  l8 = f202(m, l5, l6);
+  l8 = f209(m, l5, l6);
  }
  m.g0 = l7;
  return l8;
 }
 
-static int f204(State m, long l0, long l1) {
+static int f211(State m, long l0, long l1) {
  final byte[] b = m.bytes;
  long l2 = 0;
  int l3 = 0;
@@ -4539,7 +4898,7 @@ static int f204(State m, long l0, long l1) {
     if (l4 == 38047) { break L2; }
     if (l4 == 39192) { break L2; }
    }
-   l3 = Core4.f131(m, 85816L, 1L, 85820L, 1L, l0, l1);
+   l3 = Core4.f138(m, 85816L, 1L, 85820L, 1L, l0, l1);
   }
   m.g0 = l2;
   final int t11 = l3;
@@ -4548,7 +4907,7 @@ static int f204(State m, long l0, long l1) {
  throw State.trap();
 }
 
-static void f205(State m, long l0, long l1, long l2) {
+static void f212(State m, long l0, long l1, long l2) {
  final byte[] b = m.bytes;
  long l3 = 0;
  long l4 = 0;
@@ -4564,7 +4923,7 @@ static void f205(State m, long l0, long l1, long l2) {
   Words.put64(b, ((int) l3) - 60688, 0L);
   Words.put64(b, ((int) l3) - 60696, 0L);
   Words.put64(b, ((int) l3) - 60704, 0L);
-  Core4.f120(m, l3 + 16L, l1, l2);
+  Core4.f127(m, l3 + 16L, l1, l2);
   l4 = Words.get64(b, ((int) l3) - 60680);
   l5 = Words.get64(b, ((int) l3) - 60688);
   L2: {
@@ -4592,7 +4951,7 @@ static void f205(State m, long l0, long l1, long l2) {
    }
    l6 = (((l6 + -48) + Integer.MIN_VALUE < -2147483638) | ((l6 + -65296) + Integer.MIN_VALUE < -2147483638)) ? 1 : 0;
   }
-  Core4.f121(m, l3, l6, l5, l4);
+  Core4.f128(m, l3, l6, l5, l4);
   l1 = Words.get64(b, ((int) l3) - 60720);
   Words.put64(b, ((int) l0) - 60712, Words.get64(b, ((int) l3) - 60712));
   Words.put64(b, ((int) l0) - 60720, l1);
@@ -4602,7 +4961,7 @@ static void f205(State m, long l0, long l1, long l2) {
  throw State.trap();
 }
 
-static void f206(State m, long l0, int l1, long l2, long l3) {
+static void f213(State m, long l0, int l1, long l2, long l3) {
  final byte[] b = m.bytes;
  long l4 = 0;
  long l5 = 0;
@@ -4631,7 +4990,7 @@ static void f206(State m, long l0, int l1, long l2, long l3) {
        Words.put64(b, ((int) l4) - 60632, 0L);
        Words.put64(b, ((int) l4) - 60640, 0L);
        Words.put64(b, ((int) l4) - 60648, 0L);
-       f180(m, l4 + 72L, l2, l3);
+       f187(m, l4 + 72L, l2, l3);
        if ((b[((int) l4) - 60648] & 0xff) != 1) { break L2; }
        l5 = Words.get64(b, ((int) l4) - 60616);
        l6 = Words.get64(b, ((int) l4) - 60624);
@@ -4645,7 +5004,7 @@ static void f206(State m, long l0, int l1, long l2, long l3) {
        Words.put64(b, ((int) l4) - 60592, 0L);
        Words.put64(b, ((int) l4) - 60600, 0L);
        Words.put64(b, ((int) l4) - 60608, 0L);
-       Core2.f75(m, l4 + 112L, l2, l3, l1);
+       Core3.f82(m, l4 + 112L, l2, l3, l1);
        l12 = 0;
        if ((b[((int) l4) - 60608] & 0xff) != 0) { break L1; }
        l9 = Words.get64(b, ((int) l4) - 60584);
@@ -4719,7 +5078,7 @@ static void f206(State m, long l0, int l1, long l2, long l3) {
          if (l15 == 65293) { break L16; }
          if (l15 != 36127) { break L5; }
         }
-        f207(m, l4 + 40L, l1, l6 + l3, l5 - l3);
+        f214(m, l4 + 40L, l1, l6 + l3, l5 - l3);
         l15 = b[((int) l4) - 60679] & 0xff;
         break L4;
        }
@@ -4735,7 +5094,7 @@ static void f206(State m, long l0, int l1, long l2, long l3) {
       }
       throw State.trap();
      }
-     f207(m, l4 + 32L, l1, l6, l5);
+     f214(m, l4 + 32L, l1, l6, l5);
      l15 = b[((int) l4) - 60687] & 0xff;
     }
     if ((l15 & 1) == 0) { break L1; }
@@ -4753,13 +5112,13 @@ static void f206(State m, long l0, int l1, long l2, long l3) {
    Words.put64(b, ((int) l4) - 60592, 0L);
    Words.put64(b, ((int) l4) - 60600, 0L);
    Words.put64(b, ((int) l4) - 60608, 0L);
-   Core2.f75(m, l4 + 112L, l8, l7, l1);
+   Core3.f82(m, l4 + 112L, l8, l7, l1);
    if ((b[((int) l4) - 60608] & 0xff) != 0) { break L1; }
    final int t19 = (Words.get64(b, ((int) l4) - 60592) + Long.MIN_VALUE > -9223372036854774809L) ? 1 : 0;
    final int t20 = ((l3 = Words.get64(b, ((int) l4) - 60584)) > 0L) ? 1 : 0;
    final int t21 = (l3 == 0L) ? 1 : 0;
    if ((t21 != 0 ? t19 : t20) != 0) { break L1; }
-   f207(m, l4 + 8L, l1, l8, l7);
+   f214(m, l4 + 8L, l1, l8, l7);
    l12 = b[((int) l4) - 60711] & 0xff;
    break L1;
   }
@@ -4797,11 +5156,11 @@ static void f206(State m, long l0, int l1, long l2, long l3) {
     if (l15 == 65285) { break L28; }
     if (l15 != 8240) { break L27; }
    }
-   f207(m, l4 + 64L, l1, l2, l11);
+   f214(m, l4 + 64L, l1, l2, l11);
    l12 = (b[((int) l4) - 60655] & 0xff) & 1;
    break L1;
   }
-  f207(m, l4 + 56L, l1, l2, l3);
+  f214(m, l4 + 56L, l1, l2, l3);
   l12 = b[((int) l4) - 60663] & 0xff;
  }
  b[((int) l0) - 60719] = (byte) l12;
@@ -4809,7 +5168,7 @@ static void f206(State m, long l0, int l1, long l2, long l3) {
  m.g0 = l4 + 240L;
 }
 
-static void f207(State m, long l0, int l1, long l2, long l3) {
+static void f214(State m, long l0, int l1, long l2, long l3) {
  final byte[] b = m.bytes;
  long l4 = 0;
  long l5 = 0;
@@ -4894,7 +5253,7 @@ static void f207(State m, long l0, int l1, long l2, long l3) {
         }
         break L11;
        }
-       f182(m, l4 + 104L, l2, l3);
+       f189(m, l4 + 104L, l2, l3);
        if ((b[((int) l4) - 60616] & 0xff) != 1) { break L8; }
        l7 = Words.get64(b, ((int) l4) - 60584);
        l2 = Words.get64(b, ((int) l4) - 60592);
@@ -4908,7 +5267,7 @@ static void f207(State m, long l0, int l1, long l2, long l3) {
        Words.put64(b, ((int) l4) - 60448, 0L);
        Words.put64(b, ((int) l4) - 60456, 0L);
        Words.put64(b, ((int) l4) - 60464, 0L);
-       Core2.f75(m, l4 + 256L, l6, l5, l1);
+       Core3.f82(m, l4 + 256L, l6, l5, l1);
        Words.put64(b, ((int) l4) - 60576, Words.get64(b, ((int) l4) - 60448));
        Words.put64(b, ((int) l4) - 60568, Words.get64(b, ((int) l4) - 60440));
        Words.put64(b, ((int) l4) - 60560, Words.get64(b, ((int) l4) - 60432));
@@ -4982,7 +5341,7 @@ static void f207(State m, long l0, int l1, long l2, long l3) {
      }
     }
     L24: {
-     if (f183(m, l2, l3) == 0) { break L24; }
+     if (f190(m, l2, l3) == 0) { break L24; }
      l16 = 1;
      if (l11 != 0) { break L1; }
      l8 = l4 + 272L;
@@ -5011,7 +5370,7 @@ static void f207(State m, long l0, int l1, long l2, long l3) {
        l5 = 4L;
       }
       L29: {
-       if (f184(m, l13, l9 = l9 + l5, l10 = l10 - l5) == 0) { break L29; }
+       if (f191(m, l13, l9 = l9 + l5, l10 = l10 - l5) == 0) { break L29; }
        L30: {
         L31: {
          if (!((l7 = l3 - l10) == 0L)) { break L31; }
@@ -5056,7 +5415,7 @@ static void f207(State m, long l0, int l1, long l2, long l3) {
        Words.put64(b, ((int) l4) - 60496, 0L);
        Words.put64(b, ((int) l4) - 60504, 0L);
        Words.put64(b, ((int) l4) - 60512, 0L);
-       f185(m, l4 + 208L, l2, l6);
+       f192(m, l4 + 208L, l2, l6);
        l2 = Words.get64(b, ((int) l4) - 60504);
        l5 = Words.get64(b, ((int) l4) - 60512);
        Words.put64(b, ((int) l4) - 60408, 0L);
@@ -5067,7 +5426,7 @@ static void f207(State m, long l0, int l1, long l2, long l3) {
        Words.put64(b, ((int) l4) - 60448, 0L);
        Words.put64(b, ((int) l4) - 60456, 0L);
        Words.put64(b, ((int) l4) - 60464, 0L);
-       Core2.f75(m, l4 + 256L, l5, l2, l1);
+       Core3.f82(m, l4 + 256L, l5, l2, l1);
        Words.put64(b, ((int) l4) - 60576, Words.get64(b, ((int) l8) - 60720));
        Words.put64(b, ((int) l4) - 60568, Words.get64(b, ((int) l8) - 60712));
        Words.put64(b, ((int) l4) - 60560, Words.get64(b, ((int) l8) - 60704));
@@ -5092,7 +5451,7 @@ static void f207(State m, long l0, int l1, long l2, long l3) {
     Words.put64(b, ((int) l4) - 60560, 0L);
     Words.put64(b, ((int) l4) - 60568, 0L);
     Words.put64(b, ((int) l4) - 60576, 0L);
-    f186(m, l4 + 144L, l2, l3);
+    f193(m, l4 + 144L, l2, l3);
     L37: {
      L38: {
       L39: {
@@ -5108,7 +5467,7 @@ static void f207(State m, long l0, int l1, long l2, long l3) {
        Words.put64(b, ((int) l4) - 60448, 0L);
        Words.put64(b, ((int) l4) - 60456, 0L);
        Words.put64(b, ((int) l4) - 60464, 0L);
-       Core2.f75(m, l4 + 256L, l5, l2, l1);
+       Core3.f82(m, l4 + 256L, l5, l2, l1);
        Words.put64(b, ((int) l4) - 60512, Words.get64(b, ((int) l4) - 60448));
        Words.put64(b, ((int) l4) - 60504, Words.get64(b, ((int) l4) - 60440));
        Words.put64(b, ((int) l4) - 60496, Words.get64(b, ((int) l4) - 60432));
@@ -5127,7 +5486,7 @@ static void f207(State m, long l0, int l1, long l2, long l3) {
       Words.put64(b, ((int) l4) - 60448, 0L);
       Words.put64(b, ((int) l4) - 60456, 0L);
       Words.put64(b, ((int) l4) - 60464, 0L);
-      Core2.f75(m, l4 + 256L, l2, l3, l1);
+      Core3.f82(m, l4 + 256L, l2, l3, l1);
       Words.put64(b, ((int) l4) - 60512, Words.get64(b, ((int) l4) - 60448));
       Words.put64(b, ((int) l4) - 60504, Words.get64(b, ((int) l4) - 60440));
       Words.put64(b, ((int) l4) - 60496, Words.get64(b, ((int) l4) - 60432));
@@ -5156,7 +5515,7 @@ static void f207(State m, long l0, int l1, long l2, long l3) {
  m.g0 = l4 + 336L;
 }
 
-static void f208(State m, long l0, int l1) {
+static void f215(State m, long l0, int l1) {
  final byte[] b = m.bytes;
  long l2 = 0;
  m.g0 = l2 = m.g0 - 144L;
@@ -5187,7 +5546,7 @@ static void f208(State m, long l0, int l1) {
  throw State.trap();
 }
 
-static void f209(State m, long l0, int l1) {
+static void f216(State m, long l0, int l1) {
  final byte[] b = m.bytes;
  long l2 = 0;
  m.g0 = l2 = m.g0 - 144L;
@@ -5218,7 +5577,7 @@ static void f209(State m, long l0, int l1) {
  throw State.trap();
 }
 
-static int f210(State m, long l0, int l1, long l2, long l3) {
+static int f217(State m, long l0, int l1, long l2, long l3) {
  final byte[] b = m.bytes;
  long l4 = 0;
  long l5 = 0;
@@ -5235,12 +5594,12 @@ static int f210(State m, long l0, int l1, long l2, long l3) {
     Words.put64(b, ((int) l4) - 60680, 0L);
     Words.put64(b, ((int) l4) - 60688, 0L);
     Words.put64(b, ((int) l4) - 60696, 0L);
-    f177(m, l4 + 24L, l2, l3);
+    f184(m, l4 + 24L, l2, l3);
     L4: {
      if ((b[((int) l4) - 60696] & 0xff) != 1) { break L4; }
      l5 = Words.get64(b, ((int) l4) - 60688);
      Core2.f53(m, l0, l2, l3 - (l6 = Words.get64(b, ((int) l4) - 60680)));
-     f211(m, l4, l0, l1, l5, l6);
+     f218(m, l4, l0, l1, l5, l6);
      l1 = b[((int) l4) - 60719] & 0xff;
      break L1;
     }
@@ -5278,20 +5637,20 @@ static int f210(State m, long l0, int l1, long l2, long l3) {
      if (l8 != 36127) { break L2; }
     }
     Core2.f53(m, l0, 77252L, 1L);
-    f211(m, l4 + 16L, l0, l1, l2 + l5, l3 - l5);
+    f218(m, l4 + 16L, l0, l1, l2 + l5, l3 - l5);
     l1 = b[((int) l4) - 60703] & 0xff;
     break L1;
    }
    throw State.trap();
   }
-  f211(m, l4 + 8L, l0, l1, l2, l3);
+  f218(m, l4 + 8L, l0, l1, l2, l3);
   l1 = b[((int) l4) - 60711] & 0xff;
  }
  m.g0 = l4 + 48L;
  return l1;
 }
 
-static void f211(State m, long l0, long l1, int l2, long l3, long l4) {
+static void f218(State m, long l0, long l1, int l2, long l3, long l4) {
  final byte[] b = m.bytes;
  long l5 = 0;
  long l6 = 0;
@@ -5320,7 +5679,7 @@ static void f211(State m, long l0, long l1, int l2, long l3, long l4) {
        Words.put64(b, ((int) l5) - 60632, 0L);
        Words.put64(b, ((int) l5) - 60640, 0L);
        Words.put64(b, ((int) l5) - 60648, 0L);
-       f180(m, l5 + 72L, l3, l4);
+       f187(m, l5 + 72L, l3, l4);
        if ((b[((int) l5) - 60648] & 0xff) != 1) { break L2; }
        l6 = Words.get64(b, ((int) l5) - 60616);
        l7 = Words.get64(b, ((int) l5) - 60624);
@@ -5334,7 +5693,7 @@ static void f211(State m, long l0, long l1, int l2, long l3, long l4) {
        Words.put64(b, ((int) l5) - 60592, 0L);
        Words.put64(b, ((int) l5) - 60600, 0L);
        Words.put64(b, ((int) l5) - 60608, 0L);
-       Core2.f75(m, l5 + 112L, l3, l4, l2);
+       Core3.f82(m, l5 + 112L, l3, l4, l2);
        l13 = 0;
        if ((b[((int) l5) - 60608] & 0xff) != 0) { break L1; }
        l10 = Words.get64(b, ((int) l5) - 60584);
@@ -5409,7 +5768,7 @@ static void f211(State m, long l0, long l1, int l2, long l3, long l4) {
          if (l16 != 36127) { break L5; }
         }
         Core2.f53(m, l1, 77252L, 1L);
-        f212(m, l5 + 40L, l1, l2, l7 + l4, l6 - l4);
+        f219(m, l5 + 40L, l1, l2, l7 + l4, l6 - l4);
         l16 = b[((int) l5) - 60679] & 0xff;
         break L4;
        }
@@ -5426,7 +5785,7 @@ static void f211(State m, long l0, long l1, int l2, long l3, long l4) {
       }
       throw State.trap();
      }
-     f212(m, l5 + 32L, l1, l2, l7, l6);
+     f219(m, l5 + 32L, l1, l2, l7, l6);
      l16 = b[((int) l5) - 60687] & 0xff;
     }
     if ((l16 & 1) == 0) { break L1; }
@@ -5445,14 +5804,14 @@ static void f211(State m, long l0, long l1, int l2, long l3, long l4) {
    Words.put64(b, ((int) l5) - 60592, 0L);
    Words.put64(b, ((int) l5) - 60600, 0L);
    Words.put64(b, ((int) l5) - 60608, 0L);
-   Core2.f75(m, l5 + 112L, l9, l8, l2);
+   Core3.f82(m, l5 + 112L, l9, l8, l2);
    if ((b[((int) l5) - 60608] & 0xff) != 0) { break L1; }
    final int t19 = (Words.get64(b, ((int) l5) - 60592) + Long.MIN_VALUE > -9223372036854774809L) ? 1 : 0;
    final int t20 = ((l4 = Words.get64(b, ((int) l5) - 60584)) > 0L) ? 1 : 0;
    final int t21 = (l4 == 0L) ? 1 : 0;
    if ((t21 != 0 ? t19 : t20) != 0) { break L1; }
    Core2.f53(m, l1, 77253L, 1L);
-   f212(m, l5 + 8L, l1, l2, l9, l8);
+   f219(m, l5 + 8L, l1, l2, l9, l8);
    l13 = b[((int) l5) - 60711] & 0xff;
    break L1;
   }
@@ -5490,7 +5849,7 @@ static void f211(State m, long l0, long l1, int l2, long l3, long l4) {
     if (l16 == 65285) { break L28; }
     if (l16 != 8240) { break L27; }
    }
-   f212(m, l5 + 64L, l1, l2, l3, l12);
+   f219(m, l5 + 64L, l1, l2, l3, l12);
    l13 = 1;
    L29: {
     if (((b[((int) l5) - 60655] & 0xff) & 1) != 0) { break L29; }
@@ -5500,7 +5859,7 @@ static void f211(State m, long l0, long l1, int l2, long l3, long l4) {
    Core2.f53(m, l1, l3 + l12, l4 - l12);
    break L1;
   }
-  f212(m, l5 + 56L, l1, l2, l3, l4);
+  f219(m, l5 + 56L, l1, l2, l3, l4);
   l13 = b[((int) l5) - 60663] & 0xff;
  }
  b[((int) l0) - 60719] = (byte) l13;
@@ -5508,7 +5867,7 @@ static void f211(State m, long l0, long l1, int l2, long l3, long l4) {
  m.g0 = l5 + 240L;
 }
 
-static void f212(State m, long l0, long l1, int l2, long l3, long l4) {
+static void f219(State m, long l0, long l1, int l2, long l3, long l4) {
  final byte[] b = m.bytes;
  long l5 = 0;
  long l6 = 0;
@@ -5598,7 +5957,7 @@ static void f212(State m, long l0, long l1, int l2, long l3, long l4) {
        }
        break L11;
       }
-      f182(m, l5 + 88L, l3, l4);
+      f189(m, l5 + 88L, l3, l4);
       L16: {
        if ((b[((int) l5) - 60632] & 0xff) != 1) { break L16; }
        l7 = Words.get64(b, ((int) l5) - 60600);
@@ -5613,7 +5972,7 @@ static void f212(State m, long l0, long l1, int l2, long l3, long l4) {
        Words.put64(b, ((int) l5) - 60464, 0L);
        Words.put64(b, ((int) l5) - 60472, 0L);
        Words.put64(b, ((int) l5) - 60480, 0L);
-       Core2.f75(m, l5 + 240L, l8, l6, l2);
+       Core3.f82(m, l5 + 240L, l8, l6, l2);
        Words.put64(b, ((int) l5) - 60592, Words.get64(b, ((int) l5) - 60464));
        Words.put64(b, ((int) l5) - 60584, Words.get64(b, ((int) l5) - 60456));
        Words.put64(b, ((int) l5) - 60576, Words.get64(b, ((int) l5) - 60448));
@@ -5629,11 +5988,11 @@ static void f212(State m, long l0, long l1, int l2, long l3, long l4) {
        Core2.f52(m, l5 + 8L, l5 + 240L, l5 + 128L);
        Core2.f53(m, l1, Words.get64(b, ((int) l5) - 60712), Words.get64(b, ((int) l5) - 60704));
        Core2.f53(m, l1, 85718L, 1L);
-       f213(m, l1, l9, l7);
+       f220(m, l1, l9, l7);
        break L2;
       }
       L18: {
-       if (f183(m, l3, l4) == 0) { break L18; }
+       if (f190(m, l3, l4) == 0) { break L18; }
        l18 = 1;
        if (l13 != 0) { break L1; }
        l10 = l5 + 256L;
@@ -5662,7 +6021,7 @@ static void f212(State m, long l0, long l1, int l2, long l3, long l4) {
          l6 = 4L;
         }
         L23: {
-         if (f184(m, l15, l11 = l11 + l6, l12 = l12 - l6) == 0) { break L23; }
+         if (f191(m, l15, l11 = l11 + l6, l12 = l12 - l6) == 0) { break L23; }
          l6 = l3;
          l9 = 0L;
          L24: {
@@ -5708,7 +6067,7 @@ static void f212(State m, long l0, long l1, int l2, long l3, long l4) {
          Words.put64(b, ((int) l5) - 60512, 0L);
          Words.put64(b, ((int) l5) - 60520, 0L);
          Words.put64(b, ((int) l5) - 60528, 0L);
-         f185(m, l5 + 192L, l6, l9);
+         f192(m, l5 + 192L, l6, l9);
          l7 = Words.get64(b, ((int) l5) - 60504);
          l9 = Words.get64(b, ((int) l5) - 60512);
          l6 = Words.get64(b, ((int) l5) - 60520);
@@ -5721,7 +6080,7 @@ static void f212(State m, long l0, long l1, int l2, long l3, long l4) {
          Words.put64(b, ((int) l5) - 60464, 0L);
          Words.put64(b, ((int) l5) - 60472, 0L);
          Words.put64(b, ((int) l5) - 60480, 0L);
-         Core2.f75(m, l5 + 240L, l8, l6, l2);
+         Core3.f82(m, l5 + 240L, l8, l6, l2);
          Words.put64(b, ((int) l5) - 60592, Words.get64(b, ((int) l10) - 60720));
          Words.put64(b, ((int) l5) - 60584, Words.get64(b, ((int) l10) - 60712));
          Words.put64(b, ((int) l5) - 60576, Words.get64(b, ((int) l10) - 60704));
@@ -5748,7 +6107,7 @@ static void f212(State m, long l0, long l1, int l2, long l3, long l4) {
       Words.put64(b, ((int) l5) - 60576, 0L);
       Words.put64(b, ((int) l5) - 60584, 0L);
       Words.put64(b, ((int) l5) - 60592, 0L);
-      f186(m, l5 + 128L, l3, l4);
+      f193(m, l5 + 128L, l3, l4);
       L30: {
        L31: {
         if ((b[((int) l5) - 60592] & 0xff) != 1) { break L31; }
@@ -5767,7 +6126,7 @@ static void f212(State m, long l0, long l1, int l2, long l3, long l4) {
         Words.put64(b, ((int) l5) - 60464, 0L);
         Words.put64(b, ((int) l5) - 60472, 0L);
         Words.put64(b, ((int) l5) - 60480, 0L);
-        Core2.f75(m, l5 + 240L, l8, l6, l2);
+        Core3.f82(m, l5 + 240L, l8, l6, l2);
         Words.put64(b, ((int) l5) - 60528, Words.get64(b, ((int) l5) - 60464));
         Words.put64(b, ((int) l5) - 60520, Words.get64(b, ((int) l5) - 60456));
         Words.put64(b, ((int) l5) - 60512, Words.get64(b, ((int) l5) - 60448));
@@ -5786,7 +6145,7 @@ static void f212(State m, long l0, long l1, int l2, long l3, long l4) {
        Words.put64(b, ((int) l5) - 60464, 0L);
        Words.put64(b, ((int) l5) - 60472, 0L);
        Words.put64(b, ((int) l5) - 60480, 0L);
-       Core2.f75(m, l5 + 240L, l3, l4, l2);
+       Core3.f82(m, l5 + 240L, l3, l4, l2);
        Words.put64(b, ((int) l5) - 60528, Words.get64(b, ((int) l5) - 60464));
        Words.put64(b, ((int) l5) - 60520, Words.get64(b, ((int) l5) - 60456));
        Words.put64(b, ((int) l5) - 60512, Words.get64(b, ((int) l5) - 60448));
@@ -5818,7 +6177,7 @@ static void f212(State m, long l0, long l1, int l2, long l3, long l4) {
      }
      throw State.trap();
     }
-    f213(m, l1, l3, l4);
+    f220(m, l1, l3, l4);
     break L2;
    }
    l18 = 0;
@@ -5831,7 +6190,7 @@ static void f212(State m, long l0, long l1, int l2, long l3, long l4) {
  m.g0 = l5 + 320L;
 }
 
-static void f213(State m, long l0, long l1, long l2) {
+static void f220(State m, long l0, long l1, long l2) {
  final byte[] b = m.bytes;
  long l3 = 0;
  long l4 = 0;
@@ -5887,7 +6246,7 @@ static void f213(State m, long l0, long l1, long l2) {
  throw State.trap();
 }
 
-static int f214(State m, long l0, int l1, long l2, long l3, long l4, long l5) {
+static int f221(State m, long l0, int l1, long l2, long l3, long l4, long l5) {
  final byte[] b = m.bytes;
  long l6 = 0;
  int l7 = 0;
@@ -5912,7 +6271,7 @@ static int f214(State m, long l0, int l1, long l2, long l3, long l4, long l5) {
    l3 = l8 != 0 ? 0L : l3;
    L5: {
     if ((l1 & 255) != 0) { break L5; }
-    l7 = f210(m, l0, 1, l5, l3);
+    l7 = f217(m, l0, 1, l5, l3);
     break L2;
    }
    Words.put64(b, ((int) l6) - 60504, 0L);
@@ -5923,7 +6282,7 @@ static int f214(State m, long l0, int l1, long l2, long l3, long l4, long l5) {
    Words.put64(b, ((int) l6) - 60544, 0L);
    Words.put64(b, ((int) l6) - 60552, 0L);
    Words.put64(b, ((int) l6) - 60560, 0L);
-   Core2.f75(m, l6 + 160L, l5, l3, 1);
+   Core3.f82(m, l6 + 160L, l5, l3, 1);
    Words.put64(b, ((int) l6) - 60608, Words.get64(b, ((int) l6) - 60544));
    Words.put64(b, ((int) l6) - 60600, Words.get64(b, ((int) l6) - 60536));
    Words.put64(b, ((int) l6) - 60592, Words.get64(b, ((int) l6) - 60528));
@@ -5943,7 +6302,86 @@ static int f214(State m, long l0, int l1, long l2, long l3, long l4, long l5) {
  throw State.trap();
 }
 
-static int f215(State m, long l0, long l1, int l2, int l3, long l4) {
+static int f222(State m, long l0, long l1, int l2, int l3, long l4) {
+ final byte[] b = m.bytes;
+ long l5 = 0;
+ long l6 = 0;
+ long l7 = 0;
+ int l8 = 0;
+ L1: {
+  L2: {
+   L3: {
+    if ((l5 = m.g0) < 16L) { break L3; }
+    L4: {
+     if (l2 + Integer.MIN_VALUE < -2147483638) { break L4; }
+     Words.put64(b, ((int) l4) - 60696, 0L);
+     Words.put64(b, ((int) l4) - 60704, 0L);
+     Words.put64(b, ((int) l4) - 60712, 0L);
+     Words.put64(b, ((int) l4) - 60720, 0L);
+     break L1;
+    }
+    if (l3 + Integer.MIN_VALUE > -2147483643) { break L2; }
+    l6 = l0;
+    l7 = l1;
+    L5: {
+     L6: {
+      if (l1 + Long.MIN_VALUE < -9223372036854775804L) { break L6; }
+      L7: while (true) {
+       if (((Words.get32(b, ((int) l6) - 60720) + 16776990) & 12632312) != 8421376) { break L5; }
+       l6 = l6 + 3L;
+       if ((l7 = l7 + -3L) + Long.MIN_VALUE > -9223372036854775805L) { continue L7; }
+       break L7;
+      }
+     }
+     if (l7 + Long.MIN_VALUE > -9223372036854775805L) { break L5; }
+     L8: {
+      L9: {
+       switch ((int) l7) {
+       case 1: case 2: break L5;
+       case 3: break L9;
+       default: break L8;
+       }
+      }
+      if (((((Words.get16(b, ((int) l6) - 60720) & 0xffff) | ((b[((int) (l6 + 2L)) - 60720] & 0xff) << 16)) + 16776990) & 12632312) != 8421376) { break L5; }
+     }
+     L10: {
+      if (l3 + Integer.MIN_VALUE > -2147483644) { break L10; }
+      l3 = b[((int) ((l6 = (l3 & 0xffffffffL) << 1L) + 85585L)) - 60720] & 0xff;
+      l8 = b[((int) (l6 + 85584L)) - 60720] & 0xff;
+      L11: {
+       if (l2 + Integer.MIN_VALUE < -2147483643) { break L11; }
+       l2 = Core5.f174(m, l0, l1, l2, l8, l3, l4);
+       m.g0 = l5;
+       final int t12 = l2;
+       return t12;
+      }
+      l2 = Core5.f175(m, l0, l1, l2, l8, l3, l4);
+      m.g0 = l5;
+      final int t13 = l2;
+      return t13;
+     }
+     l2 = Core5.f176(m, l0, l1, l2, l4);
+     m.g0 = l5;
+     final int t14 = l2;
+     return t14;
+    }
+    l2 = f223(m, l0, l1, l2, l3, l4);
+    m.g0 = l5;
+    final int t15 = l2;
+    return t15;
+   }
+   throw State.trap();
+  }
+  Words.put64(b, ((int) l4) - 60696, 0L);
+  Words.put64(b, ((int) l4) - 60704, 0L);
+  Words.put64(b, ((int) l4) - 60712, 0L);
+  Words.put64(b, ((int) l4) - 60720, 0L);
+ }
+ m.g0 = l5;
+ return 8;
+}
+
+static int f223(State m, long l0, long l1, int l2, int l3, long l4) {
  final byte[] b = m.bytes;
  long l5 = 0;
  long l6 = 0;
@@ -6060,7 +6498,7 @@ static int f215(State m, long l0, long l1, int l2, int l3, long l4) {
      if (l3 + Integer.MIN_VALUE < -2147483643) { break L23; }
      if (l2 + Integer.MIN_VALUE > -2147483639) { break L22; }
      if (l3 != 5) { break L22; }
-     l12 = Core5.f169(m, l0, l1, l2, l4);
+     l12 = Core5.f176(m, l0, l1, l2, l4);
      m.g0 = l5;
      final int t24 = l12;
      return t24;
@@ -6078,12 +6516,12 @@ static int f215(State m, long l0, long l1, int l2, int l3, long l4) {
   l3 = b[((int) (l7 + 85584L)) - 60720] & 0xff;
   L25: {
    if (l2 + Integer.MIN_VALUE < -2147483643) { break L25; }
-   l12 = Core5.f167(m, l0, l1, l2, l3, l12, l4);
+   l12 = Core5.f174(m, l0, l1, l2, l3, l12, l4);
    m.g0 = l5;
    final int t26 = l12;
    return t26;
   }
-  l12 = Core5.f168(m, l0, l1, l2, l3, l12, l4);
+  l12 = Core5.f175(m, l0, l1, l2, l3, l12, l4);
   m.g0 = l5;
   final int t27 = l12;
   return t27;
@@ -6091,14 +6529,14 @@ static int f215(State m, long l0, long l1, int l2, int l3, long l4) {
  throw State.trap();
 }
 
-static void f217(State m) {
+static void f225(State m) {
  L1: {
   if (m.g0 > 15L) { break L1; }
   throw State.trap();
  }
 }
 
-static int f219(State m, long l0, long l1, int l2, long l3) {
+static int f227(State m, long l0, long l1, int l2, long l3) {
  final byte[] b = m.bytes;
  long l4 = 0;
  long l5 = 0;
@@ -6220,7 +6658,7 @@ static int f219(State m, long l0, long l1, int l2, long l3) {
  throw State.trap();
 }
 
-static int f221(State m, long l0, long l1, int l2, long l3) {
+static int f229(State m, long l0, long l1, int l2, long l3) {
  final byte[] b = m.bytes;
  long l4 = 0;
  long l5 = 0;
@@ -6346,7 +6784,7 @@ static int f221(State m, long l0, long l1, int l2, long l3) {
  throw State.trap();
 }
 
-static int f223(State m, long l0, long l1, long l2, long l3, long l4) {
+static int f231(State m, long l0, long l1, long l2, long l3, long l4) {
  final byte[] b = m.bytes;
  long l5 = 0;
  long l6 = 0;
@@ -6444,7 +6882,7 @@ static int f223(State m, long l0, long l1, long l2, long l3, long l4) {
  return l10;
 }
 
-static int f225_1(State m, long l0, long l1, int l2, int l3, long l6, long l7, long l8, long l9, long l10, long l11, long l12, long l13, long l14, long l15, long l16, long l17, long l18, int l24, int l25, int l26, int l27, int l28, int l29) {
+static int f233_1(State m, long l0, long l1, int l2, int l3, long l6, long l7, long l8, long l9, long l10, long l11, long l12, long l13, long l14, long l15, long l16, long l17, long l18, int l24, int l25, int l26, int l27, int l28, int l29) {
  final byte[] b = m.bytes;
  int exit = 0;
  PART: {
@@ -6751,7 +7189,7 @@ static int f225_1(State m, long l0, long l1, int l2, int l3, long l6, long l7, l
  return exit;
 }
 
-static int f225_2(State m, long l0, int l3, long l7, long l8, long l9, long l10, long l11, long l12, long l13, long l14, long l17, long l18, long l19, long l20, long l21, long l22, long l23, int l24) {
+static int f233_2(State m, long l0, int l3, long l7, long l8, long l9, long l10, long l11, long l12, long l13, long l14, long l17, long l18, long l19, long l20, long l21, long l22, long l23, int l24) {
  final byte[] b = m.bytes;
  int exit = 0;
  PART: {
@@ -7074,7 +7512,7 @@ static int f225_2(State m, long l0, int l3, long l7, long l8, long l9, long l10,
  return exit;
 }
 
-static int f225(State m, long l0, long l1, int l2, int l3, long l4, long l5, long l6) {
+static int f233(State m, long l0, long l1, int l2, int l3, long l4, long l5, long l6) {
  final byte[] b = m.bytes;
  long l7 = 0;
  long l8 = 0;
@@ -7106,7 +7544,7 @@ static int f225(State m, long l0, long l1, int l2, int l3, long l4, long l5, lon
     L4: {
      L5: {
       L6: {
-       final int x46 = f225_1(m, l0, l1, l2, l3, l6, l7, l8, l9, l10, l11, l12, l13, l14, l15, l16, l17, l18, l24, l25, l26, l27, l28, l29);
+       final int x46 = f233_1(m, l0, l1, l2, l3, l6, l7, l8, l9, l10, l11, l12, l13, l14, l15, l16, l17, l18, l24, l25, l26, l27, l28, l29);
        l0 = m.kept[0];
        l2 = (int) m.kept[1];
        l3 = (int) m.kept[2];
@@ -7533,7 +7971,7 @@ static int f225(State m, long l0, long l1, int l2, int l3, long l4, long l5, lon
         l24 = 11;
         break L6;
        }
-       final int x176 = f225_2(m, l0, l3, l7, l8, l9, l10, l11, l12, l13, l14, l17, l18, l19, l20, l21, l22, l23, l24);
+       final int x176 = f233_2(m, l0, l3, l7, l8, l9, l10, l11, l12, l13, l14, l17, l18, l19, l20, l21, l22, l23, l24);
        l0 = m.kept[0];
        l3 = (int) m.kept[1];
        l8 = m.kept[2];
@@ -7710,7 +8148,204 @@ static int f225(State m, long l0, long l1, int l2, int l3, long l4, long l5, lon
  return l24;
 }
 
-static int f227(State m, int l0, int l1, int l2, int l3, long l4, long l5, long l6) {
+static int f235(State m, long l0, long l1, long l2, long l3, long l4, long l5, long l6, int l7, long l8, long l9, long l10, long l11) {
+ final byte[] b = m.bytes;
+ long l12 = 0;
+ long l13 = 0;
+ long l14 = 0;
+ long l15 = 0;
+ int l16 = 0;
+ int l17 = 0;
+ m.g0 = l12 = m.g0 - 32L;
+ L1: {
+  if ((l13 = l12) < 16L) { break L1; }
+  l16 = 8;
+  L2: {
+   if (l7 + Integer.MIN_VALUE > -2147483643) { break L2; }
+   if (l7 == 4) { break L2; }
+   L3: {
+    final long t4 = l11;
+    final long t5 = l12 = l3 - ((l3 != 0L) ? 1L : 0L);
+    final int t6 = (l11 + Long.MIN_VALUE < l12 + Long.MIN_VALUE) ? 1 : 0;
+    final long t7 = l12 = t6 != 0 ? t4 : t5;
+    final long t8 = l9;
+    final int t9 = (l12 + Long.MIN_VALUE < l9 + Long.MIN_VALUE) ? 1 : 0;
+    if ((l14 = t9 != 0 ? t7 : t8) == 0L) { break L3; }
+    l9 = l10 + ((l10 == 0L) ? 4096L : 0L);
+    l3 = l8 + ((l8 == 0L) ? 4096L : 0L);
+    l15 = l4 + ((l4 == 0L) ? 4096L : 0L);
+    l12 = l2 + ((l2 == 0L) ? 4096L : 0L);
+    l0 = l0 + ((l0 == 0L) ? 4096L : 0L);
+    l17 = (l7 + Integer.MIN_VALUE < -2147483642) ? l7 : 0;
+    l2 = l6 >>> 3L;
+    l11 = l6 & 7L;
+    L10: while (true) {
+     l7 = 0;
+     L11: {
+      if ((l16 = ((l10 = (l11 >>> 3L) + l2) + Long.MIN_VALUE >= l5 + Long.MIN_VALUE) ? 1 : 0) != 0) { break L11; }
+      l7 = b[((int) (l15 + l10)) - 60720] & 0xff;
+     }
+     l8 = Words.get64(b, ((int) (l12 + 8L)) - 60720);
+     l4 = Words.get64(b, ((int) l12) - 60720);
+     l10 = 0L;
+     L12: {
+      L13: {
+       if (l16 != 0) { break L13; }
+       if ((((l7 & 255) >>> (((int) l11) & 7)) & 1) != 0) { break L13; }
+       l7 = 10;
+       break L12;
+      }
+      l7 = 6;
+      if (l8 + Long.MIN_VALUE < l4 + Long.MIN_VALUE) { break L12; }
+      if (l1 + Long.MIN_VALUE < l8 + Long.MIN_VALUE) { break L12; }
+      l8 = l8 - l4;
+      l4 = l0 + l4;
+      l7 = 8;
+      L14: {
+       L15: {
+        L16: {
+         L17: {
+          L18: {
+           L19: {
+            switch ((int) ((l17 & 0xffffffffL) & 255L)) {
+            case 1: break L18;
+            case 2: break L17;
+            case 3: break L16;
+            case 4: break L12;
+            case 5: break L15;
+            default: break L19;
+            }
+           }
+           Words.put64(b, ((int) l13) - 60696, 0L);
+           Words.put64(b, ((int) l13) - 60704, 0L);
+           Words.put64(b, ((int) l13) - 60712, 0L);
+           l7 = Core2.f70(m, l4, l8, l13 + 8L);
+           break L14;
+          }
+          Words.put64(b, ((int) l13) - 60696, 0L);
+          Words.put64(b, ((int) l13) - 60704, 0L);
+          Words.put64(b, ((int) l13) - 60712, 0L);
+          l7 = Core2.f76(m, l4, l8, l13 + 8L);
+          break L14;
+         }
+         Words.put64(b, ((int) l13) - 60696, 0L);
+         Words.put64(b, ((int) l13) - 60704, 0L);
+         Words.put64(b, ((int) l13) - 60712, 0L);
+         l7 = Core2.f72(m, l4, l8, l13 + 8L);
+         break L14;
+        }
+        Words.put64(b, ((int) l13) - 60696, 0L);
+        Words.put64(b, ((int) l13) - 60704, 0L);
+        Words.put64(b, ((int) l13) - 60712, 0L);
+        l7 = Core2.f78(m, l4, l8, l13 + 8L);
+        break L14;
+       }
+       Words.put64(b, ((int) l13) - 60696, 0L);
+       Words.put64(b, ((int) l13) - 60704, 0L);
+       Words.put64(b, ((int) l13) - 60712, 0L);
+       l7 = Core2.f75(m, l4, l8, l13 + 8L);
+      }
+      l10 = Words.get64(b, ((int) l13) - 60712);
+     }
+     Words.put64(b, ((int) l3) - 60720, l10);
+     Words.put32(b, ((int) l9) - 60720, l7);
+     l11 = l11 + 1L;
+     l3 = l3 + 8L;
+     l12 = l12 + 8L;
+     l9 = l9 + 4L;
+     if (!((l14 = l14 + -1L) == 0L)) { continue L10; }
+     break L10;
+    }
+   }
+   l16 = 0;
+  }
+  m.g0 = l13 + 32L;
+  final int t20 = l16;
+  return t20;
+ }
+ throw State.trap();
+}
+
+static void f237(State m, long l0, long l1, long l2, long l3, long l4, long l5, long l6, long l7, long l8, long l9, long l10) {
+ final byte[] b = m.bytes;
+ long l11 = 0;
+ long l12 = 0;
+ long l13 = 0;
+ int l14 = 0;
+ int l15 = 0;
+ int l16 = 0;
+ int l17 = 0;
+ m.g0 = l11 = m.g0 - 32L;
+ L1: {
+  if ((l11 = l11) < 16L) { break L1; }
+  L2: {
+   final long t3 = l10;
+   final long t4 = l3 = l3 - ((l3 != 0L) ? 1L : 0L);
+   final int t5 = (l10 + Long.MIN_VALUE < l3 + Long.MIN_VALUE) ? 1 : 0;
+   final long t6 = l10 = t5 != 0 ? t3 : t4;
+   final long t7 = l8;
+   final int t8 = (l10 + Long.MIN_VALUE < l8 + Long.MIN_VALUE) ? 1 : 0;
+   if ((l12 = t8 != 0 ? t6 : t7) == 0L) { break L2; }
+   l9 = l9 + ((l9 == 0L) ? 4096L : 0L);
+   l10 = l7 + ((l7 == 0L) ? 4096L : 0L);
+   l13 = l4 + ((l4 == 0L) ? 4096L : 0L);
+   l8 = l2 + ((l2 == 0L) ? 4096L : 0L);
+   l0 = l0 + ((l0 == 0L) ? 4096L : 0L);
+   l2 = l6 >>> 3L;
+   l3 = l6 & 7L;
+   L9: while (true) {
+    l14 = 0;
+    l15 = 0;
+    L10: {
+     if ((l16 = ((l7 = (l3 >>> 3L) + l2) + Long.MIN_VALUE >= l5 + Long.MIN_VALUE) ? 1 : 0) != 0) { break L10; }
+     l15 = b[((int) (l13 + l7)) - 60720] & 0xff;
+    }
+    l7 = Words.get64(b, ((int) (l8 + 8L)) - 60720);
+    l4 = Words.get64(b, ((int) l8) - 60720);
+    L11: {
+     L12: {
+      L13: {
+       if (l16 != 0) { break L13; }
+       l16 = 10;
+       if ((((l15 & 255) >>> (((int) l3) & 7)) & 1) == 0) { break L12; }
+      }
+      l16 = 6;
+      if (l7 + Long.MIN_VALUE < l4 + Long.MIN_VALUE) { break L12; }
+      l15 = 0;
+      l17 = 0;
+      if (l1 + Long.MIN_VALUE < l7 + Long.MIN_VALUE) { break L11; }
+      Words.put64(b, ((int) l11) - 60696, 0L);
+      Words.put64(b, ((int) l11) - 60704, 0L);
+      Words.put64(b, ((int) l11) - 60712, 0L);
+      Words.put64(b, ((int) l11) - 60720, 0L);
+      l16 = Core2.f73(m, l0 + l4, l7 - l4, l11);
+      l17 = Words.get32(b, ((int) l11) - 60712);
+      l15 = Words.get32(b, ((int) l11) - 60716);
+      l14 = Words.get32(b, ((int) l11) - 60720);
+      break L11;
+     }
+     l15 = 0;
+     l17 = 0;
+    }
+    Words.put32(b, ((int) l10) - 60720, l14);
+    Words.put32(b, ((int) (l10 + 8L)) - 60720, l17);
+    Words.put32(b, ((int) (l10 + 4L)) - 60720, l15);
+    Words.put32(b, ((int) l9) - 60720, l16);
+    l3 = l3 + 1L;
+    l8 = l8 + 8L;
+    l10 = l10 + 12L;
+    l9 = l9 + 4L;
+    if (!((l12 = l12 + -1L) == 0L)) { continue L9; }
+    break L9;
+   }
+  }
+  m.g0 = l11 + 32L;
+  return;
+ }
+ throw State.trap();
+}
+
+static int f239(State m, int l0, int l1, int l2, int l3, long l4, long l5, long l6) {
  final byte[] b = m.bytes;
  long l7 = 0;
  long l8 = 0;
@@ -7721,164 +8356,101 @@ static int f227(State m, int l0, int l1, int l2, int l3, long l4, long l5, long 
  long l13 = 0;
  int l14 = 0;
  int l15 = 0;
- int l16 = 0;
  m.g0 = l7 = m.g0 - 64L;
  L1: {
   L2: {
    L3: {
+    if ((l7 = l7) < 16L) { break L3; }
+    Words.put64(b, ((int) l6) - 60720, 0L);
     L4: {
-     L5: {
-      if ((l7 = l7) < 16L) { break L5; }
-      Words.put64(b, ((int) l6) - 60720, 0L);
-      L6: {
-       if (l3 + Integer.MIN_VALUE <= -2147483647) { break L6; }
-       l14 = 8;
-       break L1;
-      }
-      Words.put64(b, ((int) l7) - 60689, 0L);
-      Words.put64(b, ((int) l7) - 60696, 0L);
-      Words.put64(b, ((int) l7) - 60704, 0L);
-      Words.put64(b, ((int) l7) - 60712, 0L);
-      Words.put64(b, ((int) l7) - 60720, 0L);
-      l14 = 11;
-      if (l0 + Integer.MIN_VALUE > -2147418113) { break L1; }
-      if (l1 + Integer.MIN_VALUE > -2147483393) { break L1; }
-      if (l2 + Integer.MIN_VALUE > -2147483393) { break L1; }
-      if (((l15 = (l2 + Integer.MIN_VALUE < -2147483392) ? l2 : 256) & 255) == 0) { break L1; }
-      if ((((l16 = (l0 + Integer.MIN_VALUE < -2147418112) ? l0 : 65536) + -1) & 65535) + Integer.MIN_VALUE > -2147473650) { break L1; }
-      if ((((l0 = (l1 + Integer.MIN_VALUE < -2147483392) ? l1 : 256) + -1) & 255) + Integer.MIN_VALUE > -2147483637) { break L1; }
-      l14 = b[((int) ((l3 & 0xffffffffL) + 83500L)) - 60720] & 0xff;
-      L7: {
-       L8: {
-        if ((l0 & 255) != 2) { break L8; }
-        l3 = 28;
-        if ((l16 & 3) != 0) { break L7; }
-        final int t9 = (((int) (((l3 = l16 & 65535) & 0xffffffffL) % 400L)) != 0) ? 28 : 29;
-        final int t10 = (int) ((l3 & 0xffffffffL) % 100L);
-        l3 = t10 != 0 ? 29 : t9;
-        break L7;
-       }
-       final int t11 = ((l3 = l0 & 13) == 9) ? 30 : 31;
-       final int t12 = (l3 == 4) ? 1 : 0;
-       l3 = t12 != 0 ? 30 : t11;
-      }
-      L13: {
-       if (l3 + Integer.MIN_VALUE >= (l15 & 255) + Integer.MIN_VALUE) { break L13; }
-       l14 = 11;
-       break L1;
-      }
-      Words.put64(b, ((int) l7) - 60664, 0L);
-      Words.put64(b, ((int) l7) - 60672, 39L);
-      Words.put64(b, ((int) l7) - 60680, l7);
-      Core2.f64(m, l7 + 40L, l14, l16);
-      L14: {
-       final long t15 = l9 = (l8 = Words.get64(b, ((int) l7) - 60664)) + 3L;
-       final int t16 = (l9 + Long.MIN_VALUE < l8 + Long.MIN_VALUE) ? 1 : 0;
-       if ((l9 = t16 != 0 ? -1L : t15) + Long.MIN_VALUE > (l10 = Words.get64(b, ((int) l7) - 60672)) + Long.MIN_VALUE) { break L14; }
-       b[((int) (l11 = Words.get64(b, ((int) l7) - 60680) + l8)) - 60718] = (byte) 180;
-       Words.put16(b, ((int) l11) - 60720, (short) 47589);
-      }
-      Words.put64(b, ((int) l7) - 60664, l9);
-      L17: {
-       if ((l3 = l0 & 255) + Integer.MIN_VALUE > -2147483638) { break L17; }
-       if (((1 << l3) & 1030) == 0) { break L17; }
-       L18: {
-        final long t19 = l11 = l8 + 6L;
-        final int t20 = (l11 + Long.MIN_VALUE < l8 + Long.MIN_VALUE) ? 1 : 0;
-        if ((l8 = t20 != 0 ? -1L : t19) + Long.MIN_VALUE > l10 + Long.MIN_VALUE) { break L18; }
-        b[((int) (l9 = Words.get64(b, ((int) l7) - 60680) + l9)) - 60718] = (byte) 182;
-        Words.put16(b, ((int) l9) - 60720, (short) 39913);
-       }
-       Words.put64(b, ((int) l7) - 60664, l8);
-      }
-      l3 = (l4 == 0L) ? 1 : 0;
-      Core2.f65(m, l7 + 40L, l14, l0);
-      L21: {
-       final long t22 = l9 = (l8 = Words.get64(b, ((int) l7) - 60664)) + 3L;
-       final int t23 = (l9 + Long.MIN_VALUE < l8 + Long.MIN_VALUE) ? 1 : 0;
-       if ((l9 = t23 != 0 ? -1L : t22) + Long.MIN_VALUE > (l10 = Words.get64(b, ((int) l7) - 60672)) + Long.MIN_VALUE) { break L21; }
-       b[((int) (l11 = Words.get64(b, ((int) l7) - 60680) + l8)) - 60718] = (byte) 136;
-       Words.put16(b, ((int) l11) - 60720, (short) 40166);
-      }
-      l12 = l3 != 0 ? 4096L : 0L;
-      Words.put64(b, ((int) l7) - 60664, l9);
-      l3 = (int) (((l15 & 255) & 0xffffffffL) % 10L);
-      L24: {
-       L25: {
-        if (l2 + Integer.MIN_VALUE < -2147483638) { break L25; }
-        if (l3 != 0) { break L24; }
-       }
-       L26: {
-        final long t27 = l11 = l8 + 6L;
-        final int t28 = (l11 + Long.MIN_VALUE < l8 + Long.MIN_VALUE) ? 1 : 0;
-        if ((l8 = t28 != 0 ? -1L : t27) + Long.MIN_VALUE > l10 + Long.MIN_VALUE) { break L26; }
-        b[((int) (l9 = Words.get64(b, ((int) l7) - 60680) + l9)) - 60718] = (byte) 182;
-        Words.put16(b, ((int) l9) - 60720, (short) 39913);
-       }
-       Words.put64(b, ((int) l7) - 60664, l8);
-      }
-      l11 = l4 + l12;
-      Core2.f65(m, l7 + 40L, l14, l15);
-      L29: {
-       final long t30 = l8 = (l13 = Words.get64(b, ((int) l7) - 60664)) + 3L;
-       final int t31 = (l8 + Long.MIN_VALUE < l13 + Long.MIN_VALUE) ? 1 : 0;
-       if ((l8 = t31 != 0 ? -1L : t30) + Long.MIN_VALUE <= Words.get64(b, ((int) l7) - 60672) + Long.MIN_VALUE) { break L29; }
-       l8 = 0L;
-       Words.put64(b, ((int) l6) - 60720, 0L);
-       l10 = 83372L;
-       break L3;
-      }
-      b[((int) (l9 = (l10 = Words.get64(b, ((int) l7) - 60680)) + l13)) - 60718] = (byte) 165;
-      Words.put16(b, ((int) l9) - 60720, (short) 38886);
-      Words.put64(b, ((int) l6) - 60720, l8);
-      L32: {
-       if (l5 + Long.MIN_VALUE >= l8 + Long.MIN_VALUE) { break L32; }
-       l14 = 6;
-       break L1;
-      }
-      if ((l11 - l10) + Long.MIN_VALUE >= l8 + Long.MIN_VALUE) { break L3; }
-      l9 = l8 & 3L;
-      L33: {
-       if (!(l13 == 0L)) { break L33; }
-       l6 = 0L;
-       break L4;
-      }
-      l13 = l8 & -4L;
-      l6 = 0L;
-      L34: while (true) {
-       b[((int) (l5 = l11 + l6)) - 60720] = (byte) (b[((int) (l8 = l10 + l6)) - 60720] & 0xff);
-       b[((int) (l5 + 1L)) - 60720] = (byte) (b[((int) (l8 + 1L)) - 60720] & 0xff);
-       b[((int) (l5 + 2L)) - 60720] = (byte) (b[((int) (l8 + 2L)) - 60720] & 0xff);
-       b[((int) (l5 + 3L)) - 60720] = (byte) (b[((int) (l8 + 3L)) - 60720] & 0xff);
-       if (l13 != (l6 = l6 + 4L)) { continue L34; }
-       break L34;
-      }
-      if (!(l9 == 0L)) { break L4; }
-      break L2;
-     }
-     throw State.trap();
-    }
-    l5 = l10 + l6;
-    l6 = l4 + (l12 + l6);
-    L35: while (true) {
-     b[((int) l6) - 60720] = (byte) (b[((int) l5) - 60720] & 0xff);
-     l6 = l6 + 1L;
-     l5 = l5 + 1L;
-     l14 = 0;
-     if ((l9 = l9 + -1L) != 0L) { continue L35; }
+     if (l3 + Integer.MIN_VALUE <= -2147483647) { break L4; }
+     l14 = 8;
      break L1;
     }
+    Words.put64(b, ((int) l7) - 60665, 0L);
+    Words.put64(b, ((int) l7) - 60672, 0L);
+    Words.put64(b, ((int) l7) - 60680, 0L);
+    Words.put64(b, ((int) l7) - 60688, 0L);
+    Words.put64(b, ((int) l7) - 60696, 0L);
+    l14 = 11;
+    if (l0 + Integer.MIN_VALUE > -2147418113) { break L1; }
+    if (l1 + Integer.MIN_VALUE > -2147483393) { break L1; }
+    if (l2 + Integer.MIN_VALUE > -2147483393) { break L1; }
+    if (((l2 = (l2 + Integer.MIN_VALUE < -2147483392) ? l2 : 256) & 255) == 0) { break L1; }
+    if ((((l15 = (l0 + Integer.MIN_VALUE < -2147418112) ? l0 : 65536) + -1) & 65535) + Integer.MIN_VALUE > -2147473650) { break L1; }
+    if ((((l0 = (l1 + Integer.MIN_VALUE < -2147483392) ? l1 : 256) + -1) & 255) + Integer.MIN_VALUE > -2147483637) { break L1; }
+    l3 = b[((int) ((l3 & 0xffffffffL) + 83500L)) - 60720] & 0xff;
+    L5: {
+     L6: {
+      if ((l0 & 255) != 2) { break L6; }
+      l14 = 28;
+      if ((l15 & 3) != 0) { break L5; }
+      final int t7 = (((int) (((l14 = l15 & 65535) & 0xffffffffL) % 400L)) != 0) ? 28 : 29;
+      final int t8 = (int) ((l14 & 0xffffffffL) % 100L);
+      l14 = t8 != 0 ? 29 : t7;
+      break L5;
+     }
+     final int t9 = ((l14 = l0 & 13) == 9) ? 30 : 31;
+     final int t10 = (l14 == 4) ? 1 : 0;
+     l14 = t10 != 0 ? 30 : t9;
+    }
+    L11: {
+     if (l14 + Integer.MIN_VALUE >= (l2 & 255) + Integer.MIN_VALUE) { break L11; }
+     l14 = 11;
+     break L1;
+    }
+    Core2.f64(m, l7 + 8L, l7 + 24L, l3, ((l2 << 24) | (l0 << 16)) | l15);
+    l8 = Words.get64(b, ((int) l7) - 60712);
+    Words.put64(b, ((int) l6) - 60720, l9 = Words.get64(b, ((int) l7) - 60704));
+    L12: {
+     if (l5 + Long.MIN_VALUE >= l9 + Long.MIN_VALUE) { break L12; }
+     l14 = 6;
+     break L1;
+    }
+    L13: {
+     if (((l11 = l4 + (l10 = (l4 == 0L) ? 4096L : 0L)) - l8) + Long.MIN_VALUE >= l9 + Long.MIN_VALUE) { break L13; }
+     l12 = l9 & 3L;
+     l5 = 0L;
+     if (l9 + Long.MIN_VALUE < -9223372036854775804L) { break L2; }
+     l13 = l9 & -4L;
+     l5 = 0L;
+     L14: while (true) {
+      b[((int) (l6 = l11 + l5)) - 60720] = (byte) (b[((int) (l9 = l8 + l5)) - 60720] & 0xff);
+      b[((int) (l6 + 1L)) - 60720] = (byte) (b[((int) (l9 + 1L)) - 60720] & 0xff);
+      b[((int) (l6 + 2L)) - 60720] = (byte) (b[((int) (l9 + 2L)) - 60720] & 0xff);
+      b[((int) (l6 + 3L)) - 60720] = (byte) (b[((int) (l9 + 3L)) - 60720] & 0xff);
+      if (l13 != (l5 = l5 + 4L)) { continue L14; }
+      break L14;
+     }
+     if (!(l12 == 0L)) { break L2; }
+     l14 = 0;
+     break L1;
+    }
+    L15: {
+     if (l9 == 0L) { break L15; }
+     m.copy((int) l11, (int) l8, (int) l9);
+    }
+    l14 = 0;
+    break L1;
    }
-   if (l8 == 0L) { break L2; }
-   m.copy((int) l11, (int) l10, (int) l8);
+   throw State.trap();
   }
-  l14 = 0;
+  l6 = l8 + l5;
+  l4 = l4 + (l10 + l5);
+  L16: while (true) {
+   b[((int) l4) - 60720] = (byte) (b[((int) l6) - 60720] & 0xff);
+   l4 = l4 + 1L;
+   l6 = l6 + 1L;
+   l14 = 0;
+   if ((l12 = l12 + -1L) != 0L) { continue L16; }
+   break L16;
+  }
  }
  m.g0 = l7 + 64L;
  return l14;
 }
 
-static int f229(State m, long l0, int l1, int l2, long l3, long l4, long l5) {
+static int f241(State m, long l0, int l1, int l2, long l3, long l4, long l5) {
  final byte[] b = m.bytes;
  long l6 = 0;
  long l7 = 0;
@@ -7944,8 +8516,8 @@ static int f229(State m, long l0, int l1, int l2, long l3, long l4, long l5) {
      b[((int) l6) - 60713] = (byte) l13;
      Words.put64(b, ((int) l6) - 60544, l0);
     }
-    Core2.f66(m, l6 + 136L, l7);
-    Core2.f67(m, l6 + 160L, l6 + 187L, l6 + 136L);
+    Core2.f67(m, l6 + 136L, l7);
+    Core2.f68(m, l6 + 160L, l6 + 187L, l6 + 136L);
     l7 = Words.get64(b, ((int) l6) - 60560);
     final int t9 = (int) l5;
     final long t10 = l0 = Words.get64(b, ((int) l6) - 60544);
@@ -7999,7 +8571,7 @@ static int f229(State m, long l0, int l1, int l2, long l3, long l4, long l5) {
  return l13;
 }
 
-static int f231(State m, int l0, int l1, long l2, long l3, long l4) {
+static int f243(State m, int l0, int l1, long l2, long l3, long l4) {
  final byte[] b = m.bytes;
  long l5 = 0;
  long l6 = 0;
@@ -8154,7 +8726,7 @@ static int f231(State m, int l0, int l1, long l2, long l3, long l4) {
  return l12;
 }
 
-static int f233(State m, long l0, long l1, long l2, long l3) {
+static int f245(State m, long l0, long l1, long l2, long l3) {
  final byte[] b = m.bytes;
  long l4 = 0;
  long l5 = 0;
@@ -8229,5 +8801,13 @@ static int f233(State m, long l0, long l1, long l2, long l3) {
  }
  m.g0 = l4 + 144L;
  return l10;
+}
+
+static int f247(State m, long l0, long l1, long l2) {
+ return Core2.f70(m, l0 + ((l0 == 0L) ? 4096L : 0L), l1, l2);
+}
+
+static int f249(State m, long l0, long l1, long l2) {
+ return Core2.f72(m, l0 + ((l0 == 0L) ? 4096L : 0L), l1, l2);
 }
 }

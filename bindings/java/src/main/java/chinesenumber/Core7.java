@@ -2,1419 +2,11 @@
 package chinesenumber;
 
 final class Core7 {
-static int f235(State m, long l0, long l1, long l2) {
- final byte[] b = m.bytes;
- long l3 = 0;
- long l4 = 0;
- long l5 = 0;
- long l6 = 0;
- long l7 = 0;
- long l8 = 0;
- long l9 = 0;
- long l10 = 0;
- long l11 = 0;
- long l12 = 0;
- long l13 = 0;
- int l14 = 0;
- int l15 = 0;
- int l16 = 0;
- int l17 = 0;
- int l18 = 0;
- int l19 = 0;
- int l20 = 0;
- int l21 = 0;
- m.g0 = l3 = m.g0 - 32L;
- L1: {
-  L2: {
-   L3: {
-    L4: {
-     if ((l4 = l3) < 16L) { break L4; }
-     Words.put64(b, ((int) l2) - 60720, 0L);
-     Words.put64(b, ((int) l2) - 60712, 0L);
-     Words.put64(b, ((int) l2) - 60704, 0L);
-     Words.put64(b, ((int) l4) - 60696, 0L);
-     Words.put64(b, ((int) l4) - 60704, 0L);
-     Words.put64(b, ((int) l4) - 60712, 0L);
-     l3 = l1;
-     l0 = l5 = l0 + ((l0 == 0L) ? 4096L : 0L);
-     L5: {
-      L6: {
-       L7: {
-        if (l1 + Long.MIN_VALUE < -9223372036854775804L) { break L7; }
-        l0 = l5;
-        l3 = l1;
-        L8: while (true) {
-         if (((Words.get32(b, ((int) l0) - 60720) + 16776990) & 12632312) != 8421376) { break L6; }
-         l0 = l0 + 3L;
-         if ((l3 = l3 + -3L) + Long.MIN_VALUE > -9223372036854775805L) { continue L8; }
-         break L8;
-        }
-       }
-       if (l3 + Long.MIN_VALUE > -9223372036854775805L) { break L6; }
-       L9: {
-        switch ((int) l3) {
-        case 1: case 2: break L6;
-        case 3: break L9;
-        default: break L5;
-        }
-       }
-       if (((((Words.get16(b, ((int) l0) - 60720) & 0xffff) | ((b[((int) (l0 + 2L)) - 60720] & 0xff) << 16)) + 16776990) & 12632312) == 8421376) { break L5; }
-      }
-      l14 = 5;
-      if (Core1.f6(m, l5, l1) == 0) { break L1; }
-     }
-     if (l1 == 0L) { break L3; }
-     l15 = 0;
-     l6 = 0L;
-     l7 = l1;
-     l3 = l5;
-     l8 = 0L;
-     l9 = 0L;
-     l10 = 0L;
-     l16 = 0;
-     l17 = 0;
-     L10: {
-      L11: while (true) {
-       l18 = l16;
-       l14 = (l16 = (int) b[((int) l3) - 60720]) & 255;
-       l11 = 1L;
-       L12: {
-        L13: {
-         if (l16 <= -1) { break L13; }
-         l12 = 1L;
-         break L12;
-        }
-        l19 = (b[((int) l3) - 60719] & 0xff) & 63;
-        L14: {
-         if (l16 + Integer.MIN_VALUE > 2147483615) { break L14; }
-         l14 = ((l14 << 6) & 1984) | l19;
-         l12 = 2L;
-         break L12;
-        }
-        l20 = (b[((int) l3) - 60718] & 0xff) & 63;
-        L15: {
-         if (l16 + Integer.MIN_VALUE > 2147483631) { break L15; }
-         l14 = ((l19 << 6) | ((l14 << 12) & 61440)) | l20;
-         l12 = 3L;
-         break L12;
-        }
-        l14 = ((l20 << 6) | ((l19 << 12) | ((l14 << 18) & 1835008))) | ((b[((int) l3) - 60717] & 0xff) & 63);
-        l12 = 4L;
-       }
-       L16: {
-        if (Words.get32(b, State.far((int) (l0 = (((l14 * 3227) >>> 7) & 0xffffffffL) & 504L), 65536)) == l14) { break L16; }
-        l0 = 1L;
-        break L10;
-       }
-       L17: {
-        if (((b[((int) (l0 + 65540L)) - 60720] & 0xff) & 255) == 1) { break L17; }
-        l0 = 1L;
-        break L10;
-       }
-       l13 = b[((int) (l0 + 65542L)) - 60720] & 0xffL;
-       l14 = b[((int) (l0 + 65541L)) - 60720] & 0xff;
-       l0 = 1L;
-       L18: {
-        L19: {
-         L20: {
-          L21: {
-           L22: {
-            L23: {
-             L24: {
-              L25: {
-               L26: {
-                L27: {
-                 L28: {
-                  L29: {
-                   L30: {
-                    L31: {
-                     L32: {
-                      L33: {
-                       L34: {
-                        L35: {
-                         L36: {
-                          L37: {
-                           L38: {
-                            L39: {
-                             L40: {
-                              L41: {
-                               L42: {
-                                L43: {
-                                 L44: {
-                                  L45: {
-                                   L46: {
-                                    L47: {
-                                     L48: {
-                                      L49: {
-                                       L50: {
-                                        L51: {
-                                         L52: {
-                                          L53: {
-                                           switch ((int) ((l17 & 0xffffffffL) & 255L)) {
-                                           case 1: break L44;
-                                           case 2: break L43;
-                                           case 3: break L42;
-                                           case 4: break L41;
-                                           case 5: break L53;
-                                           case 6: break L52;
-                                           case 7: break L51;
-                                           case 8: break L50;
-                                           case 9: break L49;
-                                           case 10: break L48;
-                                           case 11: break L47;
-                                           case 12: break L46;
-                                           case 13: break L40;
-                                           case 14: break L38;
-                                           case 15: break L36;
-                                           case 16: break L37;
-                                           case 17: break L39;
-                                           case 18: break L34;
-                                           case 19: break L10;
-                                           default: break L45;
-                                           }
-                                          }
-                                          L54: {
-                                           if (((1 << l14) & 261375) != 0) { break L54; }
-                                           if (l14 != 8) { break L21; }
-                                           break L20;
-                                          }
-                                          L55: {
-                                           if ((l14 + -5) + Integer.MIN_VALUE < -2147483635) { break L55; }
-                                           l16 = 0;
-                                           switch (l14) {
-                                           case 2: break L31;
-                                           case 3: break L30;
-                                           case 4: break L28;
-                                           default: break L55;
-                                           }
-                                          }
-                                          l16 = 0;
-                                          l17 = 6;
-                                          l0 = 1L;
-                                          switch (l14) {
-                                          case 5: break L25;
-                                          case 6: break L24;
-                                          case 7: break L22;
-                                          default: break L10;
-                                          }
-                                         }
-                                         L56: {
-                                          if ((l14 + -6) + Integer.MIN_VALUE < -2147483636) { break L56; }
-                                          l20 = 3;
-                                          l19 = 10;
-                                          l21 = l14;
-                                          l0 = 1L;
-                                          L57: {
-                                           switch (l14) {
-                                           case 1: break L32;
-                                           case 2: case 3: case 4: break L56;
-                                           case 5: break L10;
-                                           default: break L57;
-                                           }
-                                          }
-                                          l16 = 1;
-                                          l15 = (l18 & 1) | 2;
-                                          l17 = 9;
-                                          break L18;
-                                         }
-                                         l16 = 1;
-                                         if (l14 == 6) { break L24; }
-                                         if (l14 == 7) { break L22; }
-                                         l0 = 1L;
-                                         break L10;
-                                        }
-                                        L58: {
-                                         if ((l14 + -6) + Integer.MIN_VALUE < -2147483636) { break L58; }
-                                         l20 = 3;
-                                         l21 = 4;
-                                         l19 = 10;
-                                         l0 = 1L;
-                                         L59: {
-                                          switch (l14) {
-                                          case 1: break L32;
-                                          case 2: case 3: case 4: break L58;
-                                          case 5: break L10;
-                                          default: break L59;
-                                          }
-                                         }
-                                         l15 = 3;
-                                         l16 = (l18 & 1) ^ 3;
-                                         l17 = 9;
-                                         break L18;
-                                        }
-                                        l16 = 1;
-                                        l17 = 8;
-                                        if (l14 == 5) { break L25; }
-                                        if (l14 == 7) { break L22; }
-                                        l0 = 1L;
-                                        break L10;
-                                       }
-                                       l16 = 1;
-                                       l20 = 3;
-                                       l21 = 5;
-                                       l19 = 10;
-                                       l0 = 1L;
-                                       L60: {
-                                        switch (l14) {
-                                        case 1: break L32;
-                                        case 2: case 3: case 4: case 5: case 6: case 8: case 9: case 10: case 11: case 12: case 13: case 14: case 15: case 16: case 17: break L10;
-                                        case 7: break L22;
-                                        default: break L60;
-                                        }
-                                       }
-                                       l15 = (l18 & 1) | 2;
-                                       l16 = 5;
-                                       l17 = 9;
-                                       break L18;
-                                      }
-                                      if (l14 == 1) { break L33; }
-                                      l0 = 1L;
-                                      break L10;
-                                     }
-                                     L61: {
-                                      L62: {
-                                       L63: {
-                                        L64: {
-                                         switch ((int) ((l15 & 0xffffffffL) & 255L)) {
-                                         case 1: break L62;
-                                         case 2: break L63;
-                                         case 3: break L64;
-                                         default: break L61;
-                                         }
-                                        }
-                                        l16 = l18;
-                                        if (l14 == 4) { break L28; }
-                                        l0 = 1L;
-                                        break L10;
-                                       }
-                                       l16 = l18;
-                                       if (l14 == 3) { break L30; }
-                                       l0 = 1L;
-                                       break L10;
-                                      }
-                                      l16 = l18;
-                                      if (l14 == 2) { break L31; }
-                                      l0 = 1L;
-                                      break L10;
-                                     }
-                                     L65: {
-                                      L66: {
-                                       L67: {
-                                        L68: {
-                                         L69: {
-                                          switch ((int) ((l18 & 0xffffffffL) & 255L)) {
-                                          case 1: break L66;
-                                          case 2: case 3: break L68;
-                                          case 4: break L67;
-                                          case 5: break L65;
-                                          default: break L69;
-                                          }
-                                         }
-                                         l16 = 0;
-                                         l17 = 6;
-                                         l0 = 1L;
-                                         switch (l14) {
-                                         case 5: break L25;
-                                         case 6: break L24;
-                                         case 7: break L22;
-                                         default: break L10;
-                                         }
-                                        }
-                                        l16 = 0;
-                                        l17 = 8;
-                                        if (l14 == 5) { break L25; }
-                                        if (l14 == 7) { break L22; }
-                                        l0 = 1L;
-                                        break L10;
-                                       }
-                                       if (l14 == 5) { break L27; }
-                                       l0 = 1L;
-                                       break L10;
-                                      }
-                                      l16 = 0;
-                                      if (l14 == 6) { break L24; }
-                                      if (l14 == 7) { break L22; }
-                                      l0 = 1L;
-                                      break L10;
-                                     }
-                                     if (l14 == 7) { break L23; }
-                                     l0 = 1L;
-                                     break L10;
-                                    }
-                                    L70: {
-                                     L71: {
-                                      L72: {
-                                       L73: {
-                                        switch ((int) ((l15 & 0xffffffffL) & 255L)) {
-                                        case 1: break L71;
-                                        case 2: break L72;
-                                        case 3: break L73;
-                                        default: break L70;
-                                        }
-                                       }
-                                       L74: {
-                                        if ((l14 + -5) + Integer.MIN_VALUE < -2147483635) { break L74; }
-                                        l16 = l18;
-                                        switch (l14) {
-                                        case 2: break L31;
-                                        case 3: break L30;
-                                        case 4: break L29;
-                                        default: break L74;
-                                        }
-                                       }
-                                       L75: {
-                                        L76: {
-                                         L77: {
-                                          L78: {
-                                           L79: {
-                                            switch ((int) ((l18 & 0xffffffffL) & 255L)) {
-                                            case 1: break L76;
-                                            case 2: case 3: break L78;
-                                            case 4: break L77;
-                                            case 5: break L75;
-                                            default: break L79;
-                                            }
-                                           }
-                                           l16 = 0;
-                                           l17 = 6;
-                                           l0 = 1L;
-                                           switch (l14) {
-                                           case 5: break L25;
-                                           case 6: break L24;
-                                           case 7: break L22;
-                                           default: break L10;
-                                           }
-                                          }
-                                          l16 = 0;
-                                          l17 = 8;
-                                          if (l14 == 5) { break L25; }
-                                          if (l14 == 7) { break L22; }
-                                          l0 = 1L;
-                                          break L10;
-                                         }
-                                         if (l14 == 5) { break L27; }
-                                         l0 = 1L;
-                                         break L10;
-                                        }
-                                        l16 = 0;
-                                        if (l14 == 6) { break L24; }
-                                        if (l14 == 7) { break L22; }
-                                        l0 = 1L;
-                                        break L10;
-                                       }
-                                       if (l14 == 7) { break L23; }
-                                       l0 = 1L;
-                                       break L10;
-                                      }
-                                      L80: {
-                                       if ((l14 + -4) + Integer.MIN_VALUE < -2147483634) { break L80; }
-                                       l16 = l18;
-                                       switch (l14) {
-                                       case 2: break L31;
-                                       case 3: break L30;
-                                       default: break L80;
-                                       }
-                                      }
-                                      L81: {
-                                       L82: {
-                                        L83: {
-                                         L84: {
-                                          L85: {
-                                           switch ((int) ((l18 & 0xffffffffL) & 255L)) {
-                                           case 1: break L82;
-                                           case 2: case 3: break L84;
-                                           case 4: break L83;
-                                           case 5: break L81;
-                                           default: break L85;
-                                           }
-                                          }
-                                          l16 = 0;
-                                          l17 = 6;
-                                          l0 = 1L;
-                                          switch (l14) {
-                                          case 5: break L25;
-                                          case 6: break L24;
-                                          case 7: break L22;
-                                          default: break L10;
-                                          }
-                                         }
-                                         l16 = 0;
-                                         l17 = 8;
-                                         if (l14 == 5) { break L25; }
-                                         if (l14 == 7) { break L22; }
-                                         l0 = 1L;
-                                         break L10;
-                                        }
-                                        if (l14 == 5) { break L27; }
-                                        l0 = 1L;
-                                        break L10;
-                                       }
-                                       l16 = 0;
-                                       if (l14 == 6) { break L24; }
-                                       if (l14 == 7) { break L22; }
-                                       l0 = 1L;
-                                       break L10;
-                                      }
-                                      if (l14 == 7) { break L23; }
-                                      l0 = 1L;
-                                      break L10;
-                                     }
-                                     L86: {
-                                      if ((l14 + -5) + Integer.MIN_VALUE < -2147483635) { break L86; }
-                                      l16 = l18;
-                                      l0 = 1L;
-                                      switch (l14) {
-                                      case 2: break L31;
-                                      case 3: case 4: break L10;
-                                      default: break L86;
-                                      }
-                                     }
-                                     L87: {
-                                      L88: {
-                                       L89: {
-                                        L90: {
-                                         L91: {
-                                          switch ((int) ((l18 & 0xffffffffL) & 255L)) {
-                                          case 1: break L88;
-                                          case 2: case 3: break L90;
-                                          case 4: break L89;
-                                          case 5: break L87;
-                                          default: break L91;
-                                          }
-                                         }
-                                         l16 = 0;
-                                         l17 = 6;
-                                         l0 = 1L;
-                                         switch (l14) {
-                                         case 5: break L25;
-                                         case 6: break L24;
-                                         case 7: break L22;
-                                         default: break L10;
-                                         }
-                                        }
-                                        l16 = 0;
-                                        l17 = 8;
-                                        if (l14 == 5) { break L25; }
-                                        if (l14 == 7) { break L22; }
-                                        l0 = 1L;
-                                        break L10;
-                                       }
-                                       if (l14 == 5) { break L27; }
-                                       l0 = 1L;
-                                       break L10;
-                                      }
-                                      l16 = 0;
-                                      if (l14 == 6) { break L24; }
-                                      if (l14 == 7) { break L22; }
-                                      l0 = 1L;
-                                      break L10;
-                                     }
-                                     if (l14 == 7) { break L23; }
-                                     l0 = 1L;
-                                     break L10;
-                                    }
-                                    L92: {
-                                     L93: {
-                                      L94: {
-                                       L95: {
-                                        L96: {
-                                         switch ((int) ((l18 & 0xffffffffL) & 255L)) {
-                                         case 1: break L93;
-                                         case 2: case 3: break L95;
-                                         case 4: break L94;
-                                         case 5: break L92;
-                                         default: break L96;
-                                         }
-                                        }
-                                        l16 = 0;
-                                        l17 = 6;
-                                        l0 = 1L;
-                                        switch (l14) {
-                                        case 5: break L25;
-                                        case 6: break L24;
-                                        case 7: break L22;
-                                        default: break L10;
-                                        }
-                                       }
-                                       l16 = 0;
-                                       l17 = 8;
-                                       if (l14 == 5) { break L25; }
-                                       if (l14 == 7) { break L22; }
-                                       l0 = 1L;
-                                       break L10;
-                                      }
-                                      if (l14 == 5) { break L27; }
-                                      l0 = 1L;
-                                      break L10;
-                                     }
-                                     l16 = 0;
-                                     if (l14 == 6) { break L24; }
-                                     if (l14 == 7) { break L22; }
-                                     l0 = 1L;
-                                     break L10;
-                                    }
-                                    if (l14 == 7) { break L23; }
-                                    l0 = 1L;
-                                    break L10;
-                                   }
-                                   L97: {
-                                    L98: {
-                                     L99: {
-                                      L100: {
-                                       L101: {
-                                        L102: {
-                                         L103: {
-                                          switch ((int) ((l15 & 0xffffffffL) & 255L)) {
-                                          case 1: break L101;
-                                          case 2: break L102;
-                                          case 3: break L103;
-                                          default: break L100;
-                                          }
-                                         }
-                                         L104: {
-                                          if ((l14 + -2) + Integer.MIN_VALUE < -2147483632) { break L104; }
-                                          l15 = 1;
-                                          l17 = 9;
-                                          l20 = 2;
-                                          l19 = 10;
-                                          l21 = l18;
-                                          l16 = l18;
-                                          switch (l14) {
-                                          case 1: break L32;
-                                          default: break L18;
-                                          }
-                                         }
-                                         L105: {
-                                          L106: {
-                                           L107: {
-                                            L108: {
-                                             L109: {
-                                              switch ((int) ((l18 & 0xffffffffL) & 255L)) {
-                                              case 1: break L106;
-                                              case 2: case 3: break L108;
-                                              case 4: break L107;
-                                              case 5: break L105;
-                                              default: break L109;
-                                              }
-                                             }
-                                             l16 = 1;
-                                             l17 = 6;
-                                             l0 = 1L;
-                                             switch (l14 + -2) {
-                                             case 3: break L25;
-                                             case 4: break L24;
-                                             case 5: break L22;
-                                             default: break L10;
-                                             }
-                                            }
-                                            l16 = 1;
-                                            l17 = 8;
-                                            if (l14 == 5) { break L25; }
-                                            if (l14 == 7) { break L22; }
-                                            l0 = 1L;
-                                            break L10;
-                                           }
-                                           if (l14 == 5) { break L99; }
-                                           l0 = 1L;
-                                           break L10;
-                                          }
-                                          l16 = 1;
-                                          if (l14 == 6) { break L24; }
-                                          if (l14 == 7) { break L22; }
-                                          l0 = 1L;
-                                          break L10;
-                                         }
-                                         L110: {
-                                          if (l14 == 7) { break L110; }
-                                          l0 = 1L;
-                                          break L10;
-                                         }
-                                         l16 = 1;
-                                         break L22;
-                                        }
-                                        L111: {
-                                         if ((l14 + -2) + Integer.MIN_VALUE < -2147483632) { break L111; }
-                                         l17 = 9;
-                                         l19 = 10;
-                                         l21 = l18;
-                                         l20 = l14;
-                                         l16 = l18;
-                                         l15 = l14;
-                                         switch (l14) {
-                                         case 1: break L32;
-                                         default: break L18;
-                                         }
-                                        }
-                                        L112: {
-                                         L113: {
-                                          L114: {
-                                           L115: {
-                                            L116: {
-                                             switch ((int) ((l18 & 0xffffffffL) & 255L)) {
-                                             case 1: break L113;
-                                             case 2: case 3: break L115;
-                                             case 4: break L114;
-                                             case 5: break L112;
-                                             default: break L116;
-                                             }
-                                            }
-                                            l16 = 1;
-                                            l17 = 6;
-                                            l0 = 1L;
-                                            switch (l14 + -2) {
-                                            case 3: break L25;
-                                            case 4: break L24;
-                                            case 5: break L22;
-                                            default: break L10;
-                                            }
-                                           }
-                                           l16 = 1;
-                                           l17 = 8;
-                                           if (l14 == 5) { break L25; }
-                                           if (l14 == 7) { break L22; }
-                                           l0 = 1L;
-                                           break L10;
-                                          }
-                                          if (l14 == 5) { break L99; }
-                                          l0 = 1L;
-                                          break L10;
-                                         }
-                                         l16 = 1;
-                                         if (l14 == 6) { break L24; }
-                                         if (l14 == 7) { break L22; }
-                                         l0 = 1L;
-                                         break L10;
-                                        }
-                                        L117: {
-                                         if (l14 == 7) { break L117; }
-                                         l0 = 1L;
-                                         break L10;
-                                        }
-                                        l16 = 1;
-                                        break L22;
-                                       }
-                                       L118: {
-                                        if ((l14 + -2) + Integer.MIN_VALUE < -2147483632) { break L118; }
-                                        l20 = 0;
-                                        l19 = 10;
-                                        l21 = l18;
-                                        l0 = 1L;
-                                        switch (l14) {
-                                        case 1: break L32;
-                                        default: break L10;
-                                        }
-                                       }
-                                       L119: {
-                                        L120: {
-                                         L121: {
-                                          L122: {
-                                           L123: {
-                                            switch ((int) ((l18 & 0xffffffffL) & 255L)) {
-                                            case 1: break L120;
-                                            case 2: case 3: break L122;
-                                            case 4: break L121;
-                                            case 5: break L119;
-                                            default: break L123;
-                                            }
-                                           }
-                                           l16 = 1;
-                                           l17 = 6;
-                                           l0 = 1L;
-                                           switch (l14 + -2) {
-                                           case 3: break L25;
-                                           case 4: break L24;
-                                           case 5: break L22;
-                                           default: break L10;
-                                           }
-                                          }
-                                          l16 = 1;
-                                          l17 = 8;
-                                          if (l14 == 5) { break L25; }
-                                          if (l14 == 7) { break L22; }
-                                          l0 = 1L;
-                                          break L10;
-                                         }
-                                         if (l14 == 5) { break L99; }
-                                         l0 = 1L;
-                                         break L10;
-                                        }
-                                        l16 = 1;
-                                        if (l14 == 6) { break L24; }
-                                        if (l14 == 7) { break L22; }
-                                        l0 = 1L;
-                                        break L10;
-                                       }
-                                       L124: {
-                                        if (l14 == 7) { break L124; }
-                                        l0 = 1L;
-                                        break L10;
-                                       }
-                                       l16 = 1;
-                                       break L22;
-                                      }
-                                      L125: {
-                                       L126: {
-                                        L127: {
-                                         switch ((int) ((l18 & 0xffffffffL) & 255L)) {
-                                         case 1: break L98;
-                                         case 2: case 3: break L126;
-                                         case 4: break L125;
-                                         case 5: break L97;
-                                         default: break L127;
-                                         }
-                                        }
-                                        l16 = 1;
-                                        l17 = 6;
-                                        l0 = 1L;
-                                        switch (l14) {
-                                        case 5: break L25;
-                                        case 6: break L24;
-                                        case 7: break L22;
-                                        default: break L10;
-                                        }
-                                       }
-                                       l16 = 1;
-                                       l17 = 8;
-                                       if (l14 == 5) { break L25; }
-                                       if (l14 == 7) { break L22; }
-                                       l0 = 1L;
-                                       break L10;
-                                      }
-                                      if (l14 == 5) { break L99; }
-                                      l0 = 1L;
-                                      break L10;
-                                     }
-                                     l16 = 1;
-                                     break L26;
-                                    }
-                                    l16 = 1;
-                                    if (l14 == 6) { break L24; }
-                                    if (l14 == 7) { break L22; }
-                                    l0 = 1L;
-                                    break L10;
-                                   }
-                                   L128: {
-                                    if (l14 == 7) { break L128; }
-                                    l0 = 1L;
-                                    break L10;
-                                   }
-                                   l16 = 1;
-                                   break L22;
-                                  }
-                                  l19 = 5;
-                                  l21 = 0;
-                                  l17 = 1;
-                                  l20 = 0;
-                                  l16 = 0;
-                                  l15 = 0;
-                                  l0 = 1L;
-                                  switch (l14) {
-                                  case 1: break L32;
-                                  case 2: case 3: case 4: case 5: case 6: case 7: case 8: case 9: case 10: case 12: case 13: case 14: case 15: case 16: case 17: break L10;
-                                  case 11: break L18;
-                                  default: break L35;
-                                  }
-                                 }
-                                 L129: {
-                                  if (l14 == 12) { break L129; }
-                                  l0 = 1L;
-                                  break L10;
-                                 }
-                                 l16 = 0;
-                                 l17 = 2;
-                                 break L19;
-                                }
-                                L130: {
-                                 if (l14 == 13) { break L130; }
-                                 l0 = 1L;
-                                 break L10;
-                                }
-                                l16 = 0;
-                                l17 = 3;
-                                break L19;
-                               }
-                               l21 = 0;
-                               l19 = 5;
-                               l20 = 0;
-                               l0 = 1L;
-                               switch (l14) {
-                               case 1: break L32;
-                               case 2: case 3: case 4: case 5: case 6: case 7: case 8: case 9: case 10: case 11: case 12: case 13: case 14: case 15: case 16: case 17: break L10;
-                               default: break L35;
-                               }
-                              }
-                              L131: {
-                               if (l14 == 7) { break L131; }
-                               l0 = 1L;
-                               break L10;
-                              }
-                              l16 = 1;
-                              break L22;
-                             }
-                             l19 = 16;
-                             l21 = 0;
-                             l17 = 19;
-                             l20 = 0;
-                             l16 = 0;
-                             l15 = 0;
-                             l0 = 1L;
-                             L132: {
-                              switch (l14) {
-                              case 1: break L32;
-                              case 2: case 3: case 4: case 5: case 6: case 7: case 8: case 9: case 11: case 12: case 13: case 14: case 15: case 16: case 17: break L10;
-                              case 10: break L18;
-                              default: break L132;
-                              }
-                             }
-                             l16 = l18 & 1;
-                             l17 = 14;
-                             break L19;
-                            }
-                            l19 = 18;
-                            l16 = 0;
-                            l17 = 19;
-                            L133: {
-                             if (l14 != 1) { break L133; }
-                             l21 = 0;
-                             l20 = 0;
-                             break L32;
-                            }
-                            l15 = 0;
-                            if (l14 == 10) { break L18; }
-                            l0 = 1L;
-                            break L10;
-                           }
-                           L134: {
-                            if (l14 == 1) { break L134; }
-                            l0 = 1L;
-                            break L10;
-                           }
-                           l21 = l18 & 1;
-                           l20 = 0;
-                           l19 = 15;
-                           break L32;
-                          }
-                          if (l14 == 8) { break L20; }
-                          l0 = 1L;
-                          break L10;
-                         }
-                         if ((l18 & 1) == 0) { break L34; }
-                         if (l14 == 8) { break L20; }
-                         if (l14 == 9) { break L21; }
-                         l0 = 1L;
-                         break L10;
-                        }
-                        l16 = 0;
-                        l17 = 4;
-                        break L19;
-                       }
-                       if (l14 == 9) { break L21; }
-                       l0 = 1L;
-                       break L10;
-                      }
-                      l19 = 11;
-                      l21 = l18;
-                      l20 = l15;
-                     }
-                     l17 = l19;
-                     l16 = l21;
-                     l15 = l20;
-                     l6 = l13;
-                     break L18;
-                    }
-                    l9 = (l6 * 10L) + l9;
-                    l6 = 0L;
-                    l15 = 1;
-                    l17 = 12;
-                    break L18;
-                   }
-                   l9 = (l6 * 100L) + l9;
-                   l6 = 0L;
-                   l15 = 2;
-                   l17 = 12;
-                   break L18;
-                  }
-                  l16 = ((l18 & 255) == 3) ? 5 : l18;
-                 }
-                 l9 = (l6 * 1000L) + l9;
-                 l6 = 0L;
-                 l15 = 3;
-                 l17 = 12;
-                 break L18;
-                }
-                l16 = 0;
-               }
-               l17 = 8;
-              }
-              l10 = ((l9 + l6) * 10000L) + l10;
-              l9 = 0L;
-              l15 = 0;
-              l6 = 0L;
-              break L18;
-             }
-             l10 = ((l9 + l6) + l10) * 100000000L;
-             l9 = 0L;
-             l15 = 0;
-             l17 = 7;
-             l6 = 0L;
-             break L18;
-            }
-            l16 = 0;
-           }
-           l10 = ((l9 + l6) + l10) * 100L;
-           l9 = 0L;
-           l15 = 0;
-           l17 = 13;
-           l6 = 0L;
-           break L18;
-          }
-          l10 = l10 + l6;
-          l6 = 0L;
-          l16 = 0;
-          l17 = 19;
-          break L19;
-         }
-         l10 = l10 + (l6 * 10L);
-         l6 = 0L;
-         l16 = 0;
-         l17 = 17;
-        }
-        l15 = 0;
-       }
-       l3 = l3 + l12;
-       l8 = l8 + 1L;
-       l0 = 0L;
-       if ((l7 = l7 - l12) != 0L) { continue L11; }
-       break L11;
-      }
-      L135: {
-       if ((l17 + -1) + Integer.MIN_VALUE < -2147483632) { break L135; }
-       l11 = l10;
-       l8 = 0L;
-       switch (l17 + -17) {
-       case 1: break L135;
-       default: break L10;
-       }
-      }
-      l0 = 1L;
-      l11 = 0L;
-      l8 = 0L;
-     }
-     Words.put64(b, ((int) l4) - 60696, l8);
-     Words.put64(b, ((int) l4) - 60704, l11);
-     Words.put64(b, ((int) l4) - 60712, l0);
-     break L2;
-    }
-    throw State.trap();
-   }
-   Words.put64(b, ((int) l4) - 60704, 0L);
-   Words.put64(b, ((int) l4) - 60712, 1L);
-   Words.put64(b, ((int) l4) - 60696, 0L);
-  }
-  l14 = Core2.f69(m, l5, l1, l4 + 8L, l2);
- }
- m.g0 = l4 + 32L;
- return l14;
+static int f251(State m, long l0, long l1, long l2) {
+ return Core2.f73(m, l0 + ((l0 == 0L) ? 4096L : 0L), l1, l2);
 }
 
-static int f237(State m, long l0, long l1, long l2) {
- final byte[] b = m.bytes;
- long l3 = 0;
- long l4 = 0;
- long l5 = 0;
- long l6 = 0;
- long l7 = 0;
- long l8 = 0;
- long l9 = 0;
- long l10 = 0;
- long l11 = 0;
- long l12 = 0;
- long l13 = 0;
- long l14 = 0;
- int l15 = 0;
- int l16 = 0;
- int l17 = 0;
- int l18 = 0;
- int l19 = 0;
- int l20 = 0;
- int l21 = 0;
- int l22 = 0;
- m.g0 = l3 = m.g0 - 176L;
- L1: {
-  if ((l3 = l3) < 16L) { break L1; }
-  Words.put64(b, ((int) l2) - 60720, 0L);
-  Words.put64(b, ((int) l2) - 60712, 0L);
-  Words.put64(b, ((int) l2) - 60704, 0L);
-  Words.put64(b, ((int) l3) - 60704, 0L);
-  Words.put64(b, ((int) l3) - 60712, 0L);
-  Words.put64(b, ((int) l3) - 60720, 0L);
-  l4 = l1;
-  l0 = l5 = l0 + ((l0 == 0L) ? 4096L : 0L);
-  L2: {
-   L3: {
-    L4: {
-     L5: {
-      if (l1 + Long.MIN_VALUE < -9223372036854775804L) { break L5; }
-      l0 = l5;
-      l4 = l1;
-      L6: while (true) {
-       if (((Words.get32(b, ((int) l0) - 60720) + 16776990) & 12632312) != 8421376) { break L4; }
-       l0 = l0 + 3L;
-       if ((l4 = l4 + -3L) + Long.MIN_VALUE > -9223372036854775805L) { continue L6; }
-       break L6;
-      }
-     }
-     if (l4 + Long.MIN_VALUE > -9223372036854775805L) { break L4; }
-     L7: {
-      switch ((int) l4) {
-      case 1: case 2: break L4;
-      case 3: break L7;
-      default: break L3;
-      }
-     }
-     if (((((Words.get16(b, ((int) l0) - 60720) & 0xffff) | ((b[((int) (l0 + 2L)) - 60720] & 0xff) << 16)) + 16776990) & 12632312) == 8421376) { break L3; }
-    }
-    l15 = 5;
-    if (Core1.f6(m, l5, l1) == 0) { break L2; }
-   }
-   Words.put32(b, ((int) l3) - 60640, 0);
-   b[((int) l3) - 60636] = (byte) 0;
-   Words.put32(b, ((int) l3) - 60648, 0);
-   Words.put32(b, ((int) l3) - 60645, 0);
-   l6 = 0L;
-   Words.put64(b, ((int) l3) - 60664, 0L);
-   Words.put64(b, ((int) l3) - 60656, 0L);
-   Words.put32(b, ((int) l3) - 60672, 0);
-   b[((int) l3) - 60668] = (byte) 0;
-   Words.put32(b, ((int) l3) - 60680, 0);
-   Words.put32(b, ((int) l3) - 60677, 0);
-   Words.put64(b, ((int) l3) - 60696, 0L);
-   Words.put64(b, ((int) l3) - 60688, 0L);
-   L8: {
-    L9: {
-     L10: {
-      L11: {
-       L12: {
-        if (l1 == 0L) { break L12; }
-        l7 = l3 + 160L;
-        l8 = l3 + 145L;
-        l9 = l3 + 139L;
-        l10 = l3 + 112L;
-        l11 = l3 + 97L;
-        l12 = (l3 + 88L) | 3L;
-        l16 = 1;
-        l17 = 3;
-        l4 = l1;
-        l0 = l5;
-        l13 = 0L;
-        l18 = 1;
-        l19 = 1;
-        L13: while (true) {
-         l14 = l0 + 1L;
-         l15 = (l20 = (int) b[((int) l0) - 60720]) & 255;
-         L14: {
-          L15: {
-           L16: {
-            L17: {
-             L18: {
-              L19: {
-               if (l20 < 0) { break L19; }
-               Words.put64(b, ((int) l3) - 60592, 0L);
-               Words.put64(b, ((int) l3) - 60584, 0L);
-               Words.put64(b, ((int) l3) - 60576, 0L);
-               Words.put64(b, ((int) l3) - 60568, 0L);
-               Words.put64(b, ((int) l3) - 60560, 0L);
-               Words.put64(b, ((int) l3) - 60552, 0L);
-               l4 = l4 + -1L;
-               l0 = l14;
-               break L18;
-              }
-              l21 = (b[((int) l14) - 60720] & 0xff) & 63;
-              L20: {
-               L21: {
-                if (l20 + Integer.MIN_VALUE > 2147483615) { break L21; }
-                l15 = ((l15 << 6) & 1984) | l21;
-                l14 = 2L;
-                break L20;
-               }
-               l22 = (b[((int) l0) - 60718] & 0xff) & 63;
-               L22: {
-                if (l20 + Integer.MIN_VALUE > 2147483631) { break L22; }
-                l15 = ((l21 << 6) | ((l15 << 12) & 61440)) | l22;
-                l14 = 3L;
-                break L20;
-               }
-               l15 = ((l22 << 6) | ((l21 << 12) | ((l15 << 18) & 1835008))) | ((b[((int) l0) - 60717] & 0xff) & 63);
-               l14 = 4L;
-              }
-              Words.put64(b, ((int) l3) - 60592, 0L);
-              Words.put64(b, ((int) l3) - 60584, 0L);
-              Words.put64(b, ((int) l3) - 60576, 0L);
-              Words.put64(b, ((int) l3) - 60568, 0L);
-              Words.put64(b, ((int) l3) - 60560, 0L);
-              Words.put64(b, ((int) l3) - 60552, 0L);
-              l4 = l4 - l14;
-              l0 = l0 + l14;
-              if (l15 + Integer.MIN_VALUE > -2147483521) { break L17; }
-             }
-             if ((l15 + -9) + Integer.MIN_VALUE < -2147483643) { break L15; }
-             if (l15 != 32) { break L16; }
-             break L15;
-            }
-            if ((l15 + -8192) + Integer.MIN_VALUE < -2147483637) { break L15; }
-            L23: {
-             if (l15 > 8231) { break L23; }
-             if (l15 == 133) { break L15; }
-             if (l15 == 160) { break L15; }
-             if (l15 != 5760) { break L16; }
-             break L15;
-            }
-            L24: {
-             if ((l20 = l15 + -8232) + Integer.MIN_VALUE > -2147483593) { break L24; }
-             if (((1L << (l20 & 0xffffffffL)) & 36028797018964099L) != 0L) { break L15; }
-            }
-            if (l15 == 12288) { break L15; }
-           }
-           Words.put32(b, ((int) l12) - 60720, Words.get32(b, ((int) l3) - 60640));
-           b[((int) l12) - 60716] = (byte) (b[((int) l3) - 60636] & 0xff);
-           Words.put32(b, ((int) l11) - 60720, Words.get32(b, ((int) l3) - 60648));
-           Words.put32(b, ((int) l11) - 60717, Words.get32(b, ((int) l3) - 60645));
-           Words.put64(b, ((int) l10) - 60720, Words.get64(b, ((int) l3) - 60664));
-           Words.put64(b, ((int) l10) - 60712, Words.get64(b, ((int) l3) - 60656));
-           b[((int) l3) - 60630] = (byte) l16;
-           b[((int) l3) - 60631] = (byte) l18;
-           b[((int) l3) - 60632] = (byte) l19;
-           b[((int) l3) - 60624] = (byte) l17;
-           Words.put64(b, ((int) l3) - 60616, l13);
-           Core1.f21(m, l3 + 128L, l3 + 88L, l15);
-           if ((b[((int) l3) - 60592] & 0xff) != 1) { break L11; }
-           Words.put32(b, ((int) l3) - 60672, Words.get32(b, ((int) l9) - 60720));
-           b[((int) l3) - 60668] = (byte) (b[((int) l9) - 60716] & 0xff);
-           Words.put32(b, ((int) l3) - 60680, Words.get32(b, ((int) l8) - 60720));
-           Words.put32(b, ((int) l3) - 60677, Words.get32(b, ((int) l8) - 60717));
-           Words.put64(b, ((int) l3) - 60696, Words.get64(b, ((int) l7) - 60720));
-           Words.put64(b, ((int) l3) - 60688, Words.get64(b, ((int) l7) - 60712));
-           l13 = Words.get64(b, ((int) l3) - 60568);
-           l17 = b[((int) l3) - 60576] & 0xff;
-           l16 = b[((int) l3) - 60582] & 0xff;
-           l18 = b[((int) l3) - 60583] & 0xff;
-           l19 = b[((int) l3) - 60584] & 0xff;
-           break L14;
-          }
-          b[((int) l3) - 60668] = (byte) (b[((int) l3) - 60636] & 0xff);
-          Words.put32(b, ((int) l3) - 60672, Words.get32(b, ((int) l3) - 60640));
-          Words.put32(b, ((int) l3) - 60680, Words.get32(b, ((int) l3) - 60648));
-          Words.put32(b, ((int) l3) - 60677, Words.get32(b, ((int) l3) - 60645));
-          Words.put64(b, ((int) l3) - 60696, Words.get64(b, ((int) l3) - 60664));
-          Words.put64(b, ((int) l3) - 60688, Words.get64(b, ((int) l3) - 60656));
-         }
-         Words.put32(b, ((int) l3) - 60640, Words.get32(b, ((int) l3) - 60672));
-         b[((int) l3) - 60636] = (byte) (b[((int) l3) - 60668] & 0xff);
-         Words.put32(b, ((int) l3) - 60648, Words.get32(b, ((int) l3) - 60680));
-         Words.put32(b, ((int) l3) - 60645, Words.get32(b, ((int) l3) - 60677));
-         Words.put64(b, ((int) l3) - 60664, Words.get64(b, ((int) l3) - 60696));
-         Words.put64(b, ((int) l3) - 60656, Words.get64(b, ((int) l3) - 60688));
-         l6 = l6 + 1L;
-         if (l4 != 0L) { continue L13; }
-         break L13;
-        }
-        if ((l15 = l17 & 255) + Integer.MIN_VALUE < -2147483631) { break L12; }
-        switch (l15 + -17) {
-        case 1: break L12;
-        default: break L10;
-        }
-       }
-       l0 = 1L;
-       l13 = 0L;
-       break L9;
-      }
-      l13 = 1L;
-      l0 = 1L;
-      break L8;
-     }
-     l0 = 0L;
-    }
-    l6 = 0L;
-   }
-   Words.put64(b, ((int) l3) - 60704, l6);
-   Words.put64(b, ((int) l3) - 60712, l13);
-   Words.put64(b, ((int) l3) - 60720, l0);
-   l15 = Core2.f69(m, l5, l1, l3, l2);
-  }
-  m.g0 = l3 + 176L;
-  final int t25 = l15;
-  return t25;
- }
- throw State.trap();
-}
-
-static int f239(State m, long l0, long l1, long l2) {
- final byte[] b = m.bytes;
- long l3 = 0;
- long l4 = 0;
- long l5 = 0;
- long l6 = 0;
- long l7 = 0;
- int l8 = 0;
- int l9 = 0;
- int l10 = 0;
- int l11 = 0;
- m.g0 = l3 = m.g0 - 48L;
- L1: {
-  L2: {
-   L3: {
-    if ((l3 = l3) < 16L) { break L3; }
-    Words.put64(b, ((int) l2) - 60696, 0L);
-    Words.put64(b, ((int) l2) - 60704, 0L);
-    Words.put64(b, ((int) l2) - 60712, 0L);
-    Words.put64(b, ((int) l2) - 60720, 0L);
-    l4 = l1;
-    l0 = l5 = l0 + ((l0 == 0L) ? 4096L : 0L);
-    L4: {
-     L5: {
-      L6: {
-       if (l1 + Long.MIN_VALUE < -9223372036854775804L) { break L6; }
-       l0 = l5;
-       l4 = l1;
-       L7: while (true) {
-        if (((Words.get32(b, ((int) l0) - 60720) + 16776990) & 12632312) != 8421376) { break L5; }
-        l0 = l0 + 3L;
-        if ((l4 = l4 + -3L) + Long.MIN_VALUE > -9223372036854775805L) { continue L7; }
-        break L7;
-       }
-      }
-      if (l4 + Long.MIN_VALUE > -9223372036854775805L) { break L5; }
-      L8: {
-       switch ((int) l4) {
-       case 1: case 2: break L5;
-       case 3: break L8;
-       default: break L4;
-       }
-      }
-      if (((((Words.get16(b, ((int) l0) - 60720) & 0xffff) | ((b[((int) (l0 + 2L)) - 60720] & 0xff) << 16)) + 16776990) & 12632312) == 8421376) { break L4; }
-     }
-     if (Core1.f6(m, l5, l1) != 0) { break L4; }
-     l8 = 5;
-     break L1;
-    }
-    Words.put16(b, ((int) l3) - 60680, (short) 0);
-    l6 = 0L;
-    Words.put64(b, ((int) l3) - 60688, 0L);
-    b[((int) l3) - 60680] = (byte) 0;
-    Words.put64(b, ((int) l3) - 60704, 0L);
-    Words.put32(b, ((int) l3) - 60696, 0);
-    L9: {
-     if (l1 != 0L) { break L9; }
-     Words.put64(b, ((int) l2) - 60696, 0L);
-     Words.put64(b, ((int) l2) - 60704, 0L);
-     Words.put64(b, ((int) l2) - 60712, 0L);
-     Words.put64(b, ((int) l2) - 60720, 0L);
-     l8 = 9;
-     break L1;
-    }
-    l7 = l1;
-    l0 = l5;
-    L10: {
-     L11: while (true) {
-      l8 = (l9 = (int) b[((int) l0) - 60720]) & 255;
-      l4 = 1L;
-      L12: {
-       if (l9 > -1) { break L12; }
-       l10 = (b[((int) l0) - 60719] & 0xff) & 63;
-       L13: {
-        if (l9 + Integer.MIN_VALUE > 2147483615) { break L13; }
-        l8 = ((l8 << 6) & 1984) | l10;
-        l4 = 2L;
-        break L12;
-       }
-       l11 = (b[((int) l0) - 60718] & 0xff) & 63;
-       L14: {
-        if (l9 + Integer.MIN_VALUE > 2147483631) { break L14; }
-        l8 = ((l10 << 6) | ((l8 << 12) & 61440)) | l11;
-        l4 = 3L;
-        break L12;
-       }
-       l8 = ((l11 << 6) | ((l10 << 12) | ((l8 << 18) & 1835008))) | ((b[((int) l0) - 60717] & 0xff) & 63);
-       l4 = 4L;
-      }
-      Core1.f22(m, l3 + 16L, l3 + 32L, l8);
-      if ((b[((int) l3) - 60704] & 0xff) != 1) { break L10; }
-      b[((int) l3) - 60680] = (byte) (b[((int) l3) - 60694] & 0xff);
-      Words.put16(b, ((int) l3) - 60682, (short) (Words.get16(b, ((int) l3) - 60696) & 0xffff));
-      Words.put32(b, ((int) l3) - 60686, l8 = Words.get32(b, ((int) l3) - 60700));
-      Words.put16(b, ((int) l3) - 60688, (short) (l9 = (b[((int) l3) - 60702] & 0xff) & 255));
-      l6 = l6 + 1L;
-      l0 = l0 + l4;
-      if ((l7 = l7 - l4) != 0L) { continue L11; }
-      break L11;
-     }
-     Words.put64(b, ((int) l2) - 60696, 0L);
-     Words.put64(b, ((int) l2) - 60704, 0L);
-     Words.put64(b, ((int) l2) - 60712, 0L);
-     Words.put64(b, ((int) l2) - 60720, 0L);
-     if (l9 == 3) { break L2; }
-     l8 = 9;
-     break L1;
-    }
-    l0 = 0L;
-    Words.put64(b, ((int) l2) - 60696, 0L);
-    Words.put64(b, ((int) l2) - 60712, 0L);
-    Words.put64(b, ((int) l2) - 60720, 0L);
-    Words.put64(b, ((int) l2) - 60704, l6);
-    L15: {
-     if (l6 + Long.MIN_VALUE < -9223372036854775792L) { break L15; }
-     Core1.f25(m, l3, l5, l1, l6);
-     l6 = Words.get64(b, ((int) l3) - 60712);
-     l0 = Words.get64(b, ((int) l3) - 60720);
-    }
-    L16: {
-     if (l6 + Long.MIN_VALUE < -9223372036854775805L) { break L16; }
-     L17: while (true) {
-      if ((l1 - l0) + Long.MIN_VALUE < -9223372036854775800L) { break L16; }
-      L18: {
-       L19: {
-        if (((l4 = Words.get64(b, ((int) (l5 + l0)) - 60720)) & 67553998437089520L) != 63050398541283552L) { break L19; }
-        l6 = l6 + -3L;
-        l0 = l0 + 9L;
-        break L18;
-       }
-       if (l6 + Long.MIN_VALUE < -9223372036854775800L) { break L16; }
-       if ((l4 & -9187201950435737472L) != 0L) { break L16; }
-       l6 = l6 + -8L;
-       l0 = l0 + 8L;
-      }
-      if (l6 + Long.MIN_VALUE > -9223372036854775806L) { continue L17; }
-      break L17;
-     }
-    }
-    L20: {
-     if (l6 == 0L) { break L20; }
-     if (l1 + Long.MIN_VALUE <= l0 + Long.MIN_VALUE) { break L20; }
-     l4 = l6 + -1L;
-     L21: while (true) {
-      l0 = Words.get64(b, ((int) (((((b[((int) (l5 + l0)) - 60720] & 0xff) >>> 1) & 0xffffffffL) & 120L) + 66680L)) - 60720) + l0;
-      if (l4 == 0L) { break L20; }
-      l4 = l4 + -1L;
-      if (l1 + Long.MIN_VALUE > l0 + Long.MIN_VALUE) { continue L21; }
-      break L21;
-     }
-    }
-    Words.put64(b, ((int) l2) - 60696, l0);
-    l8 = 2;
-    break L1;
-   }
-   throw State.trap();
-  }
-  Words.put32(b, ((int) l2) - 60712, l8 >>> 24);
-  Words.put32(b, ((int) l2) - 60720, l8 & 65535);
-  Words.put32(b, ((int) l2) - 60716, (l8 >>> 16) & 255);
-  l8 = 0;
- }
- m.g0 = l3 + 48L;
- return l8;
-}
-
-static int f241(State m, long l0, int l1, int l2, long l3, long l4, long l5) {
+static int f253(State m, long l0, int l1, int l2, long l3, long l4, long l5) {
  final byte[] b = m.bytes;
  long l6 = 0;
  L1: {
@@ -1430,7 +22,7 @@ static int f241(State m, long l0, int l1, int l2, long l3, long l4, long l5) {
       m.g0 = l6;
       return 3;
      }
-     l1 = Core2.f70(m, l0, b[((int) ((l1 & 0xffffffffL) + 83500L)) - 60720] & 0xff, ((((l2 << 7) & 256) | (l2 & 1)) | ((l2 << 14) & 65536)) | ((l2 << 21) & 16777216), l3 + ((l3 == 0L) ? 4096L : 0L), l4, l5);
+     l1 = Core2.f74(m, l0, b[((int) ((l1 & 0xffffffffL) + 83500L)) - 60720] & 0xff, ((((l2 << 7) & 256) | (l2 & 1)) | ((l2 << 14) & 65536)) | ((l2 << 21) & 16777216), l3 + ((l3 == 0L) ? 4096L : 0L), l4, l5);
      m.g0 = l6;
      final int t6 = l1;
      return t6;
@@ -1446,502 +38,339 @@ static int f241(State m, long l0, int l1, int l2, long l3, long l4, long l5) {
  return 8;
 }
 
-static int f243(State m, long l0, long l1, long l2) {
+static int f255(State m, long l0, long l1, long l2, long l3, long l4, int l5, int l6, long l7, long l8, long l9, long l10, long l11, long l12, long l13) {
  final byte[] b = m.bytes;
- long l3 = 0;
- long l4 = 0;
- long l5 = 0;
- long l6 = 0;
- long l7 = 0;
- int l8 = 0;
- m.g0 = l3 = m.g0 - 48L;
+ long l14 = 0;
+ long l15 = 0;
+ long l16 = 0;
+ long l17 = 0;
+ long l18 = 0;
+ long l19 = 0;
+ long l20 = 0;
+ long l21 = 0;
+ long l22 = 0;
+ long l23 = 0;
+ int l24 = 0;
+ int l25 = 0;
+ int l26 = 0;
+ int l27 = 0;
+ int l28 = 0;
+ int l29 = 0;
+ int l30 = 0;
+ int l31 = 0;
+ m.g0 = l14 = m.g0 - 192L;
  L1: {
   L2: {
    L3: {
-    if ((l4 = l3) < 16L) { break L3; }
-    Words.put64(b, ((int) l2) - 60720, 0L);
-    Words.put64(b, ((int) l2) - 60712, 0L);
-    Words.put64(b, ((int) l2) - 60704, 0L);
-    Words.put64(b, ((int) l4) - 60680, 0L);
-    Words.put64(b, ((int) l4) - 60688, 0L);
-    Words.put64(b, ((int) l4) - 60696, 0L);
-    l3 = l1;
-    l0 = l5 = l0 + ((l0 == 0L) ? 4096L : 0L);
+    if ((l15 = l14) < 16L) { break L3; }
+    l24 = 0;
     L4: {
-     L5: {
-      L6: {
-       if (l1 + Long.MIN_VALUE < -9223372036854775804L) { break L6; }
-       l0 = l5;
-       l3 = l1;
-       L7: while (true) {
-        if (((Words.get32(b, ((int) l0) - 60720) + 16776990) & 12632312) != 8421376) { break L5; }
-        l0 = l0 + 3L;
-        if ((l3 = l3 + -3L) + Long.MIN_VALUE > -9223372036854775805L) { continue L7; }
-        break L7;
+     if (l5 + Integer.MIN_VALUE > -2147483647) { break L4; }
+     l24 = b[((int) ((l5 & 0xffffffffL) + 83500L)) - 60720] & 0xff;
+    }
+    if (l6 + Integer.MIN_VALUE > -2147483633) { break L2; }
+    if (l5 + Integer.MIN_VALUE > -2147483647) { break L2; }
+    m.fill((int) (l15 + 7L), 0, (int) 129L);
+    l16 = 0L;
+    L5: {
+     final long t6 = l12;
+     final long t7 = l14 = l8 - ((l8 != 0L) ? 1L : 0L);
+     final int t8 = (l12 + Long.MIN_VALUE < l14 + Long.MIN_VALUE) ? 1 : 0;
+     final long t9 = l14 = t8 != 0 ? t6 : t7;
+     final long t10 = l1;
+     final int t11 = (l14 + Long.MIN_VALUE < l1 + Long.MIN_VALUE) ? 1 : 0;
+     if ((l17 = t11 != 0 ? t9 : t10) == 0L) { break L5; }
+     l18 = l11 + ((l11 == 0L) ? 4096L : 0L);
+     l19 = l9 + ((l9 == 0L) ? 4096L : 0L);
+     l20 = l2 + ((l2 == 0L) ? 4096L : 0L);
+     l21 = l0 + ((l0 == 0L) ? 4096L : 0L);
+     l26 = ((((l6 << 7) & 256) | (l6 & 1)) | ((l6 << 14) & 65536)) | (l25 = (l6 << 21) & 16777216);
+     l27 = ((l5 = l24 & 255) == 1) ? -80 : -72;
+     l22 = l4 >>> 3L;
+     l4 = l4 & 7L;
+     l28 = (l5 = l5 != 0 ? 36127 : 36000) | -128;
+     l29 = (l5 >>> 6) | -128;
+     l0 = Words.get64(b, ((int) (l23 = l7 + ((l7 == 0L) ? 4096L : 0L))) - 60720);
+     l16 = 0L;
+     L12: while (true) {
+      l2 = l0;
+      l12 = Words.get64(b, ((int) (l21 + (l16 << 3L))) - 60720);
+      L13: {
+       L14: {
+        if ((l8 = ((l14 = l16 + l4) >>> 3L) + l22) + Long.MIN_VALUE >= l3 + Long.MIN_VALUE) { break L14; }
+        if ((((b[((int) (l20 + l8)) - 60720] & 0xff) >>> (((int) l14) & 7)) & 1) != 0) { break L14; }
+        l14 = 0L;
+        l11 = 83372L;
+        l5 = 10;
+        break L13;
        }
-      }
-      if (l3 + Long.MIN_VALUE > -9223372036854775805L) { break L5; }
-      L8: {
-       switch ((int) l3) {
-       case 1: case 2: break L5;
-       case 3: break L8;
-       default: break L4;
-       }
-      }
-      if (((((Words.get16(b, ((int) l0) - 60720) & 0xffff) | ((b[((int) (l0 + 2L)) - 60720] & 0xff) << 16)) + 16776990) & 12632312) == 8421376) { break L4; }
-     }
-     if (Core1.f6(m, l5, l1) != 0) { break L4; }
-     l8 = 5;
-     break L1;
-    }
-    Core2.f60(m, l4 + 24L, l5, l1);
-    Words.put64(b, ((int) l2) - 60720, 0L);
-    Words.put64(b, ((int) l2) - 60712, 0L);
-    Words.put64(b, ((int) l2) - 60704, 0L);
-    l0 = Words.get64(b, ((int) l4) - 60688);
-    L9: {
-     if ((b[((int) l4) - 60696] & 0xff) != 0) { break L9; }
-     Words.put64(b, ((int) l2) - 60720, l0);
-     l8 = 0;
-     break L1;
-    }
-    l8 = 9;
-    L10: {
-     switch ((int) (l0 & 255L)) {
-     case 1: break L10;
-     case 2: break L2;
-     default: break L1;
-     }
-    }
-    l0 = 0L;
-    l3 = l6 = Words.get64(b, ((int) l4) - 60680);
-    L11: {
-     if (l6 + Long.MIN_VALUE < -9223372036854775792L) { break L11; }
-     Core1.f25(m, l4 + 8L, l5, l1, l6);
-     l3 = Words.get64(b, ((int) l4) - 60704);
-     l0 = Words.get64(b, ((int) l4) - 60712);
-    }
-    L12: {
-     if (l3 + Long.MIN_VALUE < -9223372036854775805L) { break L12; }
-     L13: while (true) {
-      if ((l1 - l0) + Long.MIN_VALUE < -9223372036854775800L) { break L12; }
-      L14: {
        L15: {
-        if (((l7 = Words.get64(b, ((int) (l5 + l0)) - 60720)) & 67553998437089520L) != 63050398541283552L) { break L15; }
-        l3 = l3 + -3L;
-        l0 = l0 + 9L;
-        break L14;
+        if ((l14 = (l12 ^ (l14 = l12 >> 63L)) - l14) + Long.MIN_VALUE < -8223372036854775808L) { break L15; }
+        l14 = 0L;
+        l5 = (l12 < 0L) ? 4 : 3;
+        l11 = 83372L;
+        break L13;
        }
-       if (l3 + Long.MIN_VALUE < -9223372036854775800L) { break L12; }
-       if ((l7 & -9187201950435737472L) != 0L) { break L12; }
-       l3 = l3 + -8L;
-       l0 = l0 + 8L;
+       Words.put32(b, ((int) l15) - 60532, l26);
+       b[((int) l15) - 60533] = (byte) l24;
+       Words.put64(b, ((int) l15) - 60544, 0L);
+       Words.put64(b, ((int) l15) - 60552, 129L);
+       l5 = 0;
+       Words.put16(b, ((int) l15) - 60568, (short) 0);
+       Words.put64(b, ((int) l15) - 60576, 0L);
+       Words.put64(b, ((int) l15) - 60584, 0L);
+       Words.put64(b, ((int) l15) - 60560, l15 + 7L);
+       L16: {
+        if (l12 > -1L) { break L16; }
+        L17: {
+         L18: {
+          if (l25 != 0) { break L18; }
+          l12 = 3L;
+          l6 = 232;
+          l30 = l29;
+          l31 = l28;
+          break L17;
+         }
+         b[((int) l15) - 60702] = (byte) 137;
+         Words.put16(b, ((int) l15) - 60704, (short) 48367);
+         b[((int) l15) - 60705] = (byte) l27;
+         Words.put16(b, ((int) l15) - 60707, (short) 38374);
+         b[((int) l15) - 60708] = (byte) l28;
+         b[((int) l15) - 60709] = (byte) l29;
+         b[((int) l15) - 60710] = (byte) 232;
+         l12 = 12L;
+         l31 = 136;
+         l30 = 188;
+         l6 = 239;
+        }
+        b[((int) l15) - 60711] = (byte) l31;
+        b[((int) l15) - 60712] = (byte) l30;
+        b[((int) l15) - 60713] = (byte) l6;
+        Words.put64(b, ((int) l15) - 60544, l12);
+       }
+       Core2.f67(m, l15 + 136L, l14);
+       Core2.f68(m, l15 + 160L, l15 + 187L, l15 + 136L);
+       final long t19 = Words.get64(b, ((int) l15) - 60560);
+       final int t20 = l6 = (Words.get64(b, ((int) l15) - 60552) + Long.MIN_VALUE < (l14 = Words.get64(b, ((int) l15) - 60544)) + Long.MIN_VALUE) ? 1 : 0;
+       l11 = t20 != 0 ? 83372L : t19;
+       l14 = l6 != 0 ? 0L : l14;
       }
-      if (l3 + Long.MIN_VALUE > -9223372036854775806L) { continue L13; }
-      break L13;
+      if (l10 + Long.MIN_VALUE < l2 + Long.MIN_VALUE) { break L5; }
+      if ((l10 - l2) + Long.MIN_VALUE < l14 + Long.MIN_VALUE) { break L5; }
+      l0 = l14 + l2;
+      L21: {
+       L22: {
+        if (((l9 = l19 + l2) - l11) + Long.MIN_VALUE >= l14 + Long.MIN_VALUE) { break L22; }
+        l1 = l14 & 3L;
+        l12 = 0L;
+        L23: {
+         if (l14 + Long.MIN_VALUE < -9223372036854775804L) { break L23; }
+         l7 = l14 & -4L;
+         l12 = 0L;
+         L24: while (true) {
+          b[((int) (l14 = l9 + l12)) - 60720] = (byte) (b[((int) (l8 = l11 + l12)) - 60720] & 0xff);
+          b[((int) (l14 + 1L)) - 60720] = (byte) (b[((int) (l8 + 1L)) - 60720] & 0xff);
+          b[((int) (l14 + 2L)) - 60720] = (byte) (b[((int) (l8 + 2L)) - 60720] & 0xff);
+          b[((int) (l14 + 3L)) - 60720] = (byte) (b[((int) (l8 + 3L)) - 60720] & 0xff);
+          if (l7 != (l12 = l12 + 4L)) { continue L24; }
+          break L24;
+         }
+         if (l1 == 0L) { break L21; }
+        }
+        l14 = l11 + l12;
+        l12 = l19 + (l2 + l12);
+        L25: while (true) {
+         b[((int) l12) - 60720] = (byte) (b[((int) l14) - 60720] & 0xff);
+         l12 = l12 + 1L;
+         l14 = l14 + 1L;
+         if ((l1 = l1 + -1L) != 0L) { continue L25; }
+         break L21;
+        }
+       }
+       if (l14 == 0L) { break L21; }
+       m.copy((int) l9, (int) l11, (int) l14);
+      }
+      Words.put32(b, ((int) (l18 + (l16 << 2L))) - 60720, l5);
+      Words.put64(b, ((int) (l23 + ((l16 = l16 + 1L) << 3L))) - 60720, l0);
+      if (l16 != l17) { continue L12; }
+      break L12;
      }
+     l16 = l17;
     }
-    L16: {
-     if (l3 == 0L) { break L16; }
-     if (l1 + Long.MIN_VALUE <= l0 + Long.MIN_VALUE) { break L16; }
-     l3 = l3 + -1L;
-     L17: while (true) {
-      l0 = Words.get64(b, ((int) (((((b[((int) (l5 + l0)) - 60720] & 0xff) >>> 1) & 0xffffffffL) & 120L) + 66680L)) - 60720) + l0;
-      if (l3 == 0L) { break L16; }
-      l3 = l3 + -1L;
-      if (l1 + Long.MIN_VALUE > l0 + Long.MIN_VALUE) { continue L17; }
-      break L17;
-     }
-    }
-    Words.put64(b, ((int) l2) - 60704, l0);
-    Words.put64(b, ((int) l2) - 60712, l6);
-    Words.put64(b, ((int) l2) - 60720, 0L);
-    l8 = 2;
+    Words.put64(b, ((int) l13) - 60720, l16);
+    l5 = (l16 == l17) ? 0 : 6;
     break L1;
    }
    throw State.trap();
   }
-  l8 = 3;
+  Words.put64(b, ((int) l13) - 60720, 0L);
+  l5 = 8;
  }
- m.g0 = l4 + 48L;
- return l8;
+ m.g0 = l15 + 192L;
+ return l5;
 }
 
-static int f245(State m, long l0, long l1, long l2) {
+static int f257(State m, long l0, long l1, long l2, long l3, long l4, int l5, long l6, long l7, long l8, long l9, long l10, long l11, long l12) {
  final byte[] b = m.bytes;
- long l3 = 0;
- long l4 = 0;
- long l5 = 0;
- long l6 = 0;
- long l7 = 0;
- long l8 = 0;
- int l9 = 0;
- int l10 = 0;
- int l11 = 0;
- int l12 = 0;
- m.g0 = l3 = m.g0 - 112L;
- L1: {
-  if ((l3 = l3) < 16L) { break L1; }
-  Words.put64(b, ((int) l2) - 60720, 0L);
-  Words.put64(b, ((int) l2) - 60712, 0L);
-  Words.put64(b, ((int) l2) - 60704, 0L);
-  Words.put64(b, ((int) l3) - 60704, 0L);
-  Words.put64(b, ((int) l3) - 60712, 0L);
-  Words.put64(b, ((int) l3) - 60720, 0L);
-  l4 = l1;
-  l0 = l5 = l0 + ((l0 == 0L) ? 4096L : 0L);
-  L2: {
-   L3: {
-    L4: {
-     L5: {
-      if (l1 + Long.MIN_VALUE < -9223372036854775804L) { break L5; }
-      l0 = l5;
-      l4 = l1;
-      L6: while (true) {
-       if (((Words.get32(b, ((int) l0) - 60720) + 16776990) & 12632312) != 8421376) { break L4; }
-       l0 = l0 + 3L;
-       if ((l4 = l4 + -3L) + Long.MIN_VALUE > -9223372036854775805L) { continue L6; }
-       break L6;
-      }
-     }
-     if (l4 + Long.MIN_VALUE > -9223372036854775805L) { break L4; }
-     L7: {
-      switch ((int) l4) {
-      case 1: case 2: break L4;
-      case 3: break L7;
-      default: break L3;
-      }
-     }
-     if (((((Words.get16(b, ((int) l0) - 60720) & 0xffff) | ((b[((int) (l0 + 2L)) - 60720] & 0xff) << 16)) + 16776990) & 12632312) == 8421376) { break L3; }
-    }
-    l9 = 5;
-    if (Core1.f6(m, l5, l1) == 0) { break L2; }
-   }
-   l6 = 0L;
-   Words.put64(b, ((int) l3) - 60648, 0L);
-   Words.put64(b, ((int) l3) - 60640, 0L);
-   Words.put64(b, ((int) l3) - 60632, 0L);
-   Words.put64(b, ((int) l3) - 60624, 0L);
-   Words.put64(b, ((int) l3) - 60616, 0L);
-   Words.put64(b, ((int) l3) - 60656, 0L);
-   Words.put64(b, ((int) l3) - 60664, 0L);
-   Words.put64(b, ((int) l3) - 60672, 0L);
-   Words.put64(b, ((int) l3) - 60680, 0L);
-   Words.put64(b, ((int) l3) - 60688, 0L);
-   Words.put64(b, ((int) l3) - 60696, 0L);
-   L8: {
-    L9: {
-     L10: {
-      L11: {
-       L12: {
-        if (l1 == 0L) { break L12; }
-        l0 = l3 + 32L;
-        l7 = l1;
-        l4 = l5;
-        L13: while (true) {
-         l9 = (l10 = (int) b[((int) l4) - 60720]) & 255;
-         l8 = 1L;
-         L14: {
-          if (l10 > -1) { break L14; }
-          l11 = (b[((int) l4) - 60719] & 0xff) & 63;
-          L15: {
-           if (l10 + Integer.MIN_VALUE > 2147483615) { break L15; }
-           l9 = ((l9 << 6) & 1984) | l11;
-           l8 = 2L;
-           break L14;
-          }
-          l12 = (b[((int) l4) - 60718] & 0xff) & 63;
-          L16: {
-           if (l10 + Integer.MIN_VALUE > 2147483631) { break L16; }
-           l9 = ((l11 << 6) | ((l9 << 12) & 61440)) | l12;
-           l8 = 3L;
-           break L14;
-          }
-          l9 = ((l12 << 6) | ((l11 << 12) | ((l9 << 18) & 1835008))) | ((b[((int) l4) - 60717] & 0xff) & 63);
-          l8 = 4L;
-         }
-         Core1.f20(m, l3 + 24L, l3 + 72L, l9);
-         if ((b[((int) l3) - 60696] & 0xff) != 1) { break L11; }
-         Words.put64(b, ((int) l3) - 60616, Words.get64(b, ((int) l0) - 60688));
-         Words.put64(b, ((int) l3) - 60624, Words.get64(b, ((int) l0) - 60696));
-         Words.put64(b, ((int) l3) - 60632, Words.get64(b, ((int) l0) - 60704));
-         Words.put64(b, ((int) l3) - 60640, Words.get64(b, ((int) l0) - 60712));
-         Words.put64(b, ((int) l3) - 60648, Words.get64(b, ((int) l0) - 60720));
-         l6 = l6 + 1L;
-         l4 = l4 + l8;
-         if ((l7 = l7 - l8) != 0L) { continue L13; }
-         break L13;
-        }
-        if ((l0 = Words.get64(b, ((int) l3) - 60647) >>> 56L) + Long.MIN_VALUE < -9223372036854775791L) { break L12; }
-        switch (((int) l0) + -17) {
-        case 1: break L12;
-        default: break L10;
-        }
-       }
-       l0 = 1L;
-       l4 = 0L;
-       break L9;
-      }
-      l4 = 1L;
-      l0 = 1L;
-      break L8;
-     }
-     l0 = 0L;
-     final long t17 = 0L - (l4 = Words.get64(b, ((int) l3) - 60632));
-     final long t18 = l4;
-     final int t19 = ((b[((int) l3) - 60648] & 0xff) == 2) ? 1 : 0;
-     l4 = t19 != 0 ? t17 : t18;
-    }
-    l6 = 0L;
-   }
-   Words.put64(b, ((int) l3) - 60704, l6);
-   Words.put64(b, ((int) l3) - 60712, l4);
-   Words.put64(b, ((int) l3) - 60720, l0);
-   l9 = Core2.f71(m, l5, l1, l3, l2);
-  }
-  m.g0 = l3 + 112L;
-  final int t20 = l9;
-  return t20;
- }
- throw State.trap();
-}
-
-static int f247(State m, long l0, long l1, long l2) {
- final byte[] b = m.bytes;
- long l3 = 0;
- long l4 = 0;
- long l5 = 0;
- long l6 = 0;
- long l7 = 0;
- long l8 = 0;
- long l9 = 0;
- long l10 = 0;
- long l11 = 0;
- long l12 = 0;
  long l13 = 0;
  long l14 = 0;
- int l15 = 0;
- int l16 = 0;
- int l17 = 0;
- int l18 = 0;
- int l19 = 0;
- int l20 = 0;
- int l21 = 0;
- int l22 = 0;
- m.g0 = l3 = m.g0 - 176L;
+ long l15 = 0;
+ long l16 = 0;
+ long l17 = 0;
+ long l18 = 0;
+ long l19 = 0;
+ long l20 = 0;
+ long l21 = 0;
+ long l22 = 0;
+ int l23 = 0;
+ int l24 = 0;
+ int l25 = 0;
+ int l26 = 0;
+ int l27 = 0;
+ m.g0 = l13 = m.g0 - 64L;
  L1: {
-  if ((l3 = l3) < 16L) { break L1; }
-  Words.put64(b, ((int) l2) - 60720, 0L);
-  Words.put64(b, ((int) l2) - 60712, 0L);
-  Words.put64(b, ((int) l2) - 60704, 0L);
-  Words.put64(b, ((int) l3) - 60704, 0L);
-  Words.put64(b, ((int) l3) - 60712, 0L);
-  Words.put64(b, ((int) l3) - 60720, 0L);
-  l4 = l1;
-  l0 = l5 = l0 + ((l0 == 0L) ? 4096L : 0L);
   L2: {
    L3: {
+    if ((l14 = l13) < 16L) { break L3; }
+    if (l5 + Integer.MIN_VALUE > -2147483647) { break L2; }
+    l15 = 0L;
+    Words.put64(b, ((int) l14) - 60665, 0L);
+    Words.put64(b, ((int) l14) - 60672, 0L);
+    Words.put64(b, ((int) l14) - 60680, 0L);
+    Words.put64(b, ((int) l14) - 60688, 0L);
+    Words.put64(b, ((int) l14) - 60696, 0L);
     L4: {
-     L5: {
-      if (l1 + Long.MIN_VALUE < -9223372036854775804L) { break L5; }
-      l0 = l5;
-      l4 = l1;
-      L6: while (true) {
-       if (((Words.get32(b, ((int) l0) - 60720) + 16776990) & 12632312) != 8421376) { break L4; }
-       l0 = l0 + 3L;
-       if ((l4 = l4 + -3L) + Long.MIN_VALUE > -9223372036854775805L) { continue L6; }
-       break L6;
-      }
-     }
-     if (l4 + Long.MIN_VALUE > -9223372036854775805L) { break L4; }
-     L7: {
-      switch ((int) l4) {
-      case 1: case 2: break L4;
-      case 3: break L7;
-      default: break L3;
-      }
-     }
-     if (((((Words.get16(b, ((int) l0) - 60720) & 0xffff) | ((b[((int) (l0 + 2L)) - 60720] & 0xff) << 16)) + 16776990) & 12632312) == 8421376) { break L3; }
-    }
-    l15 = 5;
-    if (Core1.f6(m, l5, l1) == 0) { break L2; }
-   }
-   l16 = 0;
-   Words.put32(b, ((int) l3) - 60640, 0);
-   b[((int) l3) - 60636] = (byte) 0;
-   Words.put32(b, ((int) l3) - 60648, 0);
-   Words.put32(b, ((int) l3) - 60645, 0);
-   l6 = 0L;
-   Words.put64(b, ((int) l3) - 60664, 0L);
-   Words.put64(b, ((int) l3) - 60656, 0L);
-   Words.put32(b, ((int) l3) - 60672, 0);
-   b[((int) l3) - 60668] = (byte) 0;
-   Words.put32(b, ((int) l3) - 60680, 0);
-   Words.put32(b, ((int) l3) - 60677, 0);
-   Words.put64(b, ((int) l3) - 60696, 0L);
-   Words.put64(b, ((int) l3) - 60688, 0L);
-   L8: {
-    L9: {
-     L10: {
-      L11: {
-       L12: {
-        if (l1 == 0L) { break L12; }
-        l7 = l3 + 160L;
-        l8 = l3 + 145L;
-        l9 = l3 + 139L;
-        l10 = l3 + 112L;
-        l11 = l3 + 97L;
-        l12 = (l3 + 88L) | 3L;
-        l17 = 1;
-        l18 = 3;
-        l4 = l1;
-        l0 = l5;
+     final long t5 = l11;
+     final long t6 = l13 = l7 - ((l7 != 0L) ? 1L : 0L);
+     final int t7 = (l11 + Long.MIN_VALUE < l13 + Long.MIN_VALUE) ? 1 : 0;
+     final long t8 = l13 = t7 != 0 ? t5 : t6;
+     final long t9 = l1;
+     final int t10 = (l13 + Long.MIN_VALUE < l1 + Long.MIN_VALUE) ? 1 : 0;
+     if ((l16 = t10 != 0 ? t8 : t9) == 0L) { break L4; }
+     l17 = l10 + ((l10 == 0L) ? 4096L : 0L);
+     l18 = l8 + ((l8 == 0L) ? 4096L : 0L);
+     l19 = l2 + ((l2 == 0L) ? 4096L : 0L);
+     l20 = l0 + ((l0 == 0L) ? 4096L : 0L);
+     l23 = b[((int) ((l5 & 0xffffffffL) + 83500L)) - 60720] & 0xff;
+     l21 = l4 >>> 3L;
+     l4 = l4 & 7L;
+     l0 = Words.get64(b, ((int) (l22 = l6 + ((l6 == 0L) ? 4096L : 0L))) - 60720);
+     l15 = 0L;
+     L11: while (true) {
+      l2 = l0;
+      l24 = Words.get32(b, ((int) (l13 = l20 + (l15 * 12L))) - 60712);
+      l25 = Words.get32(b, ((int) l13) - 60716);
+      l26 = Words.get32(b, ((int) l13) - 60720);
+      L12: {
+       L13: {
+        if ((l11 = ((l13 = l15 + l4) >>> 3L) + l21) + Long.MIN_VALUE >= l3 + Long.MIN_VALUE) { break L13; }
+        if ((((b[((int) (l19 + l11)) - 60720] & 0xff) >>> (((int) l13) & 7)) & 1) != 0) { break L13; }
         l13 = 0L;
-        l19 = 1;
-        L13: while (true) {
-         l14 = l0 + 1L;
-         l15 = (l20 = (int) b[((int) l0) - 60720]) & 255;
-         L14: {
-          L15: {
-           L16: {
-            L17: {
-             L18: {
-              L19: {
-               if (l20 < 0) { break L19; }
-               Words.put64(b, ((int) l3) - 60592, 0L);
-               Words.put64(b, ((int) l3) - 60584, 0L);
-               Words.put64(b, ((int) l3) - 60576, 0L);
-               Words.put64(b, ((int) l3) - 60568, 0L);
-               Words.put64(b, ((int) l3) - 60560, 0L);
-               Words.put64(b, ((int) l3) - 60552, 0L);
-               l4 = l4 + -1L;
-               l0 = l14;
-               break L18;
-              }
-              l21 = (b[((int) l14) - 60720] & 0xff) & 63;
-              L20: {
-               L21: {
-                if (l20 + Integer.MIN_VALUE > 2147483615) { break L21; }
-                l15 = ((l15 << 6) & 1984) | l21;
-                l14 = 2L;
-                break L20;
-               }
-               l22 = (b[((int) l0) - 60718] & 0xff) & 63;
-               L22: {
-                if (l20 + Integer.MIN_VALUE > 2147483631) { break L22; }
-                l15 = ((l21 << 6) | ((l15 << 12) & 61440)) | l22;
-                l14 = 3L;
-                break L20;
-               }
-               l15 = ((l22 << 6) | ((l21 << 12) | ((l15 << 18) & 1835008))) | ((b[((int) l0) - 60717] & 0xff) & 63);
-               l14 = 4L;
-              }
-              Words.put64(b, ((int) l3) - 60592, 0L);
-              Words.put64(b, ((int) l3) - 60584, 0L);
-              Words.put64(b, ((int) l3) - 60576, 0L);
-              Words.put64(b, ((int) l3) - 60568, 0L);
-              Words.put64(b, ((int) l3) - 60560, 0L);
-              Words.put64(b, ((int) l3) - 60552, 0L);
-              l4 = l4 - l14;
-              l0 = l0 + l14;
-              if (l15 + Integer.MIN_VALUE > -2147483521) { break L17; }
-             }
-             if ((l15 + -9) + Integer.MIN_VALUE < -2147483643) { break L15; }
-             if (l15 != 32) { break L16; }
-             break L15;
-            }
-            if ((l15 + -8192) + Integer.MIN_VALUE < -2147483637) { break L15; }
-            L23: {
-             if (l15 > 8231) { break L23; }
-             if (l15 == 133) { break L15; }
-             if (l15 == 160) { break L15; }
-             if (l15 != 5760) { break L16; }
-             break L15;
-            }
-            L24: {
-             if ((l20 = l15 + -8232) + Integer.MIN_VALUE > -2147483593) { break L24; }
-             if (((1L << (l20 & 0xffffffffL)) & 36028797018964099L) != 0L) { break L15; }
-            }
-            if (l15 == 12288) { break L15; }
-           }
-           Words.put32(b, ((int) l12) - 60720, Words.get32(b, ((int) l3) - 60640));
-           b[((int) l12) - 60716] = (byte) (b[((int) l3) - 60636] & 0xff);
-           Words.put32(b, ((int) l11) - 60720, Words.get32(b, ((int) l3) - 60648));
-           Words.put32(b, ((int) l11) - 60717, Words.get32(b, ((int) l3) - 60645));
-           Words.put64(b, ((int) l10) - 60720, Words.get64(b, ((int) l3) - 60664));
-           Words.put64(b, ((int) l10) - 60712, Words.get64(b, ((int) l3) - 60656));
-           b[((int) l3) - 60630] = (byte) l17;
-           b[((int) l3) - 60631] = (byte) l16;
-           b[((int) l3) - 60632] = (byte) l19;
-           b[((int) l3) - 60624] = (byte) l18;
-           Words.put64(b, ((int) l3) - 60616, l13);
-           Core1.f21(m, l3 + 128L, l3 + 88L, l15);
-           if ((b[((int) l3) - 60592] & 0xff) != 1) { break L11; }
-           Words.put32(b, ((int) l3) - 60672, Words.get32(b, ((int) l9) - 60720));
-           b[((int) l3) - 60668] = (byte) (b[((int) l9) - 60716] & 0xff);
-           Words.put32(b, ((int) l3) - 60680, Words.get32(b, ((int) l8) - 60720));
-           Words.put32(b, ((int) l3) - 60677, Words.get32(b, ((int) l8) - 60717));
-           Words.put64(b, ((int) l3) - 60696, Words.get64(b, ((int) l7) - 60720));
-           Words.put64(b, ((int) l3) - 60688, Words.get64(b, ((int) l7) - 60712));
-           l13 = Words.get64(b, ((int) l3) - 60568);
-           l18 = b[((int) l3) - 60576] & 0xff;
-           l17 = b[((int) l3) - 60582] & 0xff;
-           l16 = b[((int) l3) - 60583] & 0xff;
-           l19 = b[((int) l3) - 60584] & 0xff;
-           break L14;
-          }
-          b[((int) l3) - 60668] = (byte) (b[((int) l3) - 60636] & 0xff);
-          Words.put32(b, ((int) l3) - 60672, Words.get32(b, ((int) l3) - 60640));
-          Words.put32(b, ((int) l3) - 60680, Words.get32(b, ((int) l3) - 60648));
-          Words.put32(b, ((int) l3) - 60677, Words.get32(b, ((int) l3) - 60645));
-          Words.put64(b, ((int) l3) - 60696, Words.get64(b, ((int) l3) - 60664));
-          Words.put64(b, ((int) l3) - 60688, Words.get64(b, ((int) l3) - 60656));
-         }
-         Words.put32(b, ((int) l3) - 60640, Words.get32(b, ((int) l3) - 60672));
-         b[((int) l3) - 60636] = (byte) (b[((int) l3) - 60668] & 0xff);
-         Words.put32(b, ((int) l3) - 60648, Words.get32(b, ((int) l3) - 60680));
-         Words.put32(b, ((int) l3) - 60645, Words.get32(b, ((int) l3) - 60677));
-         Words.put64(b, ((int) l3) - 60664, Words.get64(b, ((int) l3) - 60696));
-         Words.put64(b, ((int) l3) - 60656, Words.get64(b, ((int) l3) - 60688));
-         l6 = l6 + 1L;
-         if (l4 != 0L) { continue L13; }
-         break L13;
+        l10 = 83372L;
+        l5 = 10;
+        break L12;
+       }
+       l13 = 0L;
+       l10 = 83372L;
+       l5 = 11;
+       if (l26 + Integer.MIN_VALUE > -2147418113) { break L12; }
+       if (l25 + Integer.MIN_VALUE > -2147483393) { break L12; }
+       if (l24 + Integer.MIN_VALUE > -2147483393) { break L12; }
+       if (((l24 = (l24 + Integer.MIN_VALUE < -2147483392) ? l24 : 256) & 255) == 0) { break L12; }
+       if ((((l27 = (l26 + Integer.MIN_VALUE < -2147418112) ? l26 : 65536) + -1) & 65535) + Integer.MIN_VALUE > -2147473650) { break L12; }
+       if ((((l26 = (l25 + Integer.MIN_VALUE < -2147483392) ? l25 : 256) + -1) & 255) + Integer.MIN_VALUE > -2147483637) { break L12; }
+       L14: {
+        L15: {
+         if ((l26 & 255) != 2) { break L15; }
+         l5 = 28;
+         if ((l27 & 3) != 0) { break L14; }
+         final int t16 = (((int) (((l5 = l27 & 65535) & 0xffffffffL) % 400L)) != 0) ? 28 : 29;
+         final int t17 = (int) ((l5 & 0xffffffffL) % 100L);
+         l5 = t17 != 0 ? 29 : t16;
+         break L14;
         }
-        if ((l15 = l18 & 255) + Integer.MIN_VALUE < -2147483631) { break L12; }
-        switch (l15 + -17) {
-        case 1: break L12;
-        default: break L10;
+        final int t18 = ((l5 = l26 & 13) == 9) ? 30 : 31;
+        final int t19 = (l5 == 4) ? 1 : 0;
+        l5 = t19 != 0 ? 30 : t18;
+       }
+       L20: {
+        if (l5 + Integer.MIN_VALUE >= (l24 & 255) + Integer.MIN_VALUE) { break L20; }
+        l5 = 11;
+        break L12;
+       }
+       Core2.f64(m, l14 + 8L, l14 + 24L, l23, ((l24 << 24) | (l26 << 16)) | l27);
+       l5 = 0;
+       l13 = Words.get64(b, ((int) l14) - 60704);
+       l10 = Words.get64(b, ((int) l14) - 60712);
+      }
+      if (l9 + Long.MIN_VALUE < l2 + Long.MIN_VALUE) { break L4; }
+      if ((l9 - l2) + Long.MIN_VALUE < l13 + Long.MIN_VALUE) { break L4; }
+      l0 = l13 + l2;
+      L21: {
+       L22: {
+        if (((l8 = l18 + l2) - l10) + Long.MIN_VALUE >= l13 + Long.MIN_VALUE) { break L22; }
+        l1 = l13 & 3L;
+        l11 = 0L;
+        L23: {
+         if (l13 + Long.MIN_VALUE < -9223372036854775804L) { break L23; }
+         l6 = l13 & -4L;
+         l11 = 0L;
+         L24: while (true) {
+          b[((int) (l13 = l8 + l11)) - 60720] = (byte) (b[((int) (l7 = l10 + l11)) - 60720] & 0xff);
+          b[((int) (l13 + 1L)) - 60720] = (byte) (b[((int) (l7 + 1L)) - 60720] & 0xff);
+          b[((int) (l13 + 2L)) - 60720] = (byte) (b[((int) (l7 + 2L)) - 60720] & 0xff);
+          b[((int) (l13 + 3L)) - 60720] = (byte) (b[((int) (l7 + 3L)) - 60720] & 0xff);
+          if (l6 != (l11 = l11 + 4L)) { continue L24; }
+          break L24;
+         }
+         if (l1 == 0L) { break L21; }
+        }
+        l13 = l10 + l11;
+        l11 = l18 + (l2 + l11);
+        L25: while (true) {
+         b[((int) l11) - 60720] = (byte) (b[((int) l13) - 60720] & 0xff);
+         l11 = l11 + 1L;
+         l13 = l13 + 1L;
+         if ((l1 = l1 + -1L) != 0L) { continue L25; }
+         break L21;
         }
        }
-       l0 = 1L;
-       l4 = 0L;
-       break L9;
+       if (l13 == 0L) { break L21; }
+       m.copy((int) l8, (int) l10, (int) l13);
       }
-      l4 = 1L;
-      l0 = 1L;
-      break L8;
+      Words.put32(b, ((int) (l17 + (l15 << 2L))) - 60720, l5);
+      Words.put64(b, ((int) (l22 + ((l15 = l15 + 1L) << 3L))) - 60720, l0);
+      if (l15 != l16) { continue L11; }
+      break L11;
      }
-     l0 = 0L;
-     final long t25 = 0L - l13;
-     final long t26 = l13;
-     final int t27 = ((l16 & 255) == 2) ? 1 : 0;
-     l4 = t27 != 0 ? t25 : t26;
+     l15 = l16;
     }
-    l6 = 0L;
+    Words.put64(b, ((int) l12) - 60720, l15);
+    l5 = (l15 == l16) ? 0 : 6;
+    break L1;
    }
-   Words.put64(b, ((int) l3) - 60704, l6);
-   Words.put64(b, ((int) l3) - 60712, l4);
-   Words.put64(b, ((int) l3) - 60720, l0);
-   l15 = Core2.f71(m, l5, l1, l3, l2);
+   throw State.trap();
   }
-  m.g0 = l3 + 176L;
-  final int t28 = l15;
-  return t28;
+  Words.put64(b, ((int) l12) - 60720, 0L);
+  l5 = 8;
  }
- throw State.trap();
+ m.g0 = l14 + 64L;
+ return l5;
 }
 
-static int f249(State m, long l0, long l1, long l2, long l3, long l4, long l5) {
+static int f259(State m, long l0, long l1, long l2) {
+ return Core2.f75(m, l0 + ((l0 == 0L) ? 4096L : 0L), l1, l2);
+}
+
+static int f261(State m, long l0, long l1, long l2) {
+ return Core2.f76(m, l0 + ((l0 == 0L) ? 4096L : 0L), l1, l2);
+}
+
+static int f263(State m, long l0, long l1, long l2) {
+ return Core2.f78(m, l0 + ((l0 == 0L) ? 4096L : 0L), l1, l2);
+}
+
+static int f265(State m, long l0, long l1, long l2, long l3, long l4, long l5) {
  final byte[] b = m.bytes;
  long l6 = 0;
  long l7 = 0;
@@ -2027,7 +456,7 @@ static int f249(State m, long l0, long l1, long l2, long l3, long l4, long l5) {
    l0 = l5 + 36L;
    l10 = 0;
    m.fill((int) l7, 0, (int) 112L);
-   Core2.f72(m, l7, l8, l1, l2, l3);
+   Core2.f79(m, l7, l8, l1, l2, l3);
    L13: {
     L14: {
      if ((b[((int) l7) - 60720] & 0xff) != 1) { break L14; }
@@ -2105,7 +534,7 @@ static int f249(State m, long l0, long l1, long l2, long l3, long l4, long l5) {
  throw State.trap();
 }
 
-static int f251(State m, long l0, long l1, long l2, int l3, int l4, long l5, long l6, long l7) {
+static int f267(State m, long l0, long l1, long l2, int l3, int l4, long l5, long l6, long l7) {
  final byte[] b = m.bytes;
  long l8 = 0;
  L1: {
@@ -2115,7 +544,7 @@ static int f251(State m, long l0, long l1, long l2, int l3, int l4, long l5, lon
     if (l3 + Integer.MIN_VALUE > -2147483647) { break L2; }
     L4: {
      if (l4 + Integer.MIN_VALUE >= -2147483632) { break L4; }
-     l3 = Core3.f99(m, l0 + ((l0 == 0L) ? 4096L : 0L), l1, l2, l3, l4, l5 + ((l5 == 0L) ? 4096L : 0L), l6, l7);
+     l3 = Core3.f106(m, l0 + ((l0 == 0L) ? 4096L : 0L), l1, l2, l3, l4, l5 + ((l5 == 0L) ? 4096L : 0L), l6, l7);
      m.g0 = l8;
      final int t5 = l3;
      return t5;
@@ -2131,7 +560,7 @@ static int f251(State m, long l0, long l1, long l2, int l3, int l4, long l5, lon
  return 8;
 }
 
-static int f253(State m, long l0, long l1, long l2, int l3, int l4, long l5, long l6, long l7) {
+static int f269(State m, long l0, long l1, long l2, int l3, int l4, long l5, long l6, long l7) {
  final byte[] b = m.bytes;
  long l8 = 0;
  L1: {
@@ -2147,7 +576,7 @@ static int f253(State m, long l0, long l1, long l2, int l3, int l4, long l5, lon
       m.g0 = l8;
       return 0;
      }
-     l3 = Core3.f100(m, l0 + ((l0 == 0L) ? 4096L : 0L), l1, l2, l3, l4, l5 + ((l5 == 0L) ? 4096L : 0L), l6, l7);
+     l3 = Core3.f107(m, l0 + ((l0 == 0L) ? 4096L : 0L), l1, l2, l3, l4, l5 + ((l5 == 0L) ? 4096L : 0L), l6, l7);
      m.g0 = l8;
      final int t6 = l3;
      return t6;
@@ -2163,7 +592,7 @@ static int f253(State m, long l0, long l1, long l2, int l3, int l4, long l5, lon
  return 8;
 }
 
-static int f255(State m, long l0, long l1, long l2, int l3, int l4, long l5, long l6, long l7) {
+static int f271(State m, long l0, long l1, long l2, int l3, int l4, long l5, long l6, long l7) {
  final byte[] b = m.bytes;
  long l8 = 0;
  long l9 = 0;
@@ -2201,7 +630,7 @@ static int f255(State m, long l0, long l1, long l2, int l3, int l4, long l5, lon
      }
      if (Core1.f6(m, l10, l1) == 0) { break L3; }
     }
-    l3 = Core3.f110(m, l10, l1, l2, (l3 + Integer.MIN_VALUE < -2147483646) ? l3 : 0, (l4 + Integer.MIN_VALUE < -2147483632) ? l4 : 0, l5 + ((l5 == 0L) ? 4096L : 0L), l6, l7);
+    l3 = Core3.f117(m, l10, l1, l2, (l3 + Integer.MIN_VALUE < -2147483646) ? l3 : 0, (l4 + Integer.MIN_VALUE < -2147483632) ? l4 : 0, l5 + ((l5 == 0L) ? 4096L : 0L), l6, l7);
     m.g0 = l8;
     final int t9 = l3;
     return t9;
@@ -2217,7 +646,7 @@ static int f255(State m, long l0, long l1, long l2, int l3, int l4, long l5, lon
  return 8;
 }
 
-static int f257(State m, long l0, long l1, long l2, int l3, int l4, long l5, long l6, long l7) {
+static int f273(State m, long l0, long l1, long l2, int l3, int l4, long l5, long l6, long l7) {
  final byte[] b = m.bytes;
  long l8 = 0;
  L1: {
@@ -2225,7 +654,7 @@ static int f257(State m, long l0, long l1, long l2, int l3, int l4, long l5, lon
    if ((l8 = m.g0) < 16L) { break L2; }
    if (l3 + Integer.MIN_VALUE > -2147483647) { break L1; }
    if (l4 + Integer.MIN_VALUE > -2147483633) { break L1; }
-   l3 = Core3.f110(m, l0 + ((l0 == 0L) ? 4096L : 0L), l1, l2, l3, l4, l5 + ((l5 == 0L) ? 4096L : 0L), l6, l7);
+   l3 = Core3.f117(m, l0 + ((l0 == 0L) ? 4096L : 0L), l1, l2, l3, l4, l5 + ((l5 == 0L) ? 4096L : 0L), l6, l7);
    m.g0 = l8;
    final int t3 = l3;
    return t3;
@@ -2237,11 +666,11 @@ static int f257(State m, long l0, long l1, long l2, int l3, int l4, long l5, lon
  return 8;
 }
 
-static int f259(State m, long l0, long l1, long l2, int l3, int l4, long l5, long l6, long l7) {
- return Core5.f161(m, l0 + ((l0 == 0L) ? 4096L : 0L), l1, l2, l3, l4, l5 + ((l5 == 0L) ? 4096L : 0L), l6, l7);
+static int f275(State m, long l0, long l1, long l2, int l3, int l4, long l5, long l6, long l7) {
+ return Core5.f168(m, l0 + ((l0 == 0L) ? 4096L : 0L), l1, l2, l3, l4, l5 + ((l5 == 0L) ? 4096L : 0L), l6, l7);
 }
 
-static int f261(State m, long l0, long l1, long l2, int l3, int l4, long l5, long l6, long l7) {
+static int f277(State m, long l0, long l1, long l2, int l3, int l4, long l5, long l6, long l7) {
  final byte[] b = m.bytes;
  long l8 = 0;
  long l9 = 0;
@@ -2277,7 +706,7 @@ static int f261(State m, long l0, long l1, long l2, int l3, int l4, long l5, lon
      }
      if (Core1.f6(m, l9, l1) == 0) { break L3; }
     }
-    l3 = Core5.f161(m, l9, l1, l2, l3, l4, l5 + ((l5 == 0L) ? 4096L : 0L), l6, l7);
+    l3 = Core5.f168(m, l9, l1, l2, l3, l4, l5 + ((l5 == 0L) ? 4096L : 0L), l6, l7);
     m.g0 = l8;
     final int t9 = l3;
     return t9;
@@ -2293,7 +722,7 @@ static int f261(State m, long l0, long l1, long l2, int l3, int l4, long l5, lon
  return 8;
 }
 
-static int f263(State m, long l0, long l1, int l2, int l3, long l4) {
+static int f279(State m, long l0, long l1, int l2, int l3, long l4) {
  final byte[] b = m.bytes;
  long l5 = 0;
  long l6 = 0;
@@ -2355,11 +784,11 @@ static int f263(State m, long l0, long l1, int l2, int l3, long l4) {
    l3 = (l2 + Integer.MIN_VALUE < -2147483638) ? l2 : 0;
    L10: {
     if (l11 != 0) { break L10; }
-    Core5.f163(m, l6 + 8L, l3, l0, l1);
+    Core5.f170(m, l6 + 8L, l3, l0, l1);
     l8 = b[((int) l6) - 60711] & 0xff;
     l9 = b[((int) l6) - 60712] & 0xff;
    }
-   Core5.f164(m, l6, l3, l9, l8, l0, l1);
+   Core5.f171(m, l6, l3, l9, l8, l0, l1);
    l3 = 0;
    if ((b[((int) l6) - 60720] & 0xff) != 1) { break L4; }
    Words.put32(b, ((int) l4) - 60720, ((b[((int) l6) - 60719] & 0xff) & 255) + 1);
@@ -2371,7 +800,7 @@ static int f263(State m, long l0, long l1, int l2, int l3, long l4) {
  throw State.trap();
 }
 
-static int f265(State m, long l0, long l1, int l2, int l3, int l4, long l5, long l6, long l7) {
+static int f281(State m, long l0, long l1, int l2, int l3, int l4, long l5, long l6, long l7) {
  final byte[] b = m.bytes;
  long l8 = 0;
  long l9 = 0;
@@ -2456,7 +885,7 @@ static int f265(State m, long l0, long l1, int l2, int l3, int l4, long l5, long
             Words.put64(b, ((int) l8) - 60672, l8 + 72L);
             L19: {
              if (l17 != 0) { break L19; }
-             Core5.f163(m, l8 + 40L, l2, l10, l1);
+             Core5.f170(m, l8 + 40L, l2, l10, l1);
              l14 = b[((int) l8) - 60679] & 0xff;
              l15 = b[((int) l8) - 60680] & 0xff;
             }
@@ -2812,7 +1241,7 @@ static int f265(State m, long l0, long l1, int l2, int l3, int l4, long l5, long
    }
    l16 = 1;
   }
-  Core5.f164(m, l8 + 32L, l2, l15, l14, l10, l1);
+  Core5.f171(m, l8 + 32L, l2, l15, l14, l10, l1);
   L79: {
    if (l16 == 0) { break L79; }
    if (((b[((int) l8) - 60688] & 0xff) & 255) != 1) { break L79; }
@@ -2952,7 +1381,7 @@ static int f265(State m, long l0, long l1, int l2, int l3, int l4, long l5, long
  return l3;
 }
 
-static int f267(State m, long l0, long l1, int l2, int l3, long l4) {
+static int f283(State m, long l0, long l1, int l2, int l3, long l4) {
  final byte[] b = m.bytes;
  long l5 = 0;
  long l6 = 0;
@@ -2967,7 +1396,7 @@ static int f267(State m, long l0, long l1, int l2, int l3, long l4) {
       if (l3 + Integer.MIN_VALUE < -2147483643) { break L5; }
       if (l2 + Integer.MIN_VALUE > -2147483639) { break L4; }
       if (l3 != 5) { break L4; }
-      l2 = Core5.f169(m, l0, l1, l2, l4);
+      l2 = Core5.f176(m, l0, l1, l2, l4);
       m.g0 = l5;
       final int t6 = l2;
       return t6;
@@ -2984,19 +1413,177 @@ static int f267(State m, long l0, long l1, int l2, int l3, long l4) {
    l3 = b[((int) ((l6 = (l3 & 0xffffffffL) << 1L) + 85585L)) - 60720] & 0xff;
    l7 = b[((int) (l6 + 85584L)) - 60720] & 0xff;
    if (l2 + Integer.MIN_VALUE < -2147483643) { break L1; }
-   l2 = Core5.f167(m, l0, l1, l2, l7, l3, l4);
+   l2 = Core5.f174(m, l0, l1, l2, l7, l3, l4);
    m.g0 = l5;
    final int t7 = l2;
    return t7;
   }
   throw State.trap();
  }
- l2 = Core5.f168(m, l0, l1, l2, l7, l3, l4);
+ l2 = Core5.f175(m, l0, l1, l2, l7, l3, l4);
  m.g0 = l5;
  return l2;
 }
 
-static int f269(State m, long l0, long l1, int l2, int l3, int l4, int l5, long l6, long l7, long l8) {
+static int f285(State m, long l0, long l1, long l2, long l3, long l4, long l5, long l6, int l7, int l8, long l9, long l10, long l11, long l12) {
+ final byte[] b = m.bytes;
+ long l13 = 0;
+ long l14 = 0;
+ long l15 = 0;
+ long l16 = 0;
+ int l17 = 0;
+ int l18 = 0;
+ m.g0 = l13 = m.g0 - 32L;
+ L1: {
+  if ((l14 = l13) < 16L) { break L1; }
+  l17 = 8;
+  L2: {
+   if (l7 + Integer.MIN_VALUE > -2147483639) { break L2; }
+   if (l8 + Integer.MIN_VALUE > -2147483643) { break L2; }
+   L3: {
+    final long t4 = l12;
+    final long t5 = l13 = l3 - ((l3 != 0L) ? 1L : 0L);
+    final int t6 = (l12 + Long.MIN_VALUE < l13 + Long.MIN_VALUE) ? 1 : 0;
+    final long t7 = l13 = t6 != 0 ? t4 : t5;
+    final long t8 = l10;
+    final int t9 = (l13 + Long.MIN_VALUE < l10 + Long.MIN_VALUE) ? 1 : 0;
+    if ((l15 = t9 != 0 ? t7 : t8) == 0L) { break L3; }
+    l10 = l11 + ((l11 == 0L) ? 4096L : 0L);
+    l3 = l9 + ((l9 == 0L) ? 4096L : 0L);
+    l16 = l4 + ((l4 == 0L) ? 4096L : 0L);
+    l13 = l2 + ((l2 == 0L) ? 4096L : 0L);
+    l0 = l0 + ((l0 == 0L) ? 4096L : 0L);
+    l2 = l6 >>> 3L;
+    l12 = l6 & 7L;
+    L10: while (true) {
+     l18 = 0;
+     L11: {
+      if ((l17 = ((l11 = (l12 >>> 3L) + l2) + Long.MIN_VALUE >= l5 + Long.MIN_VALUE) ? 1 : 0) != 0) { break L11; }
+      l18 = b[((int) (l16 + l11)) - 60720] & 0xff;
+     }
+     l9 = Words.get64(b, ((int) (l13 + 8L)) - 60720);
+     l4 = Words.get64(b, ((int) l13) - 60720);
+     l11 = 0L;
+     L12: {
+      L13: {
+       if (l17 != 0) { break L13; }
+       l17 = 10;
+       if ((((l18 & 255) >>> (((int) l12) & 7)) & 1) == 0) { break L12; }
+      }
+      l17 = 6;
+      if (l9 + Long.MIN_VALUE < l4 + Long.MIN_VALUE) { break L12; }
+      if (l1 + Long.MIN_VALUE < l9 + Long.MIN_VALUE) { break L12; }
+      Words.put64(b, ((int) l14) - 60696, 0L);
+      Words.put64(b, ((int) l14) - 60704, 0L);
+      Words.put64(b, ((int) l14) - 60712, 0L);
+      Words.put64(b, ((int) l14) - 60720, 0L);
+      l17 = Core6.f222(m, l0 + l4, l9 - l4, l7, l8, l14);
+      l11 = Words.get64(b, ((int) l14) - 60720);
+     }
+     Words.put64(b, ((int) l3) - 60720, l11);
+     Words.put32(b, ((int) l10) - 60720, l17);
+     l12 = l12 + 1L;
+     l3 = l3 + 8L;
+     l13 = l13 + 8L;
+     l10 = l10 + 4L;
+     if (!((l15 = l15 + -1L) == 0L)) { continue L10; }
+     break L10;
+    }
+   }
+   l17 = 0;
+  }
+  m.g0 = l14 + 32L;
+  final int t14 = l17;
+  return t14;
+ }
+ throw State.trap();
+}
+
+static int f287(State m, long l0, long l1, long l2, long l3, long l4, long l5, long l6, int l7, int l8, long l9, long l10, long l11, long l12) {
+ final byte[] b = m.bytes;
+ long l13 = 0;
+ long l14 = 0;
+ long l15 = 0;
+ long l16 = 0;
+ long l17 = 0;
+ int l18 = 0;
+ int l19 = 0;
+ m.g0 = l13 = m.g0 - 32L;
+ L1: {
+  if ((l14 = l13) < 16L) { break L1; }
+  l18 = 8;
+  L2: {
+   if (l7 + Integer.MIN_VALUE > -2147483639) { break L2; }
+   if (l8 + Integer.MIN_VALUE > -2147483643) { break L2; }
+   L3: {
+    final long t4 = l12;
+    final long t5 = l13 = l3 - ((l3 != 0L) ? 1L : 0L);
+    final int t6 = (l12 + Long.MIN_VALUE < l13 + Long.MIN_VALUE) ? 1 : 0;
+    final long t7 = l13 = t6 != 0 ? t4 : t5;
+    final long t8 = l10;
+    final int t9 = (l13 + Long.MIN_VALUE < l10 + Long.MIN_VALUE) ? 1 : 0;
+    if ((l15 = t9 != 0 ? t7 : t8) == 0L) { break L3; }
+    l3 = l11 + ((l11 == 0L) ? 4096L : 0L);
+    l13 = l9 + ((l9 == 0L) ? 4096L : 0L);
+    l16 = l4 + ((l4 == 0L) ? 4096L : 0L);
+    l12 = l2 + ((l2 == 0L) ? 4096L : 0L);
+    l17 = l0 + ((l0 == 0L) ? 4096L : 0L);
+    l0 = l6 >>> 3L;
+    l10 = l6 & 7L;
+    L10: while (true) {
+     l19 = 0;
+     L11: {
+      if ((l18 = ((l11 = (l10 >>> 3L) + l0) + Long.MIN_VALUE >= l5 + Long.MIN_VALUE) ? 1 : 0) != 0) { break L11; }
+      l19 = b[((int) (l16 + l11)) - 60720] & 0xff;
+     }
+     l4 = Words.get64(b, ((int) (l12 + 8L)) - 60720);
+     l2 = Words.get64(b, ((int) l12) - 60720);
+     l11 = 0L;
+     L12: {
+      L13: {
+       if (l18 != 0) { break L13; }
+       l18 = 10;
+       if ((((l19 & 255) >>> (((int) l10) & 7)) & 1) != 0) { break L13; }
+       l9 = 0L;
+       break L12;
+      }
+      l18 = 6;
+      L14: {
+       if (l4 + Long.MIN_VALUE >= l2 + Long.MIN_VALUE) { break L14; }
+       l9 = 0L;
+       break L12;
+      }
+      l9 = 0L;
+      if (l1 + Long.MIN_VALUE < l4 + Long.MIN_VALUE) { break L12; }
+      Words.put64(b, ((int) l14) - 60696, 0L);
+      Words.put64(b, ((int) l14) - 60704, 0L);
+      Words.put64(b, ((int) l14) - 60712, 0L);
+      Words.put64(b, ((int) l14) - 60720, 0L);
+      l18 = Core6.f222(m, l17 + l2, l4 - l2, l7, l8, l14);
+      l9 = Words.get64(b, ((int) l14) - 60712);
+      l11 = Words.get64(b, ((int) l14) - 60720);
+     }
+     Words.put64(b, ((int) l13) - 60720, l11);
+     Words.put64(b, ((int) (l13 + 8L)) - 60720, l9);
+     Words.put32(b, ((int) l3) - 60720, l18);
+     l10 = l10 + 1L;
+     l12 = l12 + 8L;
+     l13 = l13 + 16L;
+     l3 = l3 + 4L;
+     if (!((l15 = l15 + -1L) == 0L)) { continue L10; }
+     break L10;
+    }
+   }
+   l18 = 0;
+  }
+  m.g0 = l14 + 32L;
+  final int t15 = l18;
+  return t15;
+ }
+ throw State.trap();
+}
+
+static int f289(State m, long l0, long l1, int l2, int l3, int l4, int l5, long l6, long l7, long l8) {
  final byte[] b = m.bytes;
  long l9 = 0;
  long l10 = 0;
@@ -3093,7 +1680,7 @@ static int f269(State m, long l0, long l1, int l2, int l3, int l4, int l5, long 
     Words.put64(b, ((int) l10) - 60512, 0L);
     Words.put64(b, ((int) l10) - 60520, 0L);
     Words.put64(b, ((int) l10) - 60528, 0L);
-    Core5.f162(m, l10 + 192L, l2, l28, l12, l1, l15, l16);
+    Core5.f169(m, l10 + 192L, l2, l28, l12, l1, l15, l16);
     L13: {
      L14: {
       L15: {
@@ -3113,7 +1700,7 @@ static int f269(State m, long l0, long l1, int l2, int l3, int l4, int l5, long 
          Words.put64(b, ((int) l10) - 60512, l18);
          Words.put64(b, ((int) l10) - 60520, l19);
          Words.put64(b, ((int) l10) - 60528, l20);
-         if (Core5.f170(m, l14, l10 + 192L) != 0) { break L13; }
+         if (Core5.f177(m, l14, l10 + 192L) != 0) { break L13; }
         }
         l9 = l18;
         l0 = l17;
@@ -3154,7 +1741,7 @@ static int f269(State m, long l0, long l1, int l2, int l3, int l4, int l5, long 
         Words.put64(b, ((int) l10) - 60512, l18);
         Words.put64(b, ((int) l10) - 60520, l19);
         Words.put64(b, ((int) l10) - 60528, l20);
-        if (Core5.f173(m, l10 + 89L, l10 + 192L) != 0) { break L15; }
+        if (Core6.f180(m, l10 + 89L, l10 + 192L) != 0) { break L15; }
         break L14;
        }
        Core2.f53(m, l10 + 64L, l15, l16);
@@ -3173,7 +1760,7 @@ static int f269(State m, long l0, long l1, int l2, int l3, int l4, int l5, long 
        Words.put64(b, ((int) l10) - 60512, 0L);
        Words.put64(b, ((int) l10) - 60520, 0L);
        Words.put64(b, ((int) l10) - 60528, 0L);
-       Core5.f162(m, l10 + 192L, l2, l28, l12, l1, l21, l22);
+       Core5.f169(m, l10 + 192L, l2, l28, l12, l1, l21, l22);
        l26 = 0;
        if ((b[((int) l10) - 60528] & 0xff) != 1) { break L13; }
        l21 = Words.get64(b, ((int) l10) - 60488);
@@ -3187,7 +1774,7 @@ static int f269(State m, long l0, long l1, int l2, int l3, int l4, int l5, long 
        Words.put64(b, ((int) l10) - 60560, l23);
        Words.put64(b, ((int) l10) - 60568, l24);
        Words.put64(b, ((int) l10) - 60576, l25);
-       if (Core5.f170(m, l9, l10 + 144L) == 0) { break L13; }
+       if (Core5.f177(m, l9, l10 + 144L) == 0) { break L13; }
        l9 = l23;
        l0 = l6;
        L24: {
@@ -3228,7 +1815,7 @@ static int f269(State m, long l0, long l1, int l2, int l3, int l4, int l5, long 
         Words.put64(b, ((int) l10) - 60512, l23);
         Words.put64(b, ((int) l10) - 60520, l24);
         Words.put64(b, ((int) l10) - 60528, l25);
-        if (Core5.f173(m, l10 + 89L, l10 + 192L) == 0) { break L14; }
+        if (Core6.f180(m, l10 + 89L, l10 + 192L) == 0) { break L14; }
        }
        l9 = l6 + l24;
        continue L23;
@@ -3250,12 +1837,12 @@ static int f269(State m, long l0, long l1, int l2, int l3, int l4, int l5, long 
      Words.put64(b, ((int) l10) - 60600, l17);
      Words.put64(b, ((int) l10) - 60608, l18);
      L32: {
-      if (Core5.f173(m, l10 + 89L, l10 + 96L) == 0) { break L32; }
+      if (Core6.f180(m, l10 + 89L, l10 + 96L) == 0) { break L32; }
       L33: {
        L34: {
         L35: {
-         if (Core6.f175(m, l18, l17) != 0) { break L35; }
-         l4 = Core6.f176(m, l18, l17);
+         if (Core6.f182(m, l18, l17) != 0) { break L35; }
+         l4 = Core6.f183(m, l18, l17);
          L36: {
           if (l30 != 0) { break L36; }
           if (l4 != 0) { break L32; }
@@ -3294,12 +1881,12 @@ static int f269(State m, long l0, long l1, int l2, int l3, int l4, int l5, long 
           Words.put64(b, ((int) l10) - 60512, 0L);
           Words.put64(b, ((int) l10) - 60520, 0L);
           Words.put64(b, ((int) l10) - 60528, 0L);
-          Core6.f177(m, l10 + 192L, l18, l17);
+          Core6.f184(m, l10 + 192L, l18, l17);
           L42: {
            if ((b[((int) l10) - 60528] & 0xff) != 1) { break L42; }
            l9 = Words.get64(b, ((int) l10) - 60520);
            Core2.f53(m, l10 + 64L, l18, l17 - (l11 = Words.get64(b, ((int) l10) - 60512)));
-           Core6.f187(m, l10 + 16L, l10 + 64L, l27, l9, l11);
+           Core6.f194(m, l10 + 16L, l10 + 64L, l27, l9, l11);
            l4 = b[((int) l10) - 60703] & 0xff;
            break L33;
           }
@@ -3337,7 +1924,7 @@ static int f269(State m, long l0, long l1, int l2, int l3, int l4, int l5, long 
            if (l4 != 36127) { break L34; }
           }
           Core2.f53(m, l10 + 64L, 77252L, 1L);
-          Core6.f187(m, l10 + 32L, l10 + 64L, l27, l18 + l9, l17 - l9);
+          Core6.f194(m, l10 + 32L, l10 + 64L, l27, l18 + l9, l17 - l9);
           l4 = b[((int) l10) - 60687] & 0xff;
           break L33;
          }
@@ -3388,7 +1975,7 @@ static int f269(State m, long l0, long l1, int l2, int l3, int l4, int l5, long 
          Words.put64(b, ((int) l10) - 60512, 0L);
          Words.put64(b, ((int) l10) - 60520, 0L);
          Words.put64(b, ((int) l10) - 60528, 0L);
-         Core2.f75(m, l10 + 192L, l18, l17, l27);
+         Core3.f82(m, l10 + 192L, l18, l17, l27);
          Words.put64(b, ((int) l10) - 60576, Words.get64(b, ((int) l13) - 60720));
          Words.put64(b, ((int) l10) - 60568, Words.get64(b, ((int) l13) - 60712));
          Words.put64(b, ((int) l10) - 60560, Words.get64(b, ((int) l13) - 60704));
@@ -3456,7 +2043,7 @@ static int f269(State m, long l0, long l1, int l2, int l3, int l4, int l5, long 
           }
           l3 = (((l3 + -48) + Integer.MIN_VALUE < -2147483638) | ((l3 + -65296) + Integer.MIN_VALUE < -2147483638)) ? 1 : 0;
          }
-         Core6.f179(m, l10, l3, l4);
+         Core6.f186(m, l10, l3, l4);
          Core2.f53(m, l10 + 64L, Words.get64(b, ((int) l10) - 60720), Words.get64(b, ((int) l10) - 60712));
          L63: {
           L64: {
@@ -3470,7 +2057,7 @@ static int f269(State m, long l0, long l1, int l2, int l3, int l4, int l5, long 
          break L30;
         }
        }
-       Core6.f187(m, l10 + 24L, l10 + 64L, l27, l18, l17);
+       Core6.f194(m, l10 + 24L, l10 + 64L, l27, l18, l17);
        l4 = b[((int) l10) - 60695] & 0xff;
       }
       if ((l4 & 1) != 0) { break L30; }
@@ -3489,7 +2076,7 @@ static int f269(State m, long l0, long l1, int l2, int l3, int l4, int l5, long 
  throw State.trap();
 }
 
-static int f271(State m, long l0, long l1, int l2, long l3) {
+static int f291(State m, long l0, long l1, int l2, long l3) {
  final byte[] b = m.bytes;
  long l4 = 0;
  long l5 = 0;
@@ -3548,7 +2135,7 @@ static int f271(State m, long l0, long l1, int l2, long l3) {
    l2 = 5;
    break L1;
   }
-  Core6.f190(m, l5 + 12L, l6, l1, l7);
+  Core6.f197(m, l5 + 12L, l6, l1, l7);
   l2 = 0;
   if ((b[((int) l5) - 60708] & 0xff) != 1) { break L1; }
   l7 = 16;
@@ -3573,7 +2160,7 @@ static int f271(State m, long l0, long l1, int l2, long l3) {
  return l2;
 }
 
-static int f273(State m, long l0, long l1, int l2, int l3, long l4, long l5, long l6) {
+static int f293(State m, long l0, long l1, int l2, int l3, long l4, long l5, long l6) {
  final byte[] b = m.bytes;
  long l7 = 0;
  long l8 = 0;
@@ -3655,8 +2242,8 @@ static int f273(State m, long l0, long l1, int l2, int l3, long l4, long l5, lon
       Words.put64(b, ((int) l7) - 60008, 0L);
       Words.put16(b, ((int) l7) - 60068, (short) 0);
       b[((int) l7) - 60066] = (byte) 0;
-      Core2.f75(m, l7 + 656L, l9, l1, l17);
-      Core6.f190(m, l7 + 652L, l9, l1, l17);
+      Core3.f82(m, l7 + 656L, l9, l1, l17);
+      Core6.f197(m, l7 + 652L, l9, l1, l17);
       l0 = 0L;
       if ((b[((int) l7) - 60064] & 0xff) != 1) { break L2; }
       l0 = 0L;
@@ -3845,7 +2432,7 @@ static int f273(State m, long l0, long l1, int l2, int l3, long l4, long l5, lon
          if (Core1.f31(m, l0, l10, 85727L, 3L) == 0) { break L38; }
          break L40;
         }
-        if (Core6.f194(m, l9, l1, l11) == 0) { break L40; }
+        if (Core6.f201(m, l9, l1, l11) == 0) { break L40; }
         l2 = 43;
         break L37;
        }
@@ -3858,7 +2445,7 @@ static int f273(State m, long l0, long l1, int l2, int l3, long l4, long l5, lon
        if (Core1.f31(m, l8, l0, Words.get64(b, ((int) l7) - 60720), Words.get64(b, ((int) l7) - 60712)) != 0) { break L37; }
        break L38;
       }
-      if (Core6.f194(m, l9, l1, l11) != 0) { break L38; }
+      if (Core6.f201(m, l9, l1, l11) != 0) { break L38; }
       l2 = 42;
       break L37;
      }
@@ -3917,7 +2504,7 @@ static int f273(State m, long l0, long l1, int l2, int l3, long l4, long l5, lon
  return l2;
 }
 
-static int f275(State m, long l0, long l1, int l2, long l3) {
+static int f295(State m, long l0, long l1, int l2, long l3) {
  final byte[] b = m.bytes;
  long l4 = 0;
  long l5 = 0;
@@ -3988,7 +2575,7 @@ static int f275(State m, long l0, long l1, int l2, long l3) {
    l2 = 5;
    break L1;
   }
-  Core2.f75(m, l4 + 16L, l6, l1, l8);
+  Core3.f82(m, l4 + 16L, l6, l1, l8);
   Words.put64(b, ((int) l3) - 60720, 0L);
   Words.put64(b, ((int) l3) - 60712, 0L);
   Words.put64(b, ((int) l3) - 60704, 0L);
@@ -4091,7 +2678,7 @@ static int f275(State m, long l0, long l1, int l2, long l3) {
  return l2;
 }
 
-static int f277_1(State m, long l0, long l1, int l2, int l3, int l4, long l6, long l7, long l8, long l9, long l10, long l11, long l12, long l20, long l29, long l30, long l31, long l32, long l33, long l34, long l35, long l36, long l37, long l38, long l39, long l40, long l41, int l42, int l43, int l44, int l47, int l48, int l50, int l53, int l54) {
+static int f297_1(State m, long l0, long l1, int l2, int l3, int l4, long l6, long l7, long l8, long l9, long l10, long l11, long l12, long l20, long l29, long l30, long l31, long l32, long l33, long l34, long l35, long l36, long l37, long l38, long l39, long l40, long l41, int l42, int l43, int l44, int l47, int l48, int l50, int l53, int l54) {
  final byte[] b = m.bytes;
  int exit = 0;
  PART: {
@@ -4114,7 +2701,7 @@ static int f277_1(State m, long l0, long l1, int l2, int l3, int l4, long l6, lo
        Words.put64(b, ((int) l10) - 60080, l34);
        Words.put64(b, ((int) l10) - 60088, l35);
        Words.put64(b, ((int) l10) - 60096, l36);
-       if (Core5.f170(m, l30, l10 + 624L) != 0) { break L13; }
+       if (Core5.f177(m, l30, l10 + 624L) != 0) { break L13; }
       }
       b[((int) l10) - 60256] = (byte) l48;
       b[((int) l10) - 60257] = (byte) l50;
@@ -4162,11 +2749,11 @@ static int f277_1(State m, long l0, long l1, int l2, int l3, int l4, long l6, lo
       Words.put64(b, ((int) l10) - 60368, l36);
       Words.put64(b, ((int) l10) - 60360, l35);
       m.fill((int) (l10 + 624L), 0, (int) 120L);
-      Core3.f112(m, l10 + 624L, l12, l1, l12 + l35, l1 - l35, l2, l44);
+      Core3.f119(m, l10 + 624L, l12, l1, l12 + l35, l1 - l35, l2, l44);
       Words.put64(b, ((int) l10) - 60216, b[((int) l10) - 60096] & 0xffL);
       Words.put64(b, ((int) l10) - 60208, b[((int) l10) - 60088] & 0xffL);
       m.copy((int) l29, (int) l20, (int) 104L);
-      if (Core6.f195(m, l10 + 456L, l12, l1, l10 + 352L, l10 + 504L) != 0) { break L15; }
+      if (Core6.f202(m, l10 + 456L, l12, l1, l10 + 352L, l10 + 504L) != 0) { break L15; }
       break L14;
      }
      Core2.f53(m, l10 + 152L, l31, l32);
@@ -4185,7 +2772,7 @@ static int f277_1(State m, long l0, long l1, int l2, int l3, int l4, long l6, lo
      Words.put64(b, ((int) l10) - 60080, 0L);
      Words.put64(b, ((int) l10) - 60088, 0L);
      Words.put64(b, ((int) l10) - 60096, 0L);
-     Core3.f111(m, l10 + 624L, l12, l1, l37, l38, l2, l44);
+     Core3.f118(m, l10 + 624L, l12, l1, l37, l38, l2, l44);
      l42 = 0;
      if ((b[((int) l10) - 60096] & 0xff) != 1) { break L13; }
      l37 = Words.get64(b, ((int) l10) - 60056);
@@ -4199,7 +2786,7 @@ static int f277_1(State m, long l0, long l1, int l2, int l3, int l4, long l6, lo
      Words.put64(b, ((int) l10) - 60248, l40);
      Words.put64(b, ((int) l10) - 60256, l6);
      Words.put64(b, ((int) l10) - 60264, l41);
-     if (Core5.f170(m, l9, l10 + 456L) == 0) { break L13; }
+     if (Core5.f177(m, l9, l10 + 456L) == 0) { break L13; }
      b[((int) l10) - 60536] = (byte) l48;
      b[((int) l10) - 60537] = (byte) l50;
      Words.put32(b, ((int) l10) - 60541, l47);
@@ -4247,11 +2834,11 @@ static int f277_1(State m, long l0, long l1, int l2, int l3, int l4, long l6, lo
       Words.put64(b, ((int) l10) - 60368, l41);
       Words.put64(b, ((int) l10) - 60360, l6);
       m.fill((int) (l10 + 624L), 0, (int) 120L);
-      Core3.f112(m, l10 + 624L, l12, l1, l12 + l6, l1 - l6, l2, l44);
+      Core3.f119(m, l10 + 624L, l12, l1, l12 + l6, l1 - l6, l2, l44);
       Words.put64(b, ((int) l10) - 60216, b[((int) l10) - 60096] & 0xffL);
       Words.put64(b, ((int) l10) - 60208, b[((int) l10) - 60088] & 0xffL);
       m.copy((int) l29, (int) l20, (int) 104L);
-      if (Core6.f195(m, l10 + 176L, l12, l1, l10 + 352L, l10 + 504L) == 0) { break L14; }
+      if (Core6.f202(m, l10 + 176L, l12, l1, l10 + 352L, l10 + 504L) == 0) { break L14; }
      }
      l9 = l39 + l6;
      continue L23;
@@ -4282,7 +2869,7 @@ static int f277_1(State m, long l0, long l1, int l2, int l3, int l4, long l6, lo
  return exit;
 }
 
-static int f277_2(State m, long l0, int l3, int l4, int l5, long l6, long l9, long l10, long l11, long l13, long l14, long l15, long l34, long l35, long l36, long l37, long l38, long l39, long l40, long l41, int l46, int l48, int l50, int l51, int l52, int l53, int l54, int l55, int l56) {
+static int f297_2(State m, long l0, int l3, int l4, int l5, long l6, long l9, long l10, long l11, long l13, long l14, long l15, long l34, long l35, long l36, long l37, long l38, long l39, long l40, long l41, int l46, int l48, int l50, int l51, int l52, int l53, int l54, int l55, int l56) {
  final byte[] b = m.bytes;
  int exit = 0;
  PART: {
@@ -4305,7 +2892,7 @@ static int f277_2(State m, long l0, int l3, int l4, int l5, long l6, long l9, lo
    b[((int) l10) - 60424] = (byte) l54;
    Words.put64(b, ((int) l10) - 60408, l9);
    Words.put64(b, ((int) l10) - 60416, l39);
-   if (Core6.f196(m, l10 + 322L, l36, l35, l10 + 296L, l37, l40) == 0) { exit = 2; break PART; }
+   if (Core6.f203(m, l10 + 322L, l36, l35, l10 + 296L, l37, l40) == 0) { exit = 2; break PART; }
    L37: {
     if (((int) (byte) l5) > -1) { break L37; }
     Words.put32(b, ((int) l14) - 60720, Words.get32(b, ((int) l10) - 60440));
@@ -4314,10 +2901,10 @@ static int f277_2(State m, long l0, int l3, int l4, int l5, long l6, long l9, lo
     b[((int) l10) - 60096] = (byte) l54;
     Words.put64(b, ((int) l10) - 60080, l9);
     Words.put64(b, ((int) l10) - 60088, l39);
-    if ((Core6.f197(m, l36, l35, l10 + 624L, l37, l40) & 1) == 0) { break L37; }
+    if ((Core6.f204(m, l36, l35, l10 + 624L, l37, l40) & 1) == 0) { break L37; }
     Words.put32(b, ((int) l10) - 60256, 0);
     Words.put64(b, ((int) l10) - 60264, 0L);
-    Core3.f113(m, l10 + 456L, l53, l10 + 280L);
+    Core4.f120(m, l10 + 456L, l53, l10 + 280L);
     if ((b[((int) l10) - 60264] & 0xff) != 1) { exit = 3; break PART; }
     l11 = Words.get64(b, ((int) l10) - 60260);
     L38: {
@@ -4330,7 +2917,7 @@ static int f277_2(State m, long l0, int l3, int l4, int l5, long l6, long l9, lo
        default: break L40;
        }
       }
-      if (Core6.f202(m, l39, l9) != 0) { exit = 3; break PART; }
+      if (Core6.f209(m, l39, l9) != 0) { exit = 3; break PART; }
       if ((l11 & 71777214277878015L) != 281479271677953L) { exit = 3; break PART; }
       if (((((int) (l0 = l11 >>> 16L)) + -10000) & 65535) + Integer.MIN_VALUE < -2147427112) { exit = 3; break PART; }
       Words.put64(b, ((int) l13) - 60713, 0L);
@@ -4344,15 +2931,15 @@ static int f277_2(State m, long l0, int l3, int l4, int l5, long l6, long l9, lo
       m.fill((int) (l10 + 624L), 0, (int) 80L);
       Core2.f52(m, l10 + 8L, l10 + 624L, l10 + 352L);
       Core2.f53(m, l10 + 152L, Words.get64(b, ((int) l10) - 60712), Words.get64(b, ((int) l10) - 60704));
-      Core6.f208(m, l10 + 152L, (int) (l11 >>> 40L));
-      Core6.f208(m, l10 + 152L, (int) (l11 >>> 56L));
+      Core6.f215(m, l10 + 152L, (int) (l11 >>> 40L));
+      Core6.f215(m, l10 + 152L, (int) (l11 >>> 56L));
       Words.put64(b, ((int) l10) - 60080, 0L);
       Words.put64(b, ((int) l10) - 60088, 0L);
       Words.put64(b, ((int) l10) - 60096, 0L);
       l11 = 85825L;
       L41: {
-       if (Core4.f119(m, l39, l9) != 0) { break L41; }
-       Core4.f123(m, l10 + 624L, 21, l39, l9);
+       if (Core4.f126(m, l39, l9) != 0) { break L41; }
+       Core4.f130(m, l10 + 624L, 21, l39, l9);
        l11 = ((l4 = (((b[((int) l10) - 60096] & 0xff) & 255) == 1) ? 1 : 0) != 0) ? 85825L : 83372L;
        l6 = l4 & 0xffffffffL;
       }
@@ -4361,9 +2948,9 @@ static int f277_2(State m, long l0, int l3, int l4, int l5, long l6, long l9, lo
      }
      b[((int) l10) - 60392] = (byte) (b[((int) l10) - 60261] & 0xff);
      Words.put16(b, ((int) l10) - 60391, (short) l11);
-     if (Core6.f203(m, l54, l36, l35, l37, l40, l39, l9) != 0) { exit = 3; break PART; }
-     if (Core6.f204(m, l39, l9) != 0) { exit = 3; break PART; }
-     Core3.f115(m, l10 + 40L, l54, l37, l40, l10 + 328L);
+     if (Core6.f210(m, l54, l36, l35, l37, l40, l39, l9) != 0) { exit = 3; break PART; }
+     if (Core6.f211(m, l39, l9) != 0) { exit = 3; break PART; }
+     Core4.f122(m, l10 + 40L, l54, l37, l40, l10 + 328L);
      if ((b[((int) l10) - 60680] & 0xff) != 1) { exit = 3; break PART; }
      l4 = b[((int) l10) - 60679] & 0xff;
      L42: {
@@ -4371,7 +2958,7 @@ static int f277_2(State m, long l0, int l3, int l4, int l5, long l6, long l9, lo
       Words.put64(b, ((int) l10) - 60080, 0L);
       Words.put64(b, ((int) l10) - 60088, 0L);
       Words.put64(b, ((int) l10) - 60096, 0L);
-      Core4.f123(m, l10 + 624L, 22, l37, l40);
+      Core4.f130(m, l10 + 624L, 22, l37, l40);
       if ((b[((int) l10) - 60096] & 0xff) != 1) { break L42; }
       Core2.f53(m, l10 + 152L, l37, l40 - Words.get64(b, ((int) l10) - 60080));
      }
@@ -4396,22 +2983,22 @@ static int f277_2(State m, long l0, int l3, int l4, int l5, long l6, long l9, lo
      m.fill((int) (l10 + 624L), 0, (int) 80L);
      Core2.f52(m, l10 + 24L, l10 + 624L, l10 + 352L);
      Core2.f53(m, l10 + 152L, Words.get64(b, ((int) l10) - 60696), Words.get64(b, ((int) l10) - 60688));
-     Core6.f209(m, l10 + 152L, l3);
+     Core6.f216(m, l10 + 152L, l3);
      L45: {
       if (((1 << l53) & -1064961) != 0) { break L45; }
-      Core6.f209(m, l10 + 152L, l54);
+      Core6.f216(m, l10 + 152L, l54);
      }
      Words.put64(b, ((int) l10) - 60080, 0L);
      Words.put64(b, ((int) l10) - 60088, 0L);
      Words.put64(b, ((int) l10) - 60096, 0L);
      L46: {
       L47: {
-       if (Core4.f119(m, l39, l9) == 0) { break L47; }
+       if (Core4.f126(m, l39, l9) == 0) { break L47; }
        l9 = 85825L;
        l11 = 1L;
        break L46;
       }
-      Core4.f123(m, l10 + 624L, 21, l39, l9);
+      Core4.f130(m, l10 + 624L, 21, l39, l9);
       l9 = ((l4 = (((b[((int) l10) - 60096] & 0xff) & 255) == 1) ? 1 : 0) != 0) ? 85825L : 83372L;
       l11 = l4 & 0xffffffffL;
      }
@@ -4428,7 +3015,7 @@ static int f277_2(State m, long l0, int l3, int l4, int l5, long l6, long l9, lo
     m.fill((int) (l10 + 624L), 0, (int) 80L);
     Core2.f52(m, l10 + 64L, l10 + 624L, l10 + 352L);
     Core2.f53(m, l10 + 152L, Words.get64(b, ((int) l10) - 60656), Words.get64(b, ((int) l10) - 60648));
-    Core6.f205(m, l10 + 48L, l37, l40);
+    Core6.f212(m, l10 + 48L, l37, l40);
     l11 = Words.get64(b, ((int) l10) - 60664);
     l9 = Words.get64(b, ((int) l10) - 60672);
     Words.put64(b, ((int) l10) - 60352, 0L);
@@ -4436,7 +3023,7 @@ static int f277_2(State m, long l0, int l3, int l4, int l5, long l6, long l9, lo
     Words.put64(b, ((int) l10) - 60368, 0L);
     L48: {
      if (l53 != 26) { break L48; }
-     Core4.f133(m, l10 + 352L, 83608L, 2L, 83568L, 1L, l9, l11);
+     Core4.f140(m, l10 + 352L, 83608L, 2L, 83568L, 1L, l9, l11);
      if ((b[((int) l10) - 60368] & 0xff) != 1) { exit = 3; break PART; }
      l6 = Words.get64(b, ((int) l10) - 60360);
      l0 = Words.get64(b, ((int) l10) - 60352);
@@ -4481,7 +3068,7 @@ static int f277_2(State m, long l0, int l3, int l4, int l5, long l6, long l9, lo
       }
       Core2.f53(m, l10 + 152L, l9, l11);
      }
-     Core4.f135(m, l10 + 624L, l6, l0);
+     Core4.f142(m, l10 + 624L, l6, l0);
      if ((b[((int) l10) - 60096] & 0xff) != 1) { exit = 3; break PART; }
      Core2.f53(m, l10 + 152L, l6, l0 - Words.get64(b, ((int) l10) - 60080));
      exit = 3; break PART;
@@ -4507,7 +3094,7 @@ static int f277_2(State m, long l0, int l3, int l4, int l5, long l6, long l9, lo
    Words.put64(b, ((int) l10) - 60376, 0L);
    Words.put64(b, ((int) l10) - 60384, 0L);
    Words.put64(b, ((int) l10) - 60392, 0L);
-   Core4.f129(m, l10 + 328L, l54, l37, l40);
+   Core4.f136(m, l10 + 328L, l54, l37, l40);
    if ((b[((int) l10) - 60392] & 0xff) != 1) { exit = 3; break PART; }
    l38 = Words.get64(b, ((int) l10) - 60384);
    Core2.f53(m, l10 + 152L, l37, l40 - (l39 = Words.get64(b, ((int) l10) - 60376)));
@@ -4527,7 +3114,7 @@ static int f277_2(State m, long l0, int l3, int l4, int l5, long l6, long l9, lo
     b[((int) l10) - 60258] = (byte) (l4 = l54);
     Words.put32(b, ((int) l10) - 60264, (int) l9);
     Words.put16(b, ((int) l10) - 60260, (short) (l9 >>> 32L));
-    Core4.f130(m, l10 + 352L, b[((int) (l9 = l37 + (l6 << 1L))) - 60720] & 0xff, b[((int) (l9 + 1L)) - 60720] & 0xff, l10 + 456L);
+    Core4.f137(m, l10 + 352L, b[((int) (l9 = l37 + (l6 << 1L))) - 60720] & 0xff, b[((int) (l9 + 1L)) - 60720] & 0xff, l10 + 456L);
     if ((b[((int) l10) - 60368] & 0xff) != 1) { exit = 3; break PART; }
     l39 = Words.get64(b, ((int) l10) - 60344);
     l38 = Words.get64(b, ((int) l10) - 60352);
@@ -4551,10 +3138,10 @@ static int f277_2(State m, long l0, int l3, int l4, int l5, long l6, long l9, lo
       Words.put64(b, ((int) l10) - 60080, 0L);
       Words.put64(b, ((int) l10) - 60088, 0L);
       Words.put64(b, ((int) l10) - 60096, 0L);
-      Core4.f121(m, l10 + 80L, l4 & 1, l0, l11);
+      Core4.f128(m, l10 + 80L, l4 & 1, l0, l11);
       l9 = Words.get64(b, ((int) l10) - 60640);
       Core2.f53(m, l10 + 152L, l0, l11 - (l41 = Words.get64(b, ((int) l10) - 60632)));
-      Core4.f120(m, l10 + 624L, l9, l41);
+      Core4.f127(m, l10 + 624L, l9, l41);
       l9 = l41 = Words.get64(b, ((int) l10) - 60096);
       l0 = l34 = Words.get64(b, ((int) l10) - 60088);
       L65: {
@@ -4593,11 +3180,11 @@ static int f277_2(State m, long l0, int l3, int l4, int l5, long l6, long l9, lo
        break L61;
       }
       L71: {
-       if ((Core6.f198(m, 1, l41, l34) & 1) != 0) { break L71; }
+       if ((Core6.f205(m, 1, l41, l34) & 1) != 0) { break L71; }
        Core2.f53(m, l10 + 152L, l41, l34);
        break L61;
       }
-      final int t72 = Core6.f210(m, l10 + 152L, 1, l41, l34);
+      final int t72 = Core6.f217(m, l10 + 152L, 1, l41, l34);
       break L61;
      }
      Core2.f53(m, l10 + 152L, l0, l11 - l39);
@@ -4627,7 +3214,7 @@ static int f277_2(State m, long l0, int l3, int l4, int l5, long l6, long l9, lo
  return exit;
 }
 
-static int f277(State m, long l0, long l1, int l2, int l3, int l4, int l5, long l6, long l7, long l8) {
+static int f297(State m, long l0, long l1, int l2, int l3, int l4, int l5, long l6, long l7, long l8) {
  final byte[] b = m.bytes;
  long l9 = 0;
  long l10 = 0;
@@ -4764,8 +3351,8 @@ static int f277(State m, long l0, long l1, int l2, int l3, int l4, int l5, long 
     Words.put64(b, ((int) l10) - 60080, 0L);
     Words.put64(b, ((int) l10) - 60088, 0L);
     Words.put64(b, ((int) l10) - 60096, 0L);
-    Core3.f111(m, l10 + 624L, l12, l1, l31, l32, l2, l44);
-    final int x30 = f277_1(m, l0, l1, l2, l3, l4, l6, l7, l8, l9, l10, l11, l12, l20, l29, l30, l31, l32, l33, l34, l35, l36, l37, l38, l39, l40, l41, l42, l43, l44, l47, l48, l50, l53, l54);
+    Core3.f118(m, l10 + 624L, l12, l1, l31, l32, l2, l44);
+    final int x30 = f297_1(m, l0, l1, l2, l3, l4, l6, l7, l8, l9, l10, l11, l12, l20, l29, l30, l31, l32, l33, l34, l35, l36, l37, l38, l39, l40, l41, l42, l43, l44, l47, l48, l50, l53, l54);
     l0 = m.kept[0];
     l3 = (int) m.kept[1];
     l4 = (int) m.kept[2];
@@ -4802,7 +3389,7 @@ static int f277(State m, long l0, long l1, int l2, int l3, int l4, int l5, long 
      b[((int) l10) - 60432] = (byte) l44;
      b[((int) l10) - 60433] = (byte) l2;
      m.fill((int) (l10 + 624L), 0, (int) 120L);
-     Core3.f112(m, l10 + 624L, l12, l1, l37 = l12 + l35, l40 = l1 - l35, l2, l44);
+     Core3.f119(m, l10 + 624L, l12, l1, l37 = l12 + l35, l40 = l1 - l35, l2, l44);
      Words.put32(b, ((int) l10) - 60440, Words.get32(b, ((int) l28) - 60720));
      Words.put16(b, ((int) l10) - 60436, (short) (Words.get16(b, ((int) l28) - 60716) & 0xffff));
      Words.put64(b, ((int) l10) - 60456, Words.get64(b, ((int) l27) - 60720));
@@ -4848,10 +3435,10 @@ static int f277(State m, long l0, long l1, int l2, int l3, int l4, int l5, long 
      Words.put64(b, ((int) l21) - 60712, Words.get64(b, ((int) l10) - 60488));
      Words.put64(b, ((int) l21) - 60720, Words.get64(b, ((int) l10) - 60496));
      L33: {
-      if (Core6.f195(m, l10 + 287L, l12, l1, l10 + 176L, l10 + 504L) == 0) { break L33; }
+      if (Core6.f202(m, l10 + 287L, l12, l1, l10 + 176L, l10 + 504L) == 0) { break L33; }
       if ((l4 & 255) == 0) { break L33; }
       L34: {
-       final int x73 = f277_2(m, l0, l3, l4, l5, l6, l9, l10, l11, l13, l14, l15, l34, l35, l36, l37, l38, l39, l40, l41, l46, l48, l50, l51, l52, l53, l54, l55, l56);
+       final int x73 = f297_2(m, l0, l3, l4, l5, l6, l9, l10, l11, l13, l14, l15, l34, l35, l36, l37, l38, l39, l40, l41, l46, l48, l50, l51, l52, l53, l54, l55, l56);
        l0 = m.kept[0];
        l3 = (int) m.kept[1];
        l4 = (int) m.kept[2];
@@ -4874,7 +3461,7 @@ static int f277(State m, long l0, long l1, int l2, int l3, int l4, int l5, long 
        case 3: break L31;
        }
        m.fill((int) (l10 + 624L), 0, (int) 112L);
-       Core2.f72(m, l10 + 624L, l9, l11, l0, l6);
+       Core2.f79(m, l10 + 624L, l9, l11, l0, l6);
        if ((b[((int) l10) - 60096] & 0xff) != 1) { break L33; }
        L74: {
         if (l52 != 0) { break L74; }
@@ -4895,14 +3482,14 @@ static int f277(State m, long l0, long l1, int l2, int l3, int l4, int l5, long 
         Words.put64(b, ((int) l16) - 60712, Words.get64(b, ((int) l10) - 60488));
         Words.put64(b, ((int) l10) - 60288, l6);
         Words.put64(b, ((int) l10) - 60296, l0);
-        if (Core3.f116(m, l10 + 352L) != 0) { break L33; }
+        if (Core4.f123(m, l10 + 352L) != 0) { break L33; }
        }
        L75: {
-        if (Core6.f199(m, l9, l11, l0, l6) == 0) { break L75; }
-        if (Core6.f200(m, l51, l9, l11, l0, l6) == 0) { break L33; }
+        if (Core6.f206(m, l9, l11, l0, l6) == 0) { break L75; }
+        if (Core6.f207(m, l51, l9, l11, l0, l6) == 0) { break L33; }
        }
-       Core2.f73(m, l10 + 96L, l9, l11, l0, l6);
-       if ((Core6.f214(m, l10 + 152L, l51, l9, l11, Words.get64(b, ((int) l10) - 60624), Words.get64(b, ((int) l10) - 60616)) & 1) == 0) { break L33; }
+       Core3.f80(m, l10 + 96L, l9, l11, l0, l6);
+       if ((Core6.f221(m, l10 + 152L, l51, l9, l11, Words.get64(b, ((int) l10) - 60624), Words.get64(b, ((int) l10) - 60616)) & 1) == 0) { break L33; }
        Words.put32(b, ((int) l10) - 60368, 0);
        L76: {
         L77: {
@@ -4942,7 +3529,7 @@ static int f277(State m, long l0, long l1, int l2, int l3, int l4, int l5, long 
        Words.put64(b, ((int) l10) - 60080, 0L);
        Words.put64(b, ((int) l10) - 60088, 0L);
        Words.put64(b, ((int) l10) - 60096, 0L);
-       Core2.f75(m, l10 + 624L, l9, l11, 1);
+       Core3.f82(m, l10 + 624L, l9, l11, 1);
        l9 = 83372L;
        L80: {
         if ((b[((int) l10) - 60096] & 0xff) != 0) { break L80; }
@@ -4955,11 +3542,11 @@ static int f277(State m, long l0, long l1, int l2, int l3, int l4, int l5, long 
         Words.put64(b, ((int) l10) - 60080, 0L);
         Words.put64(b, ((int) l10) - 60088, 0L);
         Words.put64(b, ((int) l10) - 60096, 0L);
-        Core2.f75(m, l10 + 624L, l0, l6, 1);
+        Core3.f82(m, l10 + 624L, l0, l6, 1);
         l9 = ((l4 = ((((b[((int) l10) - 60096] & 0xff) & 255) != 0) | (((b[((int) l10) - 60048] & 0xff) & 255) != 2)) ? 1 : 0) != 0) ? 77254L : 83372L;
         l39 = l4 & 0xffffffffL;
        }
-       if ((Core6.f214(m, l10 + 152L, l51, l0, l6, l9, l39) & 1) == 0) { break L33; }
+       if ((Core6.f221(m, l10 + 152L, l51, l0, l6, l9, l39) & 1) == 0) { break L33; }
        break L31;
       }
       b[((int) l10) - 60390] = (byte) l52;
@@ -4970,10 +3557,10 @@ static int f277(State m, long l0, long l1, int l2, int l3, int l4, int l5, long 
       Words.put64(b, ((int) l10) - 60248, l34);
       Words.put64(b, ((int) l10) - 60256, l35);
       Words.put64(b, ((int) l10) - 60264, l36);
-      if (Core6.f174(m, l43, l10 + 328L, l10 + 456L) == 0) { break L33; }
+      if (Core6.f181(m, l43, l10 + 328L, l10 + 456L) == 0) { break L33; }
       L81: {
-       if (Core6.f175(m, l34, l33) != 0) { break L81; }
-       l4 = Core6.f176(m, l34, l33);
+       if (Core6.f182(m, l34, l33) != 0) { break L81; }
+       l4 = Core6.f183(m, l34, l33);
        L82: {
         if (l45 != 0) { break L82; }
         if (l4 != 0) { break L33; }
@@ -5009,7 +3596,7 @@ static int f277(State m, long l0, long l1, int l2, int l3, int l4, int l5, long 
           break L33;
          }
         }
-        if ((Core6.f210(m, l10 + 152L, l43, l34, l33) & 1) != 0) { break L31; }
+        if ((Core6.f217(m, l10 + 152L, l43, l34, l33) & 1) != 0) { break L31; }
         break L33;
        }
        L88: {
@@ -5059,7 +3646,7 @@ static int f277(State m, long l0, long l1, int l2, int l3, int l4, int l5, long 
        Words.put64(b, ((int) l10) - 60080, 0L);
        Words.put64(b, ((int) l10) - 60088, 0L);
        Words.put64(b, ((int) l10) - 60096, 0L);
-       Core2.f75(m, l10 + 624L, l34, l33, l43);
+       Core3.f82(m, l10 + 624L, l34, l33, l43);
        Words.put64(b, ((int) l10) - 60368, Words.get64(b, ((int) l20) - 60720));
        Words.put64(b, ((int) l10) - 60360, Words.get64(b, ((int) l20) - 60712));
        Words.put64(b, ((int) l10) - 60352, Words.get64(b, ((int) l20) - 60704));
@@ -5127,7 +3714,7 @@ static int f277(State m, long l0, long l1, int l2, int l3, int l4, int l5, long 
         }
         l3 = (((l3 + -48) + Integer.MIN_VALUE < -2147483638) | ((l3 + -65296) + Integer.MIN_VALUE < -2147483638)) ? 1 : 0;
        }
-       Core6.f179(m, l10 + 112L, l3, l4);
+       Core6.f186(m, l10 + 112L, l3, l4);
        Core2.f53(m, l10 + 152L, Words.get64(b, ((int) l10) - 60608), Words.get64(b, ((int) l10) - 60600));
        L103: {
         L104: {
@@ -5155,7 +3742,7 @@ static int f277(State m, long l0, long l1, int l2, int l3, int l4, int l5, long 
  throw State.trap();
 }
 
-static int f279_1(State m, long l0, int l1, int l2, int l3, long l7, long l8, long l9, long l11, long l12, long l13, long l14, long l15, long l16, long l17, long l18, long l19, long l20, long l21, long l22, long l23, long l24, long l25, long l26, int l27, int l28, int l29, int l30, int l31) {
+static int f299_1(State m, long l0, int l1, int l2, int l3, long l7, long l8, long l9, long l11, long l12, long l13, long l14, long l15, long l16, long l17, long l18, long l19, long l20, long l21, long l22, long l23, long l24, long l25, long l26, int l27, int l28, int l29, int l30, int l31) {
  final byte[] b = m.bytes;
  int exit = 0;
  PART: {
@@ -5443,7 +4030,7 @@ static int f279_1(State m, long l0, int l1, int l2, int l3, long l7, long l8, lo
        Words.put64(b, ((int) l8) - 59504, 0L);
        Words.put64(b, ((int) l8) - 59512, 0L);
        Words.put64(b, ((int) l8) - 59520, 0L);
-       Core2.f80(m, l8 + 1200L, l14 = l16 + l17, l13 = l7 - l17);
+       Core3.f87(m, l8 + 1200L, l14 = l16 + l17, l13 = l7 - l17);
        if ((b[((int) l8) - 59520] & 0xff) != 1) { break L124; }
        Core2.f61(m, l8 + 40L, Words.get32(b, ((int) l8) - 59512));
        if ((b[((int) l8) - 60680] & 0xff) != 1) { break L124; }
@@ -5456,7 +4043,7 @@ static int f279_1(State m, long l0, int l1, int l2, int l3, long l7, long l8, lo
        l9 = l14;
        l17 = l13;
        L125: while (true) {
-        Core2.f80(m, l8 + 1200L, l9, l17);
+        Core3.f87(m, l8 + 1200L, l9, l17);
         L126: {
          if ((b[((int) l8) - 59520] & 0xff) == 1) { break L126; }
          l16 = l14;
@@ -5511,7 +4098,7 @@ static int f279_1(State m, long l0, int l1, int l2, int l3, long l7, long l8, lo
  return exit;
 }
 
-static int f279(State m, long l0, int l1, int l2, int l3, long l4, long l5, long l6) {
+static int f299(State m, long l0, int l1, int l2, int l3, long l4, long l5, long l6) {
  final byte[] b = m.bytes;
  long l7 = 0;
  long l8 = 0;
@@ -5754,7 +4341,7 @@ static int f279(State m, long l0, int l1, int l2, int l3, long l4, long l5, long
     final int t58 = l27;
     l25 = t58 != 0 ? t56 : t57;
     L59: {
-     final int x127 = f279_1(m, l0, l1, l2, l3, l7, l8, l9, l11, l12, l13, l14, l15, l16, l17, l18, l19, l20, l21, l22, l23, l24, l25, l26, l27, l28, l29, l30, l31);
+     final int x127 = f299_1(m, l0, l1, l2, l3, l7, l8, l9, l11, l12, l13, l14, l15, l16, l17, l18, l19, l20, l21, l22, l23, l24, l25, l26, l27, l28, l29, l30, l31);
      l0 = m.kept[0];
      l1 = (int) m.kept[1];
      l3 = (int) m.kept[2];
@@ -5848,86 +4435,738 @@ static int f279(State m, long l0, int l1, int l2, int l3, long l4, long l5, long
  return l27;
 }
 
-static int f281(State m, long l0, long l1, int l2, int l3, long l4) {
+static int f301(State m, long l0, long l1, int l2, int l3, long l4) {
+ return Core6.f222(m, l0 + ((l0 == 0L) ? 4096L : 0L), l1, l2, l3, l4);
+}
+
+static int f303(State m, long l0, long l1, long l2, long l3, long l4, int l5, int l6, int l7, int l8, long l9, long l10, long l11, long l12, long l13, long l14, long l15) {
  final byte[] b = m.bytes;
- long l5 = 0;
- long l6 = 0;
- long l7 = 0;
- int l8 = 0;
+ long l16 = 0;
+ long l17 = 0;
+ long l18 = 0;
+ long l19 = 0;
+ long l20 = 0;
+ long l21 = 0;
+ long l22 = 0;
+ long l23 = 0;
+ long l24 = 0;
+ long l25 = 0;
+ long l26 = 0;
+ long l27 = 0;
+ long l28 = 0;
+ long l29 = 0;
+ int l30 = 0;
+ int l31 = 0;
+ int l32 = 0;
+ int l33 = 0;
+ int l34 = 0;
+ int l35 = 0;
+ m.g0 = l16 = m.g0 - 272L;
  L1: {
   L2: {
    L3: {
-    if ((l5 = m.g0) < 16L) { break L3; }
     L4: {
-     if (l2 + Integer.MIN_VALUE < -2147483638) { break L4; }
-     Words.put64(b, ((int) l4) - 60696, 0L);
-     Words.put64(b, ((int) l4) - 60704, 0L);
-     Words.put64(b, ((int) l4) - 60712, 0L);
-     Words.put64(b, ((int) l4) - 60720, 0L);
-     break L1;
-    }
-    if (l3 + Integer.MIN_VALUE > -2147483643) { break L2; }
-    l0 = l6 = l0 + ((l0 == 0L) ? 4096L : 0L);
-    l7 = l1;
-    L5: {
-     L6: {
-      if (l1 + Long.MIN_VALUE < -9223372036854775804L) { break L6; }
-      L7: while (true) {
-       if (((Words.get32(b, ((int) l0) - 60720) + 16776990) & 12632312) != 8421376) { break L5; }
-       l0 = l0 + 3L;
-       if ((l7 = l7 + -3L) + Long.MIN_VALUE > -9223372036854775805L) { continue L7; }
-       break L7;
-      }
-     }
-     if (l7 + Long.MIN_VALUE > -9223372036854775805L) { break L5; }
-     L8: {
-      L9: {
-       switch ((int) l7) {
-       case 1: case 2: break L5;
-       case 3: break L9;
-       default: break L8;
+     L5: {
+      L6: {
+       if ((l17 = l16) < 16L) { break L6; }
+       L7: {
+        L8: {
+         if (l6 + Integer.MIN_VALUE > -2147483644) { break L8; }
+         l30 = b[((int) (((l6 & 0xffffffffL) << 1L) + 85585L)) - 60720] & 0xff;
+         l31 = (l6 == 0) ? 1 : 0;
+         break L7;
+        }
+        if (l6 != 5) { break L5; }
+        l31 = 1;
+        l30 = 0;
+       }
+       if ((l8 | l7) + Integer.MIN_VALUE > -2147483647) { break L5; }
+       if (l5 + Integer.MIN_VALUE > -2147483639) { break L5; }
+       l32 = b[((int) ((l8 & 0xffffffffL) + 83500L)) - 60720] & 0xff;
+       l33 = b[((int) ((l7 & 0xffffffffL) + 83500L)) - 60720] & 0xff;
+       m.fill((int) (l17 + 13L), 0, (int) 235L);
+       l18 = 0L;
+       final long t9 = l14;
+       final long t10 = l16 = l10 - ((l10 != 0L) ? 1L : 0L);
+       final int t11 = (l14 + Long.MIN_VALUE < l16 + Long.MIN_VALUE) ? 1 : 0;
+       final long t12 = l16 = t11 != 0 ? t9 : t10;
+       final long t13 = l1;
+       final int t14 = (l16 + Long.MIN_VALUE < l1 + Long.MIN_VALUE) ? 1 : 0;
+       if ((l19 = t14 != 0 ? t12 : t13) == 0L) { break L2; }
+       l20 = l13 + ((l13 == 0L) ? 4096L : 0L);
+       l21 = l11 + ((l11 == 0L) ? 4096L : 0L);
+       l22 = l2 + ((l2 == 0L) ? 4096L : 0L);
+       l23 = l0 + ((l0 == 0L) ? 4096L : 0L);
+       final long t15 = ((l8 = (l8 == 1) ? 1 : 0) != 0) ? 69676L : 69892L;
+       final long t16 = l8 != 0 ? 69244L : 69460L;
+       final int t17 = l7;
+       l16 = t17 != 0 ? t15 : t16;
+       l24 = l4 >>> 3L;
+       l25 = l4 & 7L;
+       l34 = ((l6 + Integer.MIN_VALUE < -2147483643) ? 1 : 0) & l31;
+       l26 = (l5 << 5) & 0xffffffffL;
+       l27 = (l17 + 248L) | 2L;
+       l4 = Words.get64(b, ((int) (l28 = l9 + ((l9 == 0L) ? 4096L : 0L))) - 60720);
+       if (l5 + Integer.MIN_VALUE > -2147483644) { break L4; }
+       l29 = l26 & 224L;
+       l18 = 0L;
+       L18: while (true) {
+        l0 = l4;
+        l9 = Words.get64(b, ((int) (l23 + (l18 << 3L))) - 60720);
+        L19: {
+         L20: {
+          if ((l10 = ((l14 = l18 + l25) >>> 3L) + l24) + Long.MIN_VALUE >= l3 + Long.MIN_VALUE) { break L20; }
+          if ((((b[((int) (l22 + l10)) - 60720] & 0xff) >>> (((int) l14) & 7)) & 1) != 0) { break L20; }
+          l1 = 0L;
+          l11 = 83372L;
+          l8 = 10;
+          break L19;
+         }
+         l1 = 0L;
+         l11 = 83372L;
+         L21: {
+          final int t22 = (Words.get64(b, ((int) (l29 + 67888L)) - 60720) + Long.MIN_VALUE < l9 + Long.MIN_VALUE) ? 1 : 0;
+          final int t23 = (Words.get64(b, ((int) (l29 + 67896L)) - 60720) == 0L) ? 1 : 0;
+          if ((t23 != 0 ? t22 : 0) == 0) { break L21; }
+          l8 = 7;
+          break L19;
+         }
+         L24: {
+          if (l34 == 0) { break L24; }
+          Words.put16(b, ((int) l17) - 60456, (short) 0);
+          l1 = 0L;
+          Words.put64(b, ((int) l17) - 60464, 0L);
+          Words.put64(b, ((int) l17) - 60472, 0L);
+          L25: {
+           if (l9 + Long.MIN_VALUE < -9223372036854765808L) { break L25; }
+           l1 = 0L;
+           l14 = l17 + 248L;
+           L26: while (true) {
+            Words.put16(b, ((int) l14) - 60720, (short) ((l10 = l9) - ((l9 = Long.divideUnsigned(l10, 10000L)) * 10000L)));
+            l14 = l14 + 2L;
+            l1 = l1 + 1L;
+            if (l10 + Long.MIN_VALUE > -9223372036754775809L) { continue L26; }
+            break L26;
+           }
+          }
+          l11 = ((l9 + Long.MIN_VALUE > -9223372036854775799L) ? 2L : 1L) + ((l9 + Long.MIN_VALUE > -9223372036854775709L) ? 1L : 0L);
+          l2 = (l9 + Long.MIN_VALUE > -9223372036854774809L) ? 1L : 0L;
+          l14 = 235L;
+          L27: {
+           if (l1 == 0L) { break L27; }
+           l13 = l17 + 248L;
+           L28: while (true) {
+            Words.put32(b, ((int) ((l10 = (l17 + 13L) + l14) + -4L)) - 60720, Words.get32(b, ((int) (l16 + (((((l31 = (l8 = Words.get16(b, ((int) l13) - 60720) & 0xffff) - ((l5 = (int) ((l8 & 0xffffffffL) / 100L)) * 100)) - ((l31 = (int) (((l31 & 255) & 0xffffffffL) / 10L)) * 10)) << 2) & 0xffffffffL) & 252L))) - 60720));
+            Words.put32(b, ((int) (l10 + -7L)) - 60720, Words.get32(b, ((int) (l16 + ((l31 << 2) & 0xffffffffL))) - 60720));
+            Words.put32(b, ((int) (l10 + -10L)) - 60720, Words.get32(b, ((int) (l16 + ((((int) ((l5 & 0xffffffffL) % 10L)) << 2) & 0xffffffffL))) - 60720));
+            Words.put32(b, ((int) (l10 + -13L)) - 60720, Words.get32(b, ((int) (l16 + ((((int) ((l8 & 0xffffffffL) / 1000L)) << 2) & 0xffffffffL))) - 60720));
+            l13 = l13 + 2L;
+            l14 = l14 + -12L;
+            if ((l1 = l1 + -1L) != 0L) { continue L28; }
+            break L28;
+           }
+          }
+          l10 = l11 + l2;
+          l8 = (int) l9;
+          L29: while (true) {
+           Words.put32(b, ((int) (((l17 + 13L) + l14) + -4L)) - 60720, Words.get32(b, ((int) (l16 + ((((l8 - ((l5 = (int) (((l8 & 65535) & 0xffffffffL) / 10L)) * 10)) << 2) & 0xffffffffL) & 65532L))) - 60720));
+           l14 = l14 + -3L;
+           l8 = l5;
+           if ((l10 = l10 + -1L) != 0L) { continue L29; }
+           break L29;
+          }
+          l1 = 235L - l14;
+          l11 = (l17 + 13L) + l14;
+          l8 = 0;
+          break L19;
+         }
+         final int t30 = l30;
+         final int t31 = ((l8 = (l9 + Long.MIN_VALUE < -9213372036854775808L) ? 1 : 0) != 0) ? 2 : 1;
+         final int t32 = (l7 == 1) ? 1 : 0;
+         final int t33 = t32 != 0 ? t31 : 1;
+         final int t34 = (l6 + Integer.MIN_VALUE < -2147483643) ? 1 : 0;
+         l5 = t34 != 0 ? t30 : t33;
+         L35: {
+          if (l8 != 0) { break L35; }
+          if ((l5 & 255) != 0) { break L35; }
+          l8 = 3;
+          break L19;
+         }
+         l8 = 0;
+         Words.put32(b, ((int) l27) - 60720, 0);
+         Words.put16(b, ((int) l27) - 60716, (short) 0);
+         b[((int) l17) - 60471] = (byte) l32;
+         b[((int) l17) - 60472] = (byte) l33;
+         Words.put64(b, ((int) l17) - 60464, l16);
+         l1 = 235L - (l14 = Core2.f49(m, l17 + 13L, l17 + 248L, l5, 0, l9, 0L));
+         l11 = (l17 + 13L) + l14;
+        }
+        if (l12 + Long.MIN_VALUE < l0 + Long.MIN_VALUE) { break L2; }
+        if ((l12 - l0) + Long.MIN_VALUE < l1 + Long.MIN_VALUE) { break L2; }
+        l4 = l1 + l0;
+        L36: {
+         L37: {
+          if (((l9 = l21 + l0) - l11) + Long.MIN_VALUE >= l1 + Long.MIN_VALUE) { break L37; }
+          l13 = l1 & 3L;
+          l10 = 0L;
+          L38: {
+           if (l1 + Long.MIN_VALUE < -9223372036854775804L) { break L38; }
+           l2 = l1 & -4L;
+           l10 = 0L;
+           L39: while (true) {
+            b[((int) (l14 = l9 + l10)) - 60720] = (byte) (b[((int) (l1 = l11 + l10)) - 60720] & 0xff);
+            b[((int) (l14 + 1L)) - 60720] = (byte) (b[((int) (l1 + 1L)) - 60720] & 0xff);
+            b[((int) (l14 + 2L)) - 60720] = (byte) (b[((int) (l1 + 2L)) - 60720] & 0xff);
+            b[((int) (l14 + 3L)) - 60720] = (byte) (b[((int) (l1 + 3L)) - 60720] & 0xff);
+            if (l2 != (l10 = l10 + 4L)) { continue L39; }
+            break L39;
+           }
+           if (l13 == 0L) { break L36; }
+          }
+          l14 = l11 + l10;
+          l10 = l21 + (l0 + l10);
+          L40: while (true) {
+           b[((int) l10) - 60720] = (byte) (b[((int) l14) - 60720] & 0xff);
+           l10 = l10 + 1L;
+           l14 = l14 + 1L;
+           if ((l13 = l13 + -1L) != 0L) { continue L40; }
+           break L36;
+          }
+         }
+         if (l1 == 0L) { break L36; }
+         m.copy((int) l9, (int) l11, (int) l1);
+        }
+        Words.put32(b, ((int) (l20 + (l18 << 2L))) - 60720, l8);
+        Words.put64(b, ((int) (l28 + ((l18 = l18 + 1L) << 3L))) - 60720, l4);
+        if (l18 != l19) { continue L18; }
+        break L3;
        }
       }
-      if (((((Words.get16(b, ((int) l0) - 60720) & 0xffff) | ((b[((int) (l0 + 2L)) - 60720] & 0xff) << 16)) + 16776990) & 12632312) != 8421376) { break L5; }
+      throw State.trap();
      }
-     L10: {
-      if (l3 + Integer.MIN_VALUE > -2147483644) { break L10; }
-      l3 = b[((int) ((l0 = (l3 & 0xffffffffL) << 1L) + 85585L)) - 60720] & 0xff;
-      l8 = b[((int) (l0 + 85584L)) - 60720] & 0xff;
-      L11: {
-       if (l2 + Integer.MIN_VALUE < -2147483643) { break L11; }
-       l2 = Core5.f167(m, l6, l1, l2, l8, l3, l4);
-       m.g0 = l5;
-       final int t12 = l2;
-       return t12;
-      }
-      l2 = Core5.f168(m, l6, l1, l2, l8, l3, l4);
-      m.g0 = l5;
-      final int t13 = l2;
-      return t13;
-     }
-     l2 = Core5.f169(m, l6, l1, l2, l4);
-     m.g0 = l5;
-     final int t14 = l2;
-     return t14;
+     Words.put64(b, ((int) l15) - 60720, 0L);
+     l8 = 8;
+     break L1;
     }
-    l2 = Core6.f215(m, l6, l1, l2, l3, l4);
-    m.g0 = l5;
-    final int t15 = l2;
-    return t15;
+    l35 = Words.get32(b, ((int) (l16 + 104L)) - 60720);
+    l0 = l17 + 9L;
+    l18 = 0L;
+    L41: while (true) {
+     l29 = l4;
+     l2 = Words.get64(b, ((int) (l23 + (l18 << 3L))) - 60720);
+     L42: {
+      L43: {
+       if ((l10 = ((l14 = l18 + l25) >>> 3L) + l24) + Long.MIN_VALUE >= l3 + Long.MIN_VALUE) { break L43; }
+       if ((((b[((int) (l22 + l10)) - 60720] & 0xff) >>> (((int) l14) & 7)) & 1) != 0) { break L43; }
+       l1 = 0L;
+       l11 = 83372L;
+       l8 = 10;
+       break L42;
+      }
+      l1 = 0L;
+      l11 = 83372L;
+      L44: {
+       final int t45 = (Words.get64(b, ((int) (l14 = l26 + ((l2 < 0L) ? 67904L : 67888L))) - 60720) + Long.MIN_VALUE < (l9 = (l2 ^ (l10 = l2 >> 63L)) - l10) + Long.MIN_VALUE) ? 1 : 0;
+       final int t46 = (Words.get64(b, ((int) l14) - 60712) == 0L) ? 1 : 0;
+       if ((t46 != 0 ? t45 : 0) == 0) { break L44; }
+       l8 = 7;
+       break L42;
+      }
+      L47: {
+       if (l34 != 0) { break L47; }
+       final int t48 = l30;
+       final int t49 = ((l8 = (l9 + Long.MIN_VALUE < -9213372036854775808L) ? 1 : 0) != 0) ? 2 : 1;
+       final int t50 = (l7 == 1) ? 1 : 0;
+       final int t51 = t50 != 0 ? t49 : 1;
+       final int t52 = (l6 + Integer.MIN_VALUE < -2147483643) ? 1 : 0;
+       l5 = t52 != 0 ? t48 : t51;
+       L53: {
+        L54: {
+         if (l8 != 0) { break L54; }
+         if ((l5 & 255) == 0) { break L53; }
+        }
+        l8 = 0;
+        Words.put32(b, ((int) l27) - 60720, 0);
+        Words.put16(b, ((int) l27) - 60716, (short) 0);
+        b[((int) l17) - 60471] = (byte) l32;
+        b[((int) l17) - 60472] = (byte) l33;
+        Words.put64(b, ((int) l17) - 60464, l16);
+        l1 = 235L - (l14 = Core2.f49(m, l17 + 13L, l17 + 248L, l5, (int) (l2 >>> 63L), l9, 0L));
+        l11 = (l17 + 13L) + l14;
+        break L42;
+       }
+       l8 = (l2 > -1L) ? 3 : 4;
+       break L42;
+      }
+      Words.put16(b, ((int) l17) - 60456, (short) 0);
+      l1 = 0L;
+      Words.put64(b, ((int) l17) - 60464, 0L);
+      Words.put64(b, ((int) l17) - 60472, 0L);
+      L55: {
+       if (l9 + Long.MIN_VALUE < -9223372036854765808L) { break L55; }
+       l1 = 0L;
+       l14 = l17 + 248L;
+       L56: while (true) {
+        Words.put16(b, ((int) l14) - 60720, (short) ((l10 = l9) - ((l9 = Long.divideUnsigned(l10, 10000L)) * 10000L)));
+        l14 = l14 + 2L;
+        l1 = l1 + 1L;
+        if (l10 + Long.MIN_VALUE > -9223372036754775809L) { continue L56; }
+        break L56;
+       }
+      }
+      l11 = ((l9 + Long.MIN_VALUE > -9223372036854775799L) ? 2L : 1L) + ((l9 + Long.MIN_VALUE > -9223372036854775709L) ? 1L : 0L);
+      l4 = (l9 + Long.MIN_VALUE > -9223372036854774809L) ? 1L : 0L;
+      l14 = 235L;
+      L57: {
+       if (l1 == 0L) { break L57; }
+       l13 = l17 + 248L;
+       L58: while (true) {
+        Words.put32(b, ((int) ((l10 = (l17 + 13L) + l14) + -4L)) - 60720, Words.get32(b, ((int) (l16 + (((((l31 = (l8 = Words.get16(b, ((int) l13) - 60720) & 0xffff) - ((l5 = (int) ((l8 & 0xffffffffL) / 100L)) * 100)) - ((l31 = (int) (((l31 & 255) & 0xffffffffL) / 10L)) * 10)) << 2) & 0xffffffffL) & 252L))) - 60720));
+        Words.put32(b, ((int) (l10 + -7L)) - 60720, Words.get32(b, ((int) (l16 + ((l31 << 2) & 0xffffffffL))) - 60720));
+        Words.put32(b, ((int) (l10 + -10L)) - 60720, Words.get32(b, ((int) (l16 + ((((int) ((l5 & 0xffffffffL) % 10L)) << 2) & 0xffffffffL))) - 60720));
+        Words.put32(b, ((int) (l10 + -13L)) - 60720, Words.get32(b, ((int) (l16 + ((((int) ((l8 & 0xffffffffL) / 1000L)) << 2) & 0xffffffffL))) - 60720));
+        l13 = l13 + 2L;
+        l14 = l14 + -12L;
+        if ((l1 = l1 + -1L) != 0L) { continue L58; }
+        break L58;
+       }
+      }
+      l10 = l11 + l4;
+      l8 = (int) l9;
+      L59: while (true) {
+       Words.put32(b, ((int) (l0 + l14)) - 60720, Words.get32(b, ((int) (l16 + ((((l8 - ((l5 = (int) (((l8 & 65535) & 0xffffffffL) / 10L)) * 10)) << 2) & 0xffffffffL) & 65532L))) - 60720));
+       l14 = l14 + -3L;
+       l8 = l5;
+       if ((l10 = l10 + -1L) != 0L) { continue L59; }
+       break L59;
+      }
+      L60: {
+       if (l2 > -1L) { break L60; }
+       Words.put32(b, ((int) (l0 + l14)) - 60720, l35);
+       l14 = l14 + -3L;
+      }
+      l1 = 235L - l14;
+      l11 = (l17 + 13L) + l14;
+      l8 = 0;
+     }
+     if (l12 + Long.MIN_VALUE < l29 + Long.MIN_VALUE) { break L2; }
+     if ((l12 - l29) + Long.MIN_VALUE < l1 + Long.MIN_VALUE) { break L2; }
+     l4 = l1 + l29;
+     L61: {
+      L62: {
+       if (((l9 = l21 + l29) - l11) + Long.MIN_VALUE >= l1 + Long.MIN_VALUE) { break L62; }
+       l13 = l1 & 3L;
+       l10 = 0L;
+       L63: {
+        if (l1 + Long.MIN_VALUE < -9223372036854775804L) { break L63; }
+        l2 = l1 & -4L;
+        l10 = 0L;
+        L64: while (true) {
+         b[((int) (l14 = l9 + l10)) - 60720] = (byte) (b[((int) (l1 = l11 + l10)) - 60720] & 0xff);
+         b[((int) (l14 + 1L)) - 60720] = (byte) (b[((int) (l1 + 1L)) - 60720] & 0xff);
+         b[((int) (l14 + 2L)) - 60720] = (byte) (b[((int) (l1 + 2L)) - 60720] & 0xff);
+         b[((int) (l14 + 3L)) - 60720] = (byte) (b[((int) (l1 + 3L)) - 60720] & 0xff);
+         if (l2 != (l10 = l10 + 4L)) { continue L64; }
+         break L64;
+        }
+        if (l13 == 0L) { break L61; }
+       }
+       l14 = l11 + l10;
+       l10 = l21 + (l29 + l10);
+       L65: while (true) {
+        b[((int) l10) - 60720] = (byte) (b[((int) l14) - 60720] & 0xff);
+        l10 = l10 + 1L;
+        l14 = l14 + 1L;
+        if ((l13 = l13 + -1L) != 0L) { continue L65; }
+        break L61;
+       }
+      }
+      if (l1 == 0L) { break L61; }
+      m.copy((int) l9, (int) l11, (int) l1);
+     }
+     Words.put32(b, ((int) (l20 + (l18 << 2L))) - 60720, l8);
+     Words.put64(b, ((int) (l28 + ((l18 = l18 + 1L) << 3L))) - 60720, l4);
+     if (l18 != l19) { continue L41; }
+     break L41;
+    }
    }
-   throw State.trap();
+   l18 = l19;
   }
-  Words.put64(b, ((int) l4) - 60696, 0L);
-  Words.put64(b, ((int) l4) - 60704, 0L);
-  Words.put64(b, ((int) l4) - 60712, 0L);
-  Words.put64(b, ((int) l4) - 60720, 0L);
+  Words.put64(b, ((int) l15) - 60720, l18);
+  l8 = (l18 == l19) ? 0 : 6;
  }
- m.g0 = l5;
- return 8;
+ m.g0 = l17 + 272L;
+ return l8;
 }
 
-static int f283(State m, long l0, long l1, int l2, int l3, int l4, int l5, long l6, long l7, long l8) {
+static int f305(State m, long l0, long l1, long l2, long l3, long l4, int l5, int l6, int l7, int l8, long l9, long l10, long l11, long l12, long l13, long l14, long l15) {
+ final byte[] b = m.bytes;
+ long l16 = 0;
+ long l17 = 0;
+ long l18 = 0;
+ long l19 = 0;
+ long l20 = 0;
+ long l21 = 0;
+ long l22 = 0;
+ long l23 = 0;
+ long l24 = 0;
+ long l25 = 0;
+ long l26 = 0;
+ long l27 = 0;
+ long l28 = 0;
+ long l29 = 0;
+ long l30 = 0;
+ int l31 = 0;
+ int l32 = 0;
+ int l33 = 0;
+ int l34 = 0;
+ int l35 = 0;
+ int l36 = 0;
+ int l37 = 0;
+ m.g0 = l16 = m.g0 - 272L;
+ L1: {
+  if ((l17 = l16) < 16L) { break L1; }
+  L2: {
+   L3: {
+    L4: {
+     L5: {
+      if (l6 + Integer.MIN_VALUE > -2147483644) { break L5; }
+      l31 = b[((int) (((l6 & 0xffffffffL) << 1L) + 85585L)) - 60720] & 0xff;
+      l32 = (l6 == 0) ? 1 : 0;
+      break L4;
+     }
+     if (l6 != 5) { break L3; }
+     l32 = 1;
+     l31 = 0;
+    }
+    if ((l8 | l7) + Integer.MIN_VALUE > -2147483647) { break L3; }
+    if (l5 + Integer.MIN_VALUE > -2147483639) { break L3; }
+    l33 = b[((int) ((l8 & 0xffffffffL) + 83500L)) - 60720] & 0xff;
+    l34 = b[((int) ((l7 & 0xffffffffL) + 83500L)) - 60720] & 0xff;
+    m.fill((int) (l17 + 13L), 0, (int) 235L);
+    l18 = 0L;
+    L6: {
+     final long t7 = l14;
+     final long t8 = l16 = l10 - ((l10 != 0L) ? 1L : 0L);
+     final int t9 = (l14 + Long.MIN_VALUE < l16 + Long.MIN_VALUE) ? 1 : 0;
+     final long t10 = l16 = t9 != 0 ? t7 : t8;
+     final long t11 = l1;
+     final int t12 = (l16 + Long.MIN_VALUE < l1 + Long.MIN_VALUE) ? 1 : 0;
+     if ((l19 = t12 != 0 ? t10 : t11) == 0L) { break L6; }
+     l20 = l13 + ((l13 == 0L) ? 4096L : 0L);
+     l21 = l11 + ((l11 == 0L) ? 4096L : 0L);
+     l22 = l2 + ((l2 == 0L) ? 4096L : 0L);
+     l23 = l0 + ((l0 == 0L) ? 4096L : 0L);
+     final long t13 = ((l8 = (l8 == 1) ? 1 : 0) != 0) ? 69676L : 69892L;
+     final long t14 = l8 != 0 ? 69244L : 69460L;
+     final int t15 = l7;
+     l35 = Words.get32(b, ((int) ((l13 = t15 != 0 ? t13 : t14) + 104L)) - 60720);
+     l24 = l4 >>> 3L;
+     l25 = l4 & 7L;
+     l27 = (l26 = (l5 << 5) & 0xffffffffL) & 224L;
+     l28 = l17 + 9L;
+     l29 = (l17 + 248L) | 2L;
+     l4 = Words.get64(b, ((int) (l30 = l9 + ((l9 == 0L) ? 4096L : 0L))) - 60720);
+     l18 = 0L;
+     L16: while (true) {
+      l0 = l4;
+      l9 = Words.get64(b, ((int) (l16 = l23 + (l18 << 4L))) - 60712);
+      l16 = Words.get64(b, ((int) l16) - 60720);
+      L17: {
+       L18: {
+        if ((l10 = ((l14 = l18 + l25) >>> 3L) + l24) + Long.MIN_VALUE >= l3 + Long.MIN_VALUE) { break L18; }
+        if ((((b[((int) (l22 + l10)) - 60720] & 0xff) >>> (((int) l14) & 7)) & 1) != 0) { break L18; }
+        l10 = 0L;
+        l11 = 83372L;
+        l8 = 10;
+        break L17;
+       }
+       L19: {
+        if (l5 + Integer.MIN_VALUE < -2147483643) { break L19; }
+        l10 = 0L;
+        l11 = 83372L;
+        L20: {
+         final long t21 = 0L - l16;
+         final long t22 = l16;
+         final int t23 = l8 = (l9 < 0L) ? 1 : 0;
+         final int t24 = ((l14 = t23 != 0 ? t21 : t22) + Long.MIN_VALUE > Words.get64(b, ((int) (l1 = l26 + (l8 != 0 ? 67904L : 67888L))) - 60720) + Long.MIN_VALUE) ? 1 : 0;
+         final long t25 = 0L - (l9 + ((l16 != 0L) ? 1L : 0L));
+         final long t26 = l9;
+         final int t27 = l8;
+         final int t28 = ((l16 = t27 != 0 ? t25 : t26) + Long.MIN_VALUE > (l1 = Words.get64(b, ((int) l1) - 60712)) + Long.MIN_VALUE) ? 1 : 0;
+         final int t29 = (l16 == l1) ? 1 : 0;
+         if ((t29 != 0 ? t24 : t28) == 0) { break L20; }
+         l8 = 7;
+         break L17;
+        }
+        L30: {
+         L31: {
+          L32: {
+           if (l6 + Integer.MIN_VALUE < -2147483643) { break L32; }
+           final int t33 = (l14 + Long.MIN_VALUE < -9213372036854775808L) ? 1 : 0;
+           final int t34 = (l16 == 0L) ? 1 : 0;
+           final int t35 = ((t34 != 0 ? t33 : 0) != 0) ? 2 : 1;
+           final int t36 = (l7 == 1) ? 1 : 0;
+           l36 = t36 != 0 ? t35 : 1;
+           break L31;
+          }
+          L37: {
+           if (l32 == 0) { break L37; }
+           Words.put16(b, ((int) l17) - 60456, (short) 0);
+           l10 = 0L;
+           Words.put64(b, ((int) l17) - 60464, 0L);
+           Words.put64(b, ((int) l17) - 60472, 0L);
+           L38: {
+            if (l16 == 0L) { break L38; }
+            l2 = (l14 >>> 42L) | (l16 << 22L);
+            l1 = l16 >>> 4L;
+            l16 = l17 + 248L;
+            l10 = 0L;
+            L39: while (true) {
+             Words.put16(b, ((int) (l16 + 6L)) - 60720, (short) Long.divideUnsigned(l14 = (((l2 = (((l1 = ((l1 - ((l11 = Long.divideUnsigned(l1, 152587890625L)) * 152587890625L)) << 26L) | (l2 & 67108863L)) - ((l1 = Long.divideUnsigned(l1, 152587890625L)) * 152587890625L)) << 26L) | ((l14 >>> 16L) & 67108863L)) - ((l2 = Long.divideUnsigned(l2, 152587890625L)) * 152587890625L)) << 16L) | (l14 & 65535L), 1000000000000L));
+             Words.put16(b, ((int) (l16 + 4L)) - 60720, (short) ((int) ((((int) (l4 = Long.divideUnsigned(l14, 100000000L))) & 0xffffffffL) % 10000L)));
+             Words.put16(b, ((int) (l16 + 2L)) - 60720, (short) (l36 = (int) (((l8 = (int) (l14 - (l4 * 100000000L))) & 0xffffffffL) / 10000L)));
+             Words.put16(b, ((int) l16) - 60720, (short) (l8 - (l36 * 10000)));
+             l2 = ((l14 = (l4 = l11 << 52L) + (l2 + (l1 << 26L))) >>> 42L) | ((l11 = (l11 >>> 12L) + ((l14 + Long.MIN_VALUE < l4 + Long.MIN_VALUE) ? 1L : 0L)) << 22L);
+             l1 = l11 >>> 4L;
+             l16 = l16 + 8L;
+             l10 = l10 + 4L;
+             if (l11 != 0L) { continue L39; }
+             break L39;
+            }
+           }
+           L40: {
+            if (l14 + Long.MIN_VALUE < -9223372036854765808L) { break L40; }
+            l16 = (l17 + 248L) + (l10 << 1L);
+            L41: while (true) {
+             Words.put16(b, ((int) l16) - 60720, (short) ((l1 = l14) - ((l14 = Long.divideUnsigned(l1, 10000L)) * 10000L)));
+             l16 = l16 + 2L;
+             l10 = l10 + 1L;
+             if (l1 + Long.MIN_VALUE > -9223372036754775809L) { continue L41; }
+             break L41;
+            }
+           }
+           l2 = ((l14 + Long.MIN_VALUE > -9223372036854775799L) ? 2L : 1L) + ((l14 + Long.MIN_VALUE > -9223372036854775709L) ? 1L : 0L);
+           l4 = (l14 + Long.MIN_VALUE > -9223372036854774809L) ? 1L : 0L;
+           l16 = 235L;
+           L42: {
+            if (l10 == 0L) { break L42; }
+            l11 = l17 + 248L;
+            L43: while (true) {
+             Words.put32(b, ((int) ((l1 = (l17 + 13L) + l16) + -4L)) - 60720, Words.get32(b, ((int) (l13 + (((((l37 = (l8 = Words.get16(b, ((int) l11) - 60720) & 0xffff) - ((l36 = (int) ((l8 & 0xffffffffL) / 100L)) * 100)) - ((l37 = (int) (((l37 & 255) & 0xffffffffL) / 10L)) * 10)) << 2) & 0xffffffffL) & 252L))) - 60720));
+             Words.put32(b, ((int) (l1 + -7L)) - 60720, Words.get32(b, ((int) (l13 + ((l37 << 2) & 0xffffffffL))) - 60720));
+             Words.put32(b, ((int) (l1 + -10L)) - 60720, Words.get32(b, ((int) (l13 + ((((int) ((l36 & 0xffffffffL) % 10L)) << 2) & 0xffffffffL))) - 60720));
+             Words.put32(b, ((int) (l1 + -13L)) - 60720, Words.get32(b, ((int) (l13 + ((((int) ((l8 & 0xffffffffL) / 1000L)) << 2) & 0xffffffffL))) - 60720));
+             l11 = l11 + 2L;
+             l16 = l16 + -12L;
+             if ((l10 = l10 + -1L) != 0L) { continue L43; }
+             break L43;
+            }
+           }
+           l10 = l2 + l4;
+           l8 = (int) l14;
+           L44: while (true) {
+            Words.put32(b, ((int) (l28 + l16)) - 60720, Words.get32(b, ((int) (l13 + ((((l8 - ((l36 = (int) (((l8 & 65535) & 0xffffffffL) / 10L)) * 10)) << 2) & 0xffffffffL) & 65532L))) - 60720));
+            l16 = l16 + -3L;
+            l8 = l36;
+            if ((l10 = l10 + -1L) != 0L) { continue L44; }
+            break L44;
+           }
+           L45: {
+            if (l9 > -1L) { break L45; }
+            Words.put32(b, ((int) (l28 + l16)) - 60720, l35);
+            l16 = l16 + -3L;
+           }
+           l10 = 235L - l16;
+           l11 = (l17 + 13L) + l16;
+           l8 = 0;
+           break L17;
+          }
+          l36 = l31;
+          if ((l31 & 255) != 0) { break L31; }
+          l10 = 0L;
+          l36 = l31;
+          final int t46 = (l14 + Long.MIN_VALUE > -9213372036854775809L) ? 1 : 0;
+          final int t47 = (l16 != 0L) ? 1 : 0;
+          final int t48 = (l16 == 0L) ? 1 : 0;
+          if ((t48 != 0 ? t46 : t47) != 0) { break L30; }
+         }
+         l8 = 0;
+         Words.put32(b, ((int) l29) - 60720, 0);
+         Words.put16(b, ((int) l29) - 60716, (short) 0);
+         b[((int) l17) - 60471] = (byte) l33;
+         b[((int) l17) - 60472] = (byte) l34;
+         Words.put64(b, ((int) l17) - 60464, l13);
+         l10 = 235L - (l16 = Core2.f49(m, l17 + 13L, l17 + 248L, l36, (int) (l9 >>> 63L), l14, l16));
+         l11 = (l17 + 13L) + l16;
+         break L17;
+        }
+        l8 = (l9 > -1L) ? 3 : 4;
+        break L17;
+       }
+       l10 = 0L;
+       l11 = 83372L;
+       L49: {
+        final int t50 = (l16 + Long.MIN_VALUE > Words.get64(b, ((int) (l27 + 67888L)) - 60720) + Long.MIN_VALUE) ? 1 : 0;
+        final int t51 = (l9 + Long.MIN_VALUE > (l14 = Words.get64(b, ((int) (l27 + 67896L)) - 60720)) + Long.MIN_VALUE) ? 1 : 0;
+        final int t52 = (l9 == l14) ? 1 : 0;
+        if ((t52 != 0 ? t50 : t51) == 0) { break L49; }
+        l8 = 7;
+        break L17;
+       }
+       L53: {
+        L54: {
+         if (l6 + Integer.MIN_VALUE < -2147483643) { break L54; }
+         final int t55 = (l16 + Long.MIN_VALUE < -9213372036854775808L) ? 1 : 0;
+         final int t56 = (l9 == 0L) ? 1 : 0;
+         final int t57 = ((t56 != 0 ? t55 : 0) != 0) ? 2 : 1;
+         final int t58 = (l7 == 1) ? 1 : 0;
+         l36 = t58 != 0 ? t57 : 1;
+         break L53;
+        }
+        L59: {
+         if (l32 == 0) { break L59; }
+         Words.put16(b, ((int) l17) - 60456, (short) 0);
+         l10 = 0L;
+         Words.put64(b, ((int) l17) - 60464, 0L);
+         Words.put64(b, ((int) l17) - 60472, 0L);
+         L60: {
+          if (l9 == 0L) { break L60; }
+          l2 = (l16 >>> 42L) | (l9 << 22L);
+          l1 = l9 >>> 4L;
+          l14 = l17 + 248L;
+          l10 = 0L;
+          L61: while (true) {
+           Words.put16(b, ((int) (l14 + 6L)) - 60720, (short) Long.divideUnsigned(l16 = (((l9 = (((l1 = ((l1 - ((l11 = Long.divideUnsigned(l1, 152587890625L)) * 152587890625L)) << 26L) | (l2 & 67108863L)) - ((l1 = Long.divideUnsigned(l1, 152587890625L)) * 152587890625L)) << 26L) | ((l16 >>> 16L) & 67108863L)) - ((l9 = Long.divideUnsigned(l9, 152587890625L)) * 152587890625L)) << 16L) | (l16 & 65535L), 1000000000000L));
+           Words.put16(b, ((int) (l14 + 4L)) - 60720, (short) ((int) ((((int) (l2 = Long.divideUnsigned(l16, 100000000L))) & 0xffffffffL) % 10000L)));
+           Words.put16(b, ((int) (l14 + 2L)) - 60720, (short) (l36 = (int) (((l8 = (int) (l16 - (l2 * 100000000L))) & 0xffffffffL) / 10000L)));
+           Words.put16(b, ((int) l14) - 60720, (short) (l8 - (l36 * 10000)));
+           l2 = ((l16 = (l2 = l11 << 52L) + (l9 + (l1 << 26L))) >>> 42L) | ((l11 = (l11 >>> 12L) + ((l16 + Long.MIN_VALUE < l2 + Long.MIN_VALUE) ? 1L : 0L)) << 22L);
+           l1 = l11 >>> 4L;
+           l14 = l14 + 8L;
+           l10 = l10 + 4L;
+           if (l11 != 0L) { continue L61; }
+           break L61;
+          }
+         }
+         L62: {
+          if (l16 + Long.MIN_VALUE < -9223372036854765808L) { break L62; }
+          l14 = (l17 + 248L) + (l10 << 1L);
+          L63: while (true) {
+           Words.put16(b, ((int) l14) - 60720, (short) ((l1 = l16) - ((l16 = Long.divideUnsigned(l1, 10000L)) * 10000L)));
+           l14 = l14 + 2L;
+           l10 = l10 + 1L;
+           if (l1 + Long.MIN_VALUE > -9223372036754775809L) { continue L63; }
+           break L63;
+          }
+         }
+         l9 = ((l16 + Long.MIN_VALUE > -9223372036854775799L) ? 2L : 1L) + ((l16 + Long.MIN_VALUE > -9223372036854775709L) ? 1L : 0L);
+         l2 = (l16 + Long.MIN_VALUE > -9223372036854774809L) ? 1L : 0L;
+         l14 = 235L;
+         L64: {
+          if (l10 == 0L) { break L64; }
+          l11 = l17 + 248L;
+          L65: while (true) {
+           Words.put32(b, ((int) ((l1 = (l17 + 13L) + l14) + -4L)) - 60720, Words.get32(b, ((int) (l13 + (((((l37 = (l8 = Words.get16(b, ((int) l11) - 60720) & 0xffff) - ((l36 = (int) ((l8 & 0xffffffffL) / 100L)) * 100)) - ((l37 = (int) (((l37 & 255) & 0xffffffffL) / 10L)) * 10)) << 2) & 0xffffffffL) & 252L))) - 60720));
+           Words.put32(b, ((int) (l1 + -7L)) - 60720, Words.get32(b, ((int) (l13 + ((l37 << 2) & 0xffffffffL))) - 60720));
+           Words.put32(b, ((int) (l1 + -10L)) - 60720, Words.get32(b, ((int) (l13 + ((((int) ((l36 & 0xffffffffL) % 10L)) << 2) & 0xffffffffL))) - 60720));
+           Words.put32(b, ((int) (l1 + -13L)) - 60720, Words.get32(b, ((int) (l13 + ((((int) ((l8 & 0xffffffffL) / 1000L)) << 2) & 0xffffffffL))) - 60720));
+           l11 = l11 + 2L;
+           l14 = l14 + -12L;
+           if ((l10 = l10 + -1L) != 0L) { continue L65; }
+           break L65;
+          }
+         }
+         l10 = l9 + l2;
+         l8 = (int) l16;
+         L66: while (true) {
+          Words.put32(b, ((int) (((l17 + 13L) + l14) + -4L)) - 60720, Words.get32(b, ((int) (l13 + ((((l8 - ((l36 = (int) (((l8 & 65535) & 0xffffffffL) / 10L)) * 10)) << 2) & 0xffffffffL) & 65532L))) - 60720));
+          l14 = l14 + -3L;
+          l8 = l36;
+          if ((l10 = l10 + -1L) != 0L) { continue L66; }
+          break L66;
+         }
+         l10 = 235L - l14;
+         l11 = (l17 + 13L) + l14;
+         l8 = 0;
+         break L17;
+        }
+        l36 = l31;
+        if ((l31 & 255) != 0) { break L53; }
+        l36 = l31;
+        final int t67 = (l16 + Long.MIN_VALUE > -9213372036854775809L) ? 1 : 0;
+        final int t68 = (l9 != 0L) ? 1 : 0;
+        final int t69 = (l9 == 0L) ? 1 : 0;
+        if ((t69 != 0 ? t67 : t68) == 0) { break L53; }
+        l8 = 3;
+        break L17;
+       }
+       l8 = 0;
+       Words.put32(b, ((int) l29) - 60720, 0);
+       Words.put16(b, ((int) l29) - 60716, (short) 0);
+       b[((int) l17) - 60471] = (byte) l33;
+       b[((int) l17) - 60472] = (byte) l34;
+       Words.put64(b, ((int) l17) - 60464, l13);
+       l10 = 235L - (l16 = Core2.f49(m, l17 + 13L, l17 + 248L, l36, 0, l16, l9));
+       l11 = (l17 + 13L) + l16;
+      }
+      if (l12 + Long.MIN_VALUE < l0 + Long.MIN_VALUE) { break L6; }
+      if ((l12 - l0) + Long.MIN_VALUE < l10 + Long.MIN_VALUE) { break L6; }
+      l4 = l10 + l0;
+      L70: {
+       L71: {
+        if (((l9 = l21 + l0) - l11) + Long.MIN_VALUE >= l10 + Long.MIN_VALUE) { break L71; }
+        l1 = l10 & 3L;
+        l14 = 0L;
+        L72: {
+         if (l10 + Long.MIN_VALUE < -9223372036854775804L) { break L72; }
+         l2 = l10 & -4L;
+         l14 = 0L;
+         L73: while (true) {
+          b[((int) (l16 = l9 + l14)) - 60720] = (byte) (b[((int) (l10 = l11 + l14)) - 60720] & 0xff);
+          b[((int) (l16 + 1L)) - 60720] = (byte) (b[((int) (l10 + 1L)) - 60720] & 0xff);
+          b[((int) (l16 + 2L)) - 60720] = (byte) (b[((int) (l10 + 2L)) - 60720] & 0xff);
+          b[((int) (l16 + 3L)) - 60720] = (byte) (b[((int) (l10 + 3L)) - 60720] & 0xff);
+          if (l2 != (l14 = l14 + 4L)) { continue L73; }
+          break L73;
+         }
+         if (l1 == 0L) { break L70; }
+        }
+        l16 = l11 + l14;
+        l14 = l21 + (l0 + l14);
+        L74: while (true) {
+         b[((int) l14) - 60720] = (byte) (b[((int) l16) - 60720] & 0xff);
+         l14 = l14 + 1L;
+         l16 = l16 + 1L;
+         if ((l1 = l1 + -1L) != 0L) { continue L74; }
+         break L70;
+        }
+       }
+       if (l10 == 0L) { break L70; }
+       m.copy((int) l9, (int) l11, (int) l10);
+      }
+      Words.put32(b, ((int) (l20 + (l18 << 2L))) - 60720, l8);
+      Words.put64(b, ((int) (l30 + ((l18 = l18 + 1L) << 3L))) - 60720, l4);
+      if (l18 != l19) { continue L16; }
+      break L16;
+     }
+     l18 = l19;
+    }
+    Words.put64(b, ((int) l15) - 60720, l18);
+    l8 = (l18 == l19) ? 0 : 6;
+    break L2;
+   }
+   Words.put64(b, ((int) l15) - 60720, 0L);
+   l8 = 8;
+  }
+  m.g0 = l17 + 272L;
+  final int t75 = l8;
+  return t75;
+ }
+ throw State.trap();
+}
+
+static int f307(State m, long l0, long l1, int l2, int l3, int l4, int l5, long l6, long l7, long l8) {
  final byte[] b = m.bytes;
  long l9 = 0;
  long l10 = 0;
