@@ -6,7 +6,7 @@ Usage: python3 test.py
 It takes about 40 seconds on four cores, and needs Python 3.8 or later and a C compiler; CC and CXX
 can name other compilers.
 
-- The C source in dist/ is compiled. Its answers to 126,507 numbers, quantities, amounts, dates and
+- The C source in dist/ is compiled. Its answers to 129,507 numbers, quantities, amounts, dates and
   texts must have the same sum as those of the proved archive, which is in dist/PROVENANCE.json.
 - Each language that is installed answers the rows of tests/rows, and the worked rows and examples
   of README.md and docs/. Languages that are not installed are skipped and named.
