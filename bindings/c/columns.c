@@ -268,15 +268,71 @@ static double seconds(void) {
     return CN_AS(double, clock()) / CLOCKS_PER_SEC;
 }
 
+/* Where the values go that are read. */
+typedef struct values {
+    uint64_t *numbers;
+    cn_number *wide;
+    int64_t *amounts;
+    cn_day *days;
+} values;
+
+/* What the call for one text answers. */
+static uint32_t read_one(const column *c, const uint8_t *text, size_t length, const values *v, size_t row) {
+    cn_reading reading;
+    cn_signed_amount amount;
+    cn_date date;
+    uint32_t status;
+    switch (c->what) {
+    case AMOUNTS:
+        status = chinese_signed_amount_read(text, length, &amount);
+        v->amounts[row] = amount.fen;
+        return status;
+    case DATES:
+        status = chinese_date_read(text, length, &date);
+        v->days[row].year = date.year;
+        v->days[row].month = date.month;
+        v->days[row].day = date.day;
+        return status;
+    default:
+        status = chinese_number_read(text, length, c->kind, c->way, &reading);
+        if (c->what == NUMBERS)
+            v->numbers[row] = reading.number.low;
+        else
+            v->wide[row] = reading.number;
+        return status;
+    }
+}
+
+static void read_column(const column *c, const texts *t, const values *v) {
+    size_t rows = c->rows, length = CN_AS(size_t, t->offsets[rows]);
+    switch (c->what) {
+    case NUMBERS:
+        chinese_numbers_read_column(t->bytes, length, t->offsets, rows + 1, c->bitmap, 0, 0, c->kind, c->way,
+                                    v->numbers, rows, t->statuses, rows);
+        break;
+    case WIDE_NUMBERS:
+        chinese_wide_numbers_read_column(t->bytes, length, t->offsets, rows + 1, c->bitmap, 0, 0, c->kind, c->way,
+                                         v->wide, rows, t->statuses, rows);
+        break;
+    case AMOUNTS:
+        chinese_amounts_read_column(t->bytes, length, t->offsets, rows + 1, c->bitmap, 0, 0, CN_SIGNED_AMOUNT,
+                                    v->amounts, rows, t->statuses, rows);
+        break;
+    default:
+        chinese_dates_read_column(t->bytes, length, t->offsets, rows + 1, c->bitmap, 0, 0, v->days, rows,
+                                  t->statuses, rows);
+    }
+}
+
 /* The times of a row in nanoseconds: in a column, and by the call for one value into one buffer. */
 static void measure(const column *c, const char *what, int rounds) {
     double best[4] = {1e9, 1e9, 1e9, 1e9};
     texts t = new_texts(c->rows, c->rows * CN_MOST_BYTES);
-    uint64_t *numbers = ROOM_FOR(uint64_t, c->rows);
+    values v = {ROOM_FOR(uint64_t, c->rows), ROOM_FOR(cn_number, c->rows), ROOM_FOR(int64_t, c->rows),
+                ROOM_FOR(cn_day, c->rows)};
     for (int round = 0; round < rounds; round++) {
         double times[5];
         size_t done, at = 0, length;
-        cn_reading reading;
         times[0] = seconds();
         for (size_t row = 0; row < c->rows; row++, at += length) {
             t.statuses[row] = print_one(c, row, t.bytes + at, t.room - at, &length);
@@ -285,25 +341,24 @@ static void measure(const column *c, const char *what, int rounds) {
         times[1] = seconds();
         print_from(c, 0, &t, t.room, &done);
         times[2] = seconds();
-        if (c->what == NUMBERS) {
-            for (size_t row = 0; row < c->rows; row++) {
-                t.statuses[row] = chinese_number_read(t.bytes + t.offsets[row], CN_AS(size_t, t.offsets[row + 1] - t.offsets[row]),
-                                                      c->kind, c->way, &reading);
-                numbers[row] = reading.number.low;
-            }
-            times[3] = seconds();
-            chinese_numbers_read_column(t.bytes, CN_AS(size_t, t.offsets[c->rows]), t.offsets, c->rows + 1, c->bitmap, 0, 0, c->kind,
-                                        c->way, numbers, c->rows, t.statuses, c->rows);
-            times[4] = seconds();
+        for (size_t row = 0; row < c->rows; row++) {
+            size_t start = CN_AS(size_t, t.offsets[row]);
+            t.statuses[row] = read_one(c, t.bytes + start, CN_AS(size_t, t.offsets[row + 1]) - start, &v, row);
         }
-        for (int i = 0; i < (c->what == NUMBERS ? 4 : 2); i++)
+        times[3] = seconds();
+        read_column(c, &t, &v);
+        times[4] = seconds();
+        for (int i = 0; i < 4; i++)
             if (times[i + 1] - times[i] < best[i])
                 best[i] = times[i + 1] - times[i];
     }
-    for (int i = 0; i < (c->what == NUMBERS ? 4 : 2); i += 2)
+    for (int i = 0; i < 4; i += 2)
         printf("%s, %s: a row %.1f ns, the call for one value %.1f ns: %.2f\n", what, i == 0 ? "printing" : "reading",
                best[i + 1] / CN_AS(double, c->rows) * 1e9, best[i] / CN_AS(double, c->rows) * 1e9, best[i + 1] / best[i]);
-    free(numbers);
+    free(v.numbers);
+    free(v.wide);
+    free(v.amounts);
+    free(v.days);
     free_texts(&t);
 }
 
