@@ -111,7 +111,7 @@ gate() {
 }
 
 run_scripts ''
-run_tests "${at_once[@]}" -m 'not built and not packages'
+run_tests "${at_once[@]}" -m 'not built and not packages and not by_hand'
 
 # A clone's files, by themselves and without `rt` on the path.
 mkdir "$scratch/clone"

@@ -6,7 +6,7 @@ Usage: python3 test.py
 It takes about 40 seconds on four cores, and needs Python 3.8 or later and a C compiler; CC and CXX
 can name other compilers.
 
-- The C source in dist/ is compiled. Its answers to 126,507 numbers, quantities, amounts, dates and
+- The C source in dist/ is compiled. Its answers to 129,507 numbers, quantities, amounts, dates and
   texts must have the same sum as those of the proved archive, which is in dist/PROVENANCE.json.
 - Each language that is installed answers the rows of tests/rows, and the worked rows and examples
   of README.md and docs/. Languages that are not installed are skipped and named.
@@ -52,13 +52,17 @@ separated by tabs. An answer is `ok` and the result of the call, or `err` and th
                                         case, by a function that leaves fractions as they are; FLAGS
                                         are of the first three of these
     text_to_figures FLAGS TEXT          the text with its phrases and numerals in figures; FLAGS
-                                        are those of quantities_to_figures, and `compact`
+                                        are those of quantities_to_figures, `compact` and `codes`
+    text_to_speech SCRIPT TEXT          the text as it is spoken; SCRIPT is `simplified` or
+                                        `traditional`
+    find_unspoken TEXT                  the text, with what speech leaves in brackets
     phrases TEXT                        the phrases of a text, with tabs between them: the kind, the
                                         state, the text and the value of each. A date is 2026-1-5,
                                         or ?-1-5 without a year; a time 3:30:0 =15, as it is written
                                         and the hour of 24 or `?`; years, months and days 5..8; a
                                         duration 1:20:0; a half or a length 175/100; a score 3:2; a
-                                        range 3/1..5/1; and what is refused `-`
+                                        range 3/1..5/1; a sum of money 350/100; and what is refused,
+                                        or a sum that is no whole number of fen, `-`
     expected INPUT TEXT                 how many characters of a text begin an INPUT; `end` if it may
                                         end there; `space` if white space may come next; and the
                                         characters that may. `-` is in the place of the flags. INPUT

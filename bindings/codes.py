@@ -30,7 +30,7 @@ RENAMED = {
     ("language", "traditional"): "traditional_chinese",
 }
 # The groups whose codes do not follow one another.
-APART = "form", "flag", "option", "limit", "text", "status_text"
+APART = "form", "flag", "option", "speech_option", "limit", "text", "status_text"
 LIMIT = re.compile(r"(?:≤ |MOST_\w+: usize = )(\d+)")
 # The definitions of the texts of refusals; some are followed by a position.
 OF_NUMBERS, OF_OTHERS = "crates/cn_core/specs/Refusal.antt", "crates/*/specs/ErrorText.antt"

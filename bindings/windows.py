@@ -35,6 +35,12 @@ def listed(item):
     return rf"(?:{item}(?:, {item})*)?"
 
 
+# A table that has addresses, of texts in itself or in other constants.
+PART_TYPE = r"(?:ptr|\[\d+ x i8\])"
+PART = (
+    r"(?:ptr (?:@static\.\d+|getelementptr \(i8, ptr @static\.\d+, i64 \d+\))|"
+    rf"\[\d+ x i8\] (?:c{TEXT}|zeroinitializer))"
+)
 ARGUMENTS = listed(f"{TYPE} {VALUE}")
 OF_FUNCTION = listed(rf"{TYPE} (?:noundef )?(?:zeroext )?{VALUE}")
 OF_CALL = listed(rf"(?:i32|i64|ptr) noundef {VALUE}")
@@ -55,6 +61,8 @@ LINES = [
         r"(?:;.*)?",
         rf"source_filename = {TEXT}",
         rf"@static\.\d+ = private unnamed_addr constant {TYPE} (?:c{TEXT}|zeroinitializer), "
+        r"align \d+",
+        rf"@static\.\d+ = private constant <{{ {listed(PART_TYPE)} }}> <{{ {listed(PART)} }}>, "
         r"align \d+",
         rf"define internal (?:noundef )?(?:zeroext )?{TYPE} {NAME}\({OF_FUNCTION}\) #\d+ {{",
         rf"define noundef i32 @chinese_\w+\({OF_CALL}\) #\d+ {{",

@@ -23,7 +23,7 @@ from items import LAW, without_comments
 
 LIBRARY = "chinese_number::laws"
 PAGES = ("docs/PROMISES.md", "docs/PROMISES-BINDINGS.md")
-BESIDE = ("numeral", "cn_figures", "cheque", "cn_c")
+BESIDE = ("numeral", "cn_figures", "cheque", "cn_columns", "cn_speech", "cn_c")
 USE = re.compile(r"^pub use ([\w:]+)::(?:\{([^}]*)\}|(\w+));", re.MULTILINE)
 GRAMMAR = re.compile(r"^(?:pub type (\w+) = \w+;\n\n)?impl Grammar for", re.MULTILINE)
 PLACE = re.compile(r"(<!--laws:([\w,]+)-->).*?(<!--end-->)")

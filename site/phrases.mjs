@@ -20,12 +20,13 @@ const FIGURES = {
   length: figuresOf,
   score: (numbers) => numbers.join(':'),
   range: (ends) => fromTo(ends.map(figuresOf)),
+  money: figuresOf,
 };
 
-/** The kind and the value of a phrase in words, or that it has none. */
+/** The kind and the value of a phrase in words, or that there is none. A sum may have parts of a fen. */
 export function wordsOf({ kind: name, state, value }) {
   const kind = words(`phrase_${name}`);
-  if (value === null) return words('phraseRefused', { kind });
-  const shown = words('phrase', { kind, value: FIGURES[name](value) });
+  if (state === 'refused') return words('phraseRefused', { kind });
+  const shown = value === null ? kind : words('phrase', { kind, value: FIGURES[name](value) });
   return state === 'doubtful' ? words('valueDoubtful', { value: shown }) : shown;
 }

@@ -1,20 +1,22 @@
 // Marks the phrases and quantities of a text, lists them below it with their values, and writes
-// them in figures.
+// them in figures, and the text as it is spoken.
 
-import { Phrase, findPhrases, findQuantities, textToFigures } from './library.mjs';
+import { Phrase, findPhrases, findQuantities, textToFigures, textToSpeech } from './library.mjs';
 import { MOST_MARKED, atEachKey, copyButton, element, partsAround, say } from './field.mjs';
-import { sentences, words } from './language.mjs';
+import { scripts, sentences, words } from './language.mjs';
 import { methodChosen } from './numbers.mjs';
 import { wordsOf } from './phrases.mjs';
 import { reasonOf } from './typed.mjs';
 
 const byId = (id) => document.getElementById(id);
-const [text, said, found, replaced] = ['text', 'textSaid', 'found', 'replaced'].map(byId);
+const [text, said, found, replaced, spoken] =
+  ['text', 'textSaid', 'found', 'replaced', 'spoken'].map(byId);
 // The choices for searching and replacing.
 const CHOICES = [
-  'upper', 'about', 'oneCharacter', 'doubtful', 'expanded', 'canonical', 'compact',
+  'upper', 'about', 'oneCharacter', 'doubtful', 'expanded', 'canonical', 'compact', 'codes',
 ];
-const [upper, about, oneCharacter, doubtful, expanded, canonical, compact] = CHOICES.map(byId);
+const [upper, about, oneCharacter, doubtful, expanded, canonical, compact, codes] =
+  CHOICES.map(byId);
 const mirror = document.querySelector('#searching .mirror');
 const MOST_LISTED = 100;
 // How many characters are searched at each key if a text is too long for marks.
@@ -33,8 +35,15 @@ function inFigures(typed) {
   };
   const style = {
     expanded: expanded.checked, canonical: canonical.checked, compact: compact.checked,
+    codes: codes.checked,
   };
   return textToFigures(typed, { ...wanted(), ...methodChosen(), ...included, ...style });
+}
+
+/** The text as it is spoken, in the script of the page. */
+function inSpeech(typed) {
+  const [script] = scripts();
+  return textToSpeech(typed, { script, ...methodChosen() });
 }
 
 /** The figures of an expression, or the reason and the place of an error. */
@@ -144,6 +153,7 @@ function show(typed) {
   text.parentElement.classList.toggle('long', isLong(typed));
   list(judged);
   replaced.textContent = isLong(typed) ? '' : inFigures(typed);
+  spoken.textContent = isLong(typed) ? '' : inSpeech(typed);
   replaced.closest('section').hidden = typed === '';
   if (typed === '') return '';
   const near = isLong(typed) ? words('long', { count: NEAR }) : '';
@@ -160,10 +170,12 @@ export function search() {
   }
 }
 
-/** Adds the button that copies the text in figures, in the language of the page. */
+/** Adds the buttons that copy the text in figures and as it is spoken, in the language of the page. */
 export function offerCopy() {
-  replaced.parentElement.querySelector('button')?.remove();
-  replaced.after(copyButton(words('replaced'), () => inFigures(text.value)));
+  for (const [shown, anew] of [[replaced, inFigures], [spoken, inSpeech]]) {
+    shown.parentElement.querySelector('button')?.remove();
+    shown.after(copyButton(words(shown.id), () => anew(text.value)));
+  }
 }
 
 // While an input method composes, the mirror still contains the text, since it determines the

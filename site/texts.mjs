@@ -92,7 +92,13 @@ export const TEXTS = {
     '日期、時刻盡量簡短（如「2026-01-05」「15:30」）',
     'Short dates and times, such as 2026-01-05 and 15:30',
   ],
+  codes: [
+    '也替换号码（“打幺幺零”写作“打110”）',
+    '也取代號碼（「打幺幺零」寫作「打110」）',
+    'Also replace codes, such as telephone numbers: 打110 for 打幺幺零',
+  ],
   replaced: ['换成阿拉伯数字', '換成阿拉伯數字', 'In figures'],
+  spoken: ['读出来', '讀出來', 'As it is spoken'],
 
   // The rows of a result, and their buttons.
   simplified: ['简体', '簡體', 'Simplified'],
@@ -161,6 +167,7 @@ export const TEXTS = {
   phrase_length: ['度量', '度量', 'measure'],
   phrase_score: ['比分', '比分', 'score'],
   phrase_range: ['范围', '範圍', 'range'],
+  phrase_money: ['金额', '金額', 'money'],
   year: ['{value}年', '{value}年', 'year {value}'],
   month: ['{value}月', '{value}月', 'month {value}'],
   day: ['{value}日', '{value}日', 'day {value}'],

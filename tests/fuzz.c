@@ -1,8 +1,9 @@
 /* fuzz SEED LIMIT [FIRST]: calls the library with random texts, values, codes and buffers, and
  * compares each answer with what chinese_number.h and docs/RULES.md promise: which status belongs to
  * which answer, that nothing else is written, that spans and places lie at characters of the text,
- * that what is printed is read back, and that a search in parts finds the same. It has no second
- * implementation: whether a number is the right one is known only of texts that it spells itself.
+ * that what is printed is read back, that a search in parts finds the same, and that a row of a
+ * column is answered as by the call for one value or text. It has no second implementation: whether
+ * a number is the right one is known only of texts that it spells itself.
  *
  * LIMIT is a number of cases, or of seconds with `s` after it; FIRST is the number of the first case,
  * otherwise 0. A case depends on the seed and on its number alone. Prints the number of cases; at the
@@ -10,6 +11,7 @@
  * hexadecimal, and ends with status 1. */
 #define _DEFAULT_SOURCE
 #include "misuse/texts.h"
+#include "misuse/columns.h"
 
 #include <signal.h>
 #include <time.h>
@@ -268,14 +270,15 @@ static void try_figures_of_quantity(void) {
     expect(numerator * divisor == (whole)magnitude * joined(read.denominator), "the same quantity");
 }
 
-static uint32_t read_amount_by(size_t reader, const draft *text, int64_t *fen) {
+static uint32_t read_amount_by(uint32_t input, const uint8_t *text, size_t length, int64_t *fen) {
     cn_amount read;
-    cn_signed_amount read_signed;
-    uint32_t status = reader == 0 ? chinese_amount_read(text->bytes, text->length, &read)
-        : reader == 1             ? chinese_typed_amount_read(text->bytes, text->length, &read)
-        : reader == 2 ? chinese_signed_amount_read(text->bytes, text->length, &read_signed)
-                      : chinese_typed_signed_amount_read(text->bytes, text->length, &read_signed);
-    *fen = reader < 2 ? (int64_t)read.fen : read_signed.fen;
+    cn_signed_amount of;
+    uint32_t status = input == CN_AMOUNT  ? chinese_amount_read(text, length, &read)
+        : input == CN_TYPED_AMOUNT        ? chinese_typed_amount_read(text, length, &read)
+        : input == CN_SIGNED_AMOUNT       ? chinese_signed_amount_read(text, length, &of)
+        : input == CN_TYPED_SIGNED_AMOUNT ? chinese_typed_signed_amount_read(text, length, &of)
+                                          : chinese_figures_read(text, length, &of);
+    *fen = input == CN_AMOUNT || input == CN_TYPED_AMOUNT ? (int64_t)read.fen : of.fen;
     return status;
 }
 
@@ -292,9 +295,10 @@ static void try_amount(void) {
         return;
     }
     expect_printed(status, &text, CN_MOST_SIGNED_AMOUNT_BYTES);
-    for (size_t reader = 0; reader < 4; reader++) {
-        int is_read = fen >= 0 || reader == 3 || (reader == 2 && (form & CN_BRACKETED_SIGN) == 0);
-        status = read_amount_by(reader, &text, &read);
+    for (uint32_t input = CN_AMOUNT; input <= CN_TYPED_SIGNED_AMOUNT; input++) {
+        int is_read = fen >= 0 || input == CN_TYPED_SIGNED_AMOUNT
+            || (input == CN_SIGNED_AMOUNT && (form & CN_BRACKETED_SIGN) == 0);
+        status = read_amount_by(input, text.bytes, text.length, &read);
         expect(is_read ? status == CN_DONE && read == fen : status == CN_INCORRECT,
                "the amount that was printed, or incorrect by a reader that has no such sign");
     }
@@ -733,6 +737,12 @@ static void expect_range(const cn_phrase *it) {
            "a link in the range");
 }
 
+static void expect_money(const cn_phrase *it) {
+    uint64_t fen = ((uint64_t)it->second << 32) + it->first;
+    expect(it->third <= 1 && it->fourth == 0, "a sum with fen, or without");
+    expect(it->third == 1 ? fen < 1000000000000000000 : fen == 0, "fen below 10^18, or no fen");
+}
+
 static void expect_numbers(const cn_phrase *it) {
     int has_numbers = (it->first | it->second | it->third | it->fourth) != 0;
     int is_date = it->kind == CN_PHRASE_KIND_DATE, has_month = (it->fourth & 2) != 0;
@@ -754,9 +764,12 @@ static void expect_numbers(const cn_phrase *it) {
     if (it->kind == CN_PHRASE_KIND_YEARS || it->kind == CN_PHRASE_KIND_MONTHS
         || it->kind == CN_PHRASE_KIND_DAYS)
         expect(it->first < it->second, "the second is greater");
+    if (it->kind == CN_PHRASE_KIND_MONEY)
+        expect_money(it);
 }
 
-/* Each expression is a phrase's or an item itself; phrases are searched in parts too. */
+/* Each expression is a phrase's or an item itself, but a sum ends in one in 三块八一斤; phrases are searched
+ * in parts too. */
 static void try_phrases(const search *expressions, search *items) {
     cn_phrase next = {0, 0, 0, 0, 0, 0, 0, 0, 0, 0};
     const char *text = (const char *)now.text;
@@ -766,15 +779,15 @@ static void try_phrases(const search *expressions, search *items) {
            == CN_DONE) {
         expect(items->count < MOST_OF_DRAFT, "no more phrases than bytes");
         items->spans[items->count++] = cn_span_of(&next);
-        expect(next.kind <= CN_PHRASE_KIND_RANGE && next.state <= CN_PHRASE_STATE_REFUSED, "a kind and a state");
+        expect(next.kind <= CN_PHRASE_KIND_MONEY && next.state <= CN_PHRASE_STATE_REFUSED, "a kind and a state");
         expect_numbers(&next);
         expect(next.kind == CN_PHRASE_KIND_RANGE || next.split == 0, "no link in other phrases");
         if (next.kind == CN_PHRASE_KIND_RANGE)
             expect_range(&next);
         if (next.kind == CN_PHRASE_KIND_EXPRESSION)
             expect(expression < end && is_same_span(*expression, cn_span_of(&next)), "the next expression");
-        while (expression < end && expression->start < next.end)
-            expect(expression++->end <= next.end, "an expression in the phrase");
+        for (; expression < end && expression->start < next.end; expression++)
+            expect(expression->end <= next.end || next.kind == CN_PHRASE_KIND_MONEY, "an expression in the phrase");
     }
     expect(expression == end, "all expressions");
 }
@@ -835,12 +848,271 @@ static void try_found(void) {
     try_in_figures(&items, "chinese_text_to_figures", chinese_text_to_figures);
 }
 
+/* ---- Speech ---- */
+
+/* Whether a figure, which may be full-width, is in a text. */
+static int has_figure(const uint8_t *text, size_t length) {
+    for (size_t at = 0; at < length; at++)
+        if ((text[at] >= '0' && text[at] <= '9')
+            || (length - at > 2 && text[at] == 0xEF && text[at + 1] == 0xBC && text[at + 2] >= 0x90 && text[at + 2] <= 0x99))
+            return 1;
+    return 0;
+}
+
+/* A text without figures is spoken as it is. Each part that is left has figures, and is after the one before. */
+static void try_speech(void) {
+    static draft spoken;
+    uint8_t *meant = malloc(now.length + 1);
+    uint32_t script = (uint32_t)below(2), options = (uint32_t)below(2);
+    cn_span left[8];
+    size_t count = 8, from = 0;
+    trying("chinese_text_to_speech", script, options);
+    uint32_t status = chinese_text_to_speech(now.text, now.length, 0, CN_ZHAO, CN_ANY, script, options, meant, now.length,
+                                             spoken.bytes, sizeof spoken.bytes, &spoken.length);
+    expect(status == CN_DONE && is_utf8(spoken.bytes, spoken.length), "a text in UTF-8");
+    expect(has_figure(now.text, now.length)
+               || (spoken.length == now.length && memcmp(spoken.bytes, now.text, now.length) == 0),
+           "the text itself, which has no figures");
+    trying("chinese_speech_left", script, options);
+    for (size_t at; count == 8;) {
+        status = chinese_speech_left(now.text, now.length, from, 0, CN_ZHAO, meant, now.length, left, 8, &count);
+        expect(status == CN_DONE && count <= 8, "done");
+        for (at = 0; at < count; from = left[at++].end)
+            expect(left[at].start >= from && left[at].end > left[at].start && left[at].end <= now.length
+                       && has_figure(now.text + left[at].start, left[at].end - left[at].start),
+                   "figures after those before");
+    }
+    free(meant);
+}
+
+/* ---- Columns ---- */
+
+static void *block(size_t bytes) { return memset(malloc(bytes), UNTOUCHED, bytes); }
+
+static size_t least(size_t one, size_t other) { return one < other ? one : other; }
+
+/* Each array has exactly its length. More than 16 rows are several pieces for the C source. */
+static column new_column(void) {
+    size_t rows = below(once_in(4) ? 40 : 9);
+    column it = {.sort = below(SORTS), .first = once_in(9) ? SIZE_MAX - below(20) : below(20)};
+    it.offsets_length = rows + below(4);
+    it.values_length = rows + below(3);
+    it.statuses_length = rows + below(3);
+    it.bitmap_length = once_in(3) ? 0 : below(7);
+    it.rows = least(it.values_length, it.statuses_length);
+    it.rows = least(it.rows, it.offsets_length - (it.offsets_length != 0));
+    it.offsets = block(it.offsets_length * sizeof *it.offsets);
+    it.values = block(it.values_length * widths[it.sort]);
+    it.statuses = block(it.statuses_length * sizeof *it.statuses);
+    it.bitmap = block(it.bitmap_length);
+    for (size_t at = 0; at < it.bitmap_length; at++)
+        it.bitmap[at] = (uint8_t)(random_bits(8) | random_bits(8));
+    return it;
+}
+
+static void free_column(column *it) {
+    free(it->offsets);
+    free(it->values);
+    free(it->statuses);
+    free(it->bitmap);
+    free(it->room);
+}
+
+static int is_present(const column *it, size_t row) {
+    size_t bit = it->first % 8 + row, byte = it->first / 8 + bit / 8;
+    return byte >= it->bitmap_length || (it->bitmap[byte] >> bit % 8 & 1) == 1;
+}
+
+/* Nothing is written to an array from some value on. */
+static void expect_rest_untouched(const void *array, size_t from, size_t length, size_t width) {
+    const uint8_t *bytes = array;
+    expect(from >= length || is_untouched(bytes + from * width, bytes + length * width),
+           "nothing written beside the rows that are done");
+}
+
+/* ---- Columns that are printed ---- */
+
+static void random_value(const column *it, size_t row) {
+    cn_number number = halves(random_whole(once_in(3) ? 128 : 64) * (once_in(3) ? (whole)-1 : 1));
+    uint32_t date[3];
+    random_date(0, 10020, date);
+    memcpy(it->values + row * widths[it->sort], it->sort == DATES ? (void *)date : (void *)&number,
+           widths[it->sort]);
+}
+
+#define TO_TEXT text->bytes, sizeof text->bytes, &text->length
+
+/* What the call for one value answers. A number of 64 bits has the sign of its type. */
+static uint32_t print_row(const column *it, size_t row, draft *text) {
+    const void *value = it->values + row * widths[it->sort];
+    const uint64_t *number = value;
+    const cn_day *day = value;
+    const uint32_t *codes = it->codes;
+    uint64_t high = 0;
+    text->length = 0;
+    if (!is_present(it, row))
+        return CN_NONE;
+    switch (it->sort) {
+    case AMOUNTS: return chinese_signed_amount_print((int64_t)*number, codes[0], codes[1], TO_TEXT);
+    case DATES: return chinese_date_print(day->year, day->month, day->day, codes[0], TO_TEXT);
+    default:
+        if (it->sort == WIDE_NUMBERS)
+            high = number[1];
+        else if (codes[0] >= CN_I8 && *number >> 63 != 0)
+            high = UINT64_MAX;
+        return chinese_number_print(*number, high, codes[0], codes[1], codes[2], codes[3], TO_TEXT);
+    }
+}
+
+/* The rows that are done, up to one, and nothing else, are in the buffer. */
+static void expect_printed_rows(const column *it, size_t to) {
+    draft text;
+    size_t start = it->room_length, end = start;
+    if (it->rows != 0)
+        start = end = least((size_t)it->offsets[it->base], it->room_length);
+    for (size_t row = it->base; row < to; row++) {
+        expect(it->statuses[row] == print_row(it, row, &text), "the status of one value");
+        expect(it->offsets[row] == end && text.length <= it->room_length - end, "a text that fits");
+        expect(memcmp(it->room + end, text.bytes, text.length) == 0, "the text of one value");
+        end += text.length;
+        expect(it->offsets[row + 1] == end, "the end of the text of one value");
+    }
+    expect_rest_untouched(it->room, 0, start, 1);
+    expect_rest_untouched(it->room, end, it->room_length, 1);
+    expect_rest_untouched(it->offsets, to + 1, it->offsets_length, sizeof *it->offsets);
+    expect_rest_untouched(it->statuses, to, it->statuses_length, sizeof *it->statuses);
+}
+
+/* Makes another buffer for a row whose text does not fit: for the texts before it too, or for those
+ * from this row on. */
+static void change_room(column *it, size_t row) {
+    draft text;
+    (void)print_row(it, row, &text);
+    expect(it->offsets[row] + text.length > it->room_length, "a text that does not fit");
+    if (once_in(4)) {
+        it->base = row;
+        it->offsets[row] = below(9);
+    }
+    size_t kept = it->base == row ? 0 : (size_t)it->offsets[row];
+    it->room_length = (size_t)it->offsets[row] + (once_in(3) ? 0 : text.length) + below(99);
+    uint8_t *room = block(it->room_length);
+    memcpy(room, it->room, kept);
+    free(it->room);
+    it->room = room;
+}
+
+static void try_print_column(void) {
+    column it = new_column();
+    const call *by = printing + it.sort;
+    int all_named = random_codes(by, it.codes);
+    size_t from = 0, done;
+    uint32_t status;
+    trying(by->name, it.codes[0], it.codes[1]);
+    for (size_t row = 0; row < it.values_length; row++)
+        random_value(&it, row);
+    if (it.offsets_length != 0)
+        it.offsets[0] = below(40);
+    it.room_length = below(once_in(2) ? 60 : 900);
+    it.room = block(it.room_length);
+    while ((status = print_from(&it, from, &done)) == CN_NO_ROOM) {
+        expect(done < it.rows - from, "a row that is not done");
+        expect_printed_rows(&it, from += done);
+        change_room(&it, from);
+    }
+    expect(status == (uint32_t)(all_named ? CN_DONE : CN_UNKNOWN), "unknown only for such a code");
+    expect(done == (all_named ? it.rows - from : 0), "all rows, or none");
+    expect_printed_rows(&it, from + done);
+    free_column(&it);
+}
+
+/* ---- Columns that are read ---- */
+
+/* What the call for one text answers; the value stays as it is where no text is read. */
+static uint32_t read_row(const column *it, size_t row, void *value) {
+    uint64_t start = it->offsets[row], end = it->offsets[row + 1];
+    cn_reading number;
+    cn_date date;
+    uint32_t status;
+    if (!is_present(it, row))
+        return CN_NONE;
+    if (start > end || end > it->room_length)
+        return CN_NO_ROOM;
+    const uint8_t *text = it->room + start;
+    size_t length = (size_t)(end - start);
+    if (it->sort == AMOUNTS)
+        return read_amount_by(it->codes[0], text, length, value);
+    if (it->sort == DATES) {
+        status = chinese_date_read(text, length, &date);
+        memcpy(value, &(cn_day){date.year, date.month, date.day}, sizeof(cn_day));
+        return status;
+    }
+    status = chinese_number_read(text, length, it->codes[0], it->codes[1], &number);
+    memcpy(value, &number.number, widths[it->sort]);
+    return status;
+}
+
+/* Mostly a text that the call reads. */
+static void add_row(draft *to, const column *it) {
+    switch (once_in(4) ? SORTS : it->sort) {
+    case NUMBERS:
+    case WIDE_NUMBERS: add_number(to, random_whole(70), CN_U128, (uint32_t)below(6)); break;
+    case AMOUNTS:
+        if (it->codes[0] == CN_FIGURES)
+            add_figures(to, random_bits((unsigned)below(50)), below(3));
+        else
+            add_amount(to);
+        break;
+    case DATES: add_date(to); break;
+    default:
+        if (once_in(2))
+            add_text(to);
+    }
+}
+
+/* Some columns have offsets that fall, or are beyond the texts. */
+static void add_rows(draft *to, const column *it) {
+    int are_wrong = once_in(3);
+    for (size_t at = 0; at < it->offsets_length; at++) {
+        it->offsets[at] = to->length;
+        add_row(to, it);
+    }
+    for (size_t at = 0; are_wrong && at < it->offsets_length; at++)
+        if (once_in(5))
+            it->offsets[at] = once_in(3) ? random_bits(64) : below(to->length + 3);
+}
+
+static void try_read_column(void) {
+    column it = new_column();
+    const call *by = reading + it.sort;
+    int all_named = random_codes(by, it.codes) && !(it.sort == AMOUNTS && it.codes[0] == CN_DATE);
+    draft texts = {.length = 0};
+    add_rows(&texts, &it);
+    it.room = exact(&texts);
+    it.room_length = texts.length;
+    trying(by->name, it.codes[0], it.codes[1]);
+    uint32_t status = read_column(&it);
+    expect(status == (uint32_t)(all_named ? CN_DONE : CN_UNKNOWN), "unknown only for such a code");
+    size_t rows = all_named ? it.rows : 0;
+    for (size_t row = 0; row < rows; row++) {
+        cn_number value = {0, 0};
+        expect(it.statuses[row] == read_row(&it, row, &value), "the status of one text");
+        expect(memcmp(it.values + row * widths[it.sort], &value, widths[it.sort]) == 0,
+               "the value of one text");
+    }
+    expect_rest_untouched(it.values, rows, it.values_length, widths[it.sort]);
+    expect_rest_untouched(it.statuses, rows, it.statuses_length, sizeof *it.statuses);
+    free_column(&it);
+}
+
+static void try_column(void) { (once_in(2) ? try_print_column : try_read_column)(); }
+
 /* ---- Cases ---- */
 
 static void (*const known[])(void) = {try_number, try_quantity, try_figures_of_quantity, try_amount, try_date,
-                                      try_figures, try_short_tens, try_date_in_text, try_time_in_text};
+                                      try_figures, try_short_tens, try_date_in_text,
+                                      try_time_in_text, try_column};
 static void (*const of_texts[])(void) = {try_input, try_reasons_of_number, try_reasons_of_quantity, try_types,
-                                         try_found};
+                                         try_found, try_speech};
 
 static void try_text(void) {
     draft text = {.length = 0};

@@ -40,7 +40,11 @@ OF_CALLS = {
     "The new text": ["quantities_to_figures", "none"],
     "Whole, or not at all": ["quantities_to_figures", "none"],
     "Values of phrases": ["phrases"],
+    "Sums of money": ["text_to_figures", "none"],
     "Phrases in figures": ["text_to_figures", "none"],
+    "Codes in a text": ["text_to_figures", "codes"],
+    "A text as it is spoken": ["text_to_speech", "simplified"],
+    "From recognised speech": ["text_to_figures", "codes"],
     "Amounts below zero": ["read_signed_amount"],
     "Amounts as typed": ["read_typed_amount"],
 }

@@ -3,7 +3,8 @@ and the examples of the C++ header.
 
 `example.c` gets each status. `sixteen_bits.c` prints and reads back each number of 16 bits, and
 each from 0 on as an amount in each form, in four threads. `each_fen.c` does so for 210,001 amounts,
-also below zero, as typed and in figures. `example.cpp` tests what the rows of `tests/rows` do not.
+also below zero, as typed and in figures. `columns.c` compares each row of columns with the call for
+one value. `example.cpp` tests what the rows of `tests/rows` do not.
 They also run under valgrind and with the sanitizers for addresses and undefined behaviour. No
 compiler warns about a header, and each warns about a wrong call. A missing value throws, or aborts
 in a program without exceptions.
@@ -39,6 +40,7 @@ FIRST_STEPS_OF_CPP = """\
 the chinese number is incorrect (position: 1)
 第3个字“贰”前缺“零”。
 壹佰零贰元整
+一百二十 负七
 人民币壹拾伍元整
 1500
 负壹拾伍元整
@@ -51,6 +53,7 @@ EXAMPLES = {
     "example.c": FIRST_STEPS,
     "sixteen_bits.c": "",
     "each_fen.c": "",
+    "columns.c": "",
     "example.cpp": FIRST_STEPS_OF_CPP,
 }
 AS_C, AS_CPP = ("-x", "c", "-std=c99"), ("-x", "c++", "-std=c++17")

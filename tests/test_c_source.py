@@ -1,8 +1,9 @@
 """The C source of `dist/`: compiled by each compiler, it answers as the archive does.
 
-`same.c` prints one sum over the results of the calls. No compiler warns about the source. The
-symbols of the object are checked. CMake builds it as a part of a user's project and installs it
-with both headers. test_packages.py follows the page of its package.
+`same.c` prints one sum over the results of the calls. `columns.c` compares the rows of columns
+under sanitizers. No compiler warns about the source. The symbols of the object are checked. CMake
+builds it as a part of a user's project and installs it with both headers. test_packages.py follows
+the page of its package.
 """
 import re
 
@@ -12,6 +13,7 @@ from running import SANITIZERS, TOP, WINE, needs, needs_compiler, of_wine, run, 
 from test_c import EACH_WARNING, FIRST_STEPS, FIRST_STEPS_OF_CPP
 
 DIST, EXAMPLE = TOP / "dist", TOP / "bindings/c/example.c"
+COLUMNS, ROWS = EXAMPLE.with_name("columns.c"), 2000
 THREADS = ("-DTHREADS", "-pthread")
 MINGW = ("x86_64-w64-mingw32-gcc", "-O2", "-static")
 EMULATED = ("-O2", "-static")
@@ -61,6 +63,13 @@ def test_sum(of_archive, tmp_path, name):
 
 def test_sum_sanitized(of_archive, sanitized, tmp_path):
     assert sum_of(tmp_path, ("clang", *SANITIZERS), sanitized) == of_archive
+
+
+def test_columns_sanitized(sanitized, tmp_path):
+    """Each row of columns is answered as by the call for one value."""
+    words = ("clang", "-std=c99", *SANITIZERS, "-I", DIST, COLUMNS, sanitized, "-o", "columns")
+    run(*words, cwd=tmp_path)
+    run("./columns", ROWS, cwd=tmp_path, wanted="")
 
 
 def test_sum_without_memory(of_archive, refuse_growth, tmp_path):

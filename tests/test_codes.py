@@ -23,7 +23,7 @@ WRONG = {
     "list": ("crates/cn_c/specs/Codes.antt", "Upper ∷ Lower ∷", "Lower ∷ Upper ∷"),
     "function": ("crates/cn_c/specs/Explains.antt", "code Weight = 13\n", "code Weight = 14\n"),
     "one more": ("crates/cn_c/src/status.rt", "NONE: u32 = 10;", "NONE: u32 = 10;\nCN_MORE = 13"),
-    "one less": ("crates/cn_c/src/status.rt", "pub const NONE: u32 = 10;\n", ""),
+    "one less": ("crates/cn_c/specs/Codes.antt", "\nCN_ABOUT = 4\n", "\n"),
     "limit": ("crates/cn_c/src/date.rt", "≤ 39", "≤ 40"),
     "text": ("crates/cn_date/specs/ErrorText.antt", '"there is no such', '"there is not such'),
 }

@@ -215,7 +215,7 @@ def test_progress(command):
     with subprocess.Popen([command.path, *TABLE], **pipes) as process:
         process.stdin.write(b"15\n")
         process.stdin.flush()
-        time.sleep(2)
+        time.sleep(4)  # on a busy machine the command needs a second to start
         assert process.communicate(b"16\n") == ("15,壹拾伍元整\n16,壹拾陆元整\n".encode(), None)
     os.close(errors)
     told = os.read(terminal, 4096)

@@ -12,7 +12,7 @@ import re
 
 from running import SANITIZERS, TOP, needs, run
 
-CASES, SANITIZED_CASES = 25_000, 500
+CASES, SANITIZED_CASES = 24_000, 500
 
 
 def cases(request, folder, library, count, *words):

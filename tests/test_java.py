@@ -38,7 +38,8 @@ def classes(tmp_path_factory):
 
     def make(folder):
         build_jar.compiled(folder / "classes")
-        own = [JAVA / "answers/Answers.java", OWN / "Limits.java", OWN / "Same.java"]
+        own = [OWN / f"{it}.java" for it in ("Limits", "Columns", "Same")]
+        own.append(JAVA / "answers/Answers.java")
         words = ("javac", *build_jar.BRIEF, "-Xlint:all,-options", "-Werror", "-encoding", "UTF-8")
         run(*words, "-cp", "classes", "-d", "classes", *own, cwd=folder)
 
@@ -65,15 +66,23 @@ def test_limits(classes, mode):
     java(classes, "Limits", rounds, mode=("-Xmx300m", *words), wanted="")
 
 
+def test_columns(classes):
+    java(classes, "Columns", wanted="")
+
+
 # An example in a comment, and its value; and one in the comment of the class, in a line.
 IN_LINE = re.compile(r"^ \* ([a-z]\w*\(.*\)) {2,}()(\S+)$", re.M)
-EXAMPLE = re.compile(r"\{@code ([^}]*)\} is (?:\{@code ([^}]*)\}|([^\s,;]+?)[.,]?(?: |$))", re.M)
+EXAMPLE = re.compile(
+    r"\{@code ((?:[^{}]|\{[^}]*\})*)\} is (?:\{@code ([^}]*)\}|([^\s,;]+?)[.,]?(?: |$))", re.M
+)
 EXAMPLES = """\
+import static chinesenumber.ChineseColumns.*;
 import static chinesenumber.ChineseNumbers.*;
 import chinesenumber.*;
 import java.math.*;
 import java.time.*;
 import java.util.*;
+import java.util.stream.*;
 class Examples {{
     public static void main(String[] words) {{
 {}
@@ -85,11 +94,12 @@ class Examples {{
 def test_examples(classes, tmp_path):
     """Each call has an example in its comment, with its value; the classes have more."""
     folder = JAVA / "src/main/java/chinesenumber"
-    text, *others = [
+    text, columns, *others = [
         (folder / f"{it}.java").read_text("utf-8")
-        for it in ("ChineseNumbers", "Quantity", "Repair")
+        for it in ("ChineseNumbers", "ChineseColumns", "Quantity", "Repair")
     ]
-    comments = re.findall(r"/\*\*((?:(?!\*/).)*)\*/\s+public static (?!final)", text, re.S)
+    comment = re.compile(r"/\*\*((?:(?!\*/).)*)\*/\s+public static (?!final)", re.S)
+    comments = comment.findall(text + columns)
     found = [EXAMPLE.search(re.sub(r"\s+\*? *", " ", it)) for it in comments]
     assert None not in found and len(found) > 50
     more = EXAMPLE.finditer(re.sub(r"\s+\*? *", " ", "".join(others)))
@@ -203,6 +213,7 @@ REFUSED = {
     "(table 1 funcref)": "a section of the kind 4 is not known",
     "(func (result i32 i32) (i32.const 1) (i32.const 2))": "a function has several results",
     "(func $f (global.set 0 (i64.sub (global.get 0) (i64.const 8))) (call $f))": "calls itself",
+    "(func $f (call $g)) (func $g (call $f))": "is called by a function that it calls",
     "(func (drop (i64.mul (global.get 0) (i64.const 8))))": "uses the stack in an unknown way",
 }  # fmt: skip
 AROUND = """(module {} (memory 1) (global (mut i64) (i64.const 65536))

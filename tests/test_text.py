@@ -12,7 +12,7 @@ from itertools import product
 
 import pytest
 
-from corpus import sentences
+from corpus import WITH_PHRASES, sentences
 from running import TOP
 from test_python import module_over
 
@@ -43,7 +43,8 @@ def test_model(library, models):
 @pytest.mark.parametrize("options", [{}, {"compact": True}])
 def test_lines(library, options):
     """Each line of a text is rewritten by itself, and stays when it is rewritten again."""
-    lines = [it[3] for it in sentences()] + [it[2] for it in sentences("phrases")]
+    lines = [it[3] for it in sentences()]
+    lines += [it[2] for name in WITH_PHRASES for it in sentences(name)]
     written = [library.text_to_figures(it, **options) for it in lines]
     assert library.text_to_figures("\n".join(lines), **options) == "\n".join(written)
     assert library.text_to_figures("\n".join(written), **options) == "\n".join(written)
@@ -198,3 +199,63 @@ def test_minutes_without_half(library):
         for minute in range(60):
             its = time(0, minute) if minute else library.ClockTime(12, hour_of_day=24)
             assert_in_figures(library, [(*it, its) for it in written_time(word, 12, minute)])
+
+
+def assert_read_back(library, texts, values, spoken=None):
+    """Each text is spoken without a figure, and what is spoken is found whole, with this value. `spoken`
+    says what it must be, where the rules say that in few words."""
+    said = library.text_to_speech("，".join(texts))
+    assert not re.search("[0-9]", said)
+    if spoken:
+        assert said == "，".join(spoken)
+    assert_found(library, said.split("，"), values)
+
+
+def test_spoken_days(library):
+    for year in range(1950, 2050):
+        spelled = digits(year).replace("〇", "零")
+        said = [f"{spelled}年{numeral(it.month)}月{numeral(it.day)}日" for it in days(year)]
+        for form in FORMS[year % 2], FORMS[year % 6]:
+            assert_read_back(library, [it.strftime(form) for it in days(year)], days(year), said)
+
+
+def test_spoken_times(library):
+    """Each minute of a day, of which the full hours are no times without a word; each second of an hour.
+    From 1 to 12 the hour of 24 is not known without a word."""
+    minutes = [time(hour, it) for hour in range(24) for it in range(1, 60)]
+    values = [library.ClockTime(it.hour, it.minute) if 1 <= it.hour <= 12 else it for it in minutes]
+    assert_read_back(library, [f"{it:%H:%M}" for it in minutes], values)
+    assert_read_back(library, [f"{it:%-H:%M}" for it in minutes], values)
+    seconds = [time(15, minute, it) for minute in range(60) for it in range(1, 60)]
+    assert_read_back(library, [f"{it:%H:%M:%S}" for it in seconds], seconds)
+    hours = [f"{hour}:00" for hour in range(24)]
+    assert library.text_to_speech("，".join(hours)) == "，".join(
+        f"{'两' if hour == 2 else numeral(hour)}点" for hour in range(24)
+    )
+
+
+def test_spoken_sums(library):
+    """Sums of money, chosen at random."""
+    source = random.Random(SEED)
+    for _ in range(COUNT // 10):
+        fen = [source.randrange(10 ** source.randrange(3, 13)) for _ in range(20)]
+        texts = [f"￥{it // 100}.{it % 100:02}" for it in fen]
+        said = library.text_to_speech("；".join(texts)).split("；")
+        assert [library.to_quantity(it[:-1]).to_fraction() * 100 for it in said] == fen
+        assert all(it.endswith("元") for it in said)
+
+
+def test_spoken_lines(library):
+    """Each line of a text is spoken by itself; what has no figure stays."""
+    lines = [row[3] for row in sentences()] + [row[2] for row in sentences("phrases")]
+    lines += [row[3] for row in sentences("speech")]
+    said = [library.text_to_speech(it) for it in lines]
+    assert library.text_to_speech("\n".join(lines)) == "\n".join(said)
+    assert all(a == b for a, b in zip(lines, said) if not re.search("[0-9０-９]", a))
+    for line, new in zip(lines, said):
+        # What is left has figures, and stays; without it no figure is left.
+        left = [it.text for it in library.find_unspoken(line)]
+        assert all(re.search("[0-9０-９]", it) for it in left)
+        assert "".join(re.findall("[0-9０-９]+", new)) == "".join(
+            re.findall("[0-9０-９]+", "，".join(left))
+        )

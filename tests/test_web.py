@@ -49,6 +49,10 @@ def test_face(node, folder, numeral):
     run(*node, "face_test.mjs", numeral.path, cwd=folder)
 
 
+def test_columns(node, folder):
+    run(*node, "columns_test.mjs", cwd=folder)
+
+
 def test_messages(tmp_path):
     """Of the sources, which `files` has copies of."""
     needs("node 20")

@@ -18,13 +18,14 @@ static const char *const QUANTITY_FORMS[] = {"whole", "decimal", "percent", "fra
 static const char *const DOUBTS[] = {"none", "word", "digits", "term", "part", "time", "range"};
 static const char *const PHRASE_KINDS[] = {
     "expression", "date", "years", "months", "days", "time", "duration", "half", "length", "score",
-    "range",
+    "range", "money",
 };
 static const char *const PHRASE_STATES[] = {"certain", "doubtful", "refused"};
 /* The codes of flags, of options for replacing and of forms of an amount are added together. */
 static const char *const FLAGS[] = {"plain", "alone", "about", "one", NULL};
 static const char *const OPTIONS[] = {
-    "plain", "alone", "about", "one", "doubtful", "expanded", "canonical", "compact", NULL,
+    "plain", "alone", "about", "one", "doubtful", "expanded", "canonical", "compact",
+    "codes", NULL,
 };
 static const char *const FORMS[] = {
     "currency", "round_yuan", "upright_closing", "bracketed_sign", NULL,
@@ -368,6 +369,28 @@ static void answer_text_to_figures(char **words) {
     put_in_figures(cn_text_to_figures, words);
 }
 
+static void answer_text_to_speech(char **words) {
+    char text[8 * MOST_BYTES_OF_LINE], meant[MOST_BYTES_OF_LINE];
+    size_t length;
+    put_printed("text",
+                cn_text_to_speech(words[2], strlen(words[2]), 0, CN_ZHAO, CN_TEN_THOUSAND,
+                                  strcmp(words[1], "simplified") == 0 ? CN_SIMPLIFIED : CN_TRADITIONAL, 0, meant,
+                                  sizeof meant, text, sizeof text, &length), text);
+}
+
+static cn_status find_next_unspoken(const char *text, size_t length, uint32_t upper, cn_unit greatest, cn_span *span) {
+    char meant[MOST_BYTES_OF_LINE];
+    return cn_find_next_unspoken(text, length, upper, greatest, meant, sizeof meant, span);
+}
+
+static void put_unspoken(const char *text, const cn_span *span) {
+    printf("%.*s", (int)(span->end - span->start), text + span->start);
+}
+
+static void answer_find_unspoken(char **words) {
+    answer_found(words[1], find_next_unspoken, put_unspoken);
+}
+
 /* Writes a part of a date that is given. */
 static void put_part(int is_given, uint32_t part) {
     if (is_given)
@@ -408,6 +431,15 @@ static void put_range(const char *text, const cn_phrase *range) {
     put_ratio(&high);
 }
 
+/* Writes a sum of money in yuan, or - if its fen are not known. */
+static void put_money(const cn_phrase *phrase) {
+    uint64_t fen = ((uint64_t)phrase->second << 32) + phrase->first;
+    if (phrase->third == 0)
+        putchar('-');
+    else
+        printf("%llu/100", (unsigned long long)fen);
+}
+
 /* Writes the value of a phrase that is not refused. */
 static void put_value(const char *text, const cn_phrase *phrase) {
     if (phrase->kind == CN_PHRASE_KIND_DATE)
@@ -422,6 +454,8 @@ static void put_value(const char *text, const cn_phrase *phrase) {
         put_length(phrase);
     else if (phrase->kind == CN_PHRASE_KIND_RANGE)
         put_range(text, phrase);
+    else if (phrase->kind == CN_PHRASE_KIND_MONEY)
+        put_money(phrase);
     else
         printf(phrase->kind == CN_PHRASE_KIND_SCORE ? "%u:%u" : "%u..%u", phrase->first,
                phrase->second);
@@ -595,6 +629,8 @@ static const struct {
     {"trim_quantity", 2, answer_trim_quantity},
     {"quantities_to_figures", 3, answer_quantities_to_figures},
     {"text_to_figures", 3, answer_text_to_figures},
+    {"text_to_speech", 3, answer_text_to_speech},
+    {"find_unspoken", 2, answer_find_unspoken},
     {"phrases", 2, answer_phrases},
     {"replace_quantities", 3, answer_replace_quantities},
     {"expected", 3, answer_expected},

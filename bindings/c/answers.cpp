@@ -21,6 +21,7 @@ const std::map<std::string, Way> ways = {
 const std::map<std::string, Script> scripts = {
     {"traditional", Script::traditional},
     {"simple", Script::simplified},
+    {"simplified", Script::simplified},
 };
 const std::map<std::string, Case> cases = {{"upper", Case::upper}, {"lower", Case::lower}};
 const std::map<std::string, Input> inputs = {
@@ -169,7 +170,8 @@ Included included_of(const std::string &words) {
 }
 
 Figures figures_of(const std::string &words) {
-    return {has(words, "expanded"), has(words, "canonical"), has(words, "compact")};
+    return {has(words, "expanded"), has(words, "canonical"), has(words, "compact"),
+            has(words, "codes")};
 }
 
 std::string print_date(const std::string &script, const std::string &figures_of_date) {
@@ -203,7 +205,8 @@ std::string doubt_of(const Found &found) {
 }
 
 /* The text with each of its runs replaced by its description, in brackets. */
-std::string in_place(const std::string &text, Numbers runs, std::string (*shown_of)(const Found &)) {
+template <typename Runs>
+std::string in_place(const std::string &text, const Runs &runs, std::string (*shown_of)(const Found &)) {
     std::string done = "ok ";
     std::size_t at = 0;
     for (const Found &found : runs) {
@@ -215,6 +218,7 @@ std::string in_place(const std::string &text, Numbers runs, std::string (*shown_
 
 const char *const phrase_kinds[] = {
     "expression", "date", "years", "months", "days", "time", "duration", "half", "length", "score", "range",
+    "money",
 };
 const char *const phrase_states[] = {"certain", "doubtful", "refused"};
 
@@ -315,6 +319,12 @@ const std::map<std::string, std::string (*)(const Words &)> calls = {
     {"text_to_figures",
      [](const Words &words) {
          return told(text_to_figures(words[2], {}, Way::ten_thousand, included_of(words[1]), figures_of(words[1])));
+     }},
+    {"text_to_speech",
+     [](const Words &words) { return told(text_to_speech(words[2], scripts.at(words[1]), Way::ten_thousand)); }},
+    {"find_unspoken",
+     [](const Words &words) {
+         return in_place(words[1], *find_unspoken(words[1]), [](const Found &found) { return std::string(found.text); });
      }},
     {"phrases", phrases},
     {"replace_quantities",

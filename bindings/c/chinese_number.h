@@ -19,9 +19,10 @@
  * - No pointer is NULL, not even for an empty text, buffer or array. (cn_.. accept NULL for a text
  *   or a buffer of length 0.)
  * - A text and a buffer have as many bytes as their length says, and an array has `most` spans or
- *   phrases: at most PTRDIFF_MAX bytes.
+ *   phrases, or as many values as its length says: at most PTRDIFF_MAX bytes.
  * - What a call writes (the buffer `room`, *length, *reading, *quantity, *low, *high, the spans, the
- *   phrases, *count) does not overlap any other argument.
+ *   phrases, *count; of a column the offsets, values and statuses that it writes, and *done) does not
+ *   overlap any other argument.
  * - Nothing else writes to the arguments before the call returns.
  *
  * All names begin with chinese_, cn_ or CN_. */
@@ -204,7 +205,8 @@ typedef enum cn_doubt CN_OF_CODE {
     CN_DOUBT_DIGITS = 2,
     /* It is part of a term: 负二 of 负二项, 十六 of 十六进制. */
     CN_DOUBT_TERM = 3,
-    /* It is part of an expression with 折, 成, 半 or 分之几: 八五 of 八五折, 一 of 一个半. */
+    /* It is part of an expression with 折, 成, 半 or 分之几: 八五 of 八五折, 一 of 一个半; or its last 一 begins
+     * the next word: 两百一 of 两百一个月. */
     CN_DOUBT_PART = 4,
     /* It may be a time: 三点五 of 下午三点五, 十点零五. */
     CN_DOUBT_TIME = 5,
@@ -238,6 +240,9 @@ typedef enum cn_phrase_kind CN_OF_CODE {
     CN_PHRASE_KIND_SCORE = 9,
     /* From a quantity to another one. */
     CN_PHRASE_KIND_RANGE = 10,
+    /* A sum of money, as 三块五: the fen by their lower and their upper 32 bits, and 1; all 0 if
+     * they are no whole number below 10^18. */
+    CN_PHRASE_KIND_MONEY = 11,
 } cn_phrase_kind;
 
 /* What is known of a phrase. */
@@ -348,7 +353,8 @@ typedef enum cn_status CN_OF_CODE {
     /* When reading, finding or replacing, the bytes are not UTF-8; when finding, also: the
      * search starts neither at a character nor at the end of the text. */
     CN_NOT_UTF8 = 5,
-    /* When writing or replacing, the text has more bytes than the buffer. */
+    /* When writing or replacing, the text has more bytes than the buffer; when reading a column,
+     * the offsets of the row are not those of a text. */
     CN_NO_ROOM = 6,
     /* When writing, the type does not hold the number. */
     CN_NOT_HELD = 7,
@@ -358,7 +364,8 @@ typedef enum cn_status CN_OF_CODE {
     /* When reading an amount, figures or a date, the text is not one, but more text can make it
      * one. */
     CN_UNFINISHED = 9,
-    /* When finding the next number or quantity, there is no further one in the text. */
+    /* When finding the next number or quantity, there is no further one in the text; in a
+     * column, the row is missing. */
     CN_NONE = 10,
     /* When writing a date, the date does not exist. */
     CN_NOT_A_DATE = 11,
@@ -400,9 +407,16 @@ typedef enum cn_flag CN_OF_CODE {
 #define CN_EXPANDED 32u
 /* What is only figures becomes ASCII without commas and leading zeros: １,２８０ becomes 1280. */
 #define CN_CANONICAL 64u
-/* Dates, times and halves become as short as possible: 2026-01-05, 15:30, 1.5小时; only for
- * chinese_text_to_figures. */
+/* Dates, times, halves and sums of money become as short as possible: 2026-01-05, 15:30, 1.5小时,
+ * 3.5元; only for chinese_text_to_figures. */
 #define CN_COMPACT 128u
+/* Codes, such as telephone numbers, room numbers and versions, are written in figures too:
+ * 一三八零零一三八零零零 becomes 13800138000; only for chinese_text_to_figures. */
+#define CN_CODES 256u
+
+/* The option for speaking a text: 0, or this. */
+/* 1 is 幺 in codes, such as telephone numbers; otherwise it is 一. */
+#define CN_YAO 1u
 
 /* How long the texts are that are written. These do not count the zero byte that cn_print,
  * cn_input_message and so on write. */
@@ -602,7 +616,9 @@ uint32_t chinese_quantities_to_figures(const uint8_t *text, size_t text_length, 
  * - a duration: the hours, the minutes, the seconds;
  * - a half: the number without the half;
  * - a length: the number before its decimals, the decimals, and how many decimals there are;
- * - a score: the two numbers. */
+ * - a score: the two numbers;
+ * - a sum of money: the fen by their lower and their upper 32 bits, and 1; all 0 if they are no whole
+ *   number below 10^18. */
 typedef struct cn_phrase {
     size_t start;
     size_t end;
@@ -635,15 +651,37 @@ uint32_t chinese_phrase_find_utf8(const uint8_t *text, size_t text_length, size_
 uint32_t chinese_range_read(const uint8_t *first, size_t first_length, const uint8_t *second, size_t second_length,
                             cn_quantity *low, cn_quantity *high);
 
-/* Rewrites a text in UTF-8, with its dates, times, durations, ranges, scores, lengths and quantities in
- * figures: 二零二六年一月五日下午三点半，三到五万元 becomes 2026年1月5日下午3点半，3万到5万元. The words of a phrase stay.
- * `options` is as for chinese_quantities_to_figures; doubtful phrases, and halves after one Chinese
- * character, as in 一个半小时, stay unless it has CN_DOUBTFUL or CN_ONE_CHARACTER. A phrase without value
- * stays. With CN_COMPACT whole dates, times whose hour of 24 is known, and all halves are as short as
- * possible: 2026-01-05 15:30, 1.5小时. The length, the buffer and the statuses are those of
- * chinese_quantities_to_figures, on which CN_COMPACT has no effect. */
+/* Rewrites a text in UTF-8, with its dates, times, durations, ranges, scores, lengths, sums of money
+ * and quantities in figures: 二零二六年一月五日下午三点半，三到五万元 becomes 2026年1月5日下午3点半，3万到5万元. The words of a
+ * phrase stay. `options` is as for chinese_quantities_to_figures; doubtful phrases, and halves after one
+ * Chinese character, as in 一个半小时, stay unless it has CN_DOUBTFUL or CN_ONE_CHARACTER. A phrase that is
+ * refused stays. With CN_COMPACT whole dates, times whose hour of 24 is known, all halves, and sums of
+ * money with 角 or 分 are as short as possible: 2026-01-05 15:30, 1.5小时, 3.5元. With CN_CODES codes, such as
+ * telephone numbers, rooms and versions, become figures digit by digit: 打幺幺零 becomes 打110. The length,
+ * the buffer and the statuses are those of chinese_quantities_to_figures, on which CN_COMPACT and CN_CODES
+ * have no effect. */
 uint32_t chinese_text_to_figures(const uint8_t *text, size_t text_length, uint32_t upper, uint32_t greatest,
                                  uint32_t method, uint32_t options, uint8_t *room, size_t room_length, size_t *length);
+
+/* Rewrites a text in UTF-8 as it is spoken, with its figures, signs and measures in Chinese characters of a
+ * script: 15:30到，共2.5kg becomes 十五点三十分到，共二点五千克. What no rule of docs/RULES.md covers stays;
+ * chinese_speech_left finds its figures. `options` is 0 or CN_YAO. `meant` is another buffer, of at least as
+ * many bytes as the text, in which the call works; the three must not overlap. Writes *length at each status:
+ * the length of the new text, or 0 if there is none. If the new text fits, it is at the start of `room`;
+ * otherwise some bytes of `room` may change too.
+ *
+ * Returns CN_DONE, CN_NO_ROOM (`room` is too short, or, with the length 0, `meant` is), CN_NOT_UTF8 or
+ * CN_UNKNOWN. */
+uint32_t chinese_text_to_speech(const uint8_t *text, size_t text_length, uint32_t upper, uint32_t greatest,
+                                uint32_t method, uint32_t script, uint32_t options, uint8_t *meant,
+                                size_t meant_length, uint8_t *room, size_t room_length, size_t *length);
+
+/* Finds the parts with figures that chinese_text_to_speech leaves as they are, from a byte of a text on, as
+ * chinese_quantity_find finds expressions: 86 of x86, and 2026.1.15. `meant` is a buffer as for that call.
+ *
+ * Returns CN_DONE, CN_NO_ROOM (`meant` is shorter than the text), CN_NOT_UTF8 or CN_UNKNOWN. */
+uint32_t chinese_speech_left(const uint8_t *text, size_t text_length, size_t from, uint32_t upper, uint32_t greatest,
+                             uint8_t *meant, size_t meant_length, cn_span *spans, size_t most, size_t *count);
 
 /* The result of reading an amount: at CN_DONE the fen, hundredths of a yuan; at CN_INCORRECT how
  * many characters and how many bytes come before the wrong character. The other fields are 0. */
@@ -745,6 +783,97 @@ uint32_t chinese_date_print(uint32_t year, uint32_t month, uint32_t day, uint32_
  * with which no date begins, or CN_NOT_UTF8. The call tests that the whole text is UTF-8, and then
  * reads up to the wrong character, which is among the first 14. */
 uint32_t chinese_date_read(const uint8_t *text, size_t text_length, cn_date *reading);
+
+/* A column is many rows in one call. A column of texts is as Arrow has its large strings: the texts, in
+ * UTF-8, one after another in one array of bytes, and one offset more than there are rows: the text of
+ * row i is the bytes from offsets[i] up to, not including, offsets[i + 1]. A bitmap says which rows are
+ * present, 1 for a present one: that of row i is bit `first` + i, counted from the least bit of
+ * bitmap[0] on. A row beyond the bitmap is present, so with an empty bitmap all are. Each row has a
+ * status of its own, so a refused row does not affect the others. A missing row has CN_NONE.
+ *
+ * A call has as many rows as the shortest of its arrays: values, statuses, and the offsets after the
+ * first. */
+
+/* Prints numbers of a type, given in 64 bits, as a column of texts: each row as chinese_number_print
+ * prints it. A number of a signed type is in two's complement of 64 bits. The caller sets offsets[0]:
+ * the first text begins at this byte of the buffer.
+ *
+ * Writes *done, and of the first *done rows the status, the end (row i's to offsets[i + 1]) and the
+ * text, which is empty if the row is missing or refused; nothing else. At CN_DONE these are all rows.
+ * At CN_NO_ROOM the text of row *done does not fit the buffer. To go on, in a larger buffer or, with
+ * another offsets[0], in another one, call again with values, offsets and statuses from row *done on,
+ * and with `first` + *done; the bytes are then the same as from one call with a buffer that is large
+ * enough.
+ *
+ * Returns CN_DONE, CN_NO_ROOM or CN_UNKNOWN (*done is then 0). The status of a row is CN_DONE, CN_NONE,
+ * CN_TOO_LARGE, CN_TOO_SMALL or CN_NOT_HELD. A buffer with CN_MOST_BYTES for each row is never too
+ * small. */
+uint32_t chinese_numbers_print_column(const uint64_t *values, size_t values_length, const uint8_t *bitmap,
+                                      size_t bitmap_length, size_t first, uint32_t kind, uint32_t way,
+                                      uint32_t script, uint32_t letter_case, uint64_t *offsets,
+                                      size_t offsets_length, uint8_t *room, size_t room_length, uint32_t *statuses,
+                                      size_t statuses_length, size_t *done);
+
+/* The same for numbers of 128 bits, in two halves. In memory they are as Arrow's decimals of 128 bits,
+ * if the processor is little-endian. */
+uint32_t chinese_wide_numbers_print_column(const cn_number *values, size_t values_length, const uint8_t *bitmap,
+                                           size_t bitmap_length, size_t first, uint32_t kind, uint32_t way,
+                                           uint32_t script, uint32_t letter_case, uint64_t *offsets,
+                                           size_t offsets_length, uint8_t *room, size_t room_length,
+                                           uint32_t *statuses, size_t statuses_length, size_t *done);
+
+/* Prints amounts of fen, likewise: each row as chinese_signed_amount_print prints it, which prints an
+ * amount that is not negative as chinese_amount_print does. A buffer with CN_MOST_SIGNED_AMOUNT_BYTES
+ * for each row is never too small. */
+uint32_t chinese_amounts_print_column(const int64_t *values, size_t values_length, const uint8_t *bitmap,
+                                      size_t bitmap_length, size_t first, uint32_t script, uint32_t form,
+                                      uint64_t *offsets, size_t offsets_length, uint8_t *room, size_t room_length,
+                                      uint32_t *statuses, size_t statuses_length, size_t *done);
+
+/* A row of a column of dates. */
+typedef struct cn_day {
+    uint32_t year;
+    uint32_t month;
+    uint32_t day;
+} cn_day;
+
+/* Prints dates, likewise: each row as chinese_date_print prints it. The status of a row is CN_DONE,
+ * CN_NONE or CN_NOT_A_DATE. A buffer with CN_MOST_DATE_BYTES for each row is never too small. */
+uint32_t chinese_dates_print_column(const cn_day *values, size_t values_length, const uint8_t *bitmap,
+                                    size_t bitmap_length, size_t first, uint32_t script, uint64_t *offsets,
+                                    size_t offsets_length, uint8_t *room, size_t room_length, uint32_t *statuses,
+                                    size_t statuses_length, size_t *done);
+
+/* Reads a column of texts as numbers of a type: each row as chinese_number_read reads its text. Writes
+ * the value and the status of each row, and nothing else. The value is the lower 64 bits of the number,
+ * which are all of a number of up to 64 bits, and 0 if the row is not read: if it is missing (CN_NONE),
+ * refused, or not between two offsets of the texts (CN_NO_ROOM): if they fall, or are beyond the end.
+ *
+ * Returns CN_DONE or CN_UNKNOWN, which writes nothing. */
+uint32_t chinese_numbers_read_column(const uint8_t *texts, size_t texts_length, const uint64_t *offsets,
+                                     size_t offsets_length, const uint8_t *bitmap, size_t bitmap_length,
+                                     size_t first, uint32_t kind, uint32_t way, uint64_t *values,
+                                     size_t values_length, uint32_t *statuses, size_t statuses_length);
+
+/* The same for numbers of 128 bits. */
+uint32_t chinese_wide_numbers_read_column(const uint8_t *texts, size_t texts_length, const uint64_t *offsets,
+                                          size_t offsets_length, const uint8_t *bitmap, size_t bitmap_length,
+                                          size_t first, uint32_t kind, uint32_t way, cn_number *values,
+                                          size_t values_length, uint32_t *statuses, size_t statuses_length);
+
+/* Reads a column of texts as amounts of fen, likewise: each row as the call of the input reads it, which
+ * is CN_AMOUNT, CN_SIGNED_AMOUNT, CN_TYPED_AMOUNT, CN_TYPED_SIGNED_AMOUNT or CN_FIGURES. Returns
+ * CN_DONE, or CN_UNKNOWN for CN_DATE and for a code that names no input. */
+uint32_t chinese_amounts_read_column(const uint8_t *texts, size_t texts_length, const uint64_t *offsets,
+                                     size_t offsets_length, const uint8_t *bitmap, size_t bitmap_length,
+                                     size_t first, uint32_t input, int64_t *values, size_t values_length,
+                                     uint32_t *statuses, size_t statuses_length);
+
+/* Reads a column of texts as dates, likewise: each row as chinese_date_read reads it. Returns CN_DONE. */
+uint32_t chinese_dates_read_column(const uint8_t *texts, size_t texts_length, const uint64_t *offsets,
+                                   size_t offsets_length, const uint8_t *bitmap, size_t bitmap_length,
+                                   size_t first, cn_day *values, size_t values_length, uint32_t *statuses,
+                                   size_t statuses_length);
 
 /* What may come next in a text after its longest part, from the start, that begins such an input.
  * char_index and byte_index are its length: all of the text, or up to the wrong character. may_end
@@ -1081,6 +1210,32 @@ CN_NODISCARD static inline cn_status cn_text_to_figures(const char *text, size_t
     uint32_t status = chinese_text_to_figures(cn_bytes(text, text_length), text_length, upper, greatest, method, options,
                                               cn_room(room, room_length, &none), most, length);
     return cn_ended(status, room, room_length, *length);
+}
+
+/* chinese_text_to_speech for a text in char, into a buffer of char, likewise. `meant` is a buffer of char, too,
+ * of at least as many bytes as the text. */
+CN_NODISCARD static inline cn_status cn_text_to_speech(const char *text, size_t text_length, uint32_t upper,
+                                                       cn_unit greatest, cn_way method, cn_script script,
+                                                       uint32_t options, char *meant, size_t meant_length,
+                                                       char *room, size_t room_length, size_t *length) {
+    uint8_t none, none_meant;
+    size_t most = cn_most_of_text(room_length);
+    uint32_t status = chinese_text_to_speech(cn_bytes(text, text_length), text_length, upper, greatest, method, script,
+                                             options, cn_room(meant, meant_length, &none_meant), meant_length,
+                                             cn_room(room, room_length, &none), most, length);
+    return cn_ended(status, room, room_length, *length);
+}
+
+/* Finds the next part of a text in char that cn_text_to_speech leaves, after span->end; with a span of zeros,
+ * the first one. At CN_DONE the span is its place in the whole text, otherwise zeros. */
+CN_NODISCARD static inline cn_status cn_find_next_unspoken(const char *text, size_t text_length, uint32_t upper,
+                                                           cn_unit greatest, char *meant, size_t meant_length,
+                                                           cn_span *span) {
+    uint8_t none;
+    size_t count = 0;
+    uint32_t status = chinese_speech_left(cn_bytes(text, text_length), text_length, span->end, upper, greatest,
+                                          cn_room(meant, meant_length, &none), meant_length, span, 1, &count);
+    return cn_next(status, count, span);
 }
 
 /* chinese_amount_print into a buffer of char, likewise. A buffer of CN_MOST_AMOUNT_BYTES + 1 is

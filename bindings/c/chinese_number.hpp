@@ -16,6 +16,7 @@
 
 #include "chinese_number.h"
 
+#include <algorithm>
 #include <chrono>
 #include <cstddef>
 #include <cstdint>
@@ -74,6 +75,7 @@ enum class PhraseKind : std::uint32_t {
     years = CN_PHRASE_KIND_YEARS, months = CN_PHRASE_KIND_MONTHS, days = CN_PHRASE_KIND_DAYS,
     time = CN_PHRASE_KIND_TIME, duration = CN_PHRASE_KIND_DURATION, half = CN_PHRASE_KIND_HALF,
     length = CN_PHRASE_KIND_LENGTH, score = CN_PHRASE_KIND_SCORE, range = CN_PHRASE_KIND_RANGE,
+    money = CN_PHRASE_KIND_MONEY,
 };
 
 /* What is known of a phrase. */
@@ -161,12 +163,14 @@ struct Included {
 
 /* How text_to_figures and quantities_to_figures write. With `expanded` 三千五百亿 becomes 350000000000,
  * otherwise 3500亿. With `canonical` what is only figures is rewritten in ASCII, without commas and
- * leading zeros. With `compact` text_to_figures writes dates, times and halves as short as possible:
- * 2026-01-05, 15:30, 1.5小时. */
+ * leading zeros. With `compact` text_to_figures writes dates, times, halves and sums of money as short as
+ * possible: 2026-01-05, 15:30, 1.5小时, 3.5元. With `codes` it also writes codes, such as telephone numbers:
+ * 打幺幺零 becomes 打110. */
 struct Figures {
     bool expanded = false;
     bool canonical = false;
     bool compact = false;
+    bool codes = false;
 };
 
 /* Why there is no number, amount, date or text. At Status::incorrect it has the place of the wrong
@@ -328,7 +332,8 @@ constexpr cn_form flags_of(AmountForm form) {
 constexpr std::uint32_t options_of(Included included, Figures figures) {
     return (included.about ? CN_ABOUT : 0u) | (included.one_character ? CN_ONE_CHARACTER : 0u)
          | (included.doubtful ? CN_DOUBTFUL : 0u) | (figures.expanded ? CN_EXPANDED : 0u)
-         | (figures.canonical ? CN_CANONICAL : 0u) | (figures.compact ? CN_COMPACT : 0u);
+         | (figures.canonical ? CN_CANONICAL : 0u) | (figures.compact ? CN_COMPACT : 0u)
+         | (figures.codes ? CN_CODES : 0u);
 }
 
 constexpr bool are_same(cn_number one, cn_number other) {
@@ -596,6 +601,211 @@ inline Result<Date> chinese_to_date(std::string_view text) {
     return detail::result_of(status, Date{read.year, read.month, read.day}, "date", read.char_index, read.byte_index);
 }
 
+/* Texts of many values, one after another in one string. Each row is a text, or is refused and then has
+ * no text. */
+class Column {
+public:
+    Column(std::string bytes, std::vector<std::uint64_t> offsets, std::vector<Status> statuses)
+        : texts(std::move(bytes)), ends(std::move(offsets)), states(std::move(statuses)) {}
+
+    /* How many rows there are. */
+    std::size_t size() const noexcept { return states.size(); }
+    bool empty() const noexcept { return states.empty(); }
+
+    /* The text of a row, empty if the row is refused. The column must outlive it. */
+    std::string_view operator[](std::size_t row) const {
+        const std::size_t start = static_cast<std::size_t>(ends[row]);
+        return std::string_view(texts.data() + start, static_cast<std::size_t>(ends[row + 1]) - start);
+    }
+
+    /* Status::done, or why the row is refused. */
+    Status status(std::size_t row) const { return states[row]; }
+
+    /* The texts of all rows, and where each begins, as Arrow has its large strings: the text of row i is
+     * from offsets()[i] up to offsets()[i + 1]. */
+    const std::string &bytes() const noexcept { return texts; }
+    const std::vector<std::uint64_t> &offsets() const noexcept { return ends; }
+
+    class iterator {
+    public:
+        using iterator_category = std::input_iterator_tag;
+        using value_type = std::string_view;
+        using difference_type = std::ptrdiff_t;
+        using pointer = const std::string_view *;
+        using reference = std::string_view;
+
+        iterator() = default;
+        iterator(const Column &of, std::size_t at) : column(&of), row(at) {}
+
+        std::string_view operator*() const { return (*column)[row]; }
+        iterator &operator++() {
+            row++;
+            return *this;
+        }
+        iterator operator++(int) { return iterator(*column, row++); }
+        bool operator==(const iterator &other) const { return row == other.row; }
+        bool operator!=(const iterator &other) const { return row != other.row; }
+
+    private:
+        const Column *column = nullptr;
+        std::size_t row = 0;
+    };
+
+    iterator begin() const { return {*this, 0}; }
+    iterator end() const { return {*this, size()}; }
+
+private:
+    std::string texts;
+    std::vector<std::uint64_t> ends;
+    std::vector<Status> states;
+};
+
+namespace detail {
+
+/* The arrays of a call that prints a piece of a column. */
+template <typename Row>
+struct Piece {
+    /* So few rows that the memory for their longest texts is small. */
+    static constexpr std::size_t most_rows = 256;
+
+    Row rows[most_rows];
+    std::size_t count;
+    std::uint64_t offsets[most_rows + 1];
+    std::vector<std::uint8_t> room;
+    std::uint32_t statuses[most_rows];
+    std::size_t done;
+};
+
+/* Prints values in pieces, each as a row that row_of makes. No text has more bytes than `most`. */
+template <typename Row, typename Value, typename RowOf, typename Print>
+Result<Column> printed_column(const char *subject, std::size_t most, const Value *values, std::size_t count,
+                              RowOf row_of, Print print) {
+    std::string texts;
+    std::vector<std::uint64_t> offsets(count + 1);
+    std::vector<Status> statuses(count);
+    Piece<Row> piece;
+    piece.room.resize(most * std::min(count, piece.most_rows));
+    piece.offsets[0] = 0;
+    for (std::size_t from = 0; from < count; from += piece.count) {
+        piece.count = std::min(count - from, piece.most_rows);
+        std::transform(values + from, values + from + piece.count, piece.rows, row_of);
+        const std::uint32_t status = print(piece);
+        if (status != CN_DONE)
+            return Error{static_cast<Status>(status), subject, 0, 0};
+        for (std::size_t row = 0; row < piece.count; row++) {
+            offsets[from + row + 1] = texts.size() + piece.offsets[row + 1];
+            statuses[from + row] = static_cast<Status>(piece.statuses[row]);
+        }
+        const std::size_t length = static_cast<std::size_t>(piece.offsets[piece.count]);
+        if (from == 0) /* the other pieces are often about as long */
+            texts.reserve((length + length / 8) * (count / piece.count + 1));
+        texts.append(reinterpret_cast<const char *>(piece.room.data()), length);
+    }
+    return Column(std::move(texts), std::move(offsets), std::move(statuses));
+}
+
+/* What a call answers for each text of a range. */
+template <typename Range, typename Read>
+auto read_column(const Range &texts, Read read) {
+    std::vector<decltype(read(std::string_view()))> done;
+    done.reserve(static_cast<std::size_t>(std::distance(std::begin(texts), std::end(texts))));
+    for (const std::string_view text : texts)
+        done.push_back(read(text));
+    return done;
+}
+
+/* An amount of fen as a column has it: refused alike if it is held by no row. */
+template <typename T>
+std::int64_t fen_of_row(T fen) {
+    return held_as<std::int64_t>(fen).value_or(is_below_zero(fen) ? INT64_MIN : INT64_MAX);
+}
+
+} // namespace detail
+
+/* Writes many numbers, each as to_chinese does. The only error is Status::unknown, for a style with a
+ * value that its type does not name. */
+template <typename T>
+Result<Column> numbers_to_chinese(const T *numbers, std::size_t count, Style style = {}) {
+    return detail::printed_column<cn_number>(
+        "chinese number", CN_MOST_BYTES, numbers, count, detail::halves_of<T>, [&](auto &piece) {
+            const std::uint8_t present = 0;
+            return chinese_wide_numbers_print_column(
+                piece.rows, piece.count, &present, 0, 0, detail::kind_of<T>(), static_cast<std::uint32_t>(style.way),
+                static_cast<std::uint32_t>(style.script), static_cast<std::uint32_t>(style.letter_case), piece.offsets,
+                piece.count + 1, piece.room.data(), piece.room.size(), piece.statuses, piece.count, &piece.done);
+        });
+}
+
+/* Writes the numbers of an array, a std::vector or a std::span, likewise:
+ *
+ *     const std::vector<int> numbers = {120, -7};
+ *     for (std::string_view text : numbers_to_chinese(numbers).value())
+ *         use(text); // 一百二十, then 负七 */
+template <typename Range>
+Result<Column> numbers_to_chinese(const Range &numbers, Style style = {}) {
+    return numbers_to_chinese(std::data(numbers), std::size(numbers), style);
+}
+
+/* Writes many amounts of fen, each as signed_amount_to_chinese does. */
+template <typename T>
+Result<Column> signed_amounts_to_chinese(const T *fen, std::size_t count, AmountForm form = {},
+                                         Script script = Script::simplified) {
+    return detail::printed_column<std::int64_t>(
+        "amount", CN_MOST_SIGNED_AMOUNT_BYTES, fen, count, detail::fen_of_row<T>, [&](auto &piece) {
+            const std::uint8_t present = 0;
+            return chinese_amounts_print_column(
+                piece.rows, piece.count, &present, 0, 0, static_cast<std::uint32_t>(script),
+                static_cast<std::uint32_t>(detail::flags_of(form)), piece.offsets, piece.count + 1, piece.room.data(),
+                piece.room.size(), piece.statuses, piece.count, &piece.done);
+        });
+}
+
+template <typename Range>
+Result<Column> signed_amounts_to_chinese(const Range &fen, AmountForm form = {}, Script script = Script::simplified) {
+    return signed_amounts_to_chinese(std::data(fen), std::size(fen), form, script);
+}
+
+/* Writes many dates, each as date_to_chinese does. */
+inline Result<Column> dates_to_chinese(const Date *dates, std::size_t count, Script script = Script::simplified) {
+    const auto row_of = [](const Date &date) { return cn_day{date.year, date.month, date.day}; };
+    return detail::printed_column<cn_day>("date", CN_MOST_DATE_BYTES, dates, count, row_of, [&](auto &piece) {
+        const std::uint8_t present = 0;
+        return chinese_dates_print_column(piece.rows, piece.count, &present, 0, 0, static_cast<std::uint32_t>(script),
+                                          piece.offsets, piece.count + 1, piece.room.data(), piece.room.size(),
+                                          piece.statuses, piece.count, &piece.done);
+    });
+}
+
+template <typename Range>
+Result<Column> dates_to_chinese(const Range &dates, Script script = Script::simplified) {
+    return dates_to_chinese(std::data(dates), std::size(dates), script);
+}
+
+/* Reads each text of a range, such as a Column or a std::vector of std::string, as to_number does. In
+ * C++ this is as fast as a call for all of them. */
+template <typename T, typename Range>
+std::vector<Result<T>> to_numbers(const Range &texts, Way way = Way::any) {
+    return detail::read_column(texts, [way](std::string_view text) { return to_number<T>(text, way); });
+}
+
+/* Reads each text of a range as chinese_to_signed_amount does. */
+template <typename Range>
+std::vector<Result<std::int64_t>> chinese_to_signed_amounts(const Range &texts) {
+    return detail::read_column(texts, chinese_to_signed_amount);
+}
+
+/* Reads each text of a range as chinese_to_signed_amount_as_typed does. */
+template <typename Range>
+std::vector<Result<std::int64_t>> chinese_to_signed_amounts_as_typed(const Range &texts) {
+    return detail::read_column(texts, chinese_to_signed_amount_as_typed);
+}
+
+/* Reads each text of a range as chinese_to_date does. */
+template <typename Range>
+std::vector<Result<Date>> chinese_to_dates(const Range &texts) {
+    return detail::read_column(texts, chinese_to_date);
+}
+
 /* What may come next in a text after its longest part, from the start, that begins such an input. */
 struct Expected {
     std::size_t char_index; /* the length of this part, in characters and in bytes */
@@ -749,7 +959,8 @@ struct ClockTime {
  * - time: a ClockTime;
  * - duration: seconds;
  * - half and length: a Quantity, 15/10 for 一个半小时, and 175/100 for 一米七五;
- * - range: a pair of quantities. */
+ * - range: a pair of quantities;
+ * - money: a Quantity of yuan, 350/100 for 三块五; none if it is no whole number of fen below 10^18. */
 using PhraseValue = std::variant<Date, PartialDate, std::pair<std::uint32_t, std::uint32_t>, ClockTime,
                                  std::chrono::seconds, Quantity, std::pair<Quantity, Quantity>>;
 
@@ -800,6 +1011,14 @@ inline Quantity decimal_of(std::uint32_t whole, std::uint32_t decimals, std::uin
     return {cn_unsigned(whole * power + decimals), cn_unsigned(power), QuantityForm::decimal};
 }
 
+/* A sum of money in yuan, if its fen are known. */
+inline std::optional<PhraseValue> money_of(const cn_phrase &read) {
+    const std::uint64_t fen = (std::uint64_t(read.second) << 32) + read.first;
+    if (read.third == 0)
+        return std::nullopt;
+    return Quantity{cn_unsigned(fen), cn_unsigned(100), QuantityForm::decimal};
+}
+
 inline std::optional<PhraseValue> range_of(std::string_view text, const cn_phrase &read) {
     cn_quantity low, high;
     if (cn_read_range(text.data(), &read, &low, &high) != CN_DONE)
@@ -823,6 +1042,8 @@ inline std::optional<PhraseValue> value_of(std::string_view text, const cn_phras
         return decimal_of(read.first, read.second, read.third);
     if (kind == PhraseKind::range)
         return range_of(text, read);
+    if (kind == PhraseKind::money)
+        return money_of(read);
     return std::pair(read.first, read.second);
 }
 
@@ -914,7 +1135,8 @@ inline Numbers find_quantities(std::string_view text, Wanted wanted = {}) {
 }
 
 /* Finds the phrases of a text, and its expressions that are in no phrase: dates, times of day,
- * durations, ranges, scores, halves and lengths. There are none if the bytes are not UTF-8.
+ * durations, ranges, scores, halves, lengths and sums of money. There are none if the bytes are not
+ * UTF-8.
  *
  *     for (const Item item : find_phrases(text))
  *         if (const auto *phrase = std::get_if<Phrase>(&item); phrase && phrase->value)
@@ -988,12 +1210,48 @@ Result<std::string> in_figures(Call call, std::string_view text, Wanted wanted, 
 } // namespace detail
 
 /* Rewrites a text in figures, as an editor does, with its dates, times, durations, ranges, scores,
- * lengths and quantities: 二零二六年一月五日下午三点半，三到五万元 becomes 2026年1月5日下午3点半，3万到5万元.
+ * lengths, sums of money and quantities: 二零二六年一月五日下午三点半，三到五万元 becomes 2026年1月5日下午3点半，3万到5万元.
  * chinese_text_to_figures documents what stays as it is. The error is Status::not_utf8 if the bytes
  * are not UTF-8, and Status::unknown for Way::digits. */
 inline Result<std::string> text_to_figures(std::string_view text, Wanted wanted = {}, Way method = Way::any,
                                            Included included = {}, Figures figures = {}) {
     return detail::in_figures(cn_text_to_figures, text, wanted, method, detail::options_of(included, figures));
+}
+
+/* Rewrites a text as it is spoken, with its figures, signs and measures in Chinese characters: 15:30到，共2.5kg
+ * becomes 十五点三十分到，共二点五千克. With `yao` 1 is 幺 in codes, such as telephone numbers. What no rule covers
+ * stays, such as x86, whose 86 find_unspoken finds. The errors are those of text_to_figures. */
+inline Result<std::string> text_to_speech(std::string_view text, Script script = Script::simplified,
+                                          Way method = Way::any, bool yao = false) {
+    std::string meant(text.size(), '\0');
+    const auto speak = [&](const char *given, std::size_t size, std::uint32_t upper, cn_unit greatest, cn_way way,
+                           std::uint32_t options, char *room, std::size_t room_size, std::size_t *length) {
+        return cn_text_to_speech(given, size, upper, greatest, way, static_cast<cn_script>(script), options,
+                                 meant.data(), meant.size(), room, room_size, length);
+    };
+    return detail::in_figures(speak, text, {}, method, yao ? CN_YAO : 0u);
+}
+
+/* Finds the parts with figures that text_to_speech leaves as they are, in order: 86 of x86. Not all of them
+ * are quantities. The text must outlive them. The error is Status::not_utf8 if the bytes are not UTF-8. */
+inline Result<std::vector<Found>> find_unspoken(std::string_view text) {
+    std::string meant(text.size() + 1, '\0');
+    std::vector<Found> all;
+    std::size_t from = 0;
+    /* Each call goes through the whole text, so each one finds twice as many as the one before. */
+    for (std::size_t most = 32;; most *= 2) {
+        std::vector<cn_span> spans(most);
+        std::size_t count = 0;
+        const std::uint32_t status =
+            chinese_speech_left(cn_bytes(text.data(), text.size()), text.size(), from, 0, CN_ZHAO,
+                                reinterpret_cast<std::uint8_t *>(meant.data()), text.size(), spans.data(), most, &count);
+        if (status != CN_DONE)
+            return Error{static_cast<Status>(status), "text", 0, 0};
+        for (std::size_t at = 0; at < count; from = spans[at++].end)
+            all.push_back(detail::item_of(text, spans[at]));
+        if (count < most)
+            return all;
+    }
 }
 
 /* Rewrites the numerals of a text in figures, likewise, but not in phrases: 市值三点五亿元，占百分之十二点五 becomes

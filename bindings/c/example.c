@@ -237,14 +237,45 @@ static void each_status_of_replacing(void) {
     replaces("\xff", CN_TEN_THOUSAND, 0, 64, CN_NOT_UTF8, 0, "no UTF-8");
     replaces("一", CN_DIGITS, 0, 64, CN_UNKNOWN, 0, "a way that is not a method");
     replaces("一", CN_TEN_THOUSAND, each | CN_STANDS_ALONE, 64, CN_UNKNOWN, 0, "a flag that is not an option");
-    replaces("一", CN_TEN_THOUSAND, CN_COMPACT * 2, 64, CN_UNKNOWN, 0, "an unknown option");
-    replaces("共三万五千元", CN_TEN_THOUSAND, CN_COMPACT, 11, CN_DONE, 11, "共35000元");
+    replaces("一", CN_TEN_THOUSAND, CN_CODES * 2, 64, CN_UNKNOWN, 0, "an unknown option");
+    replaces("共三万五千元", CN_TEN_THOUSAND, CN_COMPACT | CN_CODES, 11, CN_DONE, 11, "共35000元");
     replaces("一", CN_TEN_THOUSAND, UINT32_MAX, 64, CN_UNKNOWN, 0, "all bits of the options");
 }
 
 static void writes(const char *text, uint32_t method, uint32_t options, size_t room_length, uint32_t status, size_t wanted,
                    const char *new_text) {
     rewrites(chinese_text_to_figures, text, method, options, room_length, status, wanted, new_text);
+}
+
+/* A text as it is spoken, with buffers of these lengths. */
+static void speaks(const char *text, uint32_t options, size_t meant_length, size_t room_length, uint32_t status,
+                   size_t length, const char *new_text) {
+    uint8_t meant[64], room[64];
+    size_t told = 9;
+    uint32_t got = chinese_text_to_speech((const uint8_t *)text, strlen(text), 0, CN_ZHAO, CN_ANY, CN_SIMPLIFIED, options,
+                                          meant, meant_length, room, room_length, &told);
+    expect(new_text, got == status && told == length && (got != CN_DONE || memcmp(room, new_text, told) == 0));
+}
+
+static void each_status_of_speech(void) {
+    uint8_t meant[4];
+    cn_span span = {7, 8, 9};
+    size_t count = 9;
+    speaks("3天", 0, 4, 6, CN_DONE, 6, "三天");
+    speaks("3天", 0, 4, 5, CN_NO_ROOM, 6, "too small for a text as it is spoken");
+    speaks("3天", 0, 3, 6, CN_NO_ROOM, 0, "too small to work in");
+    speaks("打110", 0, 6, 12, CN_DONE, 12, "打一一零");
+    speaks("打110", CN_YAO, 6, 12, CN_DONE, 12, "打幺幺零");
+    speaks("3天", CN_YAO + 1, 4, 6, CN_UNKNOWN, 0, "an unknown option for speech");
+    speaks("\xff", 0, 4, 6, CN_NOT_UTF8, 0, "no text to be spoken");
+    expect("what is left", chinese_speech_left((const uint8_t *)"x86", 3, 0, 0, CN_ZHAO, meant, 3, &span, 1, &count) == CN_DONE
+           && count == 1 && span.start == 1 && span.end == 3);
+    expect("no place", chinese_speech_left((const uint8_t *)"x86", 3, 4, 0, CN_ZHAO, meant, 3, &span, 1, &count) == CN_NOT_UTF8
+           && count == 0);
+    expect("no room to work in", chinese_speech_left((const uint8_t *)"x86", 3, 0, 0, CN_ZHAO, meant, 2, &span, 1, &count)
+           == CN_NO_ROOM && count == 0);
+    expect("no greatest unit", chinese_speech_left((const uint8_t *)"x86", 3, 0, 0, CN_JI + 1, meant, 3, &span, 1, &count)
+           == CN_UNKNOWN && count == 0);
 }
 
 static void each_status_of_texts_in_figures(void) {
@@ -257,6 +288,8 @@ static void each_status_of_texts_in_figures(void) {
     writes("一个半小时", CN_TEN_THOUSAND, CN_COMPACT, 9, CN_DONE, 9, "1.5小时");
     writes("二零二六年一月五日十五时", CN_TEN_THOUSAND, CN_COMPACT, 16, CN_DONE, 16, "2026-01-05 15:00");
     writes("二零二六年一月五日十五时", CN_TEN_THOUSAND, CN_COMPACT, 15, CN_NO_ROOM, 16, "too small for a blank");
+    writes("打幺幺零", CN_TEN_THOUSAND, CN_CODES, 6, CN_DONE, 6, "打110");
+    writes("打幺幺零", CN_TEN_THOUSAND, 0, 12, CN_DONE, 12, "打幺幺零");
     writes("", CN_TEN_THOUSAND, 0, 0, CN_DONE, 0, "");
     writes("\xff", CN_TEN_THOUSAND, 0, 64, CN_NOT_UTF8, 0, "no UTF-8");
     writes("一", CN_DIGITS, 0, 64, CN_UNKNOWN, 0, "a way that is not a method");
@@ -274,7 +307,8 @@ static void finds_phrase(const char *text, size_t from, uint32_t upper, uint32_t
 
 static void each_status_of_finding_phrases(void) {
     finds_phrase("共三到五万元", 0, 0, CN_ZHAO, CN_DONE, 1, 3, 15, CN_PHRASE_KIND_RANGE);
-    finds_phrase("共三万元", 0, 0, CN_ZHAO, CN_DONE, 1, 3, 9, CN_PHRASE_KIND_EXPRESSION);
+    finds_phrase("共三万人", 0, 0, CN_ZHAO, CN_DONE, 1, 3, 9, CN_PHRASE_KIND_EXPRESSION);
+    finds_phrase("共三万元", 0, 0, CN_ZHAO, CN_DONE, 1, 3, 12, CN_PHRASE_KIND_MONEY);
     finds_phrase("二十人，一月五日", 12, 0, CN_ZHAO, CN_DONE, 1, 12, 24, CN_PHRASE_KIND_DATE);
     finds_phrase("共三万元", 12, 0, CN_ZHAO, CN_DONE, 0, 0, 0, 0);
     finds_phrase("\xff", 0, 0, CN_ZHAO, CN_NOT_UTF8, 0, 0, 0, 0);
@@ -817,6 +851,7 @@ int main(void) {
     each_status_of_printing_quantities();
     each_status_of_replacing();
     each_status_of_texts_in_figures();
+    each_status_of_speech();
     each_status_of_finding_phrases();
     each_status_of_ranges();
     each_status_of_printing_amounts();

@@ -2,6 +2,7 @@
  * rows of test.py do not have. */
 #include "chinese_number.hpp"
 
+#include <functional>
 #include <iostream>
 #include <memory>
 #include <vector>
@@ -33,6 +34,9 @@ void first_steps() {
     std::cout << message.value_or("") << '\n'; // 第3个字“贰”前缺“零”。
     if (auto repair = input_repair(typed, Input::amount); repair && repair->change == Change::insert)
         std::cout << typed.insert(repair->byte_index, repair->character) << '\n'; // 壹佰零贰元整
+
+    const auto column = numbers_to_chinese(std::vector<int>{120, -7}).value();
+    std::cout << column[0] << ' ' << column[1] << '\n'; // 一百二十 负七
 
     AmountForm form;
     form.currency = true;
@@ -157,14 +161,19 @@ void replaced_quantities() {
 void options() {
     Included doubtful;
     doubtful.doubtful = true;
-    Figures expanded, canonical, compact;
-    expanded.expanded = canonical.canonical = compact.compact = true;
+    Figures expanded, canonical, compact, codes;
+    expanded.expanded = canonical.canonical = compact.compact = codes.codes = true;
     const auto in_figures = [](std::string_view text, Included included, Figures figures) {
         return quantities_to_figures(text, {}, Way::any, included, figures).value_or("");
     };
     expect("a longer text", in_figures("一百亿", {}, expanded) == "10000000000");
     expect("plain figures", in_figures("1,280元", {}, canonical) == "1280元");
     expect("a short date", text_to_figures("二零二六年一月五日", {}, Way::any, {}, compact).value_or("") == "2026-01-05");
+    expect("a text as it is spoken", text_to_speech("15:30到").value_or("") == "十五点三十分到");
+    expect("what is not spoken", find_unspoken("x86，3天")->size() == 1);
+    expect("no text to be spoken", is_refused(text_to_speech("\xff"), Status::not_utf8)
+                                       && is_refused(find_unspoken("\xff"), Status::not_utf8));
+    expect("a number to call", text_to_figures("打幺幺零", {}, Way::any, {}, codes).value_or("") == "打110");
     expect("what is doubtful", in_figures("五一，八五折", doubtful, {}) == "51，八五折");
     const auto in_brackets = [](const Found &found) { return '[' + std::string(found.text) + ']'; };
     const auto replaced = [&](Included included) {
@@ -215,6 +224,8 @@ void values_of_phrases() {
     const Quantity half = {cn_unsigned(15), cn_unsigned(10), QuantityForm::decimal};
     const Quantity length = {cn_unsigned(175), cn_unsigned(100), QuantityForm::decimal};
     expect("a half", value_of<Quantity>("一个半小时") == half && value_of<Quantity>("一米七五") == length);
+    const Quantity sum = {cn_unsigned(500000000000), cn_unsigned(100), QuantityForm::decimal};
+    expect("a sum of money", value_of<Quantity>("五十亿元") == sum && !value_of<Quantity>("3.555元"));
     const auto range = value_of<std::pair<Quantity, Quantity>>("三到五万元");
     expect("a range", range && range->first.to_whole<int>() == 30000 && range->second.to_whole<int>() == 50000);
 }
@@ -292,6 +303,88 @@ void found_numbers() {
     expect("no UTF-8", none.begin() == none.end() && none.status() == Status::not_utf8);
 }
 
+/* Whether each row of a column is what the call for one value answers. */
+template <typename Values, typename Print>
+bool are_rows(const Result<Column> &column, const Values &values, Print print) {
+    std::string texts;
+    for (std::size_t row = 0; row < values.size(); row++) {
+        const Result<std::string> one = print(values[row]);
+        const Status status = one ? Status::done : one.error().status;
+        if (column->status(row) != status || (*column)[row] != one.value_or(""))
+            return false;
+        texts += one.value_or("");
+    }
+    return column->size() == values.size() && column->bytes() == texts && column->offsets().back() == texts.size();
+}
+
+/* Whether each answer for a range of texts is that of the call for one text. */
+template <typename Value, typename Texts, typename Read, typename Same>
+bool are_answers(const std::vector<Result<Value>> &answers, const Texts &texts, Read read, Same same) {
+    std::size_t row = 0;
+    for (const std::string_view text : texts) {
+        const Result<Value> one = read(text), &other = answers[row++];
+        if (one ? !other || !same(*one, *other) : other || one.error().message() != other.error().message())
+            return false;
+    }
+    return row == answers.size();
+}
+
+/* Numbers of each length and both signs, in more rows than a call of the library has. */
+std::vector<std::int64_t> some_numbers() {
+    std::vector<std::int64_t> numbers;
+    std::uint64_t state = 88172645463325252u;
+    for (int row = 0; row < 1000; row++) {
+        state ^= state << 13;
+        state ^= state >> 7;
+        state ^= state << 17;
+        const std::int64_t number = static_cast<std::int64_t>(state >> (1 + row % 63));
+        numbers.push_back(row % 3 == 0 ? -number : number);
+    }
+    return numbers;
+}
+
+void columns() {
+    const std::vector<std::int64_t> numbers_of_rows = some_numbers();
+    const Style low = {Way::low, Script::traditional, Case::upper};
+    for (const Style &style : {Style(), low}) {
+        const Result<Column> column = numbers_to_chinese(numbers_of_rows, style);
+        expect("numbers", are_rows(column, numbers_of_rows, [&](std::int64_t it) { return to_chinese(it, style); }));
+        expect("numbers read", are_answers(to_numbers<std::int32_t>(*column, style.way), *column,
+                                           [&](std::string_view it) { return to_number<std::int32_t>(it, style.way); },
+                                           std::equal_to<std::int32_t>()));
+    }
+    const std::vector<std::uint8_t> bytes(numbers_of_rows.begin(), numbers_of_rows.end());
+    expect("small numbers", are_rows(numbers_to_chinese(bytes), bytes, [](std::uint8_t it) { return to_chinese(it); }));
+
+    AmountForm form;
+    form.bracketed_sign = true;
+    const auto print_amount = [&](auto it) { return signed_amount_to_chinese(it, form); };
+    const Result<Column> amounts_of_rows = signed_amounts_to_chinese(numbers_of_rows, form);
+    expect("amounts", are_rows(amounts_of_rows, numbers_of_rows, print_amount));
+    const std::vector<std::uint64_t> large = {1500, UINT64_MAX};
+    expect("large amounts", are_rows(signed_amounts_to_chinese(large, form), large, print_amount));
+    const auto same = std::equal_to<std::int64_t>();
+    expect("amounts read", are_answers(chinese_to_signed_amounts_as_typed(*amounts_of_rows), *amounts_of_rows,
+                                       chinese_to_signed_amount_as_typed, same));
+    const std::vector<std::string> typed = {"负壹拾伍元整", "壹佰贰元整", "", "\xff"};
+    expect("texts", are_answers(chinese_to_signed_amounts(typed), typed, chinese_to_signed_amount, same));
+
+    std::vector<Date> dates;
+    for (std::uint32_t row = 0; row < 1000; row++)
+        dates.push_back({row * 11, 1 + row % 12, 1 + row % 31});
+    const Result<Column> dates_of_rows = dates_to_chinese(dates, Script::traditional);
+    expect("dates", are_rows(dates_of_rows, dates, [](Date it) { return date_to_chinese(it, Script::traditional); }));
+    expect("dates read", are_answers(chinese_to_dates(*dates_of_rows), *dates_of_rows, chinese_to_date,
+                                     [](Date one, Date other) {
+                                         return one.year == other.year && one.month == other.month && one.day == other.day;
+                                     }));
+
+    const Style unknown = {static_cast<Way>(9), Script::simplified, Case::lower};
+    expect("no such way", is_refused(numbers_to_chinese(numbers_of_rows, unknown), Status::unknown));
+    const Result<Column> none = numbers_to_chinese(static_cast<const int *>(nullptr), 0);
+    expect("no rows", none && none->empty() && none->begin() == none->end());
+}
+
 } // namespace
 
 int main() {
@@ -307,5 +400,6 @@ int main() {
     amounts();
     refused_texts();
     found_numbers();
+    columns();
     return failed != 0;
 }

@@ -31,8 +31,9 @@ func (it *AmountForm) codes() (script, form C.uint32_t) {
 // errors are TooLarge, for 10^18 fen or more, and Unknown for the script.
 func AmountToChinese(fen uint64, form *AmountForm) (string, error) {
 	script, rest := form.codes()
-	it := C.print_amount(C.uint64_t(fen), script, rest)
-	return printed(&it)
+	it := newBuffer()
+	C.print_amount(C.uint64_t(fen), script, rest, it)
+	return printed(it)
 }
 
 // SignedAmountToChinese writes an amount like AmountToChinese, and a negative one, as on a red
@@ -40,8 +41,9 @@ func AmountToChinese(fen uint64, form *AmountForm) (string, error) {
 // -10^18 fen or less.
 func SignedAmountToChinese(fen int64, form *AmountForm) (string, error) {
 	script, rest := form.codes()
-	it := C.print_signed_amount(C.int64_t(fen), script, rest)
-	return printed(&it)
+	it := newBuffer()
+	C.print_signed_amount(C.int64_t(fen), script, rest, it)
+	return printed(it)
 }
 
 // ChineseToAmount reads a text in capitals as an amount in fen. The errors are Unfinished,

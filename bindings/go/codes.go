@@ -130,7 +130,8 @@ const (
 	DoubtDigits Doubt = 2
 	// It is part of a term: 负二 of 负二项, 十六 of 十六进制.
 	DoubtTerm Doubt = 3
-	// It is part of an expression with 折, 成, 半 or 分之几: 八五 of 八五折, 一 of 一个半.
+	// It is part of an expression with 折, 成, 半 or 分之几: 八五 of 八五折, 一 of 一个半; or its last 一 begins
+	// the next word: 两百一 of 两百一个月.
 	DoubtPart Doubt = 4
 	// It may be a time: 三点五 of 下午三点五, 十点零五.
 	DoubtTime Doubt = 5
@@ -166,6 +167,9 @@ const (
 	PhraseKindScore PhraseKind = 9
 	// From a quantity to another one.
 	PhraseKindRange PhraseKind = 10
+	// A sum of money, as 三块五: the fen by their lower and their upper 32 bits, and 1; all 0 if they
+	// are no whole number below 10^18.
+	PhraseKindMoney PhraseKind = 11
 )
 
 // PhraseState is what is known of a phrase.
@@ -289,7 +293,8 @@ const (
 	// When reading, finding or replacing, the bytes are not UTF-8; when finding, also: the search
 	// starts neither at a character nor at the end of the text.
 	NotUTF8 Status = 5
-	// When writing or replacing, the text has more bytes than the buffer.
+	// When writing or replacing, the text has more bytes than the buffer; when reading a column,
+	// the offsets of the row are not those of a text.
 	NoRoom Status = 6
 	// When writing, the type does not hold the number.
 	NotHeld Status = 7
@@ -299,7 +304,8 @@ const (
 	// When reading an amount, figures or a date, the text is not one, but more text can make it
 	// one.
 	Unfinished Status = 9
-	// When finding the next number or quantity, there is no further one in the text.
+	// When finding the next number or quantity, there is no further one in the text; in a column,
+	// the row is missing.
 	None Status = 10
 	// When writing a date, the date does not exist.
 	NotADate Status = 11
@@ -370,6 +376,7 @@ var wordsOfPhraseKind = []string{
 	"length",
 	"score",
 	"range",
+	"money",
 }
 
 // The words of PhraseState, in the order of the codes.

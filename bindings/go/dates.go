@@ -31,8 +31,9 @@ func (it Date) String() string {
 // errors are NotADate, and Unknown for the script.
 func DateToChinese(date Date, script Script) (string, error) {
 	year, month, day := part(date.Year), part(int(date.Month)), part(date.Day)
-	it := C.print_date(year, month, day, code(script, Simplified))
-	return printed(&it)
+	it := newBuffer()
+	C.print_date(year, month, day, code(script, Simplified), it)
+	return printed(it)
 }
 
 // part converts a year, a month or a day. It returns 0, which is never valid, for a number that

@@ -74,8 +74,9 @@ func (it Status) Error() string {
 // is too large to be written. It is empty for Done. The error is Unknown for the status or the
 // language.
 func StatusMessage(status Status, language Language) (string, error) {
-	it := C.print_status_message(C.uint32_t(status), C.uint32_t(language))
-	return printed(&it)
+	it := newBuffer()
+	C.print_status_message(C.uint32_t(status), C.uint32_t(language), it)
+	return printed(it)
 }
 
 // reader is a group of calls that read a text.

@@ -35,6 +35,11 @@ func Example() {
 	items, _ := cn.FindPhrases("二零二六年一月五日", nil)
 	fmt.Println(items[0].(cn.Phrase).Value) // 2026-01-05
 
+	texts, errs := cn.ToChineseColumn([]int64{120, 105_000}, nil)
+	fmt.Println(texts, errs) // [一百二十 十万五千] [<nil> <nil>]
+	amounts, errs := cn.ChineseToSignedAmountColumn([]string{"壹拾伍元整", "壹元"})
+	fmt.Println(amounts, errs[1]) // [1500 0] the amount is not finished
+
 	_, err = cn.ChineseToAmount("壹佰贰元整")
 	var refusal *cn.Error
 	if errors.As(err, &refusal) {
@@ -60,6 +65,8 @@ func Example() {
 	// 负壹仟肆佰零玖元伍角整
 	// 2026年1月5日下午3点半，3万到5万元
 	// 2026-01-05
+	// [一百二十 十万五千] [<nil> <nil>]
+	// [1500 0] the amount is not finished
 	// 第3个字“贰”前缺“零”。
 	// 人民币壹拾伍元正
 	// 1500

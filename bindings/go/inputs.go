@@ -69,6 +69,7 @@ func InputRepair(text string, input Input) (Repair, error) {
 // from 1, and the InputRepair, if there is one. It is empty if the text is right. The errors are
 // those of InputExpected, and Unknown for the language.
 func InputMessage(text string, input Input, language Language) (string, error) {
-	it := C.print_input_message(text, C.uint32_t(input), C.uint32_t(language))
-	return printed(&it)
+	it := newBuffer()
+	C.print_input_message(text, C.uint32_t(input), C.uint32_t(language), it)
+	return printed(it)
 }

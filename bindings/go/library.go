@@ -6,6 +6,8 @@ package chinesenumber
 // #include "library.h"
 import "C"
 
+import "sync"
+
 // halves are the low and the high 64 bits of a number, in two's complement.
 type halves struct {
 	low, high uint64
@@ -35,10 +37,18 @@ func flag(isSet bool, it C.uint32_t) C.uint32_t {
 	return 0
 }
 
-// printed returns the text that a call has printed.
-func printed(it *C.printed) (string, error) {
-	if it.status != C.CN_DONE {
-		return "", refusal(it.status)
+// buffers are for printed texts. One in the result of a call would be copied three times.
+var buffers = sync.Pool{New: func() any { return new(C.printed) }}
+
+func newBuffer() *C.printed {
+	return buffers.Get().(*C.printed)
+}
+
+// printed returns the text that a call has printed, and takes the buffer back.
+func printed(buffer *C.printed) (string, error) {
+	defer buffers.Put(buffer)
+	if buffer.status != C.CN_DONE {
+		return "", refusal(buffer.status)
 	}
-	return string(it.text[:it.length]), nil
+	return string(buffer.text[:buffer.length]), nil
 }

@@ -1,6 +1,6 @@
 /* The calls of the library in a form for Go. Each file with `import "C"` includes it. A call takes
- * texts in place and returns a value, so that C gets no Go pointers except those to texts and to a
- * buffer for one. */
+ * texts in place, and returns a value or fills a buffer, so that C gets no Go pointers except those
+ * to texts, to buffers and to the values of a column, and none of these contains a pointer. */
 #ifndef LIBRARY_H
 #define LIBRARY_H
 
@@ -57,74 +57,56 @@ READER_BY_CODE(explain_quantity, explained, chinese_quantity_explain)
 READER_BY_CODE(expect_input, input_expected, chinese_input_expected)
 READER_BY_CODE(repair_input, input_repair, chinese_input_repair)
 
-/* A printed text or a message. None has more bytes. */
+/* A buffer for a printed text or a message. None has more bytes. */
 typedef struct { uint32_t status; size_t length; uint8_t text[CN_MOST_MESSAGE_BYTES]; } printed;
 
-#define ROOM(it) (it).text, sizeof (it).text, &(it).length
+#define BUFFER it->text, sizeof it->text, &it->length
 
-static inline printed print_number(cn_number number, uint32_t kind, uint32_t way, uint32_t script,
-                                   uint32_t letter_case) {
-    printed it;
-    it.status = chinese_number_print(number.low, number.high, kind, way, script, letter_case,
-                                     ROOM(it));
-    return it;
+static inline void print_number(cn_number number, uint32_t kind, uint32_t way, uint32_t script,
+                                uint32_t letter_case, printed *it) {
+    it->status = chinese_number_print(number.low, number.high, kind, way, script, letter_case,
+                                      BUFFER);
 }
 
-static inline printed print_quantity(cn_quantity quantity, uint32_t method, uint32_t script,
-                                     uint32_t letter_case) {
-    printed it;
-    it.status = chinese_quantity_print(&quantity, method, script, letter_case, ROOM(it));
-    return it;
+static inline void print_quantity(cn_quantity quantity, uint32_t method, uint32_t script,
+                                  uint32_t letter_case, printed *it) {
+    it->status = chinese_quantity_print(&quantity, method, script, letter_case, BUFFER);
 }
 
-static inline printed print_quantity_figures(cn_quantity quantity) {
-    printed it;
-    it.status = chinese_quantity_figures(&quantity, ROOM(it));
-    return it;
+static inline void print_quantity_figures(cn_quantity quantity, printed *it) {
+    it->status = chinese_quantity_figures(&quantity, BUFFER);
 }
 
-static inline printed print_amount(uint64_t fen, uint32_t script, uint32_t form) {
-    printed it;
-    it.status = chinese_amount_print(fen, script, form, ROOM(it));
-    return it;
+static inline void print_amount(uint64_t fen, uint32_t script, uint32_t form, printed *it) {
+    it->status = chinese_amount_print(fen, script, form, BUFFER);
 }
 
-static inline printed print_signed_amount(int64_t fen, uint32_t script, uint32_t form) {
-    printed it;
-    it.status = chinese_signed_amount_print(fen, script, form, ROOM(it));
-    return it;
+static inline void print_signed_amount(int64_t fen, uint32_t script, uint32_t form, printed *it) {
+    it->status = chinese_signed_amount_print(fen, script, form, BUFFER);
 }
 
-static inline printed print_date(uint32_t year, uint32_t month, uint32_t day, uint32_t script) {
-    printed it;
-    it.status = chinese_date_print(year, month, day, script, ROOM(it));
-    return it;
+static inline void print_date(uint32_t year, uint32_t month, uint32_t day, uint32_t script,
+                              printed *it) {
+    it->status = chinese_date_print(year, month, day, script, BUFFER);
 }
 
-static inline printed print_input_message(_GoString_ text, uint32_t input, uint32_t language) {
-    printed it;
-    it.status = chinese_input_message(TEXT(text), input, language, ROOM(it));
-    return it;
+static inline void print_input_message(_GoString_ text, uint32_t input, uint32_t language,
+                                       printed *it) {
+    it->status = chinese_input_message(TEXT(text), input, language, BUFFER);
 }
 
-static inline printed print_number_message(_GoString_ text, uint32_t kind, uint32_t way,
-                                           uint32_t language) {
-    printed it;
-    it.status = chinese_number_message(TEXT(text), kind, way, language, ROOM(it));
-    return it;
+static inline void print_number_message(_GoString_ text, uint32_t kind, uint32_t way,
+                                        uint32_t language, printed *it) {
+    it->status = chinese_number_message(TEXT(text), kind, way, language, BUFFER);
 }
 
-static inline printed print_quantity_message(_GoString_ text, uint32_t method,
-                                             uint32_t language) {
-    printed it;
-    it.status = chinese_quantity_message(TEXT(text), method, language, ROOM(it));
-    return it;
+static inline void print_quantity_message(_GoString_ text, uint32_t method, uint32_t language,
+                                          printed *it) {
+    it->status = chinese_quantity_message(TEXT(text), method, language, BUFFER);
 }
 
-static inline printed print_status_message(uint32_t status, uint32_t language) {
-    printed it;
-    it.status = chinese_status_message(status, language, ROOM(it));
-    return it;
+static inline void print_status_message(uint32_t status, uint32_t language, printed *it) {
+    it->status = chinese_status_message(status, language, BUFFER);
 }
 
 enum { AT_ONCE = 8 };
@@ -167,7 +149,7 @@ static inline range_read read_range(_GoString_ first, _GoString_ second) {
     return it;
 }
 
-/* How many bytes a text has that was written into a buffer. */
+/* How many bytes a text has that was written into a buffer, or how many spans an array has. */
 typedef struct { uint32_t status; size_t length; } written;
 
 /* Writes a text in figures, with its phrases (1) or without them (0). */
@@ -178,6 +160,94 @@ static inline written write_figures(_GoString_ text, uint32_t phrases, uint32_t 
     it.status = (phrases ? chinese_text_to_figures : chinese_quantities_to_figures)(
         TEXT(text), upper, greatest, method, options, room, room_length, &it.length);
     return it;
+}
+
+/* Writes a text as it is spoken. The other buffer has as many bytes as the text. */
+static inline written write_speech(_GoString_ text, uint32_t method, uint32_t script,
+                                   uint32_t options, uint8_t *meant, uint8_t *room,
+                                   size_t room_length) {
+    written it;
+    it.status = chinese_text_to_speech(TEXT(text), 0, CN_ZHAO, method, script, options, meant,
+                                       _GoStringLen(text), room, room_length, &it.length);
+    return it;
+}
+
+/* Finds what speech leaves, and writes it in an array. */
+static inline written find_unspoken(_GoString_ text, size_t from, uint8_t *meant, cn_span *spans,
+                                    size_t most) {
+    written it;
+    it.status = chinese_speech_left(TEXT(text), from, 0, CN_ZHAO, meant, _GoStringLen(text), spans,
+                                    most, &it.length);
+    return it;
+}
+
+enum { ROWS_AT_ONCE = 1024, BYTES_AT_ONCE = 65536 };
+
+/* Some rows of a column of texts: the bits of those that are present, where the texts end, their
+ * statuses, and the texts, which begin at offsets[0], 0. */
+typedef struct {
+    uint8_t present[ROWS_AT_ONCE / 8];
+    uint64_t offsets[ROWS_AT_ONCE + 1];
+    uint32_t statuses[ROWS_AT_ONCE];
+    uint8_t bytes[BYTES_AT_ONCE];
+} text_rows;
+
+#define PRESENT it->present, sizeof it->present, 0
+#define PRINTED                                                                       \
+    it->offsets, ROWS_AT_ONCE + 1, it->bytes, sizeof it->bytes, it->statuses, ROWS_AT_ONCE, &done
+#define TEXTS it->bytes, sizeof it->bytes, it->offsets, ROWS_AT_ONCE + 1, PRESENT
+#define READ values, rows, it->statuses, ROWS_AT_ONCE
+
+/* These return how many rows are printed: none if a choice is unknown, otherwise at least one. */
+
+static inline size_t print_numbers(const uint64_t *values, size_t rows, uint32_t kind, uint32_t way,
+                                   uint32_t script, uint32_t letter_case, text_rows *it) {
+    size_t done;
+    chinese_numbers_print_column(values, rows, PRESENT, kind, way, script, letter_case, PRINTED);
+    return done;
+}
+
+static inline size_t print_wide_numbers(const cn_number *values, size_t rows, uint32_t kind,
+                                        uint32_t way, uint32_t script, uint32_t letter_case,
+                                        text_rows *it) {
+    size_t done;
+    chinese_wide_numbers_print_column(values, rows, PRESENT, kind, way, script, letter_case,
+                                      PRINTED);
+    return done;
+}
+
+static inline size_t print_amounts(const int64_t *values, size_t rows, uint32_t script,
+                                   uint32_t form, text_rows *it) {
+    size_t done;
+    chinese_amounts_print_column(values, rows, PRESENT, script, form, PRINTED);
+    return done;
+}
+
+static inline size_t print_dates(const cn_day *values, size_t rows, uint32_t script,
+                                 text_rows *it) {
+    size_t done;
+    chinese_dates_print_column(values, rows, PRESENT, script, PRINTED);
+    return done;
+}
+
+/* These return a status. */
+
+static inline uint32_t read_numbers(uint64_t *values, size_t rows, uint32_t kind, uint32_t way,
+                                    text_rows *it) {
+    return chinese_numbers_read_column(TEXTS, kind, way, READ);
+}
+
+static inline uint32_t read_wide_numbers(cn_number *values, size_t rows, uint32_t kind,
+                                         uint32_t way, text_rows *it) {
+    return chinese_wide_numbers_read_column(TEXTS, kind, way, READ);
+}
+
+static inline uint32_t read_amounts(int64_t *values, size_t rows, uint32_t input, text_rows *it) {
+    return chinese_amounts_read_column(TEXTS, input, READ);
+}
+
+static inline uint32_t read_dates(cn_day *values, size_t rows, text_rows *it) {
+    return chinese_dates_read_column(TEXTS, READ);
 }
 
 #endif

@@ -503,6 +503,9 @@ var phrases = []struct {
 	{"八到八点五折", cn.PhraseKindRange, cn.PhraseStateDoubtful,
 		cn.Range{must(cn.NewDecimal(8, 0)), must(cn.NewDecimal(85, 1))}},
 	{"五到三", cn.PhraseKindRange, cn.PhraseStateRefused, nil},
+	{"三块五毛二", cn.PhraseKindMoney, 0, must(cn.NewDecimal(352, 2))},
+	{"五十亿元", cn.PhraseKindMoney, 0, must(cn.NewDecimal(500_000_000_000, 2))},
+	{"3.555元", cn.PhraseKindMoney, 0, nil},
 }
 
 func TestPhrases(t *testing.T) {

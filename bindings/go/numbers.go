@@ -141,14 +141,16 @@ func explain(text string, kind kind, way Way) (Fault, error) {
 }
 
 func numberMessage(text string, kind kind, way Way, language Language) (string, error) {
-	it := C.print_number_message(text, C.uint32_t(kind), code(way, Any), C.uint32_t(language))
-	return printed(&it)
+	it := newBuffer()
+	C.print_number_message(text, C.uint32_t(kind), code(way, Any), C.uint32_t(language), it)
+	return printed(it)
 }
 
 func write(number halves, kind kind, style *Style) (string, error) {
 	way, script, letterCase := style.codes()
-	it := C.print_number(number.number(), C.uint32_t(kind), way, script, letterCase)
-	return printed(&it)
+	it := newBuffer()
+	C.print_number(number.number(), C.uint32_t(kind), way, script, letterCase, it)
+	return printed(it)
 }
 
 // big returns the number with these halves.

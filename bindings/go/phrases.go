@@ -22,7 +22,8 @@ type Item interface {
 	end() int
 }
 
-// Phrase is a date, a time of day, a duration, a range, a score, a half or a length in a text.
+// Phrase is a date, a time of day, a duration, a range, a score, a half, a length or a sum of money in a
+// text.
 type Phrase struct {
 	// Text is the phrase itself.
 	Text string
@@ -40,6 +41,8 @@ type Phrase struct {
 	//   - half, length: Quantity, which is 15/10 for 一个半小时 and 175/100 for 一米七五
 	//   - score: Pair of the two numbers
 	//   - range: Range
+	//   - money: Quantity of yuan, which is 350/100 for 三块五, or nil if that is no whole number of fen
+	//     below 10^18
 	Value any
 }
 
@@ -154,6 +157,8 @@ func valueOf(text string, it C.cn_phrase) (any, error) {
 		return NewDecimal(int64(it.first)*power(decimals).Int64()+int64(it.second), decimals)
 	case PhraseKindRange:
 		return rangeIn(text, int(it.split))
+	case PhraseKindMoney:
+		return moneyIn(it)
 	}
 	return Pair{int(it.first), int(it.second)}, nil
 }
@@ -185,6 +190,14 @@ func timeIn(it C.cn_phrase) ClockTime {
 func durationOf(hours, minutes, seconds C.uint32_t) time.Duration {
 	return time.Duration(hours)*time.Hour + time.Duration(minutes)*time.Minute +
 		time.Duration(seconds)*time.Second
+}
+
+// moneyIn returns a Quantity of yuan, or nil if its fen are not known.
+func moneyIn(it C.cn_phrase) (any, error) {
+	if it.third == 0 {
+		return nil, nil
+	}
+	return NewDecimal(int64(it.second)<<32+int64(it.first), 2)
 }
 
 // rangeIn reads a range, whose link is the character after the first end.

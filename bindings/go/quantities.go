@@ -87,8 +87,9 @@ func ExplainQuantity(text string, method Way) (Fault, error) {
 
 // QuantityMessage returns a message for a text that ToQuantity refuses, like NumberMessage.
 func QuantityMessage(text string, method Way, language Language) (string, error) {
-	it := C.print_quantity_message(text, code(method, Any), C.uint32_t(language))
-	return printed(&it)
+	it := newBuffer()
+	C.print_quantity_message(text, code(method, Any), C.uint32_t(language), it)
+	return printed(it)
 }
 
 // Numerator returns the numerator, with the sign.
@@ -139,15 +140,17 @@ func (it Quantity) Trimmed() Quantity {
 // for the zero Quantity, and Unknown for a choice of the style.
 func (it Quantity) ToChinese(style *Style) (string, error) {
 	method, script, letterCase := style.codes()
-	printing := C.print_quantity(it.quantity(), method, script, letterCase)
-	return printed(&printing)
+	buffer := newBuffer()
+	C.print_quantity(it.quantity(), method, script, letterCase, buffer)
+	return printed(buffer)
 }
 
 // ToFigures writes the quantity in figures, in ASCII and without zeros at the end of its decimals:
 // 3.5, 12.5%, 1/3.
 func (it Quantity) ToFigures() string {
-	printing := C.print_quantity_figures(it.quantity())
-	figures, _ := printed(&printing) // every quantity has them
+	buffer := newBuffer()
+	C.print_quantity_figures(it.quantity(), buffer)
+	figures, _ := printed(buffer) // every quantity has them
 	return figures
 }
 

@@ -24,16 +24,20 @@ type Replacing struct {
 	// Canonical is only for figures: what is only figures is rewritten in ASCII, without commas and
 	// leading zeros.
 	Canonical bool
-	// Compact is only for TextToFigures: dates, times and halves are as short as possible, such as
-	// 2026-01-05, 15:30 and 1.5小时.
+	// Compact is only for TextToFigures: dates, times, halves and sums of money are as short as
+	// possible, such as 2026-01-05, 15:30, 1.5小时 and 3.5元.
 	Compact bool
+	// Codes is only for TextToFigures: codes, such as telephone numbers, are written in figures too:
+	// 打幺幺零 becomes 打110.
+	Codes bool
 }
 
 // options returns the codes of the other fields, for figures.
 func (it *Replacing) options() C.uint32_t {
 	return flag(it.About, C.CN_ABOUT) | flag(it.OneCharacter, C.CN_ONE_CHARACTER) |
 		flag(it.Doubtful, C.CN_DOUBTFUL) | flag(it.Expanded, C.CN_EXPANDED) |
-		flag(it.Canonical, C.CN_CANONICAL) | flag(it.Compact, C.CN_COMPACT)
+		flag(it.Canonical, C.CN_CANONICAL) | flag(it.Compact, C.CN_COMPACT) |
+		flag(it.Codes, C.CN_CODES)
 }
 
 // takes says whether a quantity that was found is to be replaced.
@@ -90,7 +94,7 @@ func QuantitiesToFigures(text string, which *Replacing) (string, error) {
 }
 
 // TextToFigures rewrites a text in figures like QuantitiesToFigures, but with its phrases, which
-// FindPhrases finds: dates, times, durations, ranges, scores, halves and lengths.
+// FindPhrases finds: dates, times, durations, ranges, scores, halves, lengths and sums of money.
 // 二零二六年一月五日下午三点半，三到五万元 becomes 2026年1月5日下午3点半，3万到5万元. The words of a phrase stay, and so does a
 // phrase that is refused. Doubtful phrases stay unless Replacing has Doubtful, and halves after one
 // Chinese character, as in 一个半小时, unless it has OneCharacter. The errors are those of

@@ -10,6 +10,8 @@ class Example {
         System.out.println(toNumber("一百二") + " " + toChinese(105_000)); // 120 十万五千
         Style style = Style.DEFAULT.withScript(Script.TRADITIONAL).withCase(Case.UPPER);
         System.out.println(toChinese(120, style)); // 壹佰貳拾
+        String[] texts = ChineseColumns.numbersToChinese(new long[] {120, -7});
+        System.out.println(texts[0] + " " + texts[1]); // 一百二十 负七
 
         System.out.println(yuanToChinese(new BigDecimal("1409.50"))); // 壹仟肆佰零玖元伍角整
         System.out.println(chineseToYuan("壹仟肆佰零玖元伍角")); // 1409.50

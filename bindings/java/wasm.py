@@ -244,7 +244,9 @@ def stack_of(module):
     called = [{it.given for it in flat(one.nodes) if it.name == "call"} for one in functions]
 
     def below(index, above):
-        if index in above or index in called[index] and frames[index]:
+        if index in above:
+            refuse(f"the function {index} is called by a function that it calls")
+        if index in called[index] and frames[index]:
             refuse(f"the function {index} calls itself, and takes some of the stack")
         if index not in found:
             deepest = [below(other, {*above, index}) for other in called[index] - {index}]

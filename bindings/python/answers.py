@@ -9,8 +9,9 @@ from chinese_number import chinese_to_signed_amount, chinese_to_signed_amount_as
 from chinese_number import date_to_chinese, explain_number, explain_quantity, find_numbers
 from chinese_number import find_phrases, find_quantities, input_expected, input_message
 from chinese_number import input_repair, number_message, quantities_to_figures, quantity_message
-from chinese_number import replace_quantities, signed_amount_to_chinese, text_to_figures
-from chinese_number import to_chinese, to_number, to_quantity, yuan_to_fen
+from chinese_number import find_unspoken, replace_quantities, signed_amount_to_chinese
+from chinese_number import text_to_figures, text_to_speech, to_chinese, to_number, to_quantity
+from chinese_number import yuan_to_fen
 
 # Words of the questions for which this package has other words.
 OTHERS = {"naive": "digits", "simple": "simplified"}
@@ -38,6 +39,7 @@ OPTIONS = {
     "expanded": {"expanded": True},
     "canonical": {"canonical": True},
     "compact": {"compact": True},
+    "codes": {"codes": True},
 }
 
 
@@ -114,6 +116,10 @@ def write_in_figures(words, text):
     return text_to_figures(text, **options(words))
 
 
+def speak(script, text):
+    return text_to_speech(text, script=OTHERS.get(script, script))
+
+
 def in_numerals(found):
     quantity = found.quantity()
     return None if quantity.form is QuantityForm.FRACTION else quantity.to_chinese()
@@ -154,6 +160,10 @@ def find_doubts(text):
     return in_place(text, find_quantities(text), answer)
 
 
+def unspoken(text):
+    return in_place(text, find_unspoken(text), lambda found: found.text)
+
+
 def pair_of(phrase):
     return "..".join(map(str, phrase.value))
 
@@ -189,6 +199,7 @@ VALUES = {
     PhraseKind.DURATION: duration_of,
     PhraseKind.HALF: decimal_of,
     PhraseKind.LENGTH: decimal_of,
+    PhraseKind.MONEY: decimal_of,
     PhraseKind.SCORE: lambda phrase: ":".join(map(str, phrase.value)),
     PhraseKind.RANGE: lambda phrase: "..".join(map(over, phrase.value)),
 }
@@ -252,6 +263,8 @@ CALLS = {
     "quantities_to_figures": replace_with_figures,
     "replace_quantities": replace_with_numerals,
     "text_to_figures": write_in_figures,
+    "text_to_speech": speak,
+    "find_unspoken": unspoken,
     "phrases": phrases,
     "expected": expected,
     "repair": repair,

@@ -23,7 +23,17 @@ HERE = Path(__file__).resolve().parent
 NAME = "chinese-number-proved"
 MODULE = tuple(
     f"chinese_number/{it}"
-    for it in ("__init__.py", "__main__.py", "_codes.py", "_library.py", "_tables.py", "py.typed")
+    for it in (
+        "__init__.py",
+        "__main__.py",
+        "_arrow.py",
+        "_codes.py",
+        "_columns.py",
+        "_library.py",
+        "_rows.py",
+        "_tables.py",
+        "py.typed",
+    )
 )
 # Older versions of twine also accept version 2.1 and `License`.
 METADATA = """\

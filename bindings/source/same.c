@@ -3,7 +3,7 @@
  *  quantities, amounts in all forms and in figures, dates and texts, and the limits. The sum covers
  *  what is printed, with each buffer to its last byte, and what is read (also in either way), found
  *  and replaced in texts as printed, typed, changed and cut, what may follow these texts, why they
- *  are refused, and the answers to lines. All builds of the library must print the same sum. With
+ *  are refused, the answers to lines, and columns of each kind, which small buffers cut. All builds of the library must print the same sum. With
  *  -DTHREADS four threads must find it at once. With ROUNDS the program also prints the time of a
  *  call, in the best of this many rounds. */
 #include "chinese_number.h"
@@ -30,6 +30,7 @@ static const char *const MARKS[] = {
     "拾", "佰", "仟", "万", "亿", "元", "圆", "角", "分", "整", "正", "人民币", "年", "月", "日", "第",
     "，", "5", "０", "-", "−", "¥", ".", ",", "%", "点", "之", "廿", "⊗", "：", "x", " ", "\t",
     "（负数）", "(負數)", "ⓧ", "（大写）", "块", "〇", "。", "到", "半", "小时", "下午", "比", "米", ":",
+    "幺", "电话", "号", "栋", "138", "10", "kg", "/", "~", "×", "℃",
     "\xe4\xb8", "\xf0\x9f\x98\x80", "\xc3\xa9", "\xff",
 };
 enum { COUNT_OF_MARKS = sizeof MARKS / sizeof *MARKS };
@@ -130,10 +131,11 @@ typedef uint32_t to_figures(const uint8_t *, size_t, uint32_t, uint32_t, uint32_
 
 /* Each code is drawn in its own statement: the order in which arguments are evaluated may vary. */
 static void try_replace(run *r, const text *t, to_figures *write) {
-    static const uint32_t INCLUDED[] = {0, CN_ABOUT, CN_ONE_CHARACTER, CN_ABOUT | CN_ONE_CHARACTER, 1};
+    static const uint32_t INCLUDED[] = {0, CN_ABOUT, CN_ONE_CHARACTER, CN_ABOUT | CN_ONE_CHARACTER,
+                                        CN_CODES, 1};
     uint8_t room[MOST];
     uint32_t upper = code(r, 2), greatest = code(r, CN_JI + 1), method = code(r, CN_ANY + 1);
-    uint32_t included = INCLUDED[code(r, 4)];
+    uint32_t included = INCLUDED[code(r, 5)];
     size_t most = below(r, 4) == 0 ? below(r, MOST) : MOST, length = 9;
     uint32_t status = write(t->bytes, t->length, upper, greatest, method, included, room, most,
                             &length);
@@ -141,6 +143,36 @@ static void try_replace(run *r, const text *t, to_figures *write) {
     add_word(r, length);
     if (status == CN_DONE)
         add(r, room, length);
+}
+
+static void add_spans(run *r, uint32_t status, const cn_span *spans, size_t count) {
+    add_word(r, status);
+    add_word(r, count);
+    for (size_t i = 0; i < MOST_SPANS; i++) {
+        add_word(r, spans[i].start);
+        add_word(r, spans[i].end);
+        add_word(r, spans[i].flags);
+    }
+}
+
+/* A text as it is spoken, and what is left of it; the buffer for the text as it is meant is seldom too
+ * short. */
+static void try_speak(run *r, const text *t) {
+    uint8_t meant[MOST], room[4 * MOST];
+    cn_span spans[MOST_SPANS] = {{1, 2, 3}};
+    uint32_t upper = code(r, 2), greatest = code(r, CN_JI + 1), method = code(r, CN_ANY + 1);
+    uint32_t script = code(r, 2), options = code(r, 2), status;
+    size_t enough = below(r, 16) == 0 ? below(r, MOST) : MOST, most = below(r, MOST_SPANS + 1);
+    size_t room_length = below(r, 4) == 0 ? below(r, MOST) : sizeof room, length = 9, count = 9;
+    status = chinese_text_to_speech(t->bytes, t->length, upper, greatest, method, script, options,
+                                    meant, enough, room, room_length, &length);
+    add_word(r, status);
+    add_word(r, length);
+    if (status == CN_DONE)
+        add(r, room, length);
+    status = chinese_speech_left(t->bytes, t->length, below(r, 4), upper, greatest, meant, enough,
+                                 spans, most, &count);
+    add_spans(r, status, spans, count);
 }
 
 typedef uint32_t finding(const uint8_t *, size_t, size_t, uint32_t, uint32_t, cn_span *, size_t,
@@ -153,13 +185,7 @@ static void try_find(run *r, const text *t, finding *find, finding *find_utf8) {
     size_t most = below(r, MOST_SPANS + 1), from = below(r, 4), count = 9;
     uint32_t status = find(t->bytes, t->length, from, upper, greatest, spans, most, &count);
     for (;;) {
-        add_word(r, status);
-        add_word(r, count);
-        for (size_t i = 0; i < MOST_SPANS; i++) {
-            add_word(r, spans[i].start);
-            add_word(r, spans[i].end);
-            add_word(r, spans[i].flags);
-        }
+        add_spans(r, status, spans, count);
         if (count == 0 || count < most)
             return;
         status = find_utf8(t->bytes, t->length, spans[count - 1].end, upper, greatest, spans,
@@ -315,6 +341,7 @@ static void try_read_and_find(run *r, const text *t) {
     try_read_range(r, t);
     try_replace(r, t, chinese_quantities_to_figures);
     try_replace(r, t, chinese_text_to_figures);
+    try_speak(r, t);
 }
 
 static void add_answer(run *r, const text *line) {
@@ -507,6 +534,141 @@ static void try_text(run *r, uint32_t marks) {
     try_lines(r, &t, 0);
 }
 
+/* ---- Columns ---- */
+
+enum { ROWS = 40, COLUMN_BYTES = 2000 };
+
+/* A column of texts, and which of its rows are present. */
+typedef struct texts {
+    uint64_t offsets[ROWS + 1];
+    uint8_t bytes[COLUMN_BYTES];
+    uint32_t statuses[ROWS];
+    uint8_t bitmap[ROWS / 8];
+    size_t bitmap_length, first, rows;
+} texts;
+
+/* Some rows of a column whose text begins early or late in its buffer. */
+static void begin_texts(run *r, texts *c) {
+    memset(c, 7, sizeof *c);
+    for (size_t i = 0; i < sizeof c->bitmap; i++) {
+        uint64_t bits = some(r);
+        c->bitmap[i] = (uint8_t)(bits >> 7 | bits >> 29);
+    }
+    c->bitmap_length = below(r, sizeof c->bitmap + 1);
+    c->first = below(r, 20);
+    c->rows = below(r, ROWS + 1);
+    c->offsets[0] = below(r, 8) == 0 ? below(r, COLUMN_BYTES + 2) : below(r, 4);
+}
+
+static void add_texts(run *r, uint32_t status, size_t done, const texts *c) {
+    add_word(r, status);
+    add_word(r, done);
+    for (size_t i = 0; i < ROWS; i++) {
+        add_word(r, c->offsets[i + 1]);
+        add_word(r, c->statuses[i]);
+    }
+    add(r, c->bytes, sizeof c->bytes);
+    r->cases++;
+}
+
+/* Changes an offset or a byte, usually not. */
+static void spoil(run *r, texts *c) {
+    size_t row = below(r, 4 * ROWS), at = below(r, 4 * COLUMN_BYTES);
+    uint64_t word = some(r);
+    if (row <= ROWS)
+        c->offsets[row] = word % 3 == 0 ? word : word % COLUMN_BYTES;
+    if (at < COLUMN_BYTES)
+        c->bytes[at] = (uint8_t)(word >> 20);
+}
+
+static void add_values(run *r, uint32_t status, const uint64_t *words, size_t count,
+                       const uint32_t *statuses) {
+    add_word(r, status);
+    for (size_t i = 0; i < count; i++)
+        add_word(r, words[i]);
+    for (size_t i = 0; i < ROWS; i++)
+        add_word(r, statuses[i]);
+}
+
+static void try_numbers_column(run *r) {
+    texts c;
+    uint64_t values[2 * ROWS];
+    cn_number wide[ROWS];
+    size_t done = 9;
+    uint32_t kind = code(r, CN_I128 + 1), way = code(r, CN_ANY + 1), script = code(r, 2), letter_case = code(r, 2);
+    uint32_t status;
+    begin_texts(r, &c);
+    for (size_t i = 0; i < ROWS; i++) {
+        wide[i] = some_number(r);
+        values[i] = wide[i].low;
+    }
+    if (below(r, 2) == 0)
+        status = chinese_numbers_print_column(values, ROWS, c.bitmap, c.bitmap_length, c.first, kind, way, script,
+                                              letter_case, c.offsets, c.rows + 1, c.bytes, sizeof c.bytes, c.statuses,
+                                              ROWS, &done);
+    else
+        status = chinese_wide_numbers_print_column(wide, c.rows, c.bitmap, c.bitmap_length, c.first, kind, way, script,
+                                                   letter_case, c.offsets, ROWS + 1, c.bytes, sizeof c.bytes,
+                                                   c.statuses, ROWS, &done);
+    add_texts(r, status, done, &c);
+    spoil(r, &c);
+    status = chinese_numbers_read_column(c.bytes, sizeof c.bytes, c.offsets, ROWS + 1, c.bitmap, c.bitmap_length,
+                                         c.first, kind, way, values, ROWS, c.statuses, done);
+    add_values(r, status, values, ROWS, c.statuses);
+    status = chinese_wide_numbers_read_column(c.bytes, sizeof c.bytes, c.offsets, done + 1, c.bitmap, c.bitmap_length,
+                                              c.first, kind, way, wide, ROWS, c.statuses, ROWS);
+    for (size_t i = 0; i < ROWS; i++) {
+        values[2 * i] = wide[i].low;
+        values[2 * i + 1] = wide[i].high;
+    }
+    add_values(r, status, values, 2 * ROWS, c.statuses);
+}
+
+static void try_amounts_column(run *r) {
+    texts c;
+    int64_t fen[ROWS];
+    uint64_t words[ROWS];
+    size_t done = 9;
+    uint32_t script = code(r, 2), form = code(r, 16), input = code(r, CN_FIGURES + 1), status;
+    begin_texts(r, &c);
+    for (size_t i = 0; i < ROWS; i++) {
+        int64_t any = (int64_t)some(r);
+        fen[i] = any / ((int64_t)1 << below(r, 63));
+    }
+    status = chinese_amounts_print_column(fen, c.rows, c.bitmap, c.bitmap_length, c.first, script, form, c.offsets,
+                                          ROWS + 1, c.bytes, sizeof c.bytes, c.statuses, ROWS, &done);
+    add_texts(r, status, done, &c);
+    spoil(r, &c);
+    status = chinese_amounts_read_column(c.bytes, sizeof c.bytes, c.offsets, ROWS + 1, c.bitmap, c.bitmap_length,
+                                         c.first, input, fen, done, c.statuses, ROWS);
+    for (size_t i = 0; i < ROWS; i++)
+        words[i] = (uint64_t)fen[i];
+    add_values(r, status, words, ROWS, c.statuses);
+}
+
+static void try_dates_column(run *r) {
+    texts c;
+    cn_day days[ROWS];
+    uint64_t words[ROWS];
+    size_t done = 9;
+    uint32_t script = code(r, 2), status;
+    begin_texts(r, &c);
+    for (size_t i = 0; i < ROWS; i++) {
+        days[i].year = below(r, 10010);
+        days[i].month = below(r, 14);
+        days[i].day = below(r, 33);
+    }
+    status = chinese_dates_print_column(days, c.rows, c.bitmap, c.bitmap_length, c.first, script, c.offsets, ROWS + 1,
+                                        c.bytes, sizeof c.bytes, c.statuses, ROWS, &done);
+    add_texts(r, status, done, &c);
+    spoil(r, &c);
+    status = chinese_dates_read_column(c.bytes, sizeof c.bytes, c.offsets, ROWS + 1, c.bitmap, c.bitmap_length, c.first,
+                                       days, ROWS, c.statuses, done);
+    for (size_t i = 0; i < ROWS; i++)
+        words[i] = days[i].year * UINT64_C(10000) + days[i].month * 100 + days[i].day;
+    add_values(r, status, words, ROWS, c.statuses);
+}
+
 static void try_statuses(run *r) {
     uint8_t message[CN_MOST_MESSAGE_BYTES] = {0};
     for (uint32_t status = 0; status <= CN_NOT_A_QUANTITY + 1; status++)
@@ -555,6 +717,11 @@ static void try_all(run *r) {
         try_date(r, year, month, day);
         try_quantity(r);
         try_text(r, below(r, 24));
+    }
+    for (long i = 0; i < r->count; i++) {
+        try_numbers_column(r);
+        try_amounts_column(r);
+        try_dates_column(r);
     }
     try_ends(r);
 }

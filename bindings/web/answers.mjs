@@ -6,7 +6,8 @@ import {
   chineseToDate, chineseToSignedAmountAsTypedBigInt, chineseToSignedAmountBigInt, dateToChinese,
   explainNumber, explainQuantity, findNumbers, findPhrases, findQuantities, inputExpected,
   inputMessage, inputRepair, numberMessage, quantitiesToFigures, quantityMessage,
-  replaceQuantities, signedAmountToChinese, textToFigures, toBigInt, toChinese, toQuantity,
+  replaceQuantities, signedAmountToChinese, textToFigures, textToSpeech, toBigInt, toChinese,
+  toQuantity, findUnspoken,
   yuanToFenBigInt,
 } from './chinese-number.mjs';
 
@@ -22,7 +23,7 @@ const SETS = {
   upright_closing: { closing: '正' }, bracketed_sign: { bracketedSign: true },
   none: {}, about: { about: true },
   one: { oneCharacter: true }, doubtful: { doubtful: true }, expanded: { expanded: true },
-  canonical: { canonical: true }, compact: { compact: true },
+  canonical: { canonical: true }, compact: { compact: true }, codes: { codes: true },
 };
 const optionsOf = (words) => Object.assign({}, ...words.split('+').map((it) => SETS[it]));
 
@@ -92,6 +93,7 @@ const VALUES = {
   length: exact,
   score: ([one, other]) => `${one}:${other}`,
   range: (ends) => fromTo(ends.map(exact)),
+  money: exact,
 };
 
 function phrases(text) {
@@ -138,6 +140,8 @@ const calls = {
   trim_quantity: (words) => shown(quantityOf(words).trimmed()),
   quantities_to_figures: (flags, text) => quantitiesToFigures(text, optionsOf(flags)),
   text_to_figures: (flags, text) => textToFigures(text, optionsOf(flags)),
+  text_to_speech: (script, text) => textToSpeech(text, { script: named(script) }),
+  find_unspoken: (text) => inPlace(findUnspoken, text, (found) => found.text),
   phrases,
   replace_quantities: (flags, text) =>
     replaceQuantities(text, numeralsUnlessFraction, optionsOf(flags)),

@@ -110,7 +110,8 @@ export const QUANTITY_FORMS: readonly [
  * - 'digits': it is two or three Chinese digits, or more in rising order, or two numbers: 五一,
  * 一二三四, 十五十六.
  * - 'term': it is part of a term: 负二 of 负二项, 十六 of 十六进制.
- * - 'part': it is part of an expression with 折, 成, 半 or 分之几: 八五 of 八五折, 一 of 一个半.
+ * - 'part': it is part of an expression with 折, 成, 半 or 分之几: 八五 of 八五折, 一 of 一个半; or its last 一
+ * begins the next word: 两百一 of 两百一个月.
  * - 'time': it may be a time: 三点五 of 下午三点五, 十点零五.
  * - 'range': it is one end of a range whose ends share a unit or 百分之: 3 and 5万 of 3~5万.
  */
@@ -135,10 +136,12 @@ export const DOUBTS: readonly [
  * are).
  * - 'score': two numbers that are compared.
  * - 'range': from a quantity to another one.
+ * - 'money': a sum of money, as 三块五: the fen by their lower and their upper 32 bits, and 1; all
+ * 0 if they are no whole number below 10^18.
  */
 export const PHRASE_KINDS: readonly [
   'expression', 'date', 'years', 'months', 'days', 'time', 'duration', 'half', 'length', 'score',
-  'range',
+  'range', 'money',
 ];
 
 /**
@@ -244,7 +247,8 @@ export type QuantityOptions = { method?: Method; script?: Script; case?: Case };
 export type Included = { about?: boolean; oneCharacter?: boolean; doubtful?: boolean };
 export type ReplaceOptions = Wanted & MethodOptions & Included;
 export type FiguresOptions = ReplaceOptions & { expanded?: boolean; canonical?: boolean };
-export type TextOptions = FiguresOptions & { compact?: boolean };
+export type TextOptions = FiguresOptions & { compact?: boolean; codes?: boolean };
+export type SpeechOptions = { script?: Script; method?: Method; yao?: boolean };
 export type BillDate = { year: number; month: number; day: number };
 export type PartialDate = { year?: number; month?: number; day?: number };
 export type ClockTime = { hour: number; minute: number; second: number; hourOfDay?: number };
@@ -261,6 +265,7 @@ export type PhraseValues = {
   length: Quantity;
   score: [one: number, other: number];
   range: [low: Quantity, high: Quantity];
+  money: Quantity;
 };
 export type AnyPhrase = { [Name in PhraseKind]: Phrase<Name> }[PhraseKind];
 export type Place = { charIndex: number; start: number; end: number };
@@ -279,6 +284,21 @@ export type NumeralCode =
 export type AmountCode = 'unfinished' | 'incorrect' | 'tooLarge' | 'tooSmall' | 'unsafe';
 export type DateCode = 'unfinished' | 'incorrect' | 'notADate';
 export type Status = Exclude<NumeralCode | AmountCode | DateCode, 'unsafe' | 'outOfMemory'>;
+export type RowStatus = 'done' | 'none' | Status | 'unsafe';
+export type NumberArray =
+  | Int8Array
+  | Int16Array
+  | Int32Array
+  | Uint8Array
+  | Uint16Array
+  | Uint32Array
+  | Float64Array;
+export type BigIntArray = BigInt64Array | BigUint64Array;
+export type WholeColumn = ReadonlyArray<bigint | number | null> | NumberArray | BigIntArray;
+export type TextColumn = ReadonlyArray<string | null>;
+export type ColumnOptions = { statuses?: RowStatus[] };
+export type IntoOptions<Into> = ColumnOptions & { into?: Into };
+export type Column<Value> = (Value | null)[];
 
 /**
  * Reads a numeral as a Number: `toNumber('一百二')` is 120.
@@ -488,6 +508,203 @@ export function dateToChinese(date: BillDate, options?: ScriptOptions): string;
 export function chineseToDate(string: string): BillDate;
 
 /**
+ * Writes the numbers of a column, each as `toChinese` does, in less time than a loop:
+ * `toChineseColumn([120, null])` is ['一百二十', null].
+ *
+ * The column is an array of BigInts, safe integers and null, for a missing row, or a typed array.
+ * The options are those of `toChinese`, and `statuses`. The first refused row throws the error of
+ * `toChinese`, with the row's index as `row`. If `statuses` is an array, a refused row is null
+ * instead, and the array is filled with the status of each row: 'done', 'none' for a missing row,
+ * or the error's code. Throws a TypeError if the column is not an array, a row is of another type,
+ * or an option or its value is unknown.
+ *
+ * @param {WholeColumn} numbers
+ * @param {PrintOptions & ColumnOptions} options
+ * @returns {Column<string>}
+ */
+export function toChineseColumn(
+  numbers: WholeColumn,
+  options?: PrintOptions & ColumnOptions,
+): Column<string>;
+
+/**
+ * Writes the amounts of a column, in fen, each as `amountToChinese` does. The column and `statuses`
+ * are as for `toChineseColumn`.
+ *
+ * @param {WholeColumn} fen
+ * @param {AmountOptions & ColumnOptions} options
+ * @returns {Column<string>}
+ */
+export function amountToChineseColumn(
+  fen: WholeColumn,
+  options?: AmountOptions & ColumnOptions,
+): Column<string>;
+
+/**
+ * Writes the amounts of a column, in fen, each as `signedAmountToChinese` does:
+ * `signedAmountToChineseColumn([1500, -1500])` is ['壹拾伍元整', '负壹拾伍元整']. The column and `statuses`
+ * are as for `toChineseColumn`.
+ *
+ * @param {WholeColumn} fen
+ * @param {SignedAmountOptions & ColumnOptions} options
+ * @returns {Column<string>}
+ */
+export function signedAmountToChineseColumn(
+  fen: WholeColumn,
+  options?: SignedAmountOptions & ColumnOptions,
+): Column<string>;
+
+/**
+ * Writes the dates of a column, each as `dateToChinese` does. Null is a missing row. The options
+ * are those of `dateToChinese`, and `statuses`, as for `toChineseColumn`.
+ *
+ * @param {ReadonlyArray<BillDate | null>} dates
+ * @param {ScriptOptions & ColumnOptions} options
+ * @returns {Column<string>}
+ */
+export function dateToChineseColumn(
+  dates: ReadonlyArray<BillDate | null>,
+  options?: ScriptOptions & ColumnOptions,
+): Column<string>;
+
+/**
+ * Reads the texts of a column, each as `toNumber` does:
+ * `toNumberColumn(['一百二', null])` is [120, null].
+ *
+ * Null is a missing row. The options are those of `toNumber`, `statuses`, as for `toChineseColumn`,
+ * and `into`: an array that the numbers are written into, and that is returned. In a typed array a
+ * missing or refused row is 0. An array of whole numbers determines the kind: `Int32Array` means
+ * 'i32'; a `Float64Array` holds each number. The first refused row throws what `toNumber` throws,
+ * with its index as `row`. Throws a TypeError if the column is not an array, a row is not a string,
+ * `into` is too short, is of another type, or does not hold the kind, or an option or its value is
+ * unknown.
+ *
+ * @template {NumberArray | Column<number>} [Into=Column<number>]
+ * @param {TextColumn} texts
+ * @param {ReadOptions & IntoOptions<Into>} options
+ * @returns {Into}
+ */
+export function toNumberColumn<Into extends NumberArray | Column<number> = Column<number>>(
+  texts: TextColumn,
+  options?: ReadOptions & IntoOptions<Into>,
+): Into;
+
+/**
+ * Reads the texts of a column, each as `toBigInt` does: `toBigIntColumn(['一百二', null])` is
+ * [120n, null]. The options are those of `toNumberColumn`; `into` is an array, a `BigInt64Array`,
+ * which means the kind 'i64', or a `BigUint64Array`, which means 'u64'.
+ *
+ * @template {BigIntArray | Column<bigint>} [Into=Column<bigint>]
+ * @param {TextColumn} texts
+ * @param {ReadOptions & IntoOptions<Into>} options
+ * @returns {Into}
+ */
+export function toBigIntColumn<Into extends BigIntArray | Column<bigint> = Column<bigint>>(
+  texts: TextColumn,
+  options?: ReadOptions & IntoOptions<Into>,
+): Into;
+
+/**
+ * Reads the amounts of a column, in fen, each as `chineseToSignedAmount` does:
+ * `chineseToSignedAmountColumn(['壹拾伍元整', '负壹拾伍元整'])` is [1500, -1500]. Null is a missing row.
+ * The options are `statuses` and `into`, as for `toNumberColumn`; `into` is an array or a
+ * `Float64Array`.
+ *
+ * @template {Float64Array | Column<number>} [Into=Column<number>]
+ * @param {TextColumn} texts
+ * @param {IntoOptions<Into>} options
+ * @returns {Into}
+ */
+export function chineseToSignedAmountColumn<Into extends Float64Array | Column<number> = Column<number>>(
+  texts: TextColumn,
+  options?: IntoOptions<Into>,
+): Into;
+
+/**
+ * Reads the amounts of a column, as `chineseToSignedAmountColumn` does, as BigInts; `into` is an
+ * array or a `BigInt64Array`.
+ *
+ * @template {BigInt64Array | Column<bigint>} [Into=Column<bigint>]
+ * @param {TextColumn} texts
+ * @param {IntoOptions<Into>} options
+ * @returns {Into}
+ */
+export function chineseToSignedAmountBigIntColumn<Into extends BigInt64Array | Column<bigint> = Column<bigint>>(
+  texts: TextColumn,
+  options?: IntoOptions<Into>,
+): Into;
+
+/**
+ * Reads the amounts of a column, each as `chineseToSignedAmountAsTyped` does. The options are those
+ * of `chineseToSignedAmountColumn`.
+ *
+ * @template {Float64Array | Column<number>} [Into=Column<number>]
+ * @param {TextColumn} texts
+ * @param {IntoOptions<Into>} options
+ * @returns {Into}
+ */
+export function chineseToSignedAmountAsTypedColumn<Into extends Float64Array | Column<number> = Column<number>>(
+  texts: TextColumn,
+  options?: IntoOptions<Into>,
+): Into;
+
+/**
+ * Reads the amounts of a column, as `chineseToSignedAmountAsTypedColumn` does, as BigInts; `into`
+ * is an array or a `BigInt64Array`.
+ *
+ * @template {BigInt64Array | Column<bigint>} [Into=Column<bigint>]
+ * @param {TextColumn} texts
+ * @param {IntoOptions<Into>} options
+ * @returns {Into}
+ */
+export function chineseToSignedAmountAsTypedBigIntColumn<Into extends BigInt64Array | Column<bigint> = Column<bigint>>(
+  texts: TextColumn,
+  options?: IntoOptions<Into>,
+): Into;
+
+/**
+ * Converts the yuan of a column to fen, each as `yuanToFen` does:
+ * `yuanToFenColumn(['1,409.50', 15])` is [140950, 1500]. Null is a missing row. The options are
+ * those of `chineseToSignedAmountColumn`.
+ *
+ * @template {Float64Array | Column<number>} [Into=Column<number>]
+ * @param {ReadonlyArray<string | bigint | number | null>} yuan
+ * @param {IntoOptions<Into>} options
+ * @returns {Into}
+ */
+export function yuanToFenColumn<Into extends Float64Array | Column<number> = Column<number>>(
+  yuan: ReadonlyArray<string | bigint | number | null>,
+  options?: IntoOptions<Into>,
+): Into;
+
+/**
+ * Converts the yuan of a column to fen, as `yuanToFenColumn` does, and returns BigInts; `into` is
+ * an array or a `BigInt64Array`.
+ *
+ * @template {BigInt64Array | Column<bigint>} [Into=Column<bigint>]
+ * @param {ReadonlyArray<string | bigint | number | null>} yuan
+ * @param {IntoOptions<Into>} options
+ * @returns {Into}
+ */
+export function yuanToFenBigIntColumn<Into extends BigInt64Array | Column<bigint> = Column<bigint>>(
+  yuan: ReadonlyArray<string | bigint | number | null>,
+  options?: IntoOptions<Into>,
+): Into;
+
+/**
+ * Reads the dates of a column, each as `chineseToDate` does. Null is a missing row; the options are
+ * `statuses`, as for `toChineseColumn`, and `into`, an array.
+ *
+ * @param {TextColumn} texts
+ * @param {IntoOptions<Column<BillDate>>} options
+ * @returns {Column<BillDate>}
+ */
+export function chineseToDateColumn(
+  texts: TextColumn,
+  options?: IntoOptions<Column<BillDate>>,
+): Column<BillDate>;
+
+/**
  * Finds the numbers of a text, and yields them in order: in '第二十三回', 二十三 from 1 to 4.
  *
  * A number is a longest run of characters that can be in one; its `value()` says whether it can be
@@ -535,9 +752,9 @@ export function findQuantities(
  * Finds the phrases of a text, and its expressions that are in none: in '一月五日下午三点半，二十人' the
  * date 一月五日, the time 下午三点半 and the expression 二十.
  *
- * Phrases are dates, times of day, durations, ranges, scores, halves and lengths. Yields a `Phrase`
- * for each of them, with its `kind` and `value`, and for each of these expressions the same as
- * `findQuantities`. Throws a TypeError as that does.
+ * Phrases are dates, times of day, durations, ranges, scores, halves, lengths and sums of money.
+ * Yields a `Phrase` for each of them, with its `kind` and `value`, and for each of these
+ * expressions the same as `findQuantities`. Throws a TypeError as that does.
  *
  * @param {string} string
  * @param {Wanted} options
@@ -594,15 +811,41 @@ export function quantitiesToFigures(string: string, options?: FiguresOptions): s
  * It rewrites the phrases that `findPhrases` finds, whose words stay, and the other expressions as
  * `quantitiesToFigures` does. These stay too: phrases without a value, as 二月三十日; doubtful phrases,
  * unless `doubtful` is true; and halves after one Chinese character, as 一个半小时, unless
- * `oneCharacter` is true. `compact` writes whole dates, times whose hour of 24 is known, and all
- * halves as short as possible: '2026-01-05 15:30', '1.5小时'. Throws a TypeError as `findQuantities`
- * does.
+ * `oneCharacter` is true. `compact` writes whole dates, times whose hour of 24 is known, halves,
+ * and sums of money with 角 or 分 as short as possible: '2026-01-05 15:30', '1.5小时', '3.5元'. `codes`
+ * also writes codes, such as telephone numbers: '打幺幺零' becomes '打110'. Throws a TypeError as
+ * `findQuantities` does.
  *
  * @param {string} string
  * @param {TextOptions} options
  * @returns {string}
  */
 export function textToFigures(string: string, options?: TextOptions): string;
+
+/**
+ * Rewrites a text as it is spoken: '2026年1月5日15:30，共2.5kg' becomes
+ * '二零二六年一月五日十五点三十分，共二点五千克'.
+ *
+ * Its figures, signs and measures become Chinese characters of the `script`, and large numbers are
+ * written by the `method`. Codes, such as telephone numbers, are spoken digit by digit, with `yao: true`
+ * with 幺 for 1. The rest stays, and so does what no rule covers, such as 'x86', whose 86
+ * `findUnspoken` finds. Throws a TypeError as `findQuantities` does.
+ *
+ * @param {string} string
+ * @param {SpeechOptions} options
+ * @returns {string}
+ */
+export function textToSpeech(string: string, options?: SpeechOptions): string;
+
+/**
+ * Finds the parts with figures that `textToSpeech` leaves as they are, and yields them in order: in
+ * '共3人，x86，2026.1.15' these are 86 and 2026.1.15. Not all of them are quantities. Throws a TypeError if the
+ * text is not a string.
+ *
+ * @param {string} string
+ * @returns {Generator<FoundQuantity, void, undefined>}
+ */
+export function findUnspoken(string: string): Generator<FoundQuantity, void, undefined>;
 
 /**
  * Says what may come next in a text that is meant to be an input of INPUTS, for example to offer
@@ -743,6 +986,11 @@ declare class Refusal extends Error {
   start: number | undefined;
   /** For 'incorrect': where it ends, likewise. */
   end: number | undefined;
+  /**
+   * For a call that converts a column: the index of the row.
+   * @type {number | undefined}
+   */
+  row: number | undefined;
   /**
    * The message for the person who typed the text, in a language of LANGUAGES: why the text is
    * refused, and how it can be repaired if a change of one character does that. If a number, an
@@ -1001,7 +1249,8 @@ export class FoundQuantity extends Span {
  * - 'duration': { hours, minutes, seconds };
  * - 'half', 'length': a Quantity, 1.5 for 一个半小时 and 1.75 for 一米七五;
  * - 'score': the two numbers;
- * - 'range': the two Quantities, 30000 and 50000 for 三到五万.
+ * - 'range': the two Quantities, 30000 and 50000 for 三到五万;
+ * - 'money': a Quantity of yuan, 3.50 for 三块五; null if it is no whole number of fen below 10^18.
  *
  * @template {PhraseKind} Name
  */

@@ -132,7 +132,8 @@ export const QUANTITY_FORMS = Object.freeze(/** @type {const} */ ([
  * - 'digits': it is two or three Chinese digits, or more in rising order, or two numbers: 五一,
  * 一二三四, 十五十六.
  * - 'term': it is part of a term: 负二 of 负二项, 十六 of 十六进制.
- * - 'part': it is part of an expression with 折, 成, 半 or 分之几: 八五 of 八五折, 一 of 一个半.
+ * - 'part': it is part of an expression with 折, 成, 半 or 分之几: 八五 of 八五折, 一 of 一个半; or its last 一
+ * begins the next word: 两百一 of 两百一个月.
  * - 'time': it may be a time: 三点五 of 下午三点五, 十点零五.
  * - 'range': it is one end of a range whose ends share a unit or 百分之: 3 and 5万 of 3~5万.
  */
@@ -157,10 +158,12 @@ export const DOUBTS = Object.freeze(/** @type {const} */ ([
  * are).
  * - 'score': two numbers that are compared.
  * - 'range': from a quantity to another one.
+ * - 'money': a sum of money, as 三块五: the fen by their lower and their upper 32 bits, and 1; all
+ * 0 if they are no whole number below 10^18.
  */
 export const PHRASE_KINDS = Object.freeze(/** @type {const} */ ([
   'expression', 'date', 'years', 'months', 'days', 'time', 'duration', 'half', 'length', 'score',
-  'range',
+  'range', 'money',
 ]));
 
 /**
@@ -256,6 +259,9 @@ const DOUBTFUL = 16;
 const EXPANDED = 32;
 const CANONICAL = 64;
 const COMPACT = 128;
+const CODES = 256;
+
+const YAO = 1;
 
 const MOST_BYTES = 234n;
 const MOST_QUANTITY_BYTES = 471n;
@@ -292,6 +298,7 @@ const YEAR_GIVEN = 1, MONTH_GIVEN = 2, DAY_GIVEN = 4, NO_HOUR = 255;
 const DONE = STATUSES.indexOf('done'), NO_ROOM = STATUSES.indexOf('noRoom');
 const DIGITS = WAYS.indexOf('digits'), FIRST_METHOD = WAYS.indexOf('low');
 const TEN_THOUSAND = WAYS.indexOf('tenThousand'), ANY = WAYS.indexOf('any');
+const ZHAO = UNITS.indexOf('zhao');
 const FIRST_SIGNED = KINDS.indexOf('i8');
 
 // An option with its possible names and its default. The name of the last call is kept with its
@@ -329,7 +336,9 @@ const HAS = {
   replacing: (it) => it === 'about' || it === 'oneCharacter' || it === 'doubtful'
     || HAS.searches(it) || HAS.quantities(it),
   figures: (it) => it === 'expanded' || it === 'canonical' || HAS.replacing(it),
-  phrases: (it) => it === 'compact' || HAS.figures(it),
+  phrases: (it) => it === 'compact' || it === 'codes' || HAS.figures(it),
+  speech: (it) => it === 'script' || it === 'method' || it === 'yao',
+  columns: (it) => it === 'statuses' || it === 'into',
 };
 
 /**
@@ -360,7 +369,8 @@ const HAS = {
  * @typedef {{ about?: boolean, oneCharacter?: boolean, doubtful?: boolean }} Included
  * @typedef {Wanted & MethodOptions & Included} ReplaceOptions
  * @typedef {ReplaceOptions & { expanded?: boolean, canonical?: boolean }} FiguresOptions
- * @typedef {FiguresOptions & { compact?: boolean }} TextOptions
+ * @typedef {FiguresOptions & { compact?: boolean, codes?: boolean }} TextOptions
+ * @typedef {{ script?: Script, method?: Method, yao?: boolean }} SpeechOptions
  * @typedef {{ year: number, month: number, day: number }} BillDate
  * @typedef {{ year?: number, month?: number, day?: number }} PartialDate
  * @typedef {{ hour: number, minute: number, second: number, hourOfDay?: number }} ClockTime
@@ -369,7 +379,7 @@ const HAS = {
  * @typedef {{
  *   date: PartialDate, years: FirstAndLast, months: FirstAndLast, days: FirstAndLast,
  *   time: ClockTime, duration: Duration, half: Quantity, length: Quantity,
- *   score: [one: number, other: number], range: [low: Quantity, high: Quantity],
+ *   score: [one: number, other: number], range: [low: Quantity, high: Quantity], money: Quantity,
  * }} PhraseValues
  * @typedef {{ [Name in PhraseKind]: Phrase<Name> }[PhraseKind]} AnyPhrase
  * @typedef {{ charIndex: number, start: number, end: number }} Place
@@ -380,6 +390,23 @@ const HAS = {
  * @typedef {keyof typeof AMOUNT_MESSAGES} AmountCode
  * @typedef {keyof typeof DATE_MESSAGES} DateCode
  * @typedef {Exclude<NumeralCode | AmountCode | DateCode, 'unsafe' | 'outOfMemory'>} Status
+ * @typedef {'done' | 'none' | Status | 'unsafe'} RowStatus
+ * @typedef {Int8Array | Int16Array | Int32Array | Uint8Array | Uint16Array | Uint32Array
+ *   | Float64Array} NumberArray
+ * @typedef {BigInt64Array | BigUint64Array} BigIntArray
+ * @typedef {ReadonlyArray<bigint | number | null> | NumberArray | BigIntArray} WholeColumn
+ * @typedef {ReadonlyArray<string | null>} TextColumn
+ * @typedef {{ statuses?: RowStatus[] }} ColumnOptions
+ */
+
+/**
+ * @template Into
+ * @typedef {ColumnOptions & { into?: Into }} IntoOptions
+ */
+
+/**
+ * @template Value
+ * @typedef {(Value | null)[]} Column
  */
 
 const MESSAGES = Object.freeze({
@@ -431,6 +458,11 @@ class Refusal extends Error {
     this.start = place?.start;
     /** For 'incorrect': where it ends, likewise. */
     this.end = place?.end;
+    /**
+     * For a call that converts a column: the index of the row.
+     * @type {number | undefined}
+     */
+    this.row = undefined;
   }
 
   /**
@@ -565,7 +597,7 @@ const READING = Math.ceil(Number(library.__heap_base.value) / 16) * 16;
 const LENGTH = READING + 56;
 const HIGH = LENGTH + 8;
 const SPANS = HIGH + 64;
-const MOST_SPANS = 64;
+const MOST_SPANS = 64, FEW_SPANS = 8, WORK_BYTES = 24 * FEW_SPANS + 8;
 const TEXT = SPANS + 56 * MOST_SPANS;
 const [READING_AT, LENGTH_AT, HIGH_AT, SPANS_AT, TEXT_AT] =
   [READING, LENGTH, HIGH, SPANS, TEXT].map(BigInt);
@@ -580,7 +612,7 @@ const FEW = 40;
 const UNITS_OF = Array.from({ length: MOST_PRINTED / 3 + 1 }, (_, it) => Array(it).fill(0));
 /** @type {BigInt64Array} The quantity (or reading, amount or date), the length, the second one. */
 let words;
-/** @type {Int32Array} The halves of these and of the spans, the lower half first. */
+/** @type {Int32Array} The halves of these and of what follows, the lower half first. */
 let halves;
 // The places of parts of these.
 const CHANGE_HALF = 4, FORM_HALF = 8, LENGTH_WORD = 7, LENGTH_HALF = 14, HIGH_WORD = 8;
@@ -605,7 +637,7 @@ function makeRoom(bytes) {
   if (missing > 0) grow(memory, Math.ceil(missing / PAGE));
   // A memory has a new buffer after it grows, and so has a new instance.
   words = new BigInt64Array(memory.buffer, READING, (SPANS - READING) / 8);
-  halves = new Int32Array(memory.buffer, READING, (TEXT - READING) / 4);
+  halves = new Int32Array(memory.buffer, READING);
   text = new Uint8Array(memory.buffer, TEXT);
 }
 
@@ -674,7 +706,7 @@ function refuseNoString(string) {
 function hand(string, room = 0) {
   refuseNoString(string);
   lend(3 * string.length + room);
-  halves[LENGTH_HALF] = string.length > FEW ? encoded(string) : written(string);
+  halves[LENGTH_HALF] = string.length > FEW ? encoded(string, text) : written(string, text, 0);
 }
 
 // Copies bytes there likewise, whatever they are.
@@ -685,20 +717,19 @@ function handBytes(bytes, room) {
   words[LENGTH_WORD] = BigInt(bytes.length);
 }
 
-/** @param {string} string */
-const encoded = (string) => Number(encoder.encodeInto(string, text).written);
+/** @param {string} string @param {Uint8Array} bytes */
+const encoded = (string, bytes) => Number(encoder.encodeInto(string, bytes).written);
 
 // Numerals have characters of one and of three bytes.
-/** @param {string} string */
-function written(string) {
-  const bytes = text;
-  let at = 0;
+/** @param {string} string @param {Uint8Array} bytes @param {number} start @returns {number} */
+function written(string, bytes, start) {
+  let at = start;
   for (let index = 0; index < string.length; index++) {
     const unit = string.charCodeAt(index);
     if (unit < 0x80) {
       bytes[at++] = unit;
     } else if (unit < 0x800 || (unit & 0xf800) === 0xd800) {
-      return encoded(string);
+      return start + encoded(string, bytes.subarray(start));
     } else {
       bytes[at++] = 0xe0 | unit >> 12;
       bytes[at++] = 0x80 | unit >> 6 & 0x3f;
@@ -1180,6 +1211,640 @@ const READERS = [
 const aboutInput = (error, reader, string) =>
   about(error, 'chinese_input_message', string, [READERS.indexOf(reader)]);
 
+// A column is converted by some calls of the module, each for some rows. The memory that is lent
+// for a call has the values of its rows, of up to 16 bytes each; where the texts begin, 0, and where
+// each of them ends; a status for each row; a bit for each row that the module is given; and the
+// texts.
+const ROWS = 1024, ROOM = 12 * 10_000;
+const ENDS = TEXT + 16 * ROWS, STATES = ENDS + 8 * ROWS + 16, PRESENT = STATES + 4 * ROWS;
+const BYTES = PRESENT + ROWS / 8;
+const [ROOM_LONG, BITS_LONG, ENDS_AT, CODES_AT, PRESENT_AT, BYTES_AT] =
+  [ROOM, ROWS / 8, ENDS, STATES, PRESENT, BYTES].map(BigInt);
+const NONE = STATUSES.indexOf('none');
+// How many halves the values have that the module takes.
+const NUMBER = 4, AMOUNT = 2, DAY = 3;
+/** @type {Record<string, Kind>} The kinds that typed arrays hold. */
+const KIND_IN = {
+  Int8Array: 'i8', Int16Array: 'i16', Int32Array: 'i32', BigInt64Array: 'i64',
+  Uint8Array: 'u8', Uint16Array: 'u16', Uint32Array: 'u32', BigUint64Array: 'u64',
+};
+const IN_BIGINTS = ['BigInt64Array', 'BigUint64Array'];
+const OF_NUMBERS = Object.keys(KIND_IN).filter((it) => !IN_BIGINTS.includes(it));
+const IN_NUMBERS = ['Float64Array', ...OF_NUMBERS];
+const READ_NUMBERS = 'chinese_wide_numbers_read_column';
+const READ_AMOUNTS = 'chinese_amounts_read_column', FIGURES = INPUTS.indexOf('figures');
+// Decoding UTF-16 is faster than decoding UTF-8.
+const unitsOfTexts = new Uint16Array(ROOM / 3);
+const utf16 = new TextDecoder('utf-16le', { ignoreBOM: true });
+const TAG = Symbol.toStringTag;
+let rowsLent = viewsOf(new ArrayBuffer(BYTES + ROOM));
+
+/** @param {ArrayBuffer} buffer */
+function viewsOf(buffer) {
+  return {
+    values: new Int32Array(buffer, TEXT, NUMBER * ROWS),
+    wholes: new BigInt64Array(buffer, TEXT, NUMBER / 2 * ROWS),
+    ends: new Int32Array(buffer, ENDS, 2 * ROWS + 2),
+    codes: new Int32Array(buffer, STATES, ROWS),
+    present: new Uint8Array(buffer, PRESENT, ROWS / 8),
+    bytes: new Uint8Array(buffer, BYTES, ROOM),
+    words: new Int32Array(buffer, BYTES, ROOM / 4),
+  };
+}
+
+function lendRows() {
+  lend(BYTES + ROOM - TEXT);
+  if (rowsLent.bytes.buffer !== text.buffer) rowsLent = viewsOf(/** @type {any} */ (text.buffer));
+  rowsLent.ends.fill(0, 0, 2);
+}
+
+// Says whether the module is given a row.
+/** @param {number} row @param {boolean} isGiven */
+function mark(row, isGiven) {
+  const { present } = rowsLent;
+  if ((row & 7) === 0) present[row >> 3] = 0;
+  if (isGiven) present[row >> 3] |= 1 << (row & 7);
+}
+
+// The name of a typed array, such as Int8Array; '' if it is none.
+/** @param {any} it @returns {string} */
+const arrayName = (it) =>
+  ArrayBuffer.isView(it) && !(it instanceof DataView) ? /** @type {any} */ (it)[TAG] : '';
+
+/**
+ * The answers for the rows of a column and, if they are wanted, their statuses.
+ * @template Row, Answer
+ */
+class Answers {
+  /**
+   * @param {ArrayLike<Row | null>} rows
+   * @param {{ statuses?: any[], into?: any }} options
+   * @param {string[]} arrays The typed arrays that hold the answers.
+   * @param {(row: any) => Answer} one Answers one row.
+   */
+  constructor(rows, { statuses, into = [] }, arrays, one) {
+    const name = arrayName(into);
+    if (!Array.isArray(rows) && !arrayName(rows)) {
+      throw new TypeError(`expected an array, not ${shown(rows)}`);
+    }
+    if (statuses !== undefined && !Array.isArray(statuses)) {
+      throw new TypeError(`statuses must be an array, not ${shown(statuses)}`);
+    }
+    if (!Array.isArray(into) && !arrays.includes(name)) {
+      const names = ['Array', ...arrays].join(', ');
+      throw new TypeError(`into must be one of ${names}, not ${shown(into)}`);
+    }
+    if (name && into.length < rows.length) {
+      throw new TypeError(`into has ${into.length} elements for ${rows.length} rows`);
+    }
+    if (statuses) statuses.length = 0;
+    this.rows = rows;
+    this.statuses = statuses;
+    this.into = into;
+    this.isTyped = name !== '';
+    this.isOfBigInts = IN_BIGINTS.includes(name);
+    /**
+     * The answers, or those of one piece of rows if they go into a typed array of Numbers: code that
+     * stores into arrays of many types is slow.
+     * @type {any[]}
+     */
+    this.all = this.isTyped && !this.isOfBigInts ? [] : into;
+    /** The index of the row whose answer is the first of these. */
+    this.first = 0;
+    this.one = one;
+    /** What a missing or refused row has. */
+    this.blank = this.isTyped ? (this.isOfBigInts ? 0n : 0) : null;
+    /** @type {number[]} The rows that are not answered yet. */
+    this.others = [];
+  }
+
+  // A row that the module refused, or was not given.
+  /** @param {number} index @param {number} code */
+  refuse(index, code) {
+    this.all[index - this.first] = this.blank;
+    if (this.statuses && code !== NONE) this.statuses[index] = STATUSES[code];
+    else this.others.push(index);
+  }
+
+  // Ends a piece of rows: answers the others each by itself, which needs the memory of the rows.
+  /** @param {number} from @param {number} count */
+  settle(from, count) {
+    const { others, statuses } = this;
+    for (const index of others) this.settleRow(index);
+    others.length = 0;
+    if (this.isTyped && !this.isOfBigInts) {
+      this.into.set(this.all, from);
+      this.all = [];
+      this.first = from + count;
+    }
+    if (!statuses) return;
+    for (let index = from; index < from + count; index++) statuses[index] ??= 'done';
+  }
+
+  /** @param {number} index */
+  settleRow(index) {
+    const { rows, statuses } = this;
+    if (rows[index] === null) {
+      if (statuses) statuses[index] = 'none';
+      return;
+    }
+    try {
+      this.all[index - this.first] = this.one(rows[index]);
+    } catch (error) {
+      const { code } = Object.assign(/** @type {any} */ (error), { row: index });
+      if (!statuses || !(error instanceof Refusal) || code === 'outOfMemory') throw error;
+      statuses[index] = code;
+    }
+  }
+}
+
+/**
+ * Prints the rows with a call of the module. `give` writes the values of some rows where the module
+ * reads them.
+ * @param {Answers<any, string>} answers
+ * @param {string} name
+ * @param {number[]} codes
+ * @param {(from: number, count: number) => void} give
+ * @returns {Column<string>}
+ */
+function printColumn(answers, name, codes, give) {
+  const { length } = answers.rows;
+  for (let from = 0; from < length;) {
+    const count = Math.min(ROWS, length - from), rows = BigInt(count);
+    lendRows();
+    give(from, count);
+    ended(library[name](TEXT_AT, rows, PRESENT_AT, BITS_LONG, 0n, ...codes, ENDS_AT, rows + 1n,
+      BYTES_AT, ROOM_LONG, CODES_AT, rows, LENGTH_AT));
+    from += takePrinted(answers, from, halves[LENGTH_HALF]);
+  }
+  return answers.all;
+}
+
+/** @param {Answers<any, string>} answers @param {number} from @param {number} done */
+function takePrinted(answers, from, done) {
+  const { ends, codes } = rowsLent, { all } = answers;
+  const characters = charactersOf(ends[2 * done] / 3);
+  for (let row = 0, start = 0; row < done; row++) {
+    const end = ends[2 * row + 2] / 3;
+    if (codes[row] === DONE) all[from + row] = characters.slice(start, end);
+    else answers.refuse(from + row, codes[row]);
+    start = end;
+  }
+  answers.settle(from, done);
+  return done;
+}
+
+// The printed texts, as one string, since decoding each takes longer. Each character has three
+// bytes, so that three words have four.
+/** @param {number} count How many characters. */
+function charactersOf(count) {
+  const { words } = rowsLent, units = unitsOfTexts;
+  for (let unit = 0, at = 0; unit < count; unit += 4, at += 3) {
+    const a = words[at], b = words[at + 1], c = words[at + 2];
+    units[unit] = (a & 0xf) << 12 | a >> 2 & 0xfc0 | a >> 16 & 0x3f;
+    units[unit + 1] = (a >> 24 & 0xf) << 12 | (b & 0x3f) << 6 | b >> 8 & 0x3f;
+    units[unit + 2] = (b >> 16 & 0xf) << 12 | b >> 18 & 0xfc0 | c & 0x3f;
+    units[unit + 3] = (c >> 8 & 0xf) << 12 | c >> 10 & 0xfc0 | c >> 24 & 0x3f;
+  }
+  return utf16.decode(units.subarray(0, count));
+}
+
+/**
+ * Reads the rows with a call of the module. `take` takes the value of a row as an answer, or returns
+ * false if the call for one row refuses it.
+ * @param {Answers<any, any>} answers
+ * @param {string} name
+ * @param {number[]} codes
+ * @param {(row: number, all: any[], index: number) => boolean} take
+ * @returns {any}
+ */
+function readColumn(answers, name, codes, take) {
+  const { length } = answers.rows, isFigures = name === READ_AMOUNTS && codes[0] === FIGURES;
+  for (let from = 0; from < length;) {
+    lendRows();
+    const count = giveTexts(answers.rows, from, isFigures), rows = BigInt(count);
+    ended(library[name](BYTES_AT, ROOM_LONG, ENDS_AT, rows + 1n, PRESENT_AT, BITS_LONG, 0n,
+      ...codes, TEXT_AT, rows, CODES_AT, rows));
+    takeRead(answers, from, count, take);
+    from += count;
+  }
+  return answers.into;
+}
+
+// Numbers of 64 bits go into an array of these as the module has written them.
+/**
+ * @param {Answers<any, any>} answers
+ * @param {number} from
+ * @param {number} count
+ * @param {(row: number, all: any[], index: number) => boolean} take
+ */
+function takeRead(answers, from, count, take) {
+  const { codes, wholes } = rowsLent, { all, first, isOfBigInts } = answers;
+  if (isOfBigInts) answers.into.set(wholes.subarray(0, count), from);
+  for (let row = 0; row < count; row++) {
+    const code = codes[row], index = from + row;
+    const isTaken = code === DONE && (isOfBigInts || take(row, all, index - first));
+    if (!isTaken) answers.refuse(index, code === DONE ? NONE : code);
+  }
+  answers.settle(from, count);
+}
+
+// Gives the module the texts of rows, as many as fit, and returns how many.
+/** @param {ArrayLike<unknown>} rows @param {number} from @param {boolean} isFigures */
+function giveTexts(rows, from, isFigures) {
+  const { bytes, ends } = rowsLent, most = Math.min(ROWS, rows.length - from), strings = [];
+  let all = '';
+  while (strings.length < most) {
+    const row = strings.length, given = givenText(rows[from + row], isFigures);
+    const string = given ?? '';
+    if (3 * (all.length + string.length) > ROOM) break;
+    mark(row, given !== null);
+    strings.push(string);
+    all += string;
+    ends[2 * row + 2] = 3 * all.length;
+    ends[2 * row + 3] = 0;
+  }
+  if (isFigures || encoded(all, bytes) !== 3 * all.length) giveEach(strings);
+  return strings.length;
+}
+
+// The text of a row, or null if the module is not given it.
+/** @param {unknown} row @param {boolean} isFigures */
+function givenText(row, isFigures) {
+  const isWhole = isFigures && (typeof row === 'bigint' || Number.isSafeInteger(row));
+  const string = typeof row === 'string' ? row : isWhole ? String(row) : null;
+  return string !== null && 3 * string.length <= ROOM ? string : null;
+}
+
+// Gives the module texts that have characters of other than three bytes.
+/** @param {string[]} strings */
+function giveEach(strings) {
+  const { bytes, ends } = rowsLent;
+  let at = 0;
+  for (const [row, string] of strings.entries()) {
+    at = string.length > FEW
+      ? at + encoded(string, bytes.subarray(at)) : written(string, bytes, at);
+    ends[2 * row + 2] = at;
+  }
+}
+
+// Gives the module whole numbers, as numbers or as amounts.
+/**
+ * @param {ArrayLike<any>} rows @param {number} from @param {number} count
+ * @param {number} size In halves. @param {boolean} isSigned
+ */
+function giveWholes(rows, from, count, size, isSigned) {
+  const isUnsigned = arrayName(rows) === 'BigUint64Array';
+  if (isUnsigned || arrayName(rows) === 'BigInt64Array') {
+    const { buffer, byteOffset, length } = /** @type {BigInt64Array} */ (rows);
+    const source = new Int32Array(buffer, byteOffset, 2 * length);
+    for (let row = 0, at = 2 * from; row < count; row++, at += 2) {
+      const high = source[at + 1], sign = isUnsigned ? 0 : high >> 31;
+      mark(row, putWhole(row * size, size, source[at], high, sign) && (sign === 0 || isSigned));
+    }
+    return;
+  }
+  for (let row = 0; row < count; row++) {
+    const number = rows[from + row], at = row * size;
+    let isGiven = false;
+    if (typeof number === 'number' && (number | 0) === number) {
+      isGiven = putWhole(at, size, number, number >> 31, number >> 31);
+    } else if (Number.isSafeInteger(number)) {
+      isGiven = putWhole(at, size, number, Math.floor(number / 2 ** 32), number < 0 ? -1 : 0);
+    } else if (typeof number === 'bigint') {
+      whole[0] = number;
+      const [low, high] = halvesOfWhole;
+      isGiven = whole[0] === number ? putWhole(at, size, low, high, high >> 31)
+        : size === NUMBER && putLong(row, number, isSigned);
+    }
+    mark(row, isGiven && (isSigned || number >= 0));
+  }
+}
+
+// Writes a number of 64 bits with its sign, and returns whether it fits the size.
+/**
+ * @param {number} at @param {number} size
+ * @param {number} low @param {number} high @param {number} sign
+ */
+function putWhole(at, size, low, high, sign) {
+  const { values } = rowsLent;
+  values[at] = low;
+  values[at + 1] = high;
+  if (size === AMOUNT) return high >> 31 === sign;
+  values[at + 2] = values[at + 3] = sign;
+  return true;
+}
+
+/** @param {number} row @param {bigint} number @param {boolean} isSigned */
+function putLong(row, number, isSigned) {
+  const { wholes } = rowsLent;
+  wholes[2 * row] = number;
+  wholes[2 * row + 1] = number >> 64n;
+  return (isSigned ? BigInt.asIntN : BigInt.asUintN)(128, number) === number;
+}
+
+/** @param {ArrayLike<any>} rows @param {number} from @param {number} count */
+function giveDates(rows, from, count) {
+  const { values } = rowsLent;
+  for (let row = 0, at = 0; row < count; row++, at += DAY) {
+    const { year, month, day } = /** @type {BillDate} */ ({ ...rows[from + row] });
+    values[at] = year;
+    values[at + 1] = month;
+    values[at + 2] = day;
+    mark(row, year >>> 0 === year && month >>> 0 === month && day >>> 0 === day);
+  }
+}
+
+// Takes a number as an answer if it is a safe integer.
+/** @param {number} low @param {number} high @param {any[]} all @param {number} index */
+function takeSafe(low, high, all, index) {
+  const number = high * 2 ** 32 + (low >>> 0);
+  all[index] = number;
+  return Number.isSafeInteger(number);
+}
+
+// Whether the upper 64 bits of a number are those of its lower 64 bits as a signed number.
+/** @param {number} row @param {boolean} isSigned */
+function isShort(row, isSigned) {
+  const { values } = rowsLent, at = NUMBER * row, sign = values[at + 1] >> 31;
+  return values[at + 2] === sign && values[at + 3] === sign && (sign === 0 || isSigned);
+}
+
+/** @param {number} row @param {boolean} isSigned */
+function bigIntAt(row, isSigned) {
+  const { wholes } = rowsLent, low = wholes[2 * row];
+  if (isShort(row, isSigned)) return low;
+  const number = (wholes[2 * row + 1] << 64n) | BigInt.asUintN(64, low);
+  return isSigned ? number : BigInt.asUintN(128, number);
+}
+
+/**
+ * Writes the numbers of a column, each as `toChinese` does, in less time than a loop:
+ * `toChineseColumn([120, null])` is ['一百二十', null].
+ *
+ * The column is an array of BigInts, safe integers and null, for a missing row, or a typed array.
+ * The options are those of `toChinese`, and `statuses`. The first refused row throws the error of
+ * `toChinese`, with the row's index as `row`. If `statuses` is an array, a refused row is null
+ * instead, and the array is filled with the status of each row: 'done', 'none' for a missing row,
+ * or the error's code. Throws a TypeError if the column is not an array, a row is of another type,
+ * or an option or its value is unknown.
+ *
+ * @param {WholeColumn} numbers
+ * @param {PrintOptions & ColumnOptions} options
+ * @returns {Column<string>}
+ */
+export function toChineseColumn(numbers, options = NO_OPTIONS) {
+  refuseOthers(options, (it) => it === 'statuses' || HAS.printing(it));
+  const { statuses, ...rest } = options, kind = codeOf(KIND, rest.kind);
+  const codes = [kind, codeOf(WAY, rest.way), scriptOf(rest), codeOf(CASE, rest.case)];
+  const answers = new Answers(numbers, { statuses }, [], (row) => toChinese(row, rest));
+  return printColumn(answers, 'chinese_wide_numbers_print_column', codes,
+    (from, count) => giveWholes(numbers, from, count, NUMBER, kind >= FIRST_SIGNED));
+}
+
+/**
+ * Writes the amounts of a column, in fen, each as `amountToChinese` does. The column and `statuses`
+ * are as for `toChineseColumn`.
+ *
+ * @param {WholeColumn} fen
+ * @param {AmountOptions & ColumnOptions} options
+ * @returns {Column<string>}
+ */
+export function amountToChineseColumn(fen, options = NO_OPTIONS) {
+  refuseOthers(options, (it) => it === 'statuses' || HAS.amounts(it));
+  return capitalsColumn(fen, options, false, amountToChinese);
+}
+
+/**
+ * Writes the amounts of a column, in fen, each as `signedAmountToChinese` does:
+ * `signedAmountToChineseColumn([1500, -1500])` is ['壹拾伍元整', '负壹拾伍元整']. The column and `statuses`
+ * are as for `toChineseColumn`.
+ *
+ * @param {WholeColumn} fen
+ * @param {SignedAmountOptions & ColumnOptions} options
+ * @returns {Column<string>}
+ */
+export function signedAmountToChineseColumn(fen, options = NO_OPTIONS) {
+  refuseOthers(options, (it) => it === 'statuses' || HAS.signedAmounts(it));
+  return capitalsColumn(fen, options, true, signedAmountToChinese);
+}
+
+/**
+ * @param {WholeColumn} fen
+ * @param {SignedAmountOptions & ColumnOptions} options
+ * @param {boolean} isSigned
+ * @param {(fen: any, options: SignedAmountOptions) => string} one
+ */
+function capitalsColumn(fen, { statuses, ...rest }, isSigned, one) {
+  const answers = new Answers(fen, { statuses }, [], (row) => one(row, rest));
+  return printColumn(answers, 'chinese_amounts_print_column', [scriptOf(rest), formOf(rest)],
+    (from, count) => giveWholes(fen, from, count, AMOUNT, isSigned));
+}
+
+/**
+ * Writes the dates of a column, each as `dateToChinese` does. Null is a missing row. The options
+ * are those of `dateToChinese`, and `statuses`, as for `toChineseColumn`.
+ *
+ * @param {ReadonlyArray<BillDate | null>} dates
+ * @param {ScriptOptions & ColumnOptions} options
+ * @returns {Column<string>}
+ */
+export function dateToChineseColumn(dates, options = NO_OPTIONS) {
+  refuseOthers(options, (it) => it === 'statuses' || HAS.dates(it));
+  const { statuses, ...rest } = options, codes = [scriptOf(rest)];
+  const answers = new Answers(dates, { statuses }, [], (row) => dateToChinese(row, rest));
+  return printColumn(answers, 'chinese_dates_print_column', codes,
+    (from, count) => giveDates(dates, from, count));
+}
+
+/**
+ * Reads the texts of a column, each as `toNumber` does:
+ * `toNumberColumn(['一百二', null])` is [120, null].
+ *
+ * Null is a missing row. The options are those of `toNumber`, `statuses`, as for `toChineseColumn`,
+ * and `into`: an array that the numbers are written into, and that is returned. In a typed array a
+ * missing or refused row is 0. An array of whole numbers determines the kind: `Int32Array` means
+ * 'i32'; a `Float64Array` holds each number. The first refused row throws what `toNumber` throws,
+ * with its index as `row`. Throws a TypeError if the column is not an array, a row is not a string,
+ * `into` is too short, is of another type, or does not hold the kind, or an option or its value is
+ * unknown.
+ *
+ * @template {NumberArray | Column<number>} [Into=Column<number>]
+ * @param {TextColumn} texts
+ * @param {ReadOptions & IntoOptions<Into>} options
+ * @returns {Into}
+ */
+export function toNumberColumn(texts, options = NO_OPTIONS) {
+  const [rest, codes] = readingOf(options), isSigned = codes[0] >= FIRST_SIGNED;
+  const answers = new Answers(texts, options, IN_NUMBERS, (row) => toNumber(row, rest));
+  return readColumn(answers, READ_NUMBERS, codes, (row, all, index) => {
+    const { values } = rowsLent, at = NUMBER * row;
+    return isShort(row, isSigned) && takeSafe(values[at], values[at + 1], all, index);
+  });
+}
+
+/**
+ * Reads the texts of a column, each as `toBigInt` does: `toBigIntColumn(['一百二', null])` is
+ * [120n, null]. The options are those of `toNumberColumn`; `into` is an array, a `BigInt64Array`,
+ * which means the kind 'i64', or a `BigUint64Array`, which means 'u64'.
+ *
+ * @template {BigIntArray | Column<bigint>} [Into=Column<bigint>]
+ * @param {TextColumn} texts
+ * @param {ReadOptions & IntoOptions<Into>} options
+ * @returns {Into}
+ */
+export function toBigIntColumn(texts, options = NO_OPTIONS) {
+  const [rest, codes] = readingOf(options), isSigned = codes[0] >= FIRST_SIGNED;
+  const answers = new Answers(texts, options, IN_BIGINTS, (row) => toBigInt(row, rest));
+  const name = answers.isOfBigInts ? 'chinese_numbers_read_column' : READ_NUMBERS;
+  return readColumn(answers, name, codes, (row, all, index) => {
+    all[index] = bigIntAt(row, isSigned);
+    return true;
+  });
+}
+
+// The options for one row, and their codes.
+/**
+ * @param {ReadOptions & IntoOptions<any>} options
+ * @returns {[ReadOptions, number[]]}
+ */
+function readingOf(options) {
+  refuseOthers(options, (it) => HAS.columns(it) || HAS.reading(it));
+  const { statuses, into, ...rest } = options, held = KIND_IN[arrayName(into)];
+  const { kind = held, way } = rest;
+  if (held && kind !== held) throw new TypeError(`into holds ${held}, not ${shown(kind)}`);
+  return [{ ...rest, kind }, [codeOf(KIND, kind), codeOf(WAY, way)]];
+}
+
+/**
+ * Reads the amounts of a column, in fen, each as `chineseToSignedAmount` does:
+ * `chineseToSignedAmountColumn(['壹拾伍元整', '负壹拾伍元整'])` is [1500, -1500]. Null is a missing row.
+ * The options are `statuses` and `into`, as for `toNumberColumn`; `into` is an array or a
+ * `Float64Array`.
+ *
+ * @template {Float64Array | Column<number>} [Into=Column<number>]
+ * @param {TextColumn} texts
+ * @param {IntoOptions<Into>} options
+ * @returns {Into}
+ */
+export function chineseToSignedAmountColumn(texts, options = NO_OPTIONS) {
+  return safeFenColumn(texts, options, 'signedAmount', chineseToSignedAmount);
+}
+
+/**
+ * Reads the amounts of a column, as `chineseToSignedAmountColumn` does, as BigInts; `into` is an
+ * array or a `BigInt64Array`.
+ *
+ * @template {BigInt64Array | Column<bigint>} [Into=Column<bigint>]
+ * @param {TextColumn} texts
+ * @param {IntoOptions<Into>} options
+ * @returns {Into}
+ */
+export function chineseToSignedAmountBigIntColumn(texts, options = NO_OPTIONS) {
+  return fenColumn(texts, options, 'signedAmount', chineseToSignedAmountBigInt);
+}
+
+/**
+ * Reads the amounts of a column, each as `chineseToSignedAmountAsTyped` does. The options are those
+ * of `chineseToSignedAmountColumn`.
+ *
+ * @template {Float64Array | Column<number>} [Into=Column<number>]
+ * @param {TextColumn} texts
+ * @param {IntoOptions<Into>} options
+ * @returns {Into}
+ */
+export function chineseToSignedAmountAsTypedColumn(texts, options = NO_OPTIONS) {
+  return safeFenColumn(texts, options, 'typedSignedAmount', chineseToSignedAmountAsTyped);
+}
+
+/**
+ * Reads the amounts of a column, as `chineseToSignedAmountAsTypedColumn` does, as BigInts; `into`
+ * is an array or a `BigInt64Array`.
+ *
+ * @template {BigInt64Array | Column<bigint>} [Into=Column<bigint>]
+ * @param {TextColumn} texts
+ * @param {IntoOptions<Into>} options
+ * @returns {Into}
+ */
+export function chineseToSignedAmountAsTypedBigIntColumn(texts, options = NO_OPTIONS) {
+  return fenColumn(texts, options, 'typedSignedAmount', chineseToSignedAmountAsTypedBigInt);
+}
+
+/**
+ * Converts the yuan of a column to fen, each as `yuanToFen` does:
+ * `yuanToFenColumn(['1,409.50', 15])` is [140950, 1500]. Null is a missing row. The options are
+ * those of `chineseToSignedAmountColumn`.
+ *
+ * @template {Float64Array | Column<number>} [Into=Column<number>]
+ * @param {ReadonlyArray<string | bigint | number | null>} yuan
+ * @param {IntoOptions<Into>} options
+ * @returns {Into}
+ */
+export function yuanToFenColumn(yuan, options = NO_OPTIONS) {
+  return safeFenColumn(yuan, options, 'figures', yuanToFen);
+}
+
+/**
+ * Converts the yuan of a column to fen, as `yuanToFenColumn` does, and returns BigInts; `into` is
+ * an array or a `BigInt64Array`.
+ *
+ * @template {BigInt64Array | Column<bigint>} [Into=Column<bigint>]
+ * @param {ReadonlyArray<string | bigint | number | null>} yuan
+ * @param {IntoOptions<Into>} options
+ * @returns {Into}
+ */
+export function yuanToFenBigIntColumn(yuan, options = NO_OPTIONS) {
+  return fenColumn(yuan, options, 'figures', yuanToFenBigInt);
+}
+
+/**
+ * @param {ArrayLike<any>} rows
+ * @param {IntoOptions<any>} options
+ * @param {Input} input
+ * @param {(row: any) => bigint} one
+ */
+function fenColumn(rows, options, input, one) {
+  refuseOthers(options, HAS.columns);
+  const answers = new Answers(rows, options, ['BigInt64Array'], one);
+  return readColumn(answers, READ_AMOUNTS, [INPUTS.indexOf(input)], (row, all, index) => {
+    all[index] = rowsLent.wholes[row];
+    return true;
+  });
+}
+
+/**
+ * @param {ArrayLike<any>} rows
+ * @param {IntoOptions<any>} options
+ * @param {Input} input
+ * @param {(row: any) => number} one
+ */
+function safeFenColumn(rows, options, input, one) {
+  refuseOthers(options, HAS.columns);
+  const answers = new Answers(rows, options, ['Float64Array'], one);
+  return readColumn(answers, READ_AMOUNTS, [INPUTS.indexOf(input)], (row, all, index) => {
+    const { values } = rowsLent, at = AMOUNT * row;
+    return takeSafe(values[at], values[at + 1], all, index);
+  });
+}
+
+/**
+ * Reads the dates of a column, each as `chineseToDate` does. Null is a missing row; the options are
+ * `statuses`, as for `toChineseColumn`, and `into`, an array.
+ *
+ * @param {TextColumn} texts
+ * @param {IntoOptions<Column<BillDate>>} options
+ * @returns {Column<BillDate>}
+ */
+export function chineseToDateColumn(texts, options = NO_OPTIONS) {
+  refuseOthers(options, HAS.columns);
+  const answers = new Answers(texts, options, [], chineseToDate);
+  return readColumn(answers, 'chinese_dates_read_column', [], (row, all, index) => {
+    const { values } = rowsLent, at = DAY * row;
+    all[index] = { year: values[at], month: values[at + 1], day: values[at + 2] };
+    return true;
+  });
+}
+
 // The numbers of a quantity are of these kinds.
 const NUMERATOR = KINDS.indexOf('i128'), DENOMINATOR = KINDS.indexOf('u128');
 // For each form with decimals, its denominators, and the denominator without decimals.
@@ -1502,7 +2167,8 @@ export class FoundQuantity extends Span {
  * - 'duration': { hours, minutes, seconds };
  * - 'half', 'length': a Quantity, 1.5 for 一个半小时 and 1.75 for 一米七五;
  * - 'score': the two numbers;
- * - 'range': the two Quantities, 30000 and 50000 for 三到五万.
+ * - 'range': the two Quantities, 30000 and 50000 for 三到五万;
+ * - 'money': a Quantity of yuan, 3.50 for 三块五; null if it is no whole number of fen below 10^18.
  *
  * @template {PhraseKind} Name
  */
@@ -1600,9 +2266,9 @@ function* foundIn(string, spans, Item) {
  * Finds the phrases of a text, and its expressions that are in none: in '一月五日下午三点半，二十人' the
  * date 一月五日, the time 下午三点半 and the expression 二十.
  *
- * Phrases are dates, times of day, durations, ranges, scores, halves and lengths. Yields a `Phrase`
- * for each of them, with its `kind` and `value`, and for each of these expressions the same as
- * `findQuantities`. Throws a TypeError as that does.
+ * Phrases are dates, times of day, durations, ranges, scores, halves, lengths and sums of money.
+ * Yields a `Phrase` for each of them, with its `kind` and `value`, and for each of these
+ * expressions the same as `findQuantities`. Throws a TypeError as that does.
  *
  * @param {string} string
  * @param {Wanted} options
@@ -1627,33 +2293,44 @@ function* phrasesIn(string, items) {
 const NUMBERS = { name: 'chinese_number_find_utf8', size: 6, itemAt: spanAt };
 const EXPRESSIONS = { ...NUMBERS, name: 'chinese_quantity_find_utf8' };
 const PHRASES = { name: 'chinese_phrase_find_utf8', size: 14, itemAt: phraseAt };
+const UNSPOKEN = { ...NUMBERS, name: 'chinese_speech_left', works: true };
 
 // Searches the whole text at once, since another call would overwrite the text that is lent.
 /**
  * @template Item
  * @param {string} string
  * @param {Wanted} options
- * @param {{ name: string, size: number, itemAt: (...where: number[]) => Item }} search
+ * @param {{ name: string, size: number, itemAt: (...where: number[]) => Item, works?: boolean }}
+ *   search Whether the call works in a buffer, which is after the text and has as many bytes.
  */
-function searched(string, options, { name, size, itemAt }) {
+function searched(string, options, { name, size, itemAt, works = false }) {
   const upper = flagOf(options.upper, 'upper'), greatest = codeOf(UNIT, options.greatest);
-  hand(string);
-  const length = words[LENGTH_WORD], items = [];
-  let count = MOST_SPANS, from = 0, position = 0;
-  while (count === MOST_SPANS) {
+  refuseNoString(string);
+  hand(string, works ? 12 * string.length + WORK_BYTES : 0);
+  const length = words[LENGTH_WORD], items = [], work = works ? [TEXT_AT + length, length] : [];
+  const [at, most] = works ? spansAfter(Number(length)) : [SPANS, MOST_SPANS];
+  const first = (at - READING) / 4;
+  let count = most, from = 0, position = 0;
+  while (count === most) {
     isInside = true;
-    ended(library[name](TEXT_AT, length, BigInt(from), upper, greatest, SPANS_AT,
-      BigInt(MOST_SPANS), LENGTH_AT));
+    ended(library[name](TEXT_AT, length, BigInt(from), upper, greatest, ...work, BigInt(at),
+      BigInt(most), LENGTH_AT));
     count = halves[LENGTH_HALF];
-    for (let half = SPANS_HALF; half < SPANS_HALF + size * count; half += size) {
-      const first = halves[half] >>> 0, start = position + unitsBetween(from, first);
+    for (let half = first; half < first + size * count; half += size) {
+      const begin = halves[half] >>> 0, start = position + unitsBetween(from, begin);
       from = halves[half + 2] >>> 0;
-      position = start + unitsBetween(first, from);
+      position = start + unitsBetween(begin, from);
       items.push(itemAt(half, start, position));
     }
   }
   return items;
 }
+
+// A call that works in a buffer goes through the whole text each time. So it finds many spans at once,
+// for which there is room after the buffer: at most 9 bytes for each code unit of the text.
+/** @param {number} length @returns {[number, number]} Where they are, and how many. */
+const spansAfter = (length) =>
+  [Math.ceil((TEXT + 2 * length) / 8) * 8, FEW_SPANS + Math.floor(length / 8)];
 
 /** @param {number} half Where it begins. @param {number} start @param {number} end */
 function spanAt(half, start, end) {
@@ -1686,6 +2363,8 @@ const VALUES = {
   length: ([number, decimals, count]) => Quantity.decimal(number * 10 ** count + decimals, count),
   score: firstTwo,
   range: (_, half) => rangeAt(half),
+  money: ([low, high, isKnown]) =>
+    isKnown ? Quantity.decimal((BigInt(high >>> 0) << 32n) + BigInt(low >>> 0), 2) : null,
 };
 
 /** @param {number[]} numbers */
@@ -1770,8 +2449,9 @@ const includedOf = ({ about, oneCharacter, doubtful }) => ABOUT * flagOf(about, 
   + ONE_CHARACTER * flagOf(oneCharacter, 'oneCharacter') + DOUBTFUL * flagOf(doubtful, 'doubtful');
 
 /** @param {TextOptions} options */
-const styleOf = ({ expanded, canonical, compact }) => EXPANDED * flagOf(expanded, 'expanded')
-  + CANONICAL * flagOf(canonical, 'canonical') + COMPACT * flagOf(compact, 'compact');
+const styleOf = ({ expanded, canonical, compact, codes }) => EXPANDED * flagOf(expanded, 'expanded')
+  + CANONICAL * flagOf(canonical, 'canonical') + COMPACT * flagOf(compact, 'compact')
+  + CODES * flagOf(codes, 'codes');
 
 /**
  * Rewrites the numerals of a text in figures, as an editor does: '市值三点五亿元，占百分之十二点五'
@@ -1801,9 +2481,10 @@ export function quantitiesToFigures(string, options = NO_OPTIONS) {
  * It rewrites the phrases that `findPhrases` finds, whose words stay, and the other expressions as
  * `quantitiesToFigures` does. These stay too: phrases without a value, as 二月三十日; doubtful phrases,
  * unless `doubtful` is true; and halves after one Chinese character, as 一个半小时, unless
- * `oneCharacter` is true. `compact` writes whole dates, times whose hour of 24 is known, and all
- * halves as short as possible: '2026-01-05 15:30', '1.5小时'. Throws a TypeError as `findQuantities`
- * does.
+ * `oneCharacter` is true. `compact` writes whole dates, times whose hour of 24 is known, halves,
+ * and sums of money with 角 or 分 as short as possible: '2026-01-05 15:30', '1.5小时', '3.5元'. `codes`
+ * also writes codes, such as telephone numbers: '打幺幺零' becomes '打110'. Throws a TypeError as
+ * `findQuantities` does.
  *
  * @param {string} string
  * @param {TextOptions} options
@@ -1814,20 +2495,59 @@ export function textToFigures(string, options = NO_OPTIONS) {
   return inFigures(string, options, 'chinese_text_to_figures');
 }
 
+/**
+ * Rewrites a text as it is spoken: '2026年1月5日15:30，共2.5kg' becomes
+ * '二零二六年一月五日十五点三十分，共二点五千克'.
+ *
+ * Its figures, signs and measures become Chinese characters of the `script`, and large numbers are
+ * written by the `method`. Codes, such as telephone numbers, are spoken digit by digit, with `yao: true`
+ * with 幺 for 1. The rest stays, and so does what no rule covers, such as 'x86', whose 86
+ * `findUnspoken` finds. Throws a TypeError as `findQuantities` does.
+ *
+ * @param {string} string
+ * @param {SpeechOptions} options
+ * @returns {string}
+ */
+export function textToSpeech(string, options = NO_OPTIONS) {
+  refuseOthers(options, HAS.speech);
+  const codes = [methodOf(options), codeOf(SCRIPT, options.script), YAO * flagOf(options.yao, 'yao')];
+  return rewritten(string, 1, (length, room) => library.chinese_text_to_speech(TEXT_AT, length, 0,
+    ZHAO, ...codes, TEXT_AT + length, length, TEXT_AT + 2n * length, room, LENGTH_AT));
+}
+
+/**
+ * Finds the parts with figures that `textToSpeech` leaves as they are, and yields them in order: in
+ * '共3人，x86，2026.1.15' these are 86 and 2026.1.15. Not all of them are quantities. Throws a TypeError if the
+ * text is not a string.
+ *
+ * @param {string} string
+ * @returns {Generator<FoundQuantity, void, undefined>}
+ */
+export function findUnspoken(string) {
+  return foundIn(string, searched(string, NO_OPTIONS, UNSPOKEN), FoundQuantity);
+}
+
 /** @param {string} string @param {TextOptions} options @param {string} name Of the call. */
 function inFigures(string, options, name) {
   const upper = flagOf(options.upper, 'upper'), greatest = codeOf(UNIT, options.greatest);
   const method = methodOf(options), bits = includedOf(options) + styleOf(options);
+  return rewritten(string, 0, (length, room) => library[name](TEXT_AT, length, upper, greatest, method,
+    bits, TEXT_AT + length, room, LENGTH_AT));
+}
+
+// The new text of a call, whose buffer is after so many others with as many bytes as the text.
+/** @param {string} string @param {number} others @param {(...sizes: bigint[]) => number} call */
+function rewritten(string, others, call) {
   refuseNoString(string);
-  // Figures seldom have more bytes than what they replace. If they do, the call reports how many.
+  // It seldom has more bytes than what it replaces. If it does, the call reports how many.
   let room = 3 * string.length + Number(MOST_FIGURES_BYTES), length, status;
   do {
-    hand(string, room);
+    hand(string, 3 * others * string.length + room);
     length = words[LENGTH_WORD];
-    status = ended(library[name](TEXT_AT, length, upper, greatest, method, bits, TEXT_AT + length,
-      BigInt(room), LENGTH_AT));
+    status = ended(call(length, BigInt(room)));
     room = Number(words[LENGTH_WORD]);
   } while (status === NO_ROOM);
+  length *= BigInt(1 + others);
   return withHalves(decoded(Number(length)), string);
 }
 

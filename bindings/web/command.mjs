@@ -12,8 +12,8 @@ import {
   AmountError, DateError, KINDS, LANGUAGES, METHODS, NumeralError, VERSION, WAYS, answerLine,
   chineseToAmountAsTypedBigInt, chineseToAmountBigInt, chineseToDate,
   chineseToSignedAmountAsTypedBigInt, chineseToSignedAmountBigInt, dateToChinese, findNumbers,
-  findQuantities, quantitiesToFigures, signedAmountToChinese, textToFigures, toBigInt, toChinese,
-  yuanToFenBigInt,
+  findQuantities, quantitiesToFigures, signedAmountToChinese, textToFigures, textToSpeech, toBigInt,
+  toChinese, yuanToFenBigInt,
 } from './chinese-number.mjs';
 import { Misuse, Refused, Table, linesOfTable, refusalOf, shown } from './table.mjs';
 
@@ -48,7 +48,9 @@ usage: chinese-number amount [--traditional] [--currency] [--yuan 圆] [--closin
        chinese-number find [--all] [--method any]
        chinese-number find --numbers [--all] [--kind u128] [--way any]
        chinese-number replace [--phrases] [--all] [--method any] [--about] [--one-character]
-                              [--doubtful] [--expanded] [--canonical] [--compact] [WORD...]
+                              [--doubtful] [--expanded] [--canonical] [--compact] [--codes]
+                              [WORD...]
+       chinese-number speak [--traditional] [--method any] [--yao] [WORD...]
        chinese-number lines
        chinese-number --help | --version
 
@@ -79,8 +81,8 @@ find     writes LINE:CHARACTER TEXT NUMBER for each quantity in standard input, 
    --numbers        finds whole numbers instead: 3 and 5万 in 3.5万
 replace  writes the arguments, or standard input, with their numerals in figures, 市值三点五亿元 as
          市值3.5亿元
-   --phrases        includes dates, times, durations, ranges, scores and lengths: 一月五日下午三点半
-                    becomes 1月5日下午3点半
+   --phrases        includes dates, times, durations, ranges, scores, lengths and sums of money:
+                    一月五日下午三点半，三块五 becomes 1月5日下午3点半，3块5
    --about          includes approximate numbers, as in 三百多
    --one-character  includes numbers of one Chinese character, as in 一般
    --doubtful       includes numbers that may mean something else, as 五一
@@ -88,6 +90,11 @@ replace  writes the arguments, or standard input, with their numerals in figures
    --canonical      removes commas and leading zeros from figures: 1,280 becomes 1280
    --compact        writes dates, times and halves as short as possible, 2026-01-05, 15:30 and 1.5小时;
                     --phrases is not needed then
+   --codes          also writes codes, such as telephone numbers: 打幺幺零 becomes 打110; --phrases is
+                    not needed then
+speak    writes the arguments, or standard input, as they are spoken: 15:30到，共2.5kg as
+         十五点三十分到，共二点五千克
+   --yao            says 幺 for 1 in codes, such as telephone numbers
 lines    answers each line of standard input: read u64 ten_thousand 一百二 with ok 120,
          print u128 naive traditional lower 123 with ok 一二三, and what is no question with bad line
 
@@ -144,12 +151,21 @@ const COMMANDS = {
   replace: {
     options: {
       phrases: FLAG, all: FLAG, method: METHOD, about: FLAG, 'one-character': FLAG, doubtful: FLAG,
-      expanded: FLAG, canonical: FLAG, compact: FLAG,
+      expanded: FLAG, canonical: FLAG, compact: FLAG, codes: FLAG,
     },
-    run: ({ phrases, compact, all, 'one-character': oneCharacter, ...options }, words, language) => {
+    run: ({
+      phrases, compact, codes, all, 'one-character': oneCharacter, ...options
+    }, words, language) => {
       const choices = { ...options, ...wantedBy(all), oneCharacter };
-      const anew = (text) => (phrases || compact ? textToFigures(text, { ...choices, compact })
-        : quantitiesToFigures(text, choices));
+      const anew = (text) => (phrases || compact || codes
+        ? textToFigures(text, { ...choices, compact, codes }) : quantitiesToFigures(text, choices));
+      return words.length ? answerEach(words, language, anew) : replaceInInput(anew);
+    },
+  },
+  speak: {
+    options: { traditional: FLAG, method: METHOD, yao: FLAG },
+    run: (options, words, language) => {
+      const anew = (text) => textToSpeech(text, options);
       return words.length ? answerEach(words, language, anew) : replaceInInput(anew);
     },
   },

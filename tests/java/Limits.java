@@ -26,6 +26,7 @@ import java.util.concurrent.Executors;
 import java.util.concurrent.atomic.AtomicReference;
 import java.util.function.Function;
 import java.util.stream.Collectors;
+import java.util.stream.LongStream;
 import java.util.stream.Stream;
 
 /**
@@ -35,7 +36,7 @@ import java.util.stream.Stream;
 public final class Limits {
     private static final List<String> PARAMETERS = Arrays.asList("text", "way", "kind", "number",
         "style", "yuan", "form", "date", "script", "method", "wanted", "options", "replacement",
-        "input", "locale", "status", "line");
+        "input", "locale", "status", "line", "numbers", "texts", "fen", "dates", "statuses", "voice");
 
     private static void same(Object found, Object wanted) {
         if (!found.equals(wanted)) {
@@ -180,7 +181,20 @@ public final class Limits {
         same(textToFigures("壹佰", upper), "100");
         TextOptions compact = TextOptions.DEFAULT.withCompact();
         same(textToFigures("二零二六年一月五日下午三点半", compact), "2026-01-05 15:30");
+        TextOptions codes = TextOptions.DEFAULT.withCodes();
+        same(textToFigures("打幺幺零", codes), "打110");
+        same(textToSpeech("15:30到，\ud800", Voice.DEFAULT.withScript(Script.TRADITIONAL)),
+            "十五點三十分到，\ud800");
+        same(textToSpeech("请拨打110", Voice.DEFAULT.withYao()), "请拨打幺幺零");
+        same(findUnspoken("共3人，x86").findFirst().get().text(), "86");
+        StringBuilder left = new StringBuilder();
+        for (int at = 0; at < 2000; at++) {
+            left.append("x8");
+        }
+        same(findUnspoken(left).count(), 2000L);
+        same(findUnspoken(left).mapToLong(it -> it.start()).sum(), 2000L * 2000);
         illegal(() -> quantitiesToFigures("一", compact), "quantitiesToFigures has no option compact");
+        illegal(() -> quantitiesToFigures("一", codes), "quantitiesToFigures has no option codes");
         illegal(() -> replaceQuantities("一", it -> "", compact), "replaceQuantities has no option compact");
         illegal(() -> TextOptions.DEFAULT.withMethod(Way.DIGITS), "DIGITS is no method of quantities");
     }
@@ -309,7 +323,8 @@ public final class Limits {
 
     /** Each argument of each call is refused by its name if it is null. */
     private static void nulls() throws ReflectiveOperationException {
-        for (Method call : ChineseNumbers.class.getMethods()) {
+        for (Method call : Stream.of(ChineseNumbers.class, ChineseColumns.class)
+            .flatMap(it -> Stream.of(it.getMethods())).toArray(Method[]::new)) {
             Class<?>[] types = call.getParameterTypes();
             for (int at = 0; Modifier.isStatic(call.getModifiers()) && at < types.length; at++) {
                 Object[] given = new Object[types.length];
@@ -333,8 +348,9 @@ public final class Limits {
     private static Object some(Class<?> type) {
         Function<FoundQuantity, String> function = Found::text;
         Object[] all = {"", 1L, BigInteger.ONE, BigDecimal.ONE, Style.DEFAULT, AmountForm.DEFAULT,
-            Wanted.DEFAULT, TextOptions.DEFAULT, LocalDate.of(2026, 1, 5), Way.ANY, Kind.I128,
-            Script.SIMPLIFIED, Input.AMOUNT, Locale.ENGLISH, Status.EMPTY, function};
+            Wanted.DEFAULT, TextOptions.DEFAULT, Voice.DEFAULT, LocalDate.of(2026, 1, 5), Way.ANY,
+            Kind.I128, Script.SIMPLIFIED, Input.AMOUNT, Locale.ENGLISH, Status.EMPTY, function, new long[1],
+            new String[] {"壹元整"}, new LocalDate[1], new Status[1], LongStream.of(1), Stream.of()};
         for (Object it : all) {
             if (type.isInstance(it) || type == long.class && it instanceof Long) {
                 return it;

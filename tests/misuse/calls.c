@@ -1,10 +1,12 @@
 /* calls THREADS STEP: misuses the library and compares each answer with what chinese_number.h says:
- *  with invalid codes, buffers of each length, texts that are not UTF-8, and NULL with length 0.
+ *  with invalid codes, buffers of each length, texts that are not UTF-8, NULL with length 0, and
+ *  columns of no, one and several rows.
  *  The arguments are next to a page that must not be accessed, and all bytes that a call may not
  *  write are compared. Each thread makes the same tries, one of each STEP, and must get the same
  *  sum. Prints the number of tries, and how many went wrong. */
 #define _DEFAULT_SOURCE
 #include "calls.h"
+#include "columns.h"
 
 #include <pthread.h>
 #include <sys/mman.h>
@@ -55,11 +57,12 @@ static size_t choose_named(const call *by, size_t number, uint32_t *codes) {
     return all;
 }
 
-/* 五 is a number of each type by each way, and in each text. */
+/* 五 is a number of each type by each way, and in each text; speech leaves no figures of it. */
 static void try_codes(task *mine, const call *by) {
     static const uint8_t five[] = {0xE4, 0xBA, 0x94};
     question it = ample(mine, by);
     size_t all = by->named[0] != 0;
+    uint64_t done = by->ask == speech_left ? CN_NONE : CN_DONE;
     it.text = five;
     it.text_length = sizeof five;
     for (size_t place = 0; place < PLACES && by->named[place] != 0; place++)
@@ -67,7 +70,7 @@ static void try_codes(task *mine, const call *by) {
     for (size_t number = 0; number < all; number += mine->step) {
         int named = choose(by, number, it.codes);
         answer said = ask(mine, by, &it, NULL);
-        judge(mine, named ? said.status == CN_DONE : is_same(said, (answer){CN_UNKNOWN, {0}, 0, 0}),
+        judge(mine, named ? said.status == done : is_same(said, (answer){CN_UNKNOWN, {0}, 0, 0}),
               named ? "done" : "an unknown code", by, &it);
     }
 }
@@ -91,18 +94,19 @@ static size_t try_rooms(task *mine, const call *by, question it) {
     return whole.status == CN_DONE ? (size_t)whole.values[0] : 0;
 }
 
-/* A room of each length for a text of 18 bytes, 共350000000000元. */
+/* A room of each length for a text of 18 bytes, 共350000000000元, or as it is spoken of 21. */
 static void try_replacing(task *mine, const call *by) {
-    static const uint8_t text[] = "共三千五百亿元";
+    static const uint8_t text[] = "共三千五百亿元", figures[] = "共3500亿元";
+    int is_spoken = by->ask == text_to_speech;
     question it = ample(mine, by);
-    it.text = text;
-    it.text_length = sizeof text - 1;
+    it.text = is_spoken ? figures : text;
+    it.text_length = is_spoken ? sizeof figures - 1 : sizeof text - 1;
     it.room_length = 24;
     it.room = mine->room.end - it.room_length;
     it.codes[1] = CN_ZHAO;
     it.codes[2] = CN_TEN_THOUSAND - CN_LOW;
-    it.codes[3] = CN_EXPANDED / CN_ABOUT;
-    judge(mine, try_rooms(mine, by, it) == 18, "18 bytes", by, &it);
+    it.codes[3] = is_spoken ? 2 * CN_YAO + CN_SIMPLIFIED : CN_EXPANDED / CN_ABOUT;
+    judge(mine, try_rooms(mine, by, it) == (is_spoken ? 21 : 18), "18 or 21 bytes", by, &it);
 }
 
 /* A room of each length for a message on a text that each reader refuses, or for a long answer. */
@@ -181,6 +185,128 @@ static void try_texts(task *mine) {
     }
 }
 
+/* ---- Columns ---- */
+
+enum { OF_VALUES, OF_OFFSETS, OF_STATUSES, OF_ROOM, ARRAYS, MOST_ROWS = 3 };
+
+/* An array of so many bytes, directly before a page that must not be accessed. */
+static void *array_in(area of, size_t bytes) {
+    memset(of.first, UNTOUCHED, (size_t)(of.end - of.first));
+    return of.end - bytes;
+}
+
+/* A row of 5, or of the date 5-5-5. */
+static const void *five_of(size_t sort) {
+    static const cn_number number = {5, 0};
+    static const cn_day day = {5, 5, 5};
+    return sort == DATES ? (const void *)&day : &number;
+}
+
+static column fives(const area *areas, size_t sort, size_t rows, size_t room_length) {
+    column it = {.sort = sort, .rows = rows, .offsets_length = rows + 1, .values_length = rows,
+                 .statuses_length = rows, .bitmap = areas[OF_ROOM].end, .room_length = room_length};
+    it.values = array_in(areas[OF_VALUES], rows * widths[sort]);
+    it.offsets = array_in(areas[OF_OFFSETS], (rows + 1) * sizeof *it.offsets);
+    it.statuses = array_in(areas[OF_STATUSES], rows * sizeof *it.statuses);
+    it.room = array_in(areas[OF_ROOM], room_length);
+    it.offsets[0] = 0;
+    for (size_t row = 0; row < rows; row++)
+        memcpy(it.values + row * widths[sort], five_of(sort), widths[sort]);
+    return it;
+}
+
+/* Nothing is written to an area but so many bytes from a place on. */
+static int is_all(area of, const void *from, size_t bytes) {
+    const uint8_t *first = from;
+    return is_untouched(of.first, first) && is_untouched(first + bytes, of.end);
+}
+
+/* Prints with a room, to which as many rows are written as fit. All texts have the same length,
+ * which is 0 if it is not known yet. Gives this length. */
+static size_t try_printed(task *mine, const area *areas, column *it, size_t length) {
+    question asked = {.text = it->room, .room_length = it->room_length};
+    size_t done = 9, fit = length == 0 ? it->rows : it->room_length / length;
+    uint32_t status = print_from(it, 0, &done);
+    int right = done == (fit < it->rows ? fit : it->rows)
+        && status == (uint32_t)(done == it->rows ? CN_DONE : CN_NO_ROOM);
+    memcpy(asked.codes, it->codes, sizeof asked.codes);
+    for (size_t row = 0; right && row < done; row++)
+        right = it->statuses[row] == CN_DONE
+            && (length == 0 || it->offsets[row + 1] == (row + 1) * length)
+            && memcmp(it->room, it->room + it->offsets[row], length) == 0;
+    right = right && is_all(areas[OF_ROOM], it->room, (size_t)it->offsets[done])
+        && is_all(areas[OF_OFFSETS], it->offsets, (done + 1) * sizeof *it->offsets)
+        && is_all(areas[OF_STATUSES], it->statuses, done * sizeof *it->statuses);
+    add_to_sum(mine, it->room, it->room_length);
+    mine->tries++;
+    judge(mine, right, "the rows that fit, and nothing else", printing + it->sort, &asked);
+    return right && it->rows != 0 ? (size_t)it->offsets[1] : 0;
+}
+
+/* Reads the texts back: all of them, and all but the last one, which ends beyond the texts. */
+static void try_read_back(task *mine, const area *areas, column *it) {
+    question asked = {.text = it->room, .text_length = it->room_length};
+    static const cn_number zero = {0, 0};
+    size_t width = widths[it->sort];
+    if (it->sort == AMOUNTS)
+        it->codes[0] = CN_SIGNED_AMOUNT;
+    for (size_t bad = 0; bad <= (it->rows != 0); bad++) {
+        size_t good = it->rows - bad;
+        it->values = array_in(areas[OF_VALUES], it->rows * width);
+        it->statuses = array_in(areas[OF_STATUSES], it->rows * sizeof *it->statuses);
+        it->offsets[it->rows] = it->room_length + bad;
+        int right = read_column(it) == CN_DONE;
+        for (size_t row = 0; row < it->rows; row++) {
+            const void *value = row < good ? five_of(it->sort) : &zero;
+            right &= it->statuses[row] == (uint32_t)(row < good ? CN_DONE : CN_NO_ROOM)
+                && memcmp(it->values + row * width, value, width) == 0;
+        }
+        right &= is_all(areas[OF_VALUES], it->values, it->rows * width)
+            && is_all(areas[OF_STATUSES], it->statuses, it->rows * sizeof *it->statuses);
+        mine->tries++;
+        judge(mine, right, "each row and nothing else", reading + it->sort, &asked);
+    }
+}
+
+/* A code that names nothing changes nothing. */
+static void try_unknown(task *mine, const area *areas, size_t sort) {
+    for (size_t place = 0; place < PLACES; place++) {
+        column it = fives(areas, sort, MOST_ROWS, CN_MOST_BYTES);
+        question asked = {.text = it.room};
+        size_t done = 9;
+        it.codes[place] = printing[sort].named[place];
+        int right = it.codes[place] == 0 || (print_from(&it, 0, &done) == CN_UNKNOWN && done == 0);
+        it.codes[place] = reading[sort].named[place];
+        memset(it.values, UNTOUCHED, it.values_length * widths[sort]);
+        right &= it.codes[place] == 0 || read_column(&it) == CN_UNKNOWN;
+        right &= is_all(areas[OF_ROOM], it.room, 0) && is_all(areas[OF_VALUES], it.values, 0)
+            && is_all(areas[OF_STATUSES], it.statuses, 0);
+        mine->tries++;
+        judge(mine, right, "an unknown code", printing + sort, &asked);
+    }
+}
+
+static void try_columns(task *mine, size_t sort) {
+    area areas[ARRAYS];
+    size_t length = 0, all = choose_named(printing + sort, 0, (uint32_t[PLACES]){0});
+    for (size_t at = 0; at < ARRAYS; at++)
+        areas[at] = between_pages();
+    try_unknown(mine, areas, sort);
+    for (size_t number = 0; number < all; number += mine->step) {
+        column it = fives(areas, sort, 1, CN_MOST_BYTES);
+        choose_named(printing + sort, number, it.codes);
+        length = try_printed(mine, areas, &it, 0);
+        for (size_t rows = 0; rows <= MOST_ROWS; rows++)
+            for (size_t room = 0; room <= rows * length; room++) {
+                it = fives(areas, sort, rows, room);
+                choose_named(printing + sort, number, it.codes);
+                try_printed(mine, areas, &it, length);
+                if (room == rows * length)
+                    try_read_back(mine, areas, &it);
+            }
+    }
+}
+
 static void *try_all(void *argument) {
     task *mine = argument;
     mine->text = between_pages();
@@ -196,6 +322,8 @@ static void *try_all(void *argument) {
             try_message(mine, by);
     }
     try_texts(mine);
+    for (size_t sort = 0; sort < SORTS; sort++)
+        try_columns(mine, sort);
     return NULL;
 }
 

@@ -10,7 +10,7 @@
 #define STATUS(status) (1u << (status))
 
 enum { UNTOUCHED = 0xA5, PLACES = 4, MOST_TEXT = 800 };
-/* A text in figures has no more than twice as many bytes as one that is made here. */
+/* A text in figures, or as it is spoken, has no more than twice as many bytes as the longest text here. */
 enum { MOST_NEW_TEXT = 2 * MOST_TEXT };
 
 /* A call is proved, or trusts its text to be UTF-8, or takes chars and is of the header. One of the
@@ -338,11 +338,11 @@ typedef uint32_t to_figures(const uint8_t *, size_t, uint32_t, uint32_t, uint32_
 typedef cn_status to_figures_in_chars(const char *, size_t, uint32_t, cn_unit, cn_way, uint32_t, char *,
                                       size_t, size_t *);
 
-/* In chars, too, the length is told. The last code is that of the six options, or has another bit. */
+/* In chars, too, the length is told. The last code is that of the seven options, or has another bit. */
 static answer in_figures(const question *it, to_figures *write, to_figures_in_chars *write_in_chars) {
     size_t *to = told(it, sizeof *to), length = it->text_length, room = it->room_length;
     const uint32_t *codes = it->codes, method = codes[2] + CN_LOW;
-    uint32_t options = codes[3] < 64 ? codes[3] * CN_ABOUT : codes[3] | CN_PLAIN_DIGITS;
+    uint32_t options = codes[3] < 128 ? codes[3] * CN_ABOUT : codes[3] | CN_PLAIN_DIGITS;
     uint64_t status = it->style == IN_CHARS
         ? write_in_chars(text_of(it), length, codes[0], codes[1], method, options, room_of(it), room,
                          to)
@@ -356,6 +356,46 @@ static answer quantities_to_figures(const question *it) {
 
 static answer text_to_figures(const question *it) {
     return in_figures(it, chinese_text_to_figures, cn_text_to_figures);
+}
+
+/* The buffer in which speech works: it has as many bytes as the text, and a new one for each call. */
+static uint8_t *new_meant(size_t text_length) { return malloc(text_length == 0 ? 1 : text_length); }
+
+/* The last code is twice the option, and the script. */
+static answer text_to_speech(const question *it) {
+    size_t *to = told(it, sizeof *to), length = it->text_length, room = it->room_length;
+    const uint32_t *codes = it->codes, method = codes[2] + CN_LOW, script = codes[3] % 2;
+    uint8_t *meant = new_meant(length);
+    uint64_t status = it->style == IN_CHARS
+        ? cn_text_to_speech(text_of(it), length, codes[0], codes[1], method, script, codes[3] / 2,
+                            (char *)meant, length, room_of(it), room, to)
+        : chinese_text_to_speech(it->text, length, codes[0], codes[1], method, script, codes[3] / 2,
+                                 meant, length, it->room, room, to);
+    free(meant);
+    return (answer){status, {*to}, 0, 0};
+}
+
+static uint32_t find_left(const uint8_t *text, size_t length, size_t from, uint32_t upper,
+                          uint32_t greatest, cn_span *spans, size_t most, size_t *count) {
+    uint8_t *meant = new_meant(length);
+    uint32_t status = chinese_speech_left(text, length, from, upper, greatest, meant, length, spans,
+                                          most, count);
+    free(meant);
+    return status;
+}
+
+static cn_status find_next_left(const char *text, size_t length, uint32_t upper, cn_unit greatest,
+                                cn_span *span) {
+    uint8_t *meant = new_meant(length);
+    cn_status status = cn_find_next_unspoken(text, length, upper, greatest, (char *)meant, length, span);
+    free(meant);
+    return status;
+}
+
+static answer speech_left(const question *it) {
+    found *to = told(it, sizeof *to);
+    uint64_t status = find_by(it, to, find_left, find_next_left);
+    return (answer){status, {to->first.start, to->first.end, to->first.flags}, 0, 0};
 }
 
 static answer amount_print(const question *it) {
@@ -496,10 +536,14 @@ static const call calls[] = {
     {"cn_find_next_phrase", phrase_find, IN_CHARS, {2, 16}, OF_TEXT(FIND)},
     {"chinese_range_read", range_read, PROVED, {0}, OF_TEXT(READ_RANGE)},
     {"cn_read_range", range_read, IN_CHARS, {0}, OF_TEXT(READ_RANGE)},
-    {"chinese_quantities_to_figures", quantities_to_figures, PROVED, {2, 16, 5, 64}, REPLACES},
-    {"cn_quantities_to_figures", quantities_to_figures, IN_CHARS, {2, 16, 5, 64}, REPLACES},
-    {"chinese_text_to_figures", text_to_figures, PROVED, {2, 16, 5, 64}, REPLACES},
-    {"cn_text_to_figures", text_to_figures, IN_CHARS, {2, 16, 5, 64}, REPLACES},
+    {"chinese_quantities_to_figures", quantities_to_figures, PROVED, {2, 16, 5, 128}, REPLACES},
+    {"cn_quantities_to_figures", quantities_to_figures, IN_CHARS, {2, 16, 5, 128}, REPLACES},
+    {"chinese_text_to_figures", text_to_figures, PROVED, {2, 16, 5, 128}, REPLACES},
+    {"cn_text_to_figures", text_to_figures, IN_CHARS, {2, 16, 5, 128}, REPLACES},
+    {"chinese_text_to_speech", text_to_speech, PROVED, {2, 16, 5, 4}, REPLACES},
+    {"cn_text_to_speech", text_to_speech, IN_CHARS, {2, 16, 5, 4}, REPLACES},
+    {"chinese_speech_left", speech_left, PROVED, {2, 16}, OF_TEXT(FIND)},
+    {"cn_find_next_unspoken", speech_left, IN_CHARS, {2, 16}, OF_TEXT(FIND)},
     {"chinese_amount_read", amount_read, PROVED, {0}, OF_TEXT(READ_CAPITALS)},
     {"cn_read_amount", amount_read, IN_CHARS, {0}, OF_TEXT(READ_CAPITALS)},
     {"chinese_typed_amount_read", typed_amount_read, PROVED, {0}, OF_TEXT(READ_CAPITALS)},
@@ -594,7 +638,7 @@ static void judge(task *mine, int right, const char *wanted, const call *by, con
 }
 
 static int is_in_figures(const call *by) {
-    return by->ask == quantities_to_figures || by->ask == text_to_figures;
+    return by->ask == quantities_to_figures || by->ask == text_to_figures || by->ask == text_to_speech;
 }
 
 /* How many bytes of the room are written: the text at CN_DONE; and in chars its end, too, or the
@@ -660,7 +704,7 @@ static const char *const parts[] = {
     "一", "二", "三", "十", "百", "千", "萬", "亿", "零", "〇", "壹", "贰", "佰", "元", "圆", "整",
     "正", "角", "分", "年", "月", "日", "负", "兩", "個", "5", "-", " ", "é", "𠀀", "¥", ",", "．",
     "−", "⊗", "：", "%", "点", "分之", "廿", "1,409.50", "人民币壹佰元整", "贰零贰陆年零叁月零壹日",
-    "（负数）", "（大写）", "\xE2\x80\x8B", "到", "半", "小时", "下午", "比", "米", ":"};
+    "（负数）", "（大写）", "\xE2\x80\x8B", "到", "半", "小时", "下午", "比", "米", ":", "kg", "/", "~", "15"};
 static const char *const broken[] = {
     "\x80", "\xBF", "\xC0\x80", "\xC1\xBF", "\xC2", "\xE0\x9F\xBF", "\xE4", "\xE4\xB8",
     "\xED\xA0\x80", "\xED\xBF\xBF", "\xEF\xBF", "\xF0\x8F\xBF\xBF", "\xF0\xA0",

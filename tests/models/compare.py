@@ -32,6 +32,7 @@ PIECES = (
     + "钟头 个小时 秒钟 时 点半 晚 午后 傍晚 夜里 今早 周五 礼拜 星期六 年半 一九 二零二六年 ： 05 30 之 初 前 间 多 第 每 夜".split()
     + "左右 前 前提 以前 之后 以後 楼 栋 一零三 〇 十一放 十 公里 公斤 公顷 升 秒 克 元 美元 平方米 毫升 分鐘 半 个百分点".split()
     + "○ 会儿 一时半会 半价 每晚 今晚 清早 许 整 档 成品".split()
+    + "三块五 两毛五 三元五角 零五分 块 毛 角 分 钱 元 ￥ ¥3.50 一斤 两瓶 的 卖 包邮 形 钟 旦 月租 人民币 港币 五毛钱 一分钱".split()
     + "第 条 次全 规 办公室 号码 房 国集团 去 再 只吊 十分".split()
     + "《 》 乾隆 萬曆 农历 民國 底 份 上旬 天 明天 每天 钟 点钟 之前 今晨 周三 华 层 几 仟 十五十六 三零二 百分之五 克 农历八月".split()
 )
@@ -120,6 +121,11 @@ def phrases_by_library(library, string):
             yield it.start, it.end
 
 
+def in_fen(yuan):
+    """The value of a sum of money, which the library has if it is a whole number of fen below 10^18."""
+    return yuan if (100 * yuan).denominator == 1 and 100 * yuan < 10**18 else None
+
+
 def phrases_by_model(string):
     for it in of_phrases.find_phrases(string):
         if not isinstance(it, of_phrases.Phrase):
@@ -129,6 +135,9 @@ def phrases_by_model(string):
         if it.kind == "time" and value:
             hour, minute, second, of_day = value
             value = f"{hour}?" if of_day is None else of_day, minute, second
+        if it.kind == "money":
+            yield it.start, it.end, it.kind, state, in_fen(value)
+            continue
         yield it.start, it.end, it.kind, "refused" if value is None else state, value
 
 

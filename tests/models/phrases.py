@@ -1,7 +1,8 @@
-"""A reference model of phrases in a text: dates, times of day, durations, halves, lengths, scores and
-ranges.
+"""A reference model of phrases in a text: dates, times of day, durations, halves, lengths, scores, sums
+of money and ranges.
 
-It was written from the section 'Phrases in a text' of docs/RULES.md by somebody who saw no code. A
+It was written from the section 'Phrases in a text' of docs/RULES.md by somebody who saw no code; the
+sums of money by the author of their rules, before there was code. A
 phrase is looked for at each character of a text from the left, outside of what is found already. A
 form is a list of steps: slots, with the letters of RULES, and words. The model of expressions is
 text.py.
@@ -741,6 +742,213 @@ def range_at(text: Text, start: int) -> Optional[Phrase]:
     return phrase._replace(is_doubtful=is_doubtful(text, phrase))
 
 
+# ---- Sums of money ---------------------------------------------------------------------------
+
+DIGITS_OF_MONEY = frozenset("一二两兩三四五六七八九")
+PRICED = frozenset("斤个個公两兩克份张張条條件只隻瓶包箱盒本套台杯碗串双雙把枚颗顆粒根支袋片位人次天晚月年平方米尺度吨噸升桶筒盘盤捆束朵辆輛间間桌副对對罐小")
+AFTER_OPEN = frozenset("的了吧啊呢吗嗎嘛呀哦啦哈咯")
+AFTER_OPEN_NOT_ONE = frozenset("就也都还還才每左以不够夠涨漲降到至和或与與及跟卖賣买買给給收找退付便太贵貴好行可拿起没沒是那这這很真算要然")
+NO_JIAO = frozenset("形星板铁鐵架尺旗洲债債恋戀区區巾毯豆线線衣地裤褲钉釘函茴楼樓亭帽梅枫楓鼎落度戏戲色球钢鋼龙龍鲨鯊羊")
+NO_FEN = frozenset("钟鐘之熟地天甜糖")
+NO_YUAN = frozenset("半几幾多余餘来來旦宵素组組音件宇桌形周心柱锥錐")
+PAID_BY_MONTH = frozenset("租费費供薪卡票均收付缴繳")
+
+DIGIT = "[0-9０-９一二两兩三四五六七八九]"
+PARTS = re.compile(f"[元圆圓块塊][零〇]?({DIGIT})[角毛]({DIGIT})(分)[钱錢]?")
+PARTS_OPEN = re.compile(f"[元圆圓块塊][零〇]?({DIGIT})[角毛]({DIGIT})")
+JIAO = re.compile(f"[元圆圓块塊][零〇]?({DIGIT})([角毛])[钱錢]?")
+FEN = re.compile(f"[元圆圓块塊][零〇]?({DIGIT})(分)[钱錢]?")
+KUAI_OPEN = re.compile(f"[块塊]({DIGIT})")
+JIAO_FEN = re.compile(f"[角毛]({DIGIT})(分)[钱錢]?")
+JIAO_OPEN = re.compile(f"[角毛]({DIGIT})")
+SMALL = re.compile("[角毛分][钱錢]")
+YUAN_MONEY = re.compile("[元圆圓块塊][钱錢]")
+
+
+def is_price_of_one(text: Text, end: int) -> bool:
+    return text.at(end) == "一" and text.at(end + 1) in PRICED
+
+
+def is_han(c: str) -> bool:
+    return "\u4e00" <= c <= "\u9fff"
+
+
+def is_open(text: Text, end: int) -> bool:
+    """A digit that ends here may be the last of a sum."""
+    c = text.at(end)
+    if end == len(text.line.text) or is_price_of_one(text, end) or c in AFTER_OPEN:
+        return True
+    if is_han(c):
+        is_free = c in AFTER_OPEN_NOT_ONE or text.line.text[end : end + 2] in ("包邮", "包郵")
+        return is_free and text.at(end - 1) != "一"
+    if is_figure(c) or is_chinese_digit(c) or is_letter(c) or c in "_%％‰":
+        return False
+    return not (c in ".．," and is_figure(text.at(end - 1)) and is_figure(text.at(end + 1)))
+
+
+def ends_sum(text: Text, end: int, ends_with: str) -> bool:
+    """A sum may end here, with an open digit or a unit; after 钱 always."""
+    if text.at(end - 1) in "钱錢":
+        return True
+    if ends_with == "":
+        return is_open(text, end)
+    return text.at(end) not in (NO_FEN if ends_with == "分" else NO_JIAO)
+
+
+def digit_value(c: str) -> int:
+    return int(numbers.ascii_figures(c))
+
+
+# The forms after an E, the longest first: the groups of J and F, and the unit at the end, if any.
+AFTER_YUAN = (
+    (PARTS, 1, 2, 3),
+    (PARTS_OPEN, 1, 2, 0),
+    (JIAO, 1, 0, 2),
+    (FEN, 0, 1, 2),
+    (KUAI_OPEN, 1, 0, 0),
+)
+AFTER_JIAO = ((JIAO_FEN, 1, 2), (JIAO_OPEN, 1, 0))
+
+
+def is_amount(text: Text, e: Found) -> bool:
+    """The expression can be an E."""
+    if e.quantity is None or e.is_about or e.quantity.numerator < 0:
+        return False
+    if e.quantity.form in (numbers.FRACTION, numbers.PERCENT):
+        return False
+    head = Line(text.line.text[: e.end])
+    return not numbers.clings(head, e.start, e.end)
+
+
+def is_whole_yuan(e: Found) -> bool:
+    quantity = quantity_of(e)
+    return quantity.form == numbers.WHOLE and quantity.numerator < 10**16
+
+
+Sum = Tuple[int, str, int, int]  # the end, the form, jiao and fen
+
+
+def after_yuan(text: Text, e: Found, start: int) -> Optional[Sum]:
+    """What is after an E, from 元 on."""
+    if is_whole_yuan(e):
+        for pattern, jiao, fen, unit in AFTER_YUAN:
+            found = pattern.match(text.line.text, start)
+            if found is None:
+                continue
+            if ends_sum(text, found.end(), found[unit] if unit else ""):
+                j = digit_value(found[jiao]) if jiao else 0
+                f = digit_value(found[fen]) if fen else 0
+                return found.end(), "parts", j, f
+    found = YUAN_MONEY.match(text.line.text, start)
+    return found and (found.end(), "qian", 0, 0)
+
+
+def after_jiao(text: Text, e: Found, start: int) -> Optional[Sum]:
+    """What is after a digit of jiao or fen."""
+    if len(e.text) != 1 or not (is_figure(e.text) or e.text in DIGITS_OF_MONEY):
+        return None
+    value = digit_value(e.text)
+    for pattern, fen, unit in AFTER_JIAO:
+        found = pattern.match(text.line.text, start)
+        if found and ends_sum(text, found.end(), "分" if unit else ""):
+            return found.end(), "small", value, digit_value(found[fen])
+    found = SMALL.match(text.line.text, start)
+    if found is None:
+        return None
+    is_fen = found[0][0] == "分"
+    return found.end(), "small", 0 if is_fen else value, value if is_fen else 0
+
+
+def is_yuan_alone(text: Text, end: int) -> bool:
+    c, after = text.at(end), text.at(end + 1)
+    if is_slot_char(c):
+        return is_chinese_digit(c) and c not in "零〇" and after in PRICED
+    if c == "月":
+        return after in PAID_BY_MONTH
+    return c not in NO_YUAN
+
+
+def alone(text: Text, e: Found, start: int) -> Optional[Sum]:
+    """元 or 块 alone."""
+    c = text.at(start)
+    if c not in "元圆圓块塊" or not is_yuan_alone(text, start + 1):
+        return None
+    if c in "块塊" and numbers.is_one_character(e.text):
+        return None
+    return start + 1, "kuai" if c in "块塊" else "yuan", 0, 0
+
+
+def money_after(text: Text, e: Found) -> Optional[Sum]:
+    has_blank = has_figure(e.text) and text.at(e.end) == " "
+    start = e.end + (1 if has_blank else 0)
+    return after_yuan(text, e, start) or after_jiao(text, e, start) or alone(text, e, start)
+
+
+def is_money_doubtful(text: Text, phrase: Phrase, e: Found) -> bool:
+    head = text.line.text[: phrase.start]
+    if numbers.is_in_title(text.line, phrase.start) or e.doubt in (
+        "word",
+        "digits",
+        "term",
+        "time",
+    ):
+        return True
+    if phrase.words == "kuai" or text.at(phrase.start - 1) in "$＄€£":
+        return True
+    if phrase.words == "yuan" and e.text in DIGITS_OF_MONEY:
+        return True
+    if text.at(phrase.start - 1) in "币幣" and head[-3:-1] != "人民":
+        return True
+    return re.fullmatch("一[元圆圓块塊角毛分][钱錢]", phrase.text) is not None
+
+
+def money_at(text: Text, start: int) -> Optional[Phrase]:
+    place, form = start, ""
+    if text.at(start) in "￥¥":
+        before = text.at(start - 1)
+        if is_letter(before) or is_figure(before) or before == "_":
+            return None
+        place += 2 if text.at(start + 1) == " " and is_figure(text.at(start + 2)) else 1
+        form = "sign"
+    e = text.by_start.get(place)
+    if e is None or (form == "sign" and not is_figure(e.text[0])) or not is_amount(text, e):
+        return None
+    found: Optional[Sum] = (e.end, "sign", 0, 0) if form == "sign" else money_after(text, e)
+    if found is None:
+        return None
+    end, form, jiao, fen = found
+    yuan = Fraction(0) if form == "small" else ratio_of(quantity_of(e))
+    value = yuan + Fraction(jiao, 10) + Fraction(fen, 100)
+    slot = Slot("E", e.start, e.end, e.text)
+    written = text.line.text[start:end]
+    phrase = Phrase("money", start, end, written, [slot], form, value=value)
+    return phrase._replace(is_doubtful=is_money_doubtful(text, phrase, e))
+
+
+def new_money(text: Text, phrase: Phrase, options: Options) -> Optional[str]:
+    """The new text of a sum of money, or None if it stays."""
+    (slot,) = phrase.slots
+    e = text.by_start[slot.start]
+    head, tail = text.line.text[phrase.start : e.start], text.line.text[e.end : phrase.end]
+    if phrase.words in ("sign", "yuan", "kuai"):
+        new = numbers.new_text(text.line, e, options)
+        return None if new is None else head + new + tail
+    if phrase.is_doubtful and not options.doubtful:
+        return None
+    assert isinstance(phrase.value, Fraction)
+    yuan = 0 if phrase.words == "small" else ratio_of(quantity_of(e))
+    if options.compact and phrase.value > yuan:
+        fen = phrase.value * 100
+        decimals = f"{fen.numerator // 100}.{fen.numerator % 100:02}".rstrip("0").rstrip(".")
+        return decimals + "元"
+    is_expanded = options.style == "expanded" and any(map(is_multiplier, e.text))
+    new = e.text if has_figure(e.text) and not is_expanded else in_style(e.text, options)
+    if new is None:
+        return None
+    digits = "".join(numbers.ascii_figures(c) if c in DIGITS_OF_MONEY else c for c in tail)
+    return new + digits
+
+
 # ---- In figures ------------------------------------------------------------------------------
 
 
@@ -851,6 +1059,8 @@ def short_phrase(text: Text, phrase: Phrase) -> Optional[str]:
 
 def new_phrase(text: Text, phrase: Phrase, options: Options) -> Optional[str]:
     """The new text of a phrase, or None if it stays."""
+    if phrase.kind == "money":
+        return new_money(text, phrase, options)
     if stays(phrase, options):
         return None
     short = short_phrase(text, phrase) if options.compact else None
@@ -895,7 +1105,7 @@ def items_of(string: str) -> Tuple[Text, List[Item]]:
     """A text, and its items from the left."""
     text, place, items = text_of(string), 0, []
     while place < len(string):
-        item = phrase_at(text, place) or text.by_start.get(place)
+        item = phrase_at(text, place) or money_at(text, place) or text.by_start.get(place)
         if item is not None:
             items.append(item)
         place = place + 1 if item is None else item.end

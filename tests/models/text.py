@@ -720,6 +720,26 @@ TIME = re.compile(f"(?:{_HOUR})[点點]")
 TIME_WITH_ZERO = re.compile(f"(?:{_HOUR})[点點][零〇](?![零〇]){_D}")
 
 
+# What may be directly after a whole amount, and what else after a decimal.
+AFTER_AMOUNT = re.compile("[的了吧吗嗎嘛呢啊么麼左以之和与與或就也都还還]|[到至][一二两兩三四五六七八九十]")
+AFTER_DECIMAL = re.compile("[米公里升倍元圆圓级級度克吨噸斤尺寸吋厘釐毫微海英美欧歐港平立亩畝秒岁歲环環千兆瓦伏版]|[个個声聲][百点點道]")
+HOUR_AND_ONE = re.compile(f"(?:{_HOUR})[点點]一")
+
+
+def ends_in_next_word(line: Line, start: int, end: int) -> bool:
+    """Its last character is a 一 that begins the next word."""
+    text, after = line.text[start:end], line.at(end)
+    if len(text) < 2 or text[-1] != "一":
+        return False
+    if after in "共直定旦律":
+        return True
+    if not is_han(after) or AFTER_AMOUNT.match(line.text, end):
+        return False
+    if text[-2] in "百千万萬亿億兆":
+        return True
+    return HOUR_AND_ONE.fullmatch(text) is not None and not AFTER_DECIMAL.match(line.text, end)
+
+
 def is_part(line: Line, start: int, end: int) -> bool:
     text, after, then = line.text[start:end], line.at(end), line.at(end + 1)
     if after == "折" and then not in "算合旧舊叠疊磨返":
@@ -730,7 +750,9 @@ def is_part(line: Line, start: int, end: int) -> bool:
         return True
     if text.startswith("百分") and after in "秒毫厘釐克":
         return True
-    return after in HALVED and then == "半"
+    if after in HALVED and then == "半":
+        return True
+    return ends_in_next_word(line, start, end)
 
 
 def is_in_title(line: Line, start: int) -> bool:

@@ -205,7 +205,8 @@ async function goesByKeyboard(page) {
     assert.deepEqual(await at(), [it, true]);
   }
   await page.enter();
-  for (const it of ['upper', 'about', 'oneCharacter', 'doubtful', 'expanded', 'canonical', 'compact']) {
+  for (const it of ['upper', 'about', 'oneCharacter', 'doubtful', 'expanded', 'canonical', 'compact',
+    'codes']) {
     await page.key('Tab', 9);
     assert.deepEqual(await at(), [it, true]);
   }

@@ -5,12 +5,22 @@ import { LANGUAGES } from './page.mjs';
 // The quantities of a text, with their class, and what is said of each.
 const TYPED = '共3.5万元，占12.5%，一般三百多人，他五六十歲，剩三分之一，A4，廿三，五一';
 const FOUND = [
-  ['3.5万', '', '35000'], ['12.5%', '', '12.5%'], ['一', 'left', '1'], ['三百', 'left', 'about 300'],
+  ['3.5万元', '', 'money: 35000'], ['12.5%', '', '12.5%'], ['一', 'left', '1'],
+  ['三百', 'left', 'about 300'],
   ['五六十', 'fault', 'A unit is missing between character 1, “五”, and “六”, or one of them is too '
     + 'many.'], ['三分之一', '', '1/3'], ['4', 'doubtful', '4?'], ['廿三', '', '23'],
   ['五一', 'left', '51? (a list of digits)'],
 ];
 const IN_FIGURES = '共3.5万元，占12.5%，一般三百多人，他五六十歲，剩1/3，A4，23，五一';
+
+// What is spoken is in the script of the page's language.
+async function speaks(page) {
+  for (const [language, wanted] of [['zh-Hans', '十五点三十分到'], ['zh-Hant', '十五點三十分到']]) {
+    await page.speak(language);
+    await page.type('text', '15:30到');
+    assert.equal(await page.value('spoken.textContent'), wanted);
+  }
+}
 
 const told = (page) => page.value('[textSaid.textContent, replaced.textContent]');
 
@@ -41,7 +51,7 @@ async function findsQuantities(page) {
 }
 
 // Phrases, each with its class, and what is said of it in each language.
-const MEETING = '二零二六年一月五日下午三点半，三到五万元，一个半小时，二月三十日，五到八折，三比二，二十人';
+const MEETING = '二零二六年一月五日下午三点半，三到五万元，一个半小时，二月三十日，五到八折，三比二，三块五，二十人';
 const PHRASES = [
   ['二零二六年一月五日', '', '日期：2026年1月5日', '日期：2026年1月5日', 'date: year 2026 month 1 day 5'],
   ['下午三点半', '', '时刻：15:30:00', '時刻：15:30:00', 'time: 15:30:00'],
@@ -49,7 +59,8 @@ const PHRASES = [
   ['一个半小时', 'left', '带半的数：1.5', '帶半的數：1.5', 'half: 1.5'],
   ['二月三十日', 'fault', '没有这样的日期', '沒有這樣的日期', 'not a valid date'],
   ['五到八', 'left', '范围：5–8？', '範圍：5–8？', 'range: 5–8?'],
-  ['三比二', '', '比分：3:2', '比分：3:2', 'score: 3:2'], ['二十', '', '20', '20', '20'],
+  ['三比二', '', '比分：3:2', '比分：3:2', 'score: 3:2'],
+  ['三块五', '', '金额：3.5', '金額：3.5', 'money: 3.5'], ['二十', '', '20', '20', '20'],
 ];
 
 // They are listed with their kind and value, and the text has them in figures.
@@ -60,11 +71,11 @@ async function findsPhrases(page) {
     assert.deepEqual(await page.all('#found mark', '[it.textContent, it.className]'),
       PHRASES.map(([it, name, ...said]) => [`${it} ${said[at]}`, name]));
   }
-  const anew = '2026年1月5日下午3点半，3万到5万元，一个半小时，二月三十日，五到八折，3比2，20人';
-  assert.deepEqual(await told(page), ['Found: 8 · not replaced: 2 · refused: 1', anew]);
+  const anew = '2026年1月5日下午3点半，3万到5万元，一个半小时，二月三十日，五到八折，3比2，3块5，20人';
+  assert.deepEqual(await told(page), ['Found: 9 · not replaced: 2 · refused: 1', anew]);
   await page.check('doubtful', true);
   await page.check('oneCharacter', true);
-  assert.deepEqual(await told(page), ['Found: 8 · doubtful: 1 · refused: 1',
+  assert.deepEqual(await told(page), ['Found: 9 · doubtful: 1 · refused: 1',
     anew.replace('一个', '1个').replace('五到八', '5到8')]);
   await page.check('oneCharacter', false);
   await page.check('doubtful', false);
@@ -178,5 +189,5 @@ async function readsVeryLongTexts(page) {
 
 export const PARTS = [
   findsQuantities, findsPhrases, tellsDoubts, findsByChoices, showsLongTexts, answersLongTexts,
-  readsVeryLongTexts,
+  readsVeryLongTexts, speaks,
 ];

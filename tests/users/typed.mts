@@ -11,6 +11,10 @@ import { chineseToDate, dateToChinese, findNumbers } from 'chinese-number-proved
 import { Quantity, findQuantities, toQuantity } from 'chinese-number-proved';
 import { quantitiesToFigures, replaceQuantities } from 'chinese-number-proved';
 import { Phrase, findPhrases, textToFigures } from 'chinese-number-proved';
+import { findUnspoken, textToSpeech } from 'chinese-number-proved';
+import { chineseToDateColumn, dateToChineseColumn, toBigIntColumn } from 'chinese-number-proved';
+import { toChineseColumn, toNumberColumn, yuanToFenColumn } from 'chinese-number-proved';
+import type { Column, RowStatus } from 'chinese-number-proved';
 import type { BillDate, Kind, NumeralCode, Unit, Way } from 'chinese-number-proved';
 import type { Doubt, FoundQuantity, Method, QuantityForm } from 'chinese-number-proved';
 import type { AnyPhrase, ClockTime, PartialDate } from 'chinese-number-proved';
@@ -58,8 +62,10 @@ for (const it of findPhrases('一月五日三点半，三到五万', { greatest 
   if (phrase.kind === 'time') times.push(phrase.value);
   if (phrase.kind === 'range') ends.push(...phrase.value);
 }
-const rewritten: string = textToFigures(text, { about: true, compact: true });
-console.log(kinds, states, others, dates, times, ends, rewritten);
+const spoken: string = textToSpeech(text, { script: 'traditional', yao: true });
+const unspoken: FoundQuantity[] = Array.from(findUnspoken(text));
+const rewritten: string = textToFigures(text, { about: true, compact: true, codes: true });
+console.log(kinds, states, others, dates, times, ends, rewritten, spoken, unspoken);
 const input: Input = 'typedSignedAmount', expected: Expected = inputExpected(red, input);
 const keys: string[] = expected.mayEnd ? [] : expected.characters;
 const repair: Repair | undefined = inputRepair(red, input);
@@ -77,6 +83,20 @@ try {
     console.log(start, kind, code, message);
   }
 }
+const statuses: RowStatus[] = [], rows: (bigint | number | null)[] = [120, 5n, null];
+const cells: Column<string> = toChineseColumn(rows, { kind: 'u8', script: 'traditional', statuses });
+const read: Column<number> = toNumberColumn(cells), bigs: Column<bigint> = toBigIntColumn(cells, { way });
+const held: Int32Array = toNumberColumn(cells, { into: new Int32Array(3), statuses });
+const longs: BigInt64Array = toBigIntColumn(cells, { into: new BigInt64Array(3) });
+const days: Column<BillDate> = chineseToDateColumn(dateToChineseColumn([date, null]));
+const sums: Column<number> = yuanToFenColumn(['1,409.50', 15, 15n, null]);
+console.log(read, bigs, held, longs, days, sums, toChineseColumn(longs), toChineseColumn(held));
+// @ts-expect-error: a BigInt is no Number
+toNumberColumn(cells, { into: new BigInt64Array(3) });
+// @ts-expect-error: a column is an array
+toChineseColumn(5);
+// @ts-expect-error: only what is read is written into an array
+toChineseColumn(rows, { into: [] });
 // @ts-expect-error: no such option
 toChinese(1, { letterCase: 'upper' });
 // @ts-expect-error: a list is no options

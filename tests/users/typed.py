@@ -1,14 +1,17 @@
 """Calls that mypy --strict must reject. Where it accepts one, it reports an unused comment."""
+from array import array
 from datetime import date, datetime
-from typing import Optional, Union
+from typing import List, Optional, Union
 
-from chinese_number import AmountError, Fault, FoundQuantity, Input, Kind, Language, NumeralError
-from chinese_number import Phrase, PhraseKind, Quantity, Script, Status, Unit, Way
-from chinese_number import amount_to_chinese, date_to_chinese, explain_number, find_numbers
+from chinese_number import AmountError, ArrowColumn, Fault, FoundQuantity, Input, Kind, Language
+from chinese_number import NumeralError, Phrase, PhraseKind, Quantity, Script, Status, Unit, Way
+from chinese_number import amount_to_chinese, amount_to_chinese_column, date_to_chinese
+from chinese_number import date_to_chinese_column, explain_number, find_numbers
 from chinese_number import find_phrases, find_quantities, input_expected, input_message
 from chinese_number import input_repair, quantities_to_figures, quantity_message
 from chinese_number import replace_quantities, signed_amount_to_chinese, status_message
-from chinese_number import text_to_figures, to_chinese, to_number, to_quantity
+from chinese_number import text_to_figures, to_chinese, to_chinese_column, to_number
+from chinese_number import to_number_column, to_quantity
 
 
 def of_words(word: str, day: Union[date, datetime]) -> None:
@@ -34,6 +37,19 @@ def of_words(word: str, day: Union[date, datetime]) -> None:
     date_to_chinese(datetime.now().date())
     date_to_chinese(day)  # type: ignore[arg-type]
     date_to_chinese("2026-01-15")  # type: ignore[arg-type]
+
+
+def of_columns(rows: List[Optional[int]], lent: ArrowColumn) -> None:
+    to_chinese_column(rows, kind="u8", errors="none", arrow=True, threads=4)
+    to_chinese_column(array("q", [1]), errors="ignore")  # type: ignore[arg-type]
+    to_chinese_column(["一"])  # type: ignore[list-item]
+    amount_to_chinese_column([1, None, 1.5])  # type: ignore[list-item]
+    amount_to_chinese_column(5)  # type: ignore[arg-type]
+    to_number_column(lent)
+    to_number_column(rows)  # type: ignore[arg-type]
+    to_number_column(["一"], kind="u7")  # type: ignore[arg-type]
+    date_to_chinese_column([date(2026, 1, 15), None])
+    date_to_chinese_column([datetime.now()])  # type: ignore[list-item]
 
 
 def of_texts(found: FoundQuantity, way: Way) -> None:

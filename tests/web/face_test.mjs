@@ -18,7 +18,7 @@ const { chineseToAmountAsTyped, chineseToAmountAsTypedBigInt } = face;
 const { chineseToSignedAmountAsTyped, chineseToSignedAmountAsTypedBigInt } = face;
 const { yuanToFen, yuanToFenBigInt } = face;
 const { Quantity, findQuantities, quantitiesToFigures, replaceQuantities, toQuantity } = face;
-const { findPhrases, textToFigures } = face;
+const { findPhrases, findUnspoken, textToFigures, textToSpeech } = face;
 const { explainNumber, explainQuantity, inputExpected, inputMessage, inputRepair } = face;
 const { answerLine, numberMessage, quantityMessage, statusMessage } = face;
 
@@ -1014,8 +1014,13 @@ function refuseNoReplacements() {
   const wrong = [...NO_OPTIONS, { about: 1 }, { oneCharacter: 'yes' }, { upper: 1 },
     { greatest: 'ZHAO' }, { method: 'digits' }, { kind: 'u8' }, { doubtful: 1 }];
   const noStyle = [...wrong, { expanded: 'yes' }, { canonical: 0 }, { style: 'kept' }];
-  refusesEach([...noStyle, { compact: true }], (it) => quantitiesToFigures('一', it));
-  refusesEach([...noStyle, { compact: 1 }], (it) => textToFigures('一', it));
+  const noText = [...noStyle, { compact: true }, { codes: true }];
+  refusesEach(noText, (it) => quantitiesToFigures('一', it));
+  refusesEach([...noStyle, { compact: 1 }, { codes: 1 }], (it) => textToFigures('一', it));
+  refusesEach([...NO_OPTIONS, { yao: 1 }, { script: 'simple' }, { upper: true }],
+    (it) => textToSpeech('一', it));
+  refusesEach([1, null, undefined, ['一']], (it) => textToSpeech(it));
+  refusesEach([1, null, undefined, ['一']], (it) => findUnspoken(it));
   refusesEach([...wrong, { expanded: true }, { canonical: true }],
     (it) => replaceQuantities('文', () => '', it));
   refusesEach([...NO_OPTIONS, { method: 'low' }, { about: true }], (it) => findQuantities('一', it));
@@ -1029,15 +1034,15 @@ function refuseNoReplacements() {
   }), failure);
 }
 
-const RUNNING_PHRASES = Array.from('一二三十百万零半两年月日号点分秒时刻周上下午个小米到至比 2635:-%，。多\n😀\ufffd\ud800');
-const FORMS = ['二零二六年', '一月', '五日', '下午', '三点', '小时', '到五万', '百分之三', '3:2', '2026-01-15'];
+const RUNNING_PHRASES = Array.from('一二三十百万零半两年月日号点分秒时刻周上下午个小米到至比元块毛角钱斤 2635:-%，。多\n😀\ufffd\ud800');
+const FORMS = ['二零二六年', '一月', '五日', '下午', '三点', '小时', '到五万', '百分之三', '3:2', '2026-01-15', '三块五'];
 
 // Whether the parts of a text, in order, are apart.
 const areApart = (items) => items.every((it, at) => at === 0 || items[at - 1].end <= it.start);
 const touches = ({ start, end }) => (it) => start < it.end && it.start < end;
 
 // The expressions in no phrase are those of findQuantities of which no phrase has a part; each
-// phrase has a value unless it is refused.
+// phrase has a value unless it is refused, or is a sum that is no whole number of fen.
 function comparePhrasesOf(text) {
   const wanted = { upper: below(2) === 1, greatest: one(UNITS) };
   const items = Array.from(findPhrases(text, wanted));
@@ -1049,7 +1054,8 @@ function comparePhrasesOf(text) {
   assert.deepEqual(items.filter((it) => it instanceof FoundQuantity), others, text);
   for (const { kind, state, value } of phrases) {
     assert(PHRASE_KINDS.includes(kind) && PHRASE_STATES.includes(state));
-    assert.equal(value === null, state === 'refused', text);
+    if (kind === 'money') assert(value === null || value.denominator === 100n, text);
+    else assert.equal(value === null, state === 'refused', text);
     if (kind === 'range' && value) assert(value.every((it) => it instanceof Quantity), text);
   }
   keepsAllElse(text, textToFigures(text, { ...wanted, ...styleOfSome() }));
@@ -1073,7 +1079,9 @@ const PHRASES = [
   ['一个半小时', 'half certain "1.5"'], ['一米七五', 'length certain "1.75"'],
   ['三比二', 'score certain [3,2]'], ['三到五万', 'range certain ["30000","50000"]'],
   ['3-5%', 'range certain ["3%","5%"]'], ['五到三', 'range refused null'],
-  ['五到三万', 'range certain ["5","30000"]'],
+  ['五到三万', 'range certain ["5","30000"]'], ['三块五毛二', 'money certain "3.52"'],
+  ['五元', 'money doubtful "5"'], ['3.555元', 'money certain null'],
+  ['九十九万亿元', 'money certain "99000000000000"'],
 ];
 
 function tryPhrases() {
@@ -1103,6 +1111,8 @@ function tryManyPhrases() {
     assert(many.length === count && many.every((it, at) => it.start === 8 * at + 3));
     assert.deepEqual(many.at(-1).value.map((it) => it.toWhole()), [30_000n, 50_000n]);
   }
+  const left = Array.from(findUnspoken('x8'.repeat(2000)), (it) => [it.start, it.text]);
+  assert.deepEqual(left, Array.from({ length: 2000 }, (_, at) => [2 * at + 1, '8']));
   const some = findPhrases('三点半，5-8%'), other = findPhrases('\ud800一月五日');
   assert.deepEqual([some.next().value.kind, other.next().value.start], ['time', 1]);
   assert.equal(some.next().value.value[1].toFigures(), '8%');

@@ -21,7 +21,9 @@ var ways = map[string]cn.Way{
 	"any":          cn.Any,
 }
 
-var scripts = map[string]cn.Script{"traditional": cn.Traditional, "simple": cn.Simplified}
+var scripts = map[string]cn.Script{
+	"traditional": cn.Traditional, "simple": cn.Simplified, "simplified": cn.Simplified,
+}
 
 var cases = map[string]cn.Case{"upper": cn.Upper, "lower": cn.Lower}
 
@@ -200,7 +202,12 @@ func replacing(words string) *cn.Replacing {
 		Expanded:     has(words, "expanded"),
 		Canonical:    has(words, "canonical"),
 		Compact:      has(words, "compact"),
+		Codes:        has(words, "codes"),
 	}
+}
+
+func speak(script, text string) (string, error) {
+	return cn.TextToSpeech(text, &cn.Voice{Script: scripts[script], Method: cn.TenThousand})
 }
 
 func inNumerals(found cn.Found) (string, bool) {
@@ -400,6 +407,11 @@ var answers = map[string]func([]string) string{
 	},
 	"text_to_figures": func(words []string) string {
 		return told(cn.TextToFigures(words[1], replacing(words[0])))
+	},
+	"text_to_speech": func(words []string) string { return told(speak(words[0], words[1])) },
+	"find_unspoken": func(words []string) string {
+		all, err := cn.FindUnspoken(words[0])
+		return inPlace(words[0], all, err, func(found cn.Found) string { return found.Text })
 	},
 	"phrases": func(words []string) string { return phrases(words[0]) },
 	"replace_quantities": func(words []string) string {

@@ -43,6 +43,7 @@ public final class Answers {
         OPTIONS.put("expanded", TextOptions::withExpanded);
         OPTIONS.put("canonical", TextOptions::withCanonical);
         OPTIONS.put("compact", TextOptions::withCompact);
+        OPTIONS.put("codes", TextOptions::withCodes);
         addNumbers();
         addCapitals();
         addQuantities();
@@ -87,6 +88,9 @@ public final class Answers {
     private static void addTexts() {
         CALLS.put("quantities_to_figures", w -> quantitiesToFigures(w[2], options(w[1])));
         CALLS.put("text_to_figures", w -> textToFigures(w[2], options(w[1])));
+        CALLS.put("text_to_speech",
+            w -> textToSpeech(w[2], Voice.DEFAULT.withScript(script(w[1]))));
+        CALLS.put("find_unspoken", w -> inPlace(w[1], findUnspoken(w[1]), Found::text));
         CALLS.put("replace_quantities",
             w -> replaceQuantities(w[2], Answers::numeralsUnlessFraction, options(w[1])));
         CALLS.put("phrases", w -> findPhrases(w[1]).filter(it -> it instanceof Phrase)

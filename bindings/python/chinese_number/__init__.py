@@ -57,12 +57,13 @@ equals. mypy accepts such a str only as a literal; Kind(word) is the member for 
 raises a ValueError.
 
 The module loads the shared library libchinese_number.so (.dylib on macOS, .dll on Windows) from the
-folder that CHINESE_NUMBER_LIB names, as bindings/archive.sh makes it, or else from beside this file,
-where pip puts it. CPython from 3.10 may instead use an extension module that contains the library.
-The library allocates no memory, keeps no state between calls and reads no locale. Calls through
-ctypes release the GIL; the extension module releases it only for a text whose UTF-8 is longer than
-65,536 bytes. If the library was built from C source, a text of more than 4,293,918,720 bytes raises
-an OverflowError, and so does a text that has as many together with its new text.
+folder that CHINESE_NUMBER_LIB names, as bindings/archive.sh makes it, or else from beside this
+file, where pip puts it. CPython from 3.10 may instead use an extension module that contains the
+library. The library allocates no memory, keeps no state between calls and reads no locale. Calls
+through ctypes release the GIL; the extension module releases it only for a text whose UTF-8 is
+longer than 65,536 bytes, and for columns. If the library was built from C source, a text of more
+than 4,293,918,720 bytes raises an OverflowError, and so does a text that has as many together with
+its new text.
 
 For text that people type use to_quantity; to_number applies the bare grammar, in which 两千零十五 is
 2005 and 二两 is 22.
@@ -76,8 +77,8 @@ from dataclasses import dataclass, field, fields
 from datetime import date, datetime, time, timedelta
 from decimal import Decimal
 from fractions import Fraction
+from functools import partial
 from itertools import chain
-from sys import intern
 from typing import Any, Callable, Dict, Iterable, Iterator, List, Literal, Optional, Protocol
 from typing import SupportsIndex, Tuple, Type, TypeVar, Union
 
@@ -89,6 +90,7 @@ from ._codes import _QuantityFormWord, _ScriptWord, _UnitWord, _WayWord
 
 __all__ = [
     "AmountError",
+    "ArrowColumn",
     "Case",
     "Change",
     "ClockTime",
@@ -114,17 +116,25 @@ __all__ = [
     "Unit",
     "Way",
     "amount_to_chinese",
+    "amount_to_chinese_column",
     "chinese_to_amount",
     "chinese_to_amount_as_typed",
+    "chinese_to_amount_as_typed_column",
+    "chinese_to_amount_column",
     "chinese_to_date",
+    "chinese_to_date_column",
     "chinese_to_signed_amount",
     "chinese_to_signed_amount_as_typed",
+    "chinese_to_signed_amount_as_typed_column",
+    "chinese_to_signed_amount_column",
     "date_to_chinese",
+    "date_to_chinese_column",
     "explain_number",
     "explain_quantity",
     "find_numbers",
     "find_phrases",
     "find_quantities",
+    "find_unspoken",
     "input_expected",
     "input_message",
     "input_repair",
@@ -133,19 +143,30 @@ __all__ = [
     "quantity_message",
     "replace_quantities",
     "signed_amount_to_chinese",
+    "signed_amount_to_chinese_column",
     "status_message",
     "text_to_figures",
+    "text_to_speech",
     "to_chinese",
+    "to_chinese_column",
     "to_number",
+    "to_number_column",
     "to_quantity",
     "yuan_to_fen",
+    "yuan_to_fen_column",
 ]
 __version__ = "0.1.0"
 _library.load(__version__)
 
+from . import _columns  # noqa: E402: it needs the library
+from ._arrow import ArrowArray as _ArrowArray, ArrowColumn  # noqa: E402
+
 _Method = Union[Literal[Way.LOW, Way.TEN_THOUSAND, Way.MIDDLE, Way.HIGH, Way.ANY], _MethodWord]
 _YuanWord = Literal["元", "圆"]
 _ClosingWord = Literal["整", "正"]
+_ErrorsWord = Literal["raise", "none", "status"]
+_NumberColumn = Union[Iterable[Optional[SupportsIndex]], _ArrowArray]
+_TextColumn = Union[Iterable[Optional[str]], _ArrowArray]
 
 
 class _DateOnly(Protocol):
@@ -188,8 +209,11 @@ _POSITION = " (position: {char_index})"
 
 class _Refusal(ValueError):
     _texts: Dict[Status, str]
-    # What was read: "number", "quantity" or "input", the text, and the codes of the choices.
+    # What was read: "number", "quantity" or "input", and the codes of the choices; and the text.
     _read: Optional[Tuple[Any, ...]] = None
+    _text: str
+    # The row of a column that is refused, from 0.
+    row: Optional[int] = None
 
     def __init__(self, status: Status, char_index: Optional[int] = None, **more: Any) -> None:
         text = self._texts.get(status) or status.name
@@ -201,8 +225,8 @@ class _Refusal(ValueError):
         return type(self), (self.status,), {**vars(self), "args": self.args}
 
     # An error in a variable of the function that raises it would be in a cycle with its traceback.
-    def _of(self: _AnyRefusal, *read: Any) -> _AnyRefusal:
-        self._read = read
+    def _of(self: _AnyRefusal, what: str, text: str, *codes: int) -> _AnyRefusal:
+        self._read, self._text = (what, *codes), text
         return self
 
     def message_in(self, language: Union[Language, _LanguageWord] = Language.ENGLISH) -> str:
@@ -217,19 +241,20 @@ class _Refusal(ValueError):
         """
         if self._read is None:
             return status_message(self.status, language=language)
-        return _message(language, *self._read)
+        what, *codes = self._read
+        return _message(language, what, self._text, *codes)
 
 
 class _InputRefusal(_Refusal):
     @property
     def expected(self) -> Optional[Expected]:
         """What may come next in the text that was read, or None if the error is not of reading."""
-        return _expected(*self._read[1:]) if self._read else None
+        return _expected(self._text, *self._read[1:]) if self._read else None
 
     @property
     def repair(self) -> Optional[Repair]:
         """The change that repairs the text that was read, if there is one."""
-        return _repair(*self._read[1:]) if self._read else None
+        return _repair(self._text, *self._read[1:]) if self._read else None
 
 
 class NumeralError(_Refusal):
@@ -264,7 +289,10 @@ class NumeralError(_Refusal):
     @property
     def fault(self) -> Optional[Fault]:
         """Why the text that was read is refused, or None if the error is not of reading."""
-        return _fault(*self._read) if self._read else None
+        if self._read is None:
+            return None
+        what, *codes = self._read
+        return _fault(what, self._text, *codes)
 
 
 class AmountError(_InputRefusal):
@@ -316,17 +344,12 @@ def _codes_of(of: Iterable[str]) -> Dict[str, int]:
     return {it: code for code, it in enumerate(of)}
 
 
-def _words(of: Iterable[Any]) -> Tuple[str, ...]:
-    members = tuple(of)
-    return members + tuple(intern(it.value) for it in members)
-
-
-_library.know_words(_words(Kind), _words(Way), _words(Script), _words(Case))
 _KINDS, _WAYS, _UNITS = _codes_of(Kind), _codes_of(Way), _codes_of(Unit)
 _SCRIPTS, _CASES = _codes_of(Script), _codes_of(Case)
 _FORMS, _FORM_OF = _codes_of(QuantityForm), tuple(QuantityForm)
 _DOUBT_OF = (None, *Doubt)
 _DOUBTS = {it: code + 1 for it, code in _codes_of(Doubt).items()}
+_ERRORS = _codes_of(("raise", "none", "status"))
 _INPUTS, _LANGUAGES = _codes_of(Input), _codes_of(Language)
 _AMOUNT, _SIGNED_AMOUNT, _TYPED_AMOUNT, _TYPED_SIGNED_AMOUNT, _DATE, _FIGURES = _INPUTS.values()
 _STATUS_OF, _INCORRECT = tuple(Status), Status.INCORRECT.value
@@ -336,6 +359,11 @@ _METHODS = {way: code for way, code in _WAYS.items() if way is not Way.DIGITS}
 # What each word adds to the code of an amount's form.
 _YUAN = {"元": 0, "圆": _codes.ROUND_YUAN}
 _CLOSINGS = {"整": 0, "正": _codes.UPRIGHT_CLOSING}
+_CURRENCY = {False: 0, True: _codes.CURRENCY}
+_BRACKETED_SIGN = {False: 0, True: _codes.BRACKETED_SIGN}
+# What the quick functions for dates and quantities need.
+_OF_DATES = date, "year", "month", "day"
+_OF_QUANTITIES = "numerator", "denominator", "form"
 _FIRST_NOT_WRITTEN = 10**18
 _TOO_MANY_PLACES = 16  # before the point: 10**16 yuan are 10**18 fen
 _MOST_PLACES = 38  # decimals that fit in 128 bits
@@ -421,7 +449,7 @@ def _place(code: int, char_index: int) -> Optional[int]:
     return char_index if code == _INCORRECT else None
 
 
-@_library.quick
+@_library.quick(kind=_KINDS, way=_WAYS)
 def to_number(
     text: str, *, kind: Union[Kind, _KindWord] = Kind.I128, way: Union[Way, _WayWord] = Way.ANY
 ) -> int:
@@ -445,7 +473,7 @@ def to_number(
     return _of_halves(low, high, kind)
 
 
-@_library.quick
+@_library.quick(kind=_KINDS, way=_WAYS, script=_SCRIPTS, case=_CASES)
 def to_chinese(
     number: SupportsIndex,
     *,
@@ -485,6 +513,19 @@ def _not_written(fen: int, least: int) -> AmountError:
     return error
 
 
+def _amount_codes(
+    script: Union[Script, _ScriptWord],
+    currency: bool,
+    yuan: _YuanWord,
+    closing: _ClosingWord,
+    sign: int,
+) -> Tuple[int, int]:
+    """The codes of the script and of the form of an amount."""
+    script_code = _code(_SCRIPTS, script, "script")
+    form = _code(_YUAN, yuan, "yuan") + _code(_CLOSINGS, closing, "closing") + sign
+    return script_code, form + (_codes.CURRENCY if _flag(currency) else 0)
+
+
 def _amount_text(
     call: Callable[[int, int, int], Tuple[int, str]],
     fen: SupportsIndex,
@@ -494,11 +535,8 @@ def _amount_text(
 ) -> str:
     """The text of an amount that is at least `least`. The choices are the script, whether the currency
     is written, the word for yuan, and the closing. The sign is its part of the form's code."""
-    script, currency, yuan, closing = choices
     whole = _whole(fen, "a whole number of fen (yuan_to_fen converts yuan)")
-    script_code = _code(_SCRIPTS, script, "script")
-    form = _code(_YUAN, yuan, "yuan") + _code(_CLOSINGS, closing, "closing") + sign
-    form += _codes.CURRENCY if _flag(currency) else 0
+    script_code, form = _amount_codes(*choices, sign)
     if not least <= whole < _FIRST_NOT_WRITTEN:
         raise _not_written(whole, least)
     status, text = call(whole, script_code, form)
@@ -507,6 +545,7 @@ def _amount_text(
     return text
 
 
+@_library.quick(script=_SCRIPTS, currency=_CURRENCY, yuan=_YUAN, closing=_CLOSINGS)
 def amount_to_chinese(
     fen: SupportsIndex,
     *,
@@ -533,6 +572,13 @@ def amount_to_chinese(
     return _amount_text(_library.print_amount, fen, 0, choices)
 
 
+@_library.quick(
+    script=_SCRIPTS,
+    currency=_CURRENCY,
+    yuan=_YUAN,
+    closing=_CLOSINGS,
+    bracketed_sign=_BRACKETED_SIGN,
+)
 def signed_amount_to_chinese(
     fen: SupportsIndex,
     *,
@@ -561,13 +607,13 @@ def signed_amount_to_chinese(
 
 def _fen(read: Callable[[str], Tuple[int, int, int]], text: str, of: int) -> int:
     """The fen that a call of the library reads in a text, which is meant to be an input."""
-    # _text raises; it is not called for each text, which would take as long as a tenth of the rest.
-    code, fen, char_index = read(text if isinstance(text, str) else _text(text))
+    code, fen, char_index = read(_text(text))
     if code:
         raise AmountError(_status(code), _place(code, char_index))._of("input", text, of)
     return fen
 
 
+@_library.quick()
 def chinese_to_amount(text: str) -> int:
     """Reads a text in capitals as an amount in fen. Raises AmountError if the text is not an amount.
 
@@ -582,6 +628,7 @@ def chinese_to_amount(text: str) -> int:
     return _fen(_library.read_amount, text, _AMOUNT)
 
 
+@_library.quick()
 def chinese_to_signed_amount(text: str) -> int:
     """Reads an amount like chinese_to_amount, also a negative one with the prefix 负 or 負.
 
@@ -591,6 +638,7 @@ def chinese_to_signed_amount(text: str) -> int:
     return _fen(_library.read_signed_amount, text, _SIGNED_AMOUNT)
 
 
+@_library.quick()
 def chinese_to_amount_as_typed(text: str) -> int:
     """Reads an amount as it is typed, or copied from an invoice: like chinese_to_amount, but ignores
     white space, one ⊗ or ⓧ at the start, and （大写） and a colon directly after a leading 人民币.
@@ -601,6 +649,7 @@ def chinese_to_amount_as_typed(text: str) -> int:
     return _fen(_library.read_typed_amount, text, _TYPED_AMOUNT)
 
 
+@_library.quick()
 def chinese_to_signed_amount_as_typed(text: str) -> int:
     """Reads an amount like chinese_to_amount_as_typed, also a negative one, as on a red invoice: with
     the sign 负 or （负数） at the start, before or after ⊗ and 人民币.
@@ -616,6 +665,8 @@ def chinese_to_signed_amount_as_typed(text: str) -> int:
 def _figures_of(value: Decimal) -> str:
     """The figures of a Decimal. For a value far from 1, such as Decimal('1E+999999999999'), its own
     figures would fill the memory, so these are others with the same result."""
+    if value and -3 < value.adjusted() <= _TOO_MANY_PLACES:
+        return Decimal.__format__(value, "f")
     sign, digits, exponent = value.as_tuple()
     if isinstance(exponent, int):  # otherwise it is NaN or infinite
         if not any(digits):
@@ -626,6 +677,7 @@ def _figures_of(value: Decimal) -> str:
     return Decimal.__format__(value, "f")
 
 
+@_library.quick()
 def yuan_to_fen(value: Union[Decimal, str, SupportsIndex]) -> int:
     """Converts yuan to fen exactly, from figures in a str, a Decimal or a whole number. Raises
     AmountError if the value is not a whole number of fen; it never rounds.
@@ -650,17 +702,16 @@ def yuan_to_fen(value: Union[Decimal, str, SupportsIndex]) -> int:
             f"a float is not an exact amount: expected a str or a Decimal, not {_shown(value)}"
         )
     if isinstance(value, Decimal):
-        figures = _figures_of(value)
-    elif isinstance(value, str):
-        figures = value
-    else:
-        whole = _whole(value, "a str, a Decimal or a whole number of yuan")
-        if not abs(whole) < _FIRST_NOT_WRITTEN:  # Python may refuse to make its figures
-            raise AmountError(Status.TOO_LARGE)
-        figures = str(whole)
-    return _fen(_library.read_figures, figures, _FIGURES)
+        return yuan_to_fen(_figures_of(value))
+    if isinstance(value, str):
+        return _fen(_library.read_figures, value, _FIGURES)
+    whole = _whole(value, "a str, a Decimal or a whole number of yuan")
+    if not abs(whole) < _FIRST_NOT_WRITTEN:  # Python may refuse to make its figures
+        raise AmountError(Status.TOO_LARGE)
+    return yuan_to_fen(str(whole))
 
 
+@_library.quick(*_OF_DATES, script=_SCRIPTS)
 def date_to_chinese(
     day: _DateOnly, *, script: Union[Script, _ScriptWord] = Script.SIMPLIFIED
 ) -> str:
@@ -683,6 +734,7 @@ def date_to_chinese(
     return text
 
 
+@_library.quick(*_OF_DATES)
 def chinese_to_date(text: str) -> date:
     """Reads a text in capitals as a date. Raises DateError if the text is not a date.
 
@@ -698,6 +750,293 @@ def chinese_to_date(text: str) -> date:
     if code:
         raise DateError(_status(code), _place(code, char_index))._of("input", text, _DATE)
     return date(*fields)
+
+
+def _wanted(
+    single: Callable[[Any], Any],
+    refusal: Callable[[Status], Exception],
+    how: Tuple[_ErrorsWord, bool, int],
+) -> _columns.Wanted:
+    """What is wanted of a column: how a single value is answered, which error a status is, and the
+    options `errors`, `arrow` and `threads`."""
+    errors, arrow, threads = how
+    _code(_ERRORS, errors, "errors")
+    workers = _whole(threads, "a number of threads")
+    if workers < 1:
+        raise ValueError(f"expected at least one thread, not {workers}")
+    return _columns.Wanted(single, refusal, errors, _flag(arrow), workers)
+
+
+def to_chinese_column(
+    numbers: _NumberColumn,
+    *,
+    kind: Union[Kind, _KindWord] = Kind.I128,
+    way: Union[Way, _WayWord] = Way.ANY,
+    script: Union[Script, _ScriptWord] = Script.SIMPLIFIED,
+    case: Union[Case, _CaseWord] = Case.LOWER,
+    errors: _ErrorsWord = "raise",
+    arrow: bool = False,
+    threads: int = 1,
+) -> Any:
+    """Writes each number of a column as to_chinese does. A missing number, None, has no text.
+
+    >>> to_chinese_column([120, None, -5]), to_chinese_column(range(3), case='upper')
+    (['一百二十', None, '负五'], ['零', '壹', '贰'])
+
+    The column is an iterable of whole numbers and None, a buffer of whole numbers, such as an
+    array.array or an array of numpy, or what has __arrow_c_array__: an Arrow array of integers, or
+    of decimals of 128 bits without places. The answers are a list, or with arrow an ArrowColumn.
+
+    If a row is refused, the error that to_chinese raises for it is raised, with its index, from 0,
+    as `row`. With errors='none' the row has no text. With errors='status' the result is a pair: the
+    same texts, and a list of each row's Status, which is NONE for a missing row.
+
+    >>> to_chinese_column([1, 256], kind='u8')
+    Traceback (most recent call last):
+    chinese_number.NumeralError: row 1: u8 does not hold the number
+    >>> to_chinese_column([1, 256], kind='u8', errors='none')
+    ['一', None]
+    >>> to_chinese_column([1, 256], kind='u8', errors='status')
+    (['一', None], [<Status.DONE: 0>, <Status.NOT_HELD: 7>])
+
+    A value of another type, such as a float, always raises a TypeError with its `row`. Several
+    threads write a long column at the same time, without the GIL if the extension module is used.
+    """
+    ways = _code(_KINDS, kind, "kind"), _code(_WAYS, way, "way")
+    codes = (*ways, _code(_SCRIPTS, script, "script"), _code(_CASES, case, "case"))
+    single = partial(to_chinese, kind=kind, way=way, script=script, case=case)
+    wanted = _wanted(single, partial(NumeralError, kind=Kind(kind)), (errors, arrow, threads))
+    rows = _columns.numbers_in(numbers, "whole numbers", _shown_with_type)
+    return _columns.print_numbers(rows, codes, wanted)
+
+
+def to_number_column(
+    texts: _TextColumn,
+    *,
+    kind: Union[Kind, _KindWord] = Kind.I128,
+    way: Union[Way, _WayWord] = Way.ANY,
+    errors: _ErrorsWord = "raise",
+    arrow: bool = False,
+    threads: int = 1,
+) -> Any:
+    """Reads each text of a column as to_number does. A missing text, None, has no number.
+
+    >>> to_number_column(['一百二', None, '一二〇'])
+    [120, None, 120]
+    >>> to_number_column(['一百二', '二十十'])
+    Traceback (most recent call last):
+    chinese_number.NumeralError: row 1: the chinese number is incorrect (position: 1)
+
+    The column is an iterable of str and None, or what has __arrow_c_array__, an Arrow array of
+    texts. The options are as in to_chinese_column. An ArrowColumn is of 64-bit integers, signed or
+    not as the kind is, and for i128 and u128 of decimals: a number of more than 38 digits is then
+    too large.
+    """
+    codes = _code(_KINDS, kind, "kind"), _code(_WAYS, way, "way")
+    single = partial(to_number, kind=kind, way=way)
+    wanted = _wanted(single, partial(NumeralError, kind=Kind(kind)), (errors, arrow, threads))
+    rows = _columns.texts_in(texts, _shown_with_type)
+    return _columns.read_numbers(rows, codes, kind in (Kind.U128, Kind.I128), wanted)
+
+
+def _amount_texts(
+    single: Callable[[Any], str],
+    fen: _NumberColumn,
+    is_signed: bool,
+    choices: Tuple[Union[Script, _ScriptWord], bool, _YuanWord, _ClosingWord],
+    sign: int,
+    how: Tuple[_ErrorsWord, bool, int],
+) -> Any:
+    """The texts of a column of amounts."""
+    codes, wanted = _amount_codes(*choices, sign), _wanted(single, AmountError, how)
+    rows = _columns.numbers_in(fen, "whole numbers of fen", _shown_with_type)
+    return _columns.print_amounts(rows, is_signed, codes, wanted)
+
+
+def amount_to_chinese_column(
+    fen: _NumberColumn,
+    *,
+    script: Union[Script, _ScriptWord] = Script.SIMPLIFIED,
+    currency: bool = False,
+    yuan: _YuanWord = "元",
+    closing: _ClosingWord = "整",
+    errors: _ErrorsWord = "raise",
+    arrow: bool = False,
+    threads: int = 1,
+) -> Any:
+    """Writes each amount of a column as amount_to_chinese does. Columns and options are as in
+    to_chinese_column.
+
+    >>> amount_to_chinese_column([1500, None, 140950])
+    ['壹拾伍元整', None, '壹仟肆佰零玖元伍角整']
+    >>> amount_to_chinese_column([1500, -1], errors='none')
+    ['壹拾伍元整', None]
+    """
+    choices = script, currency, yuan, closing
+    words = {"script": script, "currency": currency, "yuan": yuan, "closing": closing}
+    single: Callable[[Any], str] = partial(amount_to_chinese, **words)
+    return _amount_texts(single, fen, False, choices, 0, (errors, arrow, threads))
+
+
+def signed_amount_to_chinese_column(
+    fen: _NumberColumn,
+    *,
+    script: Union[Script, _ScriptWord] = Script.SIMPLIFIED,
+    currency: bool = False,
+    yuan: _YuanWord = "元",
+    closing: _ClosingWord = "整",
+    bracketed_sign: bool = False,
+    errors: _ErrorsWord = "raise",
+    arrow: bool = False,
+    threads: int = 1,
+) -> Any:
+    """Writes each amount of a column as signed_amount_to_chinese does, likewise.
+
+    >>> signed_amount_to_chinese_column([1500, -1500])
+    ['壹拾伍元整', '负壹拾伍元整']
+    """
+    choices, sign = (script, currency, yuan, closing), _codes.BRACKETED_SIGN * _flag(bracketed_sign)
+    words = {"script": script, "currency": currency, "yuan": yuan, "closing": closing}
+    single: Callable[[Any], str] = partial(signed_amount_to_chinese, **words)
+    return _amount_texts(single, fen, True, choices, sign, (errors, arrow, threads))
+
+
+def _amounts_of(
+    single: Callable[[str], int], texts: _TextColumn, of: int, how: Tuple[_ErrorsWord, bool, int]
+) -> Any:
+    """The fen of a column of texts, each of which is meant to be an input."""
+    wanted = _wanted(single, AmountError, how)
+    return _columns.read_amounts(_columns.texts_in(texts, _shown_with_type), of, wanted)
+
+
+def chinese_to_amount_column(
+    texts: _TextColumn,
+    *,
+    errors: _ErrorsWord = "raise",
+    arrow: bool = False,
+    threads: int = 1,
+) -> Any:
+    """Reads each text of a column as chinese_to_amount does. Columns and options are as in
+    to_number_column; an ArrowColumn is of 64-bit integers.
+
+    >>> chinese_to_amount_column(['壹拾伍元整', None, '壹元'], errors='status')
+    ([1500, None, None], [<Status.DONE: 0>, <Status.NONE: 10>, <Status.UNFINISHED: 9>])
+    """
+    return _amounts_of(chinese_to_amount, texts, _AMOUNT, (errors, arrow, threads))
+
+
+def chinese_to_signed_amount_column(
+    texts: _TextColumn,
+    *,
+    errors: _ErrorsWord = "raise",
+    arrow: bool = False,
+    threads: int = 1,
+) -> Any:
+    """Reads each text of a column as chinese_to_signed_amount does, likewise.
+
+    >>> chinese_to_signed_amount_column(['壹拾伍元整', '负壹拾伍元整'])
+    [1500, -1500]
+    """
+    return _amounts_of(chinese_to_signed_amount, texts, _SIGNED_AMOUNT, (errors, arrow, threads))
+
+
+def chinese_to_amount_as_typed_column(
+    texts: _TextColumn,
+    *,
+    errors: _ErrorsWord = "raise",
+    arrow: bool = False,
+    threads: int = 1,
+) -> Any:
+    """Reads each text of a column as chinese_to_amount_as_typed does, likewise.
+
+    >>> chinese_to_amount_as_typed_column(['⊗ 人民币：壹拾 伍元整'])
+    [1500]
+    """
+    return _amounts_of(chinese_to_amount_as_typed, texts, _TYPED_AMOUNT, (errors, arrow, threads))
+
+
+def chinese_to_signed_amount_as_typed_column(
+    texts: _TextColumn,
+    *,
+    errors: _ErrorsWord = "raise",
+    arrow: bool = False,
+    threads: int = 1,
+) -> Any:
+    """Reads each text of a column as chinese_to_signed_amount_as_typed does, likewise.
+
+    >>> chinese_to_signed_amount_as_typed_column(['⊗ 负 壹拾伍元整'])
+    [-1500]
+    """
+    return _amounts_of(
+        chinese_to_signed_amount_as_typed, texts, _TYPED_SIGNED_AMOUNT, (errors, arrow, threads)
+    )
+
+
+def _figures_in(value: Union[Decimal, str, SupportsIndex, None]) -> Optional[str]:
+    """The figures of a row. yuan_to_fen refuses them for the same reason as the row's value."""
+    if value is None or isinstance(value, str):
+        return value
+    if isinstance(value, Decimal):
+        try:
+            return _figures_of(value)
+        except AmountError:
+            return "0.001"
+    whole = _whole(value, "a str, a Decimal or a whole number of yuan")
+    return str(whole if abs(whole) < _FIRST_NOT_WRITTEN else _FIRST_NOT_WRITTEN)
+
+
+def yuan_to_fen_column(
+    values: Union[Iterable[Union[Decimal, str, SupportsIndex, None]], _ArrowArray],
+    *,
+    errors: _ErrorsWord = "raise",
+    arrow: bool = False,
+    threads: int = 1,
+) -> Any:
+    """Converts each row of a column as yuan_to_fen does, likewise. An Arrow array must be of texts.
+
+    >>> yuan_to_fen_column(['1,409.50', None, Decimal('-15'), 2])
+    [140950, None, -1500, 200]
+    """
+    wanted = _wanted(yuan_to_fen, AmountError, (errors, arrow, threads))
+    rows = _columns.texts_in(values, _shown_with_type, _figures_in)
+    return _columns.read_amounts(rows, _FIGURES, wanted)
+
+
+def date_to_chinese_column(
+    days: Union[Iterable[Optional[_DateOnly]], _ArrowArray],
+    *,
+    script: Union[Script, _ScriptWord] = Script.SIMPLIFIED,
+    errors: _ErrorsWord = "raise",
+    arrow: bool = False,
+    threads: int = 1,
+) -> Any:
+    """Writes each date of a column as date_to_chinese does. The column is an iterable of dates and
+    None, or what has __arrow_c_array__, an Arrow array of dates of 32 bits. The options are as in
+    to_chinese_column.
+
+    >>> date_to_chinese_column([date(2026, 1, 15), None])
+    ['贰零贰陆年零壹月壹拾伍日', None]
+    """
+    code = _code(_SCRIPTS, script, "script")
+    wanted = _wanted(partial(date_to_chinese, script=script), DateError, (errors, arrow, threads))
+    return _columns.print_dates(_columns.dates_in(days, _shown_with_type), code, wanted)
+
+
+def chinese_to_date_column(
+    texts: _TextColumn,
+    *,
+    errors: _ErrorsWord = "raise",
+    arrow: bool = False,
+    threads: int = 1,
+) -> Any:
+    """Reads each text of a column as chinese_to_date does. Columns and options are as in
+    to_number_column; an ArrowColumn is of dates of 32 bits.
+
+    >>> chinese_to_date_column(['贰零贰陆年零叁月零壹日', None])
+    [datetime.date(2026, 3, 1), None]
+    """
+    wanted = _wanted(chinese_to_date, DateError, (errors, arrow, threads))
+    return _columns.read_dates(_columns.texts_in(texts, _shown_with_type), wanted)
 
 
 def _over_power(value: Decimal) -> Tuple[int, int, QuantityForm]:
@@ -852,12 +1191,7 @@ class Quantity:
         >>> to_quantity('3.5兆').trimmed().to_chinese()
         '三万五千亿'
         """
-        method_code = _code(_METHODS, method, "method")
-        codes = _code(_SCRIPTS, script, "script"), _code(_CASES, case, "case")
-        status, text = _library.print_quantity(self._words(), method_code, *codes)
-        if status:
-            raise NumeralError(Status(status))
-        return text
+        return _quantity_to_chinese(self, method=method, script=script, case=case)
 
     def to_figures(self) -> str:
         """Writes the quantity in figures, in ASCII and without zeros at the end of its decimals.
@@ -865,14 +1199,36 @@ class Quantity:
         >>> [to_quantity(it).to_figures() for it in ('三点一零', '12.50％', '负三分之一')]
         ['3.1', '12.5%', '-1/3']
         """
-        _, text = _library.print_figures(self._words())
-        return text
+        return _quantity_to_figures(self)
 
     def _words(self) -> _library.Words:
         above, below = self.numerator, self.denominator
         return above, above >> 64, below, below >> 64, _FORMS[self.form]
 
 
+@_library.quick(*_OF_QUANTITIES, _FORMS, method=_METHODS, script=_SCRIPTS, case=_CASES)
+def _quantity_to_chinese(
+    quantity: Quantity,
+    *,
+    method: _Method = Way.ANY,
+    script: Union[Script, _ScriptWord] = Script.SIMPLIFIED,
+    case: Union[Case, _CaseWord] = Case.LOWER,
+) -> str:
+    method_code = _code(_METHODS, method, "method")
+    codes = _code(_SCRIPTS, script, "script"), _code(_CASES, case, "case")
+    status, text = _library.print_quantity(quantity._words(), method_code, *codes)
+    if status:
+        raise NumeralError(Status(status))
+    return text
+
+
+@_library.quick(*_OF_QUANTITIES, _FORMS)
+def _quantity_to_figures(quantity: Quantity) -> str:
+    _, text = _library.print_figures(quantity._words())
+    return text
+
+
+@_library.quick(*_OF_QUANTITIES, Quantity, *_FORM_OF, method=_METHODS)
 def to_quantity(text: str, *, method: _Method = Way.ANY) -> Quantity:
     """Reads a text as a quantity: a whole number, a decimal, a percentage or a fraction, in figures or
     in numerals. The method is low, ten_thousand, middle, high or any, which means ten_thousand here.
@@ -1078,6 +1434,7 @@ class Phrase:
     HALF, LENGTH: a Decimal, such as 1.5 for 一个半小时 and 1.75 for 一米七五.
     SCORE: the two numbers.
     RANGE: the two quantities.
+    MONEY: a Decimal of yuan, such as 3.50 for 三块五; None if that is no whole number of fen below 10^18.
 
     state is DOUBTFUL if the phrase may mean something else. If it is REFUSED, the value is None.
 
@@ -1122,6 +1479,10 @@ def _length_of(whole: int, decimals: int, places: int, _: int) -> Decimal:
     return Decimal(f"{whole}.{decimals:0{places}}")
 
 
+def _money_of(low: int, high: int, is_known: int, _: int) -> Optional[Decimal]:
+    return Decimal(f"{(high << 32) + low}E-2") if is_known else None
+
+
 def _pair_of(first: int, last: int, *_: int) -> Tuple[int, int]:
     return first, last
 
@@ -1130,7 +1491,7 @@ def _range_of(low: _library.Words, high: _library.Words) -> Tuple[Quantity, Quan
     return _quantity_of(low), _quantity_of(high)
 
 
-_VALUES: Dict[PhraseKind, Callable[..., _PhraseValue]] = {
+_VALUES: Dict[PhraseKind, Callable[..., Optional[_PhraseValue]]] = {
     PhraseKind.DATE: _date_of,
     PhraseKind.YEARS: _pair_of,
     PhraseKind.MONTHS: _pair_of,
@@ -1141,6 +1502,7 @@ _VALUES: Dict[PhraseKind, Callable[..., _PhraseValue]] = {
     PhraseKind.LENGTH: _length_of,
     PhraseKind.SCORE: _pair_of,
     PhraseKind.RANGE: _range_of,
+    PhraseKind.MONEY: _money_of,
 }
 
 
@@ -1192,9 +1554,9 @@ def find_quantities(
 def find_phrases(
     text: str, *, upper: bool = False, greatest: Union[Unit, _UnitWord] = Unit.ZHAO
 ) -> Iterator[Union[Phrase, FoundQuantity]]:
-    """Finds the phrases of a text, in order: dates, times of day, durations, halves, lengths, scores
-    and ranges. Between them are the expressions that are in no phrase, as find_quantities finds
-    them. upper and greatest are as in find_numbers.
+    """Finds the phrases of a text, in order: dates, times of day, durations, halves, lengths, scores,
+    ranges and sums of money. Between them are the expressions that are in no phrase, as
+    find_quantities finds them. upper and greatest are as in find_numbers.
 
     >>> [(found.start, found.text) for found in find_phrases('一月五日下午三点半，三到五万元，二十人')]
     [(0, '一月五日'), (4, '下午三点半'), (10, '三到五万'), (16, '二十')]
@@ -1206,6 +1568,20 @@ def find_phrases(
     wanted = _flag(upper), _code(_UNITS, greatest, "greatest")
     found = _found(_library.find_phrases, FoundQuantity, _text(text), *wanted)
     return map(_item, chain.from_iterable(found))
+
+
+def find_unspoken(text: str) -> Iterator[FoundQuantity]:
+    """Finds the parts with figures that text_to_speech leaves as they are, in order, for example to
+    treat them before the text is spoken. Not all of them are quantities.
+
+    >>> [(found.start, found.text) for found in find_unspoken('共3人，x86，2026.1.15')]
+    [(5, '86'), (8, '2026.1.15')]
+
+    It treats a lone surrogate as find_numbers does.
+    """
+    wanted = False, _UNITS[Unit.ZHAO]
+    found = _found(_library.find_unspoken, FoundQuantity, _text(text), *wanted)
+    return chain.from_iterable(found)
 
 
 _AnyRun = TypeVar("_AnyRun", bound=_Run)
@@ -1320,9 +1696,10 @@ def text_to_figures(
     expanded: bool = False,
     canonical: bool = False,
     compact: bool = False,
+    codes: bool = False,
 ) -> str:
-    """Rewrites the dates, times, durations, ranges, scores, lengths and numerals of a text in figures.
-    The words of a phrase stay.
+    """Rewrites the dates, times, durations, ranges, scores, lengths, sums of money and numerals of a
+    text in figures. The words of a phrase stay.
 
     >>> text_to_figures('二零二六年一月五日下午三点半，三到五万元，占百分之十二点五')
     '2026年1月5日下午3点半，3万到5万元，占12.5%'
@@ -1336,18 +1713,50 @@ def text_to_figures(
     >>> text_to_figures('五到八折，一个半小时', doubtful=True, one_character=True)
     '5到8折，1个半小时'
 
-    compact writes whole dates, times whose hour of 24 is known, and halves as short as possible.
+    compact writes whole dates, times whose hour of 24 is known, halves, and sums of money with 角 or 分
+    as short as possible.
 
-    >>> text_to_figures('二零二六年一月五日下午三点半，一个半小时', compact=True)
-    '2026-01-05 15:30，1.5小时'
+    >>> text_to_figures('二零二六年一月五日下午三点半，一个半小时，三块五', compact=True)
+    '2026-01-05 15:30，1.5小时，3.5元'
+
+    codes also writes codes, such as telephone numbers, rooms and versions, digit by digit, as for
+    recognised speech.
+
+    >>> text_to_figures('手机一三八零零一三八零零零，我住六栋一单元幺二零三', codes=True)
+    '手机13800138000，我住6栋1单元1203'
     """
-    options = about, one_character, doubtful, expanded, canonical, compact
+    options = about, one_character, doubtful, expanded, canonical, compact, codes
     return _in_figures(_library.text_to_figures, text, upper, greatest, method, *options)
+
+
+def text_to_speech(
+    text: str,
+    *,
+    script: Union[Script, _ScriptWord] = Script.SIMPLIFIED,
+    method: _Method = Way.ANY,
+    yao: bool = False,
+) -> str:
+    """Rewrites a text as it is spoken: its figures, signs and measures in Chinese characters of the
+    script. The rest of the text stays.
+
+    >>> text_to_speech('2026年1月5日15:30，气温-5℃，共2.5kg，占12.5%')
+    '二零二六年一月五日十五点三十分，气温零下五摄氏度，共二点五千克，占百分之十二点五'
+
+    What no rule covers stays too, such as x86; find_unspoken finds its figures. The method says how large
+    numbers are written. Telephone numbers and other codes are spoken digit by digit; yao says 幺 for 1 in
+    them.
+
+    >>> text_to_speech('请拨打110', script='traditional'), text_to_speech('请拨打110', yao=True)
+    ('请拨打一一零', '请拨打幺幺零')
+    """
+    codes = _code(_METHODS, method, "method"), _code(_SCRIPTS, script, "script")
+    options = False, _UNITS[Unit.ZHAO], *codes, _codes.YAO * _flag(yao)
+    return _as_utf8(text, lambda data: _library.text_to_speech(data, *options))
 
 
 _OPTIONS = [
     *(_codes.ABOUT, _codes.ONE_CHARACTER, _codes.DOUBTFUL),
-    *(_codes.EXPANDED, _codes.CANONICAL, _codes.COMPACT),
+    *(_codes.EXPANDED, _codes.CANONICAL, _codes.COMPACT, _codes.CODES),
 ]
 
 
@@ -1362,6 +1771,11 @@ def _in_figures(
     """The text that a call of the library rewrites. `chosen` says which of the options are chosen."""
     wanted = _flag(upper), _code(_UNITS, greatest, "greatest"), _code(_METHODS, method, "method")
     options = sum(option for option, is_chosen in zip(_OPTIONS, chosen) if _flag(is_chosen))
+    return _as_utf8(text, lambda data: rewrite(data, *wanted, options))
+
+
+def _as_utf8(text: str, rewrite: Callable[[bytes], Tuple[int, str]]) -> str:
+    """The text that a call rewrites, which takes UTF-8."""
     given = str.__str__(_text(text))  # a subclass of str has methods of its own
     marks: List[str] = []
     try:
@@ -1369,12 +1783,12 @@ def _in_figures(
     except UnicodeEncodeError:  # a lone surrogate has no UTF-8
         marks = _HALF_OR_MARK.findall(given)
         data = _HALF_OR_MARK.sub("\ufffd", given).encode()
-    code, figures = rewrite(data, *wanted, options)
+    code, written = rewrite(data)
     if code:
         _status(code)
     # No expression contains one of them: they stay, in their order.
     rest = iter(marks)
-    whole: str = re.sub("\ufffd", lambda _: next(rest), figures) if marks else figures
+    whole: str = re.sub("\ufffd", lambda _: next(rest), written) if marks else written
     return whole
 
 

@@ -19,7 +19,7 @@ from . import AmountError, DateError, Found, FoundQuantity, Kind, Language, Nume
 from . import Way, __version__, chinese_to_amount, chinese_to_amount_as_typed, chinese_to_date
 from . import chinese_to_signed_amount, chinese_to_signed_amount_as_typed, date_to_chinese
 from . import find_numbers, find_quantities, quantities_to_figures, signed_amount_to_chinese
-from . import _library, text_to_figures, to_chinese, to_number, yuan_to_fen
+from . import _library, text_to_figures, text_to_speech, to_chinese, to_number, yuan_to_fen
 from ._tables import Misuse, Refused, Table, shown, write_table
 
 
@@ -46,7 +46,7 @@ _REPLACED: _Options = {
     f"--{it}": _FLAG
     for it in (
         *("phrases", "about", "one-character", "doubtful"),
-        *("expanded", "canonical", "compact"),
+        *("expanded", "canonical", "compact", "codes"),
     )
 }
 _LANGUAGE: _Options = {"--language": [it.value for it in Language]}
@@ -94,7 +94,9 @@ usage: chinese-number amount [--traditional] [--currency] [--yuan 圆] [--closin
        chinese-number find [--all] [--method any]
        chinese-number find --numbers [--all] [--kind u128] [--way any]
        chinese-number replace [--phrases] [--all] [--method any] [--about] [--one-character]
-                              [--doubtful] [--expanded] [--canonical] [--compact] [WORD...]
+                              [--doubtful] [--expanded] [--canonical] [--compact] [--codes]
+                              [WORD...]
+       chinese-number speak [--traditional] [--method any] [--yao] [WORD...]
        chinese-number lines
        chinese-number --help | --version
 
@@ -125,8 +127,8 @@ find     writes LINE:CHARACTER TEXT NUMBER for each quantity in standard input, 
    --numbers        finds whole numbers instead: 3 and 5万 in 3.5万
 replace  writes the arguments, or standard input, with their numerals in figures, 市值三点五亿元 as
          市值3.5亿元
-   --phrases        includes dates, times, durations, ranges, scores and lengths: 一月五日下午三点半
-                    becomes 1月5日下午3点半
+   --phrases        includes dates, times, durations, ranges, scores, lengths and sums of money:
+                    一月五日下午三点半，三块五 becomes 1月5日下午3点半，3块5
    --about          includes approximate numbers, as in 三百多
    --one-character  includes numbers of one Chinese character, as in 一般
    --doubtful       includes numbers that may mean something else, as 五一
@@ -134,6 +136,11 @@ replace  writes the arguments, or standard input, with their numerals in figures
    --canonical      removes commas and leading zeros from figures: 1,280 becomes 1280
    --compact        writes dates, times and halves as short as possible, 2026-01-05, 15:30 and 1.5小时;
                     --phrases is not needed then
+   --codes          also writes codes, such as telephone numbers: 打幺幺零 becomes 打110; --phrases is
+                    not needed then
+speak    writes the arguments, or standard input, as they are spoken: 15:30到，共2.5kg as
+         十五点三十分到，共二点五千克
+   --yao            says 幺 for 1 in codes, such as telephone numbers
 lines    answers each line of standard input: read u64 ten_thousand 一百二 with ok 120,
          print u128 naive traditional lower 123 with ok 一二三, and what is no question with bad line
 
@@ -298,20 +305,27 @@ def _find(options: Dict[str, Any]) -> int:
     return 0
 
 
-def _in_figures(text: str, *, phrases: bool = False, compact: bool = False, **options: Any) -> str:
-    if phrases or compact:
-        return text_to_figures(text, compact=compact, **options)
+def _in_figures(
+    text: str,
+    *,
+    phrases: bool = False,
+    compact: bool = False,
+    codes: bool = False,
+    **options: Any,
+) -> str:
+    if phrases or compact or codes:
+        return text_to_figures(text, compact=compact, codes=codes, **options)
     return quantities_to_figures(text, **options)
 
 
-def _replace(options: Dict[str, Any]) -> int:
+def _each_line(anew: Callable[..., str], options: Dict[str, Any]) -> int:
     """Rewrites standard input line by line. A line that is not UTF-8 stays, and is reported."""
     status = 0
     output = sys.stdout.buffer
     with open(0, "rb", closefd=False) as lines:
         for count, line in enumerate(lines, 1):
             try:
-                line = _in_figures(line.decode(), **options).encode()
+                line = anew(line.decode(), **options).encode()
             except UnicodeDecodeError:
                 text = shown(line.decode(errors="replace").rstrip("\r\n"))
                 print(f"line {count}: {text}: the line is not UTF-8", file=sys.stderr)
@@ -344,6 +358,7 @@ _COMMANDS: Dict[str, Tuple[Callable[..., Any], Callable[[str], Any], _Options]] 
     ),
     "find": (_find, str, {"--numbers": _FLAG, "--all": _FLAG, **_KIND, **_WAY, **_METHOD}),
     "replace": (_in_figures, str, {"--all": _FLAG, **_METHOD, **_REPLACED}),
+    "speak": (text_to_speech, str, {**_TRADITIONAL, **_METHOD, "--yao": _FLAG}),
     "lines": (_lines, str, {}),
 }
 
@@ -404,8 +419,8 @@ def _of_input(
     first: str, others: List[str], options: Dict[str, Any]
 ) -> Optional[Callable[[Dict[str, Any]], int]]:
     """The function that converts standard input, if the command reads it."""
-    if first == "replace":
-        return None if others else _replace
+    if first in ("replace", "speak"):
+        return None if others else partial(_each_line, _COMMANDS[first][0])
     if first == "lines":
         return _lines
     return _find if first == "find" else _table if "column" in options else None

@@ -216,7 +216,8 @@ class Doubt(str, Enum):
     DIGITS: it is two or three Chinese digits, or more in rising order, or two numbers: 五一, 一二三四,
     十五十六.
     TERM: it is part of a term: 负二 of 负二项, 十六 of 十六进制.
-    PART: it is part of an expression with 折, 成, 半 or 分之几: 八五 of 八五折, 一 of 一个半.
+    PART: it is part of an expression with 折, 成, 半 or 分之几: 八五 of 八五折, 一 of 一个半; or its last 一
+    begins the next word: 两百一 of 两百一个月.
     TIME: it may be a time: 三点五 of 下午三点五, 十点零五.
     RANGE: it is one end of a range whose ends share a unit or 百分之: 3 and 5万 of 3~5万."""
 
@@ -244,7 +245,9 @@ class PhraseKind(str, Enum):
     LENGTH: a number with decimals, as 一米七五 (the number, the decimals, how many decimals there
     are).
     SCORE: two numbers that are compared.
-    RANGE: from a quantity to another one."""
+    RANGE: from a quantity to another one.
+    MONEY: a sum of money, as 三块五: the fen by their lower and their upper 32 bits, and 1; all 0
+    if they are no whole number below 10^18."""
 
     EXPRESSION = "expression"
     DATE = "date"
@@ -257,6 +260,7 @@ class PhraseKind(str, Enum):
     LENGTH = "length"
     SCORE = "score"
     RANGE = "range"
+    MONEY = "money"
 
 
 class PhraseState(str, Enum):
@@ -371,13 +375,15 @@ class Status(Enum):
     amount, it is -10^18 fen or less.
     NOT_UTF8: when reading, finding or replacing, the bytes are not UTF-8; when finding, also:
     the search starts neither at a character nor at the end of the text.
-    NO_ROOM: when writing or replacing, the text has more bytes than the buffer.
+    NO_ROOM: when writing or replacing, the text has more bytes than the buffer; when reading a
+    column, the offsets of the row are not those of a text.
     NOT_HELD: when writing, the type does not hold the number.
     UNKNOWN: a code names no type, way, script, case, form, unit, option, input, language or
     status; DIGITS is not a method.
     UNFINISHED: when reading an amount, figures or a date, the text is not one, but more text can
     make it one.
-    NONE: when finding the next number or quantity, there is no further one in the text.
+    NONE: when finding the next number or quantity, there is no further one in the text; in a
+    column, the row is missing.
     NOT_A_DATE: when writing a date, the date does not exist.
     NOT_A_QUANTITY: when writing a quantity, the denominator is 0."""
 
@@ -412,6 +418,10 @@ DOUBTFUL = 16
 EXPANDED = 32
 CANONICAL = 64
 COMPACT = 128
+CODES = 256
+
+
+YAO = 1
 
 
 TOO_LONG = 4294967295

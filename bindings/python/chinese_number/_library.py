@@ -2,8 +2,8 @@
 
 Texts are str, choices are the codes of chinese_number.h, and places count characters. Each call
 returns the status first. If `_native` exists and this Python can load it, `load` replaces the
-functions here with those of the same names in `_native`. The others, which say why a text is
-refused, call the library that is in the same file.
+functions here with those of the same names in `_native`, and `quick` wraps the public functions in
+faster ones. The rest, which an unusual call needs, calls the library that is in the same file.
 
 A lone surrogate has no bytes in UTF-8. It is passed as a question mark, which is not a numeral
 either.
@@ -17,8 +17,9 @@ import operator
 import os
 import sys
 from ctypes import POINTER as _at, byref
+from enum import Enum
 from pathlib import Path
-from typing import Any, Dict, List, Tuple, TypeVar, Union
+from typing import Any, Callable, Dict, List, Tuple, TypeVar, Union
 
 from . import _codes
 
@@ -94,6 +95,14 @@ _ARGUMENTS: Dict[str, Tuple[Any, ...]] = {
     "chinese_phrase_find_utf8": (*_TEXT, _SIZE, _CODE, _CODE, _at(_Phrase), *_FOUND),
     "chinese_range_read": (*_TEXT, *_TEXT, _at(_Quantity), _at(_Quantity)),
     "chinese_text_to_figures": _REWRITING,
+    "chinese_text_to_speech": (
+        *(*_TEXT, _CODE, _CODE, _CODE, _CODE, _CODE),
+        *(ctypes.c_char_p, _SIZE, *_ROOM),
+    ),
+    "chinese_speech_left": (
+        *(*_TEXT, _SIZE, _CODE, _CODE),
+        *(ctypes.c_char_p, _SIZE, _at(_Span), *_FOUND),
+    ),
     "chinese_amount_read": (*_TEXT, _at(_Amount)),
     "chinese_amount_print": (_WORD, _CODE, _CODE, *_ROOM),
     "chinese_signed_amount_read": (*_TEXT, _at(_SignedAmount)),
@@ -117,10 +126,7 @@ _SUFFIXES = {"darwin": "dylib", "win32": "dll"}
 _HERE = Path(__file__).resolve().parent
 # The names of this module that `_native` has too.
 _CALLS = (
-    "Run know_words utf8 read_number read_amount read_signed_amount read_typed_amount "
-    "read_typed_signed_amount read_figures read_date read_quantity print_number print_amount "
-    "print_signed_amount print_date print_quantity print_figures find_numbers find_quantities "
-    "find_phrases quantities_to_figures text_to_figures"
+    "Run utf8 find_numbers find_quantities find_phrases quantities_to_figures text_to_figures"
 ).split()
 _NO_ROOM = _codes.Status.NO_ROOM.value
 _KIND_CODES = {kind: code for code, kind in enumerate(_codes.PhraseKind)}
@@ -232,23 +238,33 @@ def load(version: str) -> None:
         globals().update({name: getattr(_native, name) for name in _CALLS})
 
 
-def know_words(*choices: Tuple[str, ...]) -> None:
-    """Tells the quick functions of `_native` the words of each keyword, in the order of to_chinese: the
-    members of its enum in the order of their codes, and then the str that each member equals."""
-
-
-def quick(function: _Function) -> _Function:
+def quick(*more: Any, **choices: Dict[Any, int]) -> Callable[[_Function], _Function]:
     """Wraps a function in the quick function of the same name in `_native`, if there is one. The quick
     function handles the usual case and calls the wrapped function otherwise. So it differs only in
-    speed, and in that Python sees no annotations."""
-    make = getattr(_native, f"quick_{function.__name__}", None)
-    if not make:
-        return function
-    words = ", ".join(f"{name}={value!s}" for name, value in function.__kwdefaults__.items())
-    signature = f"{function.__name__}({function.__code__.co_varnames[0]}, *, {words})"
-    text = f"{signature}\n--\n\n{function.__doc__}"
-    quickly: _Function = make(function, function.__kwdefaults__, text, function.__module__)
-    return quickly
+    speed, and in that Python sees no annotations. The choices are the codes of each keyword's words;
+    `more` is what else the quick function needs.
+
+    If the wrapped function raises a ValueError for an outcome, the quick function raises an error like
+    it for the same outcome of a later call, with the other text."""
+
+    def wrap(function: _Function) -> _Function:
+        if not _native:
+            return function
+        name, first = function.__name__, function.__code__.co_varnames[0]
+        defaults = function.__kwdefaults__ or {}
+        # inspect evaluates the defaults, and only in ASCII.
+        shown = {
+            it: str(its) if isinstance(its, Enum) else ascii(its) for it, its in defaults.items()
+        }
+        words = "".join(f", {it}={its}" for it, its in shown.items())
+        signature = f"{name}({first}{words and ', *'}{words})"
+        rows = tuple((it, choices[it], choices[it][value]) for it, value in defaults.items())
+        text = f"{signature}\n--\n\n{function.__doc__}"
+        front = name.strip("_"), function, first, rows, more, text, function.__module__
+        quickly: _Function = _native.make_quick(*front)
+        return quickly
+
+    return wrap
 
 
 def _read(call: Any, text: str, answer: Any, *codes: int) -> int:
@@ -421,21 +437,33 @@ def text_to_figures(*words: Any) -> Tuple[int, str]:
     return _rewritten(library.chinese_text_to_figures, *words)
 
 
+def text_to_speech(data: bytes, *codes: int) -> Tuple[int, str]:
+    """Like quantities_to_figures, as the text is spoken. The codes are those of whether to include the
+    upper case, of the greatest unit, of a method and of a script, and the option."""
+    meant = ctypes.create_string_buffer(len(data) + 1)
+
+    def speak(*words: Any) -> int:
+        status: int = library.chinese_text_to_speech(*words[:-3], meant, len(meant), *words[-3:])
+        return status
+
+    return _rewritten(speak, data, *codes)
+
+
 def utf8(text: str) -> Union[bytes, bytearray]:
     """The UTF-8 of a text, for the searches below."""
     return str.encode(text, "utf-8", "replace")
 
 
-def _some(call: Any, record: Any, make: Any, *words: Any) -> Some:
+def _some(call: Any, record: Any, make: Any, *words: Any, most: int = _AT_ONCE) -> Some:
     """Some of what a call finds; `make` makes each result from a record and the class of the runs."""
     text, data, searched, index, *codes, of = words
-    records, count, made = (record * _AT_ONCE)(), _SIZE(), []
-    status = call(data, len(data), searched, *codes, records, _AT_ONCE, byref(count))
+    records, count, made = (record * most)(), _SIZE(), []
+    status = call(data, len(data), searched, *codes, records, most, byref(count))
     for it in records[: count.value]:
         start = index + len(data[searched : it.start].decode())
         searched, index = it.end, start + len(data[it.start : it.end].decode())
         made.append(make(of, it, start, index, text[start:index]))
-    return status, made, searched if len(made) == _AT_ONCE else len(data), index
+    return status, made, searched if len(made) == most else len(data), index
 
 
 def _run(of: Any, it: Any, *place: Any) -> Any:
@@ -472,6 +500,18 @@ def find_numbers(*words: Any) -> Some:
 def find_quantities(*words: Any) -> Some:
     """Like find_numbers, for expressions."""
     return _some(library.chinese_quantity_find_utf8, _Span, _run, *words)
+
+
+def find_unspoken(text: str, data: Union[bytes, bytearray], *words: Any) -> Some:
+    """Like find_numbers, for the parts that text_to_speech leaves. Each call goes through the whole text,
+    so it finds many at once."""
+    meant = ctypes.create_string_buffer(len(data) + 1)
+
+    def find(*given: Any) -> int:
+        status: int = library.chinese_speech_left(*given[:-3], meant, len(meant), *given[-3:])
+        return status
+
+    return _some(find, _Span, _run, text, bytes(data), *words, most=_AT_ONCE + len(data) // 8)
 
 
 def find_phrases(*words: Any) -> Some:

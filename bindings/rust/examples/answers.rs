@@ -8,12 +8,12 @@ use chinese_number::{
     amount_to_chinese, amount_to_chinese_as, chinese_to_amount, chinese_to_amount_as_typed,
     chinese_to_date, chinese_to_quantity, chinese_to_signed_amount,
     chinese_to_signed_amount_as_typed, date_to_chinese, explain_number, explain_quantity,
-    find_numbers, find_phrases, find_quantities, input_expected, input_message, input_repair,
-    number_message, quantities_to_figures, quantity_message, replace_quantities,
-    signed_amount_to_chinese, text_to_figures, yuan_to_fen, AmountForm, BillDate, ChineseCase,
-    ChineseCountMethod, ChineseToNumber, ChineseVariant, ClockTime, Doubt, Fault, Figures, Found,
-    Hint, Included, Input, Integer, Item, Language, NumberToChinese, Numbers, PartialDate, Phrase,
-    PhraseValue, Quantity, QuantityForm, Repair, Style, Wanted, Way,
+    find_numbers, find_phrases, find_quantities, find_unspoken, input_expected, input_message,
+    input_repair, number_message, quantities_to_figures, quantity_message, replace_quantities,
+    signed_amount_to_chinese, text_to_figures, text_to_speech, yuan_to_fen, AmountForm, BillDate,
+    ChineseCase, ChineseCountMethod, ChineseToNumber, ChineseVariant, ClockTime, Doubt, Fault,
+    Figures, Found, Hint, Included, Input, Integer, Item, Language, NumberToChinese, PartialDate,
+    Phrase, PhraseValue, Quantity, QuantityForm, Repair, Style, Voice, Wanted, Way,
 };
 
 const FORMS: [(&str, QuantityForm); 4] = [
@@ -63,7 +63,7 @@ fn method(way: &str) -> ChineseCountMethod {
 fn variant(script: &str) -> ChineseVariant {
     match script {
         "traditional" => ChineseVariant::Traditional,
-        "simple" => ChineseVariant::Simple,
+        "simple" | "simplified" => ChineseVariant::Simple,
         _ => panic!("no script is named {script}"),
     }
 }
@@ -169,13 +169,17 @@ fn included(words: &str) -> Included {
     Included { about: has("about"), one_character: has("one"), doubtful: has("doubtful") }
 }
 
+fn speak(script: &str, text: &str) -> String {
+    format!("ok {}", text_to_speech(text, Voice { script: variant(script), ..Voice::DEFAULT }))
+}
+
 type ToFigures = fn(&str, Wanted, ChineseCountMethod, Figures) -> String;
 
 fn to_figures(call: ToFigures, words: &str, text: &str) -> String {
     let has = |name| words.split('+').any(|word| word == name);
     let style = if has("expanded") { Style::Expanded } else { Style::Kept };
-    let (canonical, compact) = (has("canonical"), has("compact"));
-    let figures = Figures { included: included(words), style, canonical, compact };
+    let (canonical, compact, codes) = (has("canonical"), has("compact"), has("codes"));
+    let figures = Figures { included: included(words), style, canonical, compact, codes };
     let text = call(text, Wanted::EVERYDAY, ChineseCountMethod::TenThousand, figures);
     format!("ok {text}")
 }
@@ -215,7 +219,11 @@ fn doubt(found: Found<'_>) -> String {
 }
 
 // The text with each of its runs replaced by its description, in brackets.
-fn in_place(text: &str, runs: Numbers<'_>, shown: impl Fn(Found<'_>) -> String) -> String {
+fn in_place<'a>(
+    text: &str,
+    runs: impl IntoIterator<Item = Found<'a>>,
+    shown: impl Fn(Found<'_>) -> String,
+) -> String {
     let (mut done, mut at) = (String::from("ok "), 0);
     for found in runs {
         done.extend([&text[at..found.start()], "[", &shown(found), "]"]);
@@ -256,7 +264,9 @@ fn value(value: PhraseValue) -> String {
             let seconds = duration.as_secs();
             format!("{}:{}:{}", seconds / 3600, seconds / 60 % 60, seconds % 60)
         }
-        PhraseValue::Half(quantity) | PhraseValue::Length(quantity) => ratio(quantity),
+        PhraseValue::Half(quantity) | PhraseValue::Length(quantity) | PhraseValue::Money(quantity) => {
+            ratio(quantity)
+        }
         PhraseValue::Score(first, second) => format!("{first}:{second}"),
         PhraseValue::Range(low, high) => format!("{}..{}", ratio(low), ratio(high)),
         _ => String::from("another"),
@@ -381,6 +391,8 @@ fn answer(line: &str) -> String {
         ["trim_quantity", words] => format!("ok {}", shown(quantity(words).trimmed())),
         ["quantities_to_figures", words, text] => to_figures(quantities_to_figures, words, text),
         ["text_to_figures", words, text] => to_figures(text_to_figures, words, text),
+        ["text_to_speech", script, text] => speak(script, text),
+        ["find_unspoken", text] => in_place(text, find_unspoken(text), |it| it.text.into()),
         ["phrases", text] => phrases(text),
         ["replace_quantities", words, text] => format!("ok {}", to_numerals(words, text)),
         _ => answer_on_refusal(&words),

@@ -8,6 +8,7 @@
 use core::mem::MaybeUninit;
 
 use alloc::string::String;
+use alloc::vec;
 use alloc::vec::Vec;
 
 use crate::codes::{
@@ -28,7 +29,7 @@ const _: () = assert!(MOST_SIGNED_AMOUNT_BYTES < MOST_BYTES);
 pub type Bytes = [MaybeUninit<u8>; MOST_QUANTITY_BYTES];
 
 /// The bits of an integer, sign-extended to 128.
-#[derive(Default)]
+#[derive(Debug, Copy, Clone, Default)]
 #[repr(C)]
 pub struct Number {
     low: u64,
@@ -170,10 +171,6 @@ impl Place for Phrase {
 type Search<T> =
     unsafe extern "C" fn(*const u8, usize, usize, u32, u32, *mut T, usize, *mut usize) -> u32;
 
-// A call that writes a text in figures.
-type ToFigures =
-    unsafe extern "C" fn(*const u8, usize, u32, u32, u32, u32, *mut u8, usize, *mut usize) -> u32;
-
 unsafe extern "C" {
     fn chinese_number_read_utf8(
         text: *const u8,
@@ -246,6 +243,58 @@ unsafe extern "C" {
         room: *mut u8,
         room_length: usize,
         length: *mut usize,
+    ) -> u32;
+
+    fn chinese_wide_numbers_print_column(
+        values: *const Number,
+        values_length: usize,
+        bitmap: *const u8,
+        bitmap_length: usize,
+        first: usize,
+        kind: u32,
+        way: u32,
+        script: u32,
+        letter_case: u32,
+        offsets: *mut u64,
+        offsets_length: usize,
+        room: *mut u8,
+        room_length: usize,
+        statuses: *mut u32,
+        statuses_length: usize,
+        done: *mut usize,
+    ) -> u32;
+
+    fn chinese_amounts_print_column(
+        values: *const i64,
+        values_length: usize,
+        bitmap: *const u8,
+        bitmap_length: usize,
+        first: usize,
+        script: u32,
+        form: u32,
+        offsets: *mut u64,
+        offsets_length: usize,
+        room: *mut u8,
+        room_length: usize,
+        statuses: *mut u32,
+        statuses_length: usize,
+        done: *mut usize,
+    ) -> u32;
+
+    fn chinese_dates_print_column(
+        values: *const Date,
+        values_length: usize,
+        bitmap: *const u8,
+        bitmap_length: usize,
+        first: usize,
+        script: u32,
+        offsets: *mut u64,
+        offsets_length: usize,
+        room: *mut u8,
+        room_length: usize,
+        statuses: *mut u32,
+        statuses_length: usize,
+        done: *mut usize,
     ) -> u32;
 
     fn chinese_number_find_utf8(
@@ -336,6 +385,34 @@ unsafe extern "C" {
         room: *mut u8,
         room_length: usize,
         length: *mut usize,
+    ) -> u32;
+
+    fn chinese_text_to_speech(
+        text: *const u8,
+        text_length: usize,
+        upper: u32,
+        greatest: u32,
+        method: u32,
+        script: u32,
+        options: u32,
+        meant: *mut u8,
+        meant_length: usize,
+        room: *mut u8,
+        room_length: usize,
+        length: *mut usize,
+    ) -> u32;
+
+    fn chinese_speech_left(
+        text: *const u8,
+        text_length: usize,
+        from: usize,
+        upper: u32,
+        greatest: u32,
+        meant: *mut u8,
+        meant_length: usize,
+        spans: *mut Span,
+        most: usize,
+        count: *mut usize,
     ) -> u32;
 
     fn chinese_input_expected(
@@ -668,36 +745,82 @@ pub fn quantities_to_figures(
     method: Way,
     options: u32,
 ) -> String {
-    // SAFETY: it is a call of the library.
-    unsafe { in_figures(chinese_quantities_to_figures, text, wanted, method, options) }
+    let (upper, greatest, method) = (u32::from(wanted.0), wanted.1 as u32, method as u32);
+    let (start, end) = (text.as_ptr(), text.len());
+    // SAFETY: it is a call of the library, for a text and a buffer that `rewritten` gives it.
+    unsafe {
+        rewritten(end, |room, most, length| {
+            chinese_quantities_to_figures(
+                start, end, upper, greatest, method, options, room, most, length,
+            )
+        })
+    }
 }
 
 /// Rewrites the phrases and the quantities of a text in figures, with these options.
 pub fn text_to_figures(text: &str, wanted: (bool, Unit), method: Way, options: u32) -> String {
-    // SAFETY: it is a call of the library.
-    unsafe { in_figures(chinese_text_to_figures, text, wanted, method, options) }
+    let (upper, greatest, method) = (u32::from(wanted.0), wanted.1 as u32, method as u32);
+    let (start, end) = (text.as_ptr(), text.len());
+    // SAFETY: as for quantities.
+    unsafe {
+        rewritten(end, |room, most, length| {
+            chinese_text_to_figures(
+                start, end, upper, greatest, method, options, room, most, length,
+            )
+        })
+    }
 }
 
-// Rewrites a text in figures with a call.
-//
-// SAFETY: the call must be one of this library's.
-unsafe fn in_figures(
-    call: ToFigures,
-    text: &str,
-    (upper, greatest): (bool, Unit),
-    method: Way,
-    options: u32,
-) -> String {
-    let (upper, greatest, method) = (u32::from(upper), greatest as u32, method as u32);
+/// Rewrites a text as it is spoken, with these options.
+pub fn text_to_speech(text: &str, method: Way, script: ChineseVariant, options: u32) -> String {
+    let (greatest, method, script) = (Unit::Zhao as u32, method as u32, script as u32);
     let (start, end) = (text.as_ptr(), text.len());
-    let mut bytes: Vec<u8> = Vec::with_capacity(end);
+    let mut work = vec![0; end];
+    let meant = work.as_mut_ptr();
+    // SAFETY: as for quantities; the other buffer is the vector's own, has as many bytes as the text,
+    // and overlaps nothing else.
+    unsafe {
+        rewritten(end, |room, most, length| {
+            chinese_text_to_speech(
+                start, end, 0, greatest, method, script, options, meant, end, room, most, length,
+            )
+        })
+    }
+}
+
+/// All parts with figures that speech leaves. Each call goes through the whole text, so each one finds
+/// twice as many as the one before.
+pub fn find_unspoken(text: &str) -> Vec<Span> {
+    let (start, end) = (text.as_ptr(), text.len());
+    let (mut work, mut all, mut most) = (vec![0; end], Vec::new(), 32);
+    loop {
+        let from = all.last().map_or(0, |span: &Span| span.end);
+        let mut spans = vec![Span::default(); most];
+        let (meant, places) = (work.as_mut_ptr(), spans.as_mut_ptr());
+        // SAFETY: as for a number; the buffer has as many bytes as the text, the spans are those of one
+        // vector, and neither they nor the count overlap anything else.
+        let (count, _) = answered(|count| unsafe {
+            let greatest = Unit::Zhao as u32;
+            chinese_speech_left(start, end, from, 0, greatest, meant, end, places, most, count)
+        });
+        all.extend_from_slice(&spans[..count]);
+        if count < most {
+            return all;
+        }
+        most *= 2;
+    }
+}
+
+// The text that a call writes into a buffer, which is larger if it asks for that.
+//
+// SAFETY: the call must be one of this library's that writes a text into the buffer that it is given.
+unsafe fn rewritten(capacity: usize, call: impl Fn(*mut u8, usize, *mut usize) -> u32) -> String {
+    let mut bytes: Vec<u8> = Vec::with_capacity(capacity);
     loop {
         let (room, most) = (bytes.as_mut_ptr(), bytes.capacity());
-        // SAFETY: as for a number; the buffer is the vector's own and has this capacity; the
-        // library writes to it and does not read it; and the length overlaps nothing else.
-        let (length, status) = answered(|length| unsafe {
-            call(start, end, upper, greatest, method, options, room, most, length)
-        });
+        // The buffer is the vector's own and has this capacity; the library writes to it and does not
+        // read it; and the length overlaps nothing else.
+        let (length, status) = answered(|length| call(room, most, length));
         if status == status::DONE {
             debug_assert!(length <= most);
             // SAFETY: at `DONE` the library has written this many bytes at the start of the buffer,
@@ -829,6 +952,162 @@ pub fn print_date(room: &mut Bytes, script: ChineseVariant, date: BillDate) -> R
     unsafe {
         printed(room, |room, length| {
             chinese_date_print(year, month, day, script as u32, room, MOST_DATE_BYTES, length)
+        })
+    }
+}
+
+/// The texts of rows, one after another: that of row i begins at offset i and ends at offset i + 1.
+#[derive(Debug, Clone)]
+pub struct Texts {
+    pub text: String,
+    pub offsets: Vec<u64>,
+    pub statuses: Vec<u32>,
+}
+
+// How many rows a call prints: so few that the memory for their longest texts is small.
+const ROWS: usize = 256;
+
+// The arrays of a call that prints rows: their texts go on at the first offset.
+struct Printing {
+    offsets: *mut u64,
+    room: *mut u8,
+    room_length: usize,
+    statuses: *mut u32,
+    done: *mut usize,
+}
+
+impl Texts {
+    // SAFETY: the call gets the rows of a piece, as many statuses, one offset more, and room for as
+    // many bytes as `most` for each row, none of which overlaps anything else. It may write to these
+    // until it returns. It must have written all offsets, all statuses, and, up to the last offset,
+    // the texts in UTF-8.
+    #[allow(clippy::cast_possible_truncation, reason = "the offset is within the buffer")]
+    unsafe fn print<V, R>(
+        values: &[V],
+        most: usize,
+        row: impl Fn(&V) -> R,
+        call: impl Fn(&[R], &Printing) -> u32,
+    ) -> Self {
+        let mut bytes = Vec::new();
+        let mut offsets = alloc::vec![0; values.len() + 1];
+        let mut statuses = alloc::vec![0; values.len()];
+        let mut rows = Vec::with_capacity(values.len().min(ROWS));
+        for (piece, values) in values.chunks(ROWS).enumerate() {
+            rows.clear();
+            rows.extend(values.iter().map(&row));
+            bytes.reserve(most * rows.len());
+            let (first, mut done) = (piece * ROWS, 0);
+            let status = call(
+                &rows,
+                &Printing {
+                    offsets: offsets[first..].as_mut_ptr(),
+                    room: bytes.as_mut_ptr(),
+                    room_length: bytes.capacity(),
+                    statuses: statuses[first..].as_mut_ptr(),
+                    done: &raw mut done,
+                },
+            );
+            assert!(status == status::DONE && done == rows.len(), "the codes are the library's");
+            bytes.set_len(offsets[first + done] as usize);
+        }
+        Self { text: String::from_utf8_unchecked(bytes), offsets, statuses }
+    }
+}
+
+/// The texts of numbers.
+pub fn print_numbers<T: Whole>(
+    script: ChineseVariant,
+    case: ChineseCase,
+    way: Way,
+    values: &[T],
+) -> Texts {
+    let (kind, way, script, case) = (T::KIND as u32, way as u32, script as u32, case as u32);
+    // SAFETY: the declaration is that of the header. The library writes to the buffer, and does not
+    // read it. No text of a number has more bytes. An empty bitmap is not read.
+    unsafe {
+        Texts::print(
+            values,
+            MOST_BYTES,
+            |value| value.number(),
+            |rows, to| {
+                let (count, none) = (rows.len(), [].as_ptr());
+                chinese_wide_numbers_print_column(
+                    rows.as_ptr(),
+                    count,
+                    none,
+                    0,
+                    0,
+                    kind,
+                    way,
+                    script,
+                    case,
+                    to.offsets,
+                    count + 1,
+                    to.room,
+                    to.room_length,
+                    to.statuses,
+                    count,
+                    to.done,
+                )
+            },
+        )
+    }
+}
+
+/// The texts of amounts, possibly negative.
+pub fn print_amounts(script: ChineseVariant, form: u32, fen: &[i64]) -> Texts {
+    // SAFETY: as for numbers; and no text of an amount has more bytes.
+    unsafe {
+        Texts::print(
+            fen,
+            MOST_SIGNED_AMOUNT_BYTES,
+            |fen| *fen,
+            |rows, to| {
+                let (count, none) = (rows.len(), [].as_ptr());
+                chinese_amounts_print_column(
+                    rows.as_ptr(),
+                    count,
+                    none,
+                    0,
+                    0,
+                    script as u32,
+                    form,
+                    to.offsets,
+                    count + 1,
+                    to.room,
+                    to.room_length,
+                    to.statuses,
+                    count,
+                    to.done,
+                )
+            },
+        )
+    }
+}
+
+/// The texts of dates.
+pub fn print_dates(script: ChineseVariant, dates: &[BillDate]) -> Texts {
+    let row =
+        |it: &BillDate| Date { year: it.year.into(), month: it.month.into(), day: it.day.into() };
+    // SAFETY: as for numbers; and no text of a date has more bytes.
+    unsafe {
+        Texts::print(dates, MOST_DATE_BYTES, row, |rows, to| {
+            let (count, none) = (rows.len(), [].as_ptr());
+            chinese_dates_print_column(
+                rows.as_ptr(),
+                count,
+                none,
+                0,
+                0,
+                script as u32,
+                to.offsets,
+                count + 1,
+                to.room,
+                to.room_length,
+                to.statuses,
+                count,
+                to.done,
+            )
         })
     }
 }

@@ -153,7 +153,8 @@ pub enum Doubt {
     Digits = 2,
     /// It is part of a term: 负二 of 负二项, 十六 of 十六进制.
     Term = 3,
-    /// It is part of an expression with 折, 成, 半 or 分之几: 八五 of 八五折, 一 of 一个半.
+    /// It is part of an expression with 折, 成, 半 or 分之几: 八五 of 八五折, 一 of 一个半; or its last 一
+    /// begins the next word: 两百一 of 两百一个月.
     Part = 4,
     /// It may be a time: 三点五 of 下午三点五, 十点零五.
     Time = 5,
@@ -189,6 +190,9 @@ pub enum PhraseKind {
     Score = 9,
     /// From a quantity to another one.
     Range = 10,
+    /// A sum of money, as 三块五: the fen by their lower and their upper 32 bits, and 1; all 0 if
+    /// they are no whole number below 10^18.
+    Money = 11,
 }
 
 /// What is known of a phrase.
@@ -261,9 +265,9 @@ impl Doubt {
 impl PhraseKind {
     /// All members, to find one by its code.
     #[rustfmt::skip]
-    pub(crate) const ALL: [Self; 11] = [
+    pub(crate) const ALL: [Self; 12] = [
         Self::Expression, Self::Date, Self::Years, Self::Months, Self::Days, Self::Time,
-        Self::Duration, Self::Half, Self::Length, Self::Score, Self::Range,
+        Self::Duration, Self::Half, Self::Length, Self::Score, Self::Range, Self::Money,
     ];
 }
 
@@ -308,6 +312,12 @@ pub mod option {
     pub const EXPANDED: u32 = 32;
     pub const CANONICAL: u32 = 64;
     pub const COMPACT: u32 = 128;
+    pub const CODES: u32 = 256;
+}
+
+/// The option for speaking a text: 0, or this.
+pub mod speech_option {
+    pub const YAO: u32 = 1;
 }
 
 /// What is changed in a text to repair it.

@@ -58,6 +58,8 @@ pub enum PhraseValue {
     Score(u32, u32),
     /// From a quantity to another one.
     Range(Quantity, Quantity),
+    /// A sum of money, in yuan: 350/100 for 三块五.
+    Money(Quantity),
 }
 
 /// A phrase in its text.
@@ -73,7 +75,8 @@ pub struct Phrase<'a> {
     pub kind: PhraseKind,
     /// What is known of it.
     pub state: PhraseState,
-    /// What it means, or `None` if it is refused, as 二月三十日 is.
+    /// What it means, or `None` if it is refused, as 二月三十日 is, or a sum of money that is no whole number of
+    /// fen below 10^18.
     pub value: Option<PhraseValue>,
 }
 
@@ -166,6 +169,14 @@ fn decimal(whole: u32, decimals: u32, places: u32) -> Option<Quantity> {
     Quantity::decimal(numerator, places)
 }
 
+// A sum of money, if its fen are known.
+#[inline]
+fn money(read: &abi::Phrase) -> Option<PhraseValue> {
+    let fen = (i128::from(read.second) << 32) + i128::from(read.first);
+    let yuan = if read.third == 1 { Quantity::decimal(fen, 2) } else { None };
+    yuan.map(PhraseValue::Money)
+}
+
 // The ends of a range; its link is one character.
 #[inline]
 fn range(text: &str, split: usize) -> Option<PhraseValue> {
@@ -191,6 +202,7 @@ fn value(read: &abi::Phrase, kind: PhraseKind, text: &str) -> Option<PhraseValue
         PhraseKind::Length => decimal(first, second, read.third).map(PhraseValue::Length),
         PhraseKind::Score => Some(PhraseValue::Score(first, second)),
         PhraseKind::Range => range(text, read.split),
+        PhraseKind::Money => money(read),
     }
 }
 
@@ -202,7 +214,7 @@ pub struct Phrases<'a> {
 }
 
 /// Finds the phrases of a text, in order, and the expressions that are in no phrase: dates, times of
-/// day, durations, ranges, scores, halves and lengths.
+/// day, durations, ranges, scores, halves, lengths and sums of money.
 ///
 /// ```rust
 /// use chinese_number::{find_phrases, PhraseKind, PhraseValue, Quantity, Wanted};

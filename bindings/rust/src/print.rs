@@ -7,6 +7,7 @@ use alloc::string::String;
 
 use crate::abi;
 use crate::codes::{form, status, text, MOST_QUANTITY_BYTES};
+use crate::columns::Refusal;
 use crate::{
     BillDate, ChineseCase, ChineseCountMethod, ChineseVariant, Integer, Language, Quantity, Way,
 };
@@ -480,7 +481,7 @@ impl AmountForm {
         Self { currency: false, round_yuan: false, upright_closing: false, bracketed_sign: false };
 
     #[inline]
-    fn code(self) -> u32 {
+    pub(crate) fn code(self) -> u32 {
         u32::from(self.currency) * form::CURRENCY
             + u32::from(self.round_yuan) * form::ROUND_YUAN
             + u32::from(self.upright_closing) * form::UPRIGHT_CLOSING
@@ -615,7 +616,7 @@ pub fn date_to_chinese(
 macro_rules! errors {
     ($($error:ident: $($variant:ident $status:ident),+;)+) => {
         $(
-            impl $error {
+            impl Refusal for $error {
                 #[inline]
                 fn of(status: u32) -> Self {
                     match status {
@@ -623,7 +624,9 @@ macro_rules! errors {
                         _ => unreachable!("the codes and the values are valid"),
                     }
                 }
+            }
 
+            impl $error {
                 /// Writes what the error means, in a language, for the person whose value is refused.
                 /// The text of the error itself stays in English.
                 #[must_use]

@@ -1,10 +1,12 @@
-//! Replaces the quantities of running text, and rewrites it in figures.
+//! Replaces the quantities of running text, and rewrites it in figures or as it is spoken.
 
 use alloc::string::String;
+use alloc::vec::Vec;
 
 use crate::abi;
-use crate::codes::{flag, option};
-use crate::{find_quantities, ChineseCountMethod, Doubt, Found, Wanted};
+use crate::codes::{flag, option, speech_option};
+use crate::find::split_at_place;
+use crate::{find_quantities, ChineseCountMethod, ChineseVariant, Doubt, Found, Wanted};
 
 /// Which quantities of a text are replaced that otherwise stay.
 #[derive(Debug, Default, Copy, Clone, Eq, PartialEq, Hash)]
@@ -60,15 +62,22 @@ pub struct Figures {
     pub style: Style,
     /// Whether what is only figures is rewritten in ASCII, without commas and leading zeros.
     pub canonical: bool,
-    /// Whether [`text_to_figures`] writes dates, times and halves as short as possible: 2026-01-05,
-    /// 15:30, 1.5小时.
+    /// Whether [`text_to_figures`] writes dates, times, halves and sums of money as short as possible:
+    /// 2026-01-05, 15:30, 1.5小时, 3.5元.
     pub compact: bool,
+    /// Whether [`text_to_figures`] also writes codes, such as telephone numbers: 打幺幺零 becomes 打110.
+    pub codes: bool,
 }
 
 impl Figures {
     /// Great units, figures and doubtful quantities stay.
-    pub const DEFAULT: Self =
-        Self { included: Included::NONE, style: Style::Kept, canonical: false, compact: false };
+    pub const DEFAULT: Self = Self {
+        included: Included::NONE,
+        style: Style::Kept,
+        canonical: false,
+        compact: false,
+        codes: false,
+    };
 
     #[inline]
     fn options(self) -> u32 {
@@ -76,6 +85,7 @@ impl Figures {
             + u32::from(self.style == Style::Expanded) * option::EXPANDED
             + u32::from(self.canonical) * option::CANONICAL
             + u32::from(self.compact) * option::COMPACT
+            + u32::from(self.codes) * option::CODES
     }
 }
 
@@ -143,7 +153,7 @@ pub fn quantities_to_figures(
 }
 
 /// Rewrites a text in figures, as an editor does, with its dates, times, durations, ranges, scores,
-/// lengths and quantities. The words of a phrase stay.
+/// lengths, sums of money and quantities. The words of a phrase stay.
 ///
 /// These stay too: what [`quantities_to_figures`] does not rewrite; phrases that are refused, such as
 /// 二月三十日; and doubtful phrases, and halves after one character, such as 一个半小时, unless they are
@@ -166,4 +176,65 @@ pub fn text_to_figures(
 ) -> String {
     let Wanted { upper, greatest } = wanted;
     abi::text_to_figures(text, (upper, greatest), method.into(), figures.options())
+}
+
+/// How a text is spoken.
+#[derive(Debug, Copy, Clone, Eq, PartialEq, Hash)]
+pub struct Voice {
+    /// The script of the new characters.
+    pub script: ChineseVariant,
+    /// How large numbers are written.
+    pub method: ChineseCountMethod,
+    /// Whether 1 is 幺 in codes, such as telephone numbers; otherwise it is 一.
+    pub yao: bool,
+}
+
+impl Voice {
+    /// In simplified script, with 一 for 1.
+    pub const DEFAULT: Self = Self {
+        script: ChineseVariant::Simple,
+        method: ChineseCountMethod::TenThousand,
+        yao: false,
+    };
+}
+
+impl Default for Voice {
+    fn default() -> Self {
+        Self::DEFAULT
+    }
+}
+
+/// Rewrites a text as it is spoken: its figures, signs and measures in Chinese characters. The rest of
+/// the text stays, and so does what no rule covers, such as x86, whose 86 [`find_unspoken`] finds.
+///
+/// ```rust
+/// use chinese_number::{text_to_speech, Voice};
+///
+/// let new = text_to_speech("2026年1月5日15:30，共2.5kg", Voice::DEFAULT);
+/// assert_eq!(new, "二零二六年一月五日十五点三十分，共二点五千克");
+/// let new = text_to_speech("请拨打110", Voice { yao: true, ..Voice::DEFAULT });
+/// assert_eq!(new, "请拨打幺幺零");
+/// ```
+#[must_use]
+pub fn text_to_speech(text: &str, voice: Voice) -> String {
+    let Voice { script, method, yao } = voice;
+    abi::text_to_speech(text, method.into(), script, u32::from(yao) * speech_option::YAO)
+}
+
+/// Finds the parts with figures that [`text_to_speech`] leaves as they are, in order. Not all of them
+/// are quantities.
+///
+/// ```rust
+/// use chinese_number::find_unspoken;
+///
+/// let left: Vec<&str> = find_unspoken("共3人，x86，2026.1.15").iter().map(|it| it.text).collect();
+/// assert_eq!(left, ["86", "2026.1.15"]);
+/// ```
+#[must_use]
+pub fn find_unspoken(text: &str) -> Vec<Found<'_>> {
+    let found = |abi::Span { start, end, flags }| {
+        let (before, text, after) = split_at_place(text, start, end);
+        Found { before, text, after, flags }
+    };
+    abi::find_unspoken(text).into_iter().map(found).collect()
 }

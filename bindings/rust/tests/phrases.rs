@@ -55,6 +55,9 @@ fn values_of_numbers() {
     assert_eq!(value("一个半小时"), Some(PhraseValue::Half(decimal(15, 1))));
     assert_eq!(value("一米七五"), Some(PhraseValue::Length(decimal(175, 2))));
     assert_eq!(value("一米七"), Some(PhraseValue::Length(decimal(17, 1))));
+    assert_eq!(value("三块五毛二"), Some(PhraseValue::Money(decimal(352, 2))));
+    assert_eq!(value("五十亿元"), Some(PhraseValue::Money(decimal(500_000_000_000, 2))));
+    assert_eq!(value("3.555元"), None);
     for text in ["三到五万元", "3~5万元"] {
         let range = PhraseValue::Range(decimal(30_000, 0), decimal(50_000, 0));
         assert_eq!(value(text), Some(range), "{text}");
@@ -101,6 +104,8 @@ fn in_figures() {
     assert_eq!(write("一个半小时", one), "1个半小时");
     let compact = Figures { compact: true, ..Figures::DEFAULT };
     assert_eq!(write("二零二六年一月五日下午三点半", compact), "2026-01-05 15:30");
+    let codes = Figures { codes: true, ..Figures::DEFAULT };
+    assert_eq!(write("打幺幺零", codes), "打110");
     let included = Included { doubtful: true, ..Included::NONE };
     let doubtful = Figures { included, ..Figures::DEFAULT };
     assert_eq!(write("五到八折", doubtful), "5到8折");

@@ -60,7 +60,6 @@ fn way_of(column: usize) -> Figures {
         },
         3 => Figures {
             canonical: true,
-            compact: false,
             ..plain
         },
         _ => Figures { included, ..plain },

@@ -1,4 +1,5 @@
 pub mod AmountReadBack
+pub mod ColumnRows
 pub mod DateReadBack
 pub mod EitherBack
 pub mod FiguresReadBack

@@ -15,6 +15,8 @@ use Rattle.cn_message.specs.declared.input.Input.{Input}
 use Rattle.cn_message.specs.declared.input.Input.TheVariants.{Amount, SignedAmount, TypedAmount, TypedSignedAmount, Date, Figures}
 use Rattle.cn_message.specs.declared.language.Language.{Language}
 use Rattle.cn_message.specs.declared.language.Language.TheVariants.{English, Simplified, Traditional}
+use Rattle.cn_speech.specs.declared.voice.One.{One}
+use Rattle.cn_speech.specs.declared.voice.One.TheVariants.{Yi, Yao}
 use Rattle.cn_c.specs.declared.codes.NamedWay.{NamedWay}
 use Rattle.cn_c.specs.declared.codes.NamedWay.TheVariants.{By, Either}
 use Rattle.cn_dynamic.specs.declared.Way.{Way}
@@ -135,6 +137,17 @@ CN_CANONICAL = 64
 abbrev pub CN_COMPACT : ℕ
 CN_COMPACT = 128
 
+abbrev pub CN_CODES : ℕ
+CN_CODES = 256
+
+-- the option of the call that speaks a text
+abbrev pub CN_YAO : ℕ
+CN_YAO = 1
+
+-- the words for 1 in a code, by the options
+abbrev pub ones : List One
+ones = Yi ∷ Yao ∷ []
+
 -- the codes of doubts
 abbrev pub CN_NO_DOUBT : ℕ
 CN_NO_DOUBT = 0
@@ -191,6 +204,9 @@ CN_PHRASE_KIND_SCORE = 9
 abbrev pub CN_PHRASE_KIND_RANGE : ℕ
 CN_PHRASE_KIND_RANGE = 10
 
+abbrev pub CN_PHRASE_KIND_MONEY : ℕ
+CN_PHRASE_KIND_MONEY = 11
+
 -- what is known of a phrase
 abbrev pub CN_PHRASE_STATE_CERTAIN : ℕ
 CN_PHRASE_STATE_CERTAIN = 0
@@ -244,6 +260,10 @@ CN_UNKNOWN = 8
 -- the text is not an amount or a date, but something after it can make it one
 abbrev pub CN_UNFINISHED : ℕ
 CN_UNFINISHED = 9
+
+-- a row of a column is missing
+abbrev pub CN_NONE : ℕ
+CN_NONE = 10
 
 -- there is no such date
 abbrev pub CN_NOT_A_DATE : ℕ

@@ -16,7 +16,7 @@ use Rattle.cn_phrase.specs.Items.{items_left}
 use Rattle.cn_phrase.specs.Ranges.{range_of}
 use Rattle.cn_c.specs.declared.phrases.Phrase.{Phrase}
 use Rattle.cn_c.specs.declared.quantity.Quantity.{Quantity}
-use Rattle.cn_c.specs.Codes.{units, uppers, CN_PHRASE_KIND_EXPRESSION, CN_PHRASE_KIND_DATE, CN_PHRASE_KIND_YEARS, CN_PHRASE_KIND_MONTHS, CN_PHRASE_KIND_DAYS, CN_PHRASE_KIND_TIME, CN_PHRASE_KIND_DURATION, CN_PHRASE_KIND_HALF, CN_PHRASE_KIND_LENGTH, CN_PHRASE_KIND_SCORE, CN_PHRASE_KIND_RANGE, CN_PHRASE_STATE_CERTAIN, CN_PHRASE_STATE_DOUBTFUL, CN_PHRASE_STATE_REFUSED, CN_DONE, CN_INCORRECT, CN_NOT_UTF8, CN_UNKNOWN}
+use Rattle.cn_c.specs.Codes.{units, uppers, CN_PHRASE_KIND_EXPRESSION, CN_PHRASE_KIND_DATE, CN_PHRASE_KIND_YEARS, CN_PHRASE_KIND_MONTHS, CN_PHRASE_KIND_DAYS, CN_PHRASE_KIND_TIME, CN_PHRASE_KIND_DURATION, CN_PHRASE_KIND_HALF, CN_PHRASE_KIND_LENGTH, CN_PHRASE_KIND_SCORE, CN_PHRASE_KIND_RANGE, CN_PHRASE_KIND_MONEY, CN_PHRASE_STATE_CERTAIN, CN_PHRASE_STATE_DOUBTFUL, CN_PHRASE_STATE_REFUSED, CN_DONE, CN_INCORRECT, CN_NOT_UTF8, CN_UNKNOWN}
 use Rattle.cn_c.specs.Finds.{Fills, doubt_code, flags_told, wanted_of}
 use Rattle.cn_c.specs.Quantities.{IsTold, no_quantity}
 
@@ -33,6 +33,7 @@ kind_code kind.Half = CN_PHRASE_KIND_HALF
 kind_code kind.Length = CN_PHRASE_KIND_LENGTH
 kind_code kind.Score = CN_PHRASE_KIND_SCORE
 kind_code kind.Range = CN_PHRASE_KIND_RANGE
+kind_code kind.Money = CN_PHRASE_KIND_MONEY
 
 -- the code of a state
 abbrev pub state_code : PhraseState → ℕ

@@ -8,7 +8,7 @@ use Rattle.cn_replace.specs.declared.options.Figures.{Figures}
 use Rattle.cn_replace.specs.declared.options.Style.{Style}
 use Rattle.cn_replace.specs.declared.options.Style.TheVariants.{Kept, Expanded}
 use Rattle.cn_find.specs.declared.wanted.Wanted.{Wanted}
-use Rattle.cn_c.specs.Codes.{has_flag, named_ways, units, uppers, CN_ABOUT, CN_CANONICAL, CN_COMPACT, CN_DOUBTFUL, CN_EXPANDED, CN_ONE_CHARACTER, CN_DONE, CN_NO_ROOM, CN_NOT_UTF8, CN_UNKNOWN}
+use Rattle.cn_c.specs.Codes.{has_flag, named_ways, units, uppers, CN_ABOUT, CN_CANONICAL, CN_CODES, CN_COMPACT, CN_DOUBTFUL, CN_EXPANDED, CN_ONE_CHARACTER, CN_DONE, CN_NO_ROOM, CN_NOT_UTF8, CN_UNKNOWN}
 use Rattle.cn_c.specs.Prints.{PutsNothing}
 use Rattle.cn_c.specs.Quantities.{method_of}
 
@@ -16,10 +16,10 @@ use Rattle.cn_c.specs.Quantities.{method_of}
 abbrev pub style_of : ℕ → Style
 style_of flags = if has_flag flags CN_EXPANDED then Expanded else Kept
 
--- how quantities are written in figures, given a sum of any of six flags
+-- how quantities are written in figures, given a sum of any of seven flags
 abbrev pub figures_of : ℕ → Option Figures
 figures_of flags =
-    if flags % 4 == 0 && nat_lt flags 256 then Some (record {
+    if flags % 4 == 0 && nat_lt flags 512 then Some (record {
       included = record {
         about = has_flag flags CN_ABOUT;
         one_character = has_flag flags CN_ONE_CHARACTER;
@@ -28,6 +28,7 @@ figures_of flags =
       style = style_of flags;
       canonical = has_flag flags CN_CANONICAL;
       compact = has_flag flags CN_COMPACT;
+      codes = has_flag flags CN_CODES;
     }) else None
 
 -- the length of a text is written, at most 2^64 - 1, and the text is written at the start of the

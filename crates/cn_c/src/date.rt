@@ -24,7 +24,8 @@ pub struct Date {
     pub byte_index: usize,
 }
 
-const NOTHING: Date = Date {
+/// The result if no date was read.
+pub const NOTHING: Date = Date {
     year: 0,
     month: 0,
     day: 0,
@@ -32,8 +33,8 @@ const NOTHING: Date = Date {
     byte_index: 0,
 };
 
-// The date with these numbers; `None` if there is no such date.
-fn date_of(year: u32, month: u32, day: u32) -> Option<BillDate>
+/// The date with these numbers; `None` if there is no such date.
+pub fn date_of(year: u32, month: u32, day: u32) -> Option<BillDate>
     ensures { MatchOption result (¬ IsDate (date year month day))
         (λ found. (found ≡ date year month day) × IsDate found) }
 {

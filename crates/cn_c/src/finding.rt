@@ -24,9 +24,9 @@ pub struct Span {
     pub flags: u32,
 }
 
-// A run as C gets it. As a call, this takes some 25 instructions more for each run.
+/// A run as C gets it. As a call, this takes some 25 instructions more for each run.
 #[inline(always)]
-fn span_of_found<R: SearchRule>(found: Found<'_>) -> Span
+pub fn span_of_found<R: SearchRule>(found: Found<'_>) -> Span
     ensures { result ≡ span_told R.doubt (span_of found.entry) }
 {
     Span {
@@ -67,8 +67,8 @@ fn tell<R: SearchRule>(runs: Option<Numbers<'_, R>>, spans: &mut [Span], count: 
     DONE
 }
 
-// The characters that a search looks for, by two codes; `None` if a code names nothing.
-fn wanted_of(upper: u32, greatest: u32) -> Option<Wanted>
+/// The characters that a search looks for, by two codes; `None` if a code names nothing.
+pub fn wanted_of(upper: u32, greatest: u32) -> Option<Wanted>
     ensures { result ≡ wanted_of (slice_get uppers upper) (slice_get units greatest) }
 {
     let upper = upper_of(upper)?;

@@ -77,6 +77,9 @@ pub const CANONICAL: u32 = 64;
 /// An option: phrases are written in their shortest form.
 pub const COMPACT: u32 = 128;
 
+/// An option: codes, such as telephone numbers, are written in figures.
+pub const CODES: u32 = 256;
+
 /// Whether a flag is among these flags.
 pub fn has_flag(flags: u32, flag: u32) -> bool
     requires { 0 < flag }
@@ -96,12 +99,12 @@ fn style_of(flags: u32) -> Style
     }
 }
 
-/// How the quantities of a text are written in figures, given a sum of any of six flags; `None` if
+/// How the quantities of a text are written in figures, given a sum of any of seven flags; `None` if
 /// it is not such a sum.
 pub fn figures_of(flags: u32) -> Option<Figures>
     ensures { result ≡ figures_of flags }
 {
-    if flags % 4 != 0 || flags >= 256 {
+    if flags % 4 != 0 || flags >= 512 {
         return None;
     }
     Some(Figures {
@@ -113,5 +116,6 @@ pub fn figures_of(flags: u32) -> Option<Figures>
         style: style_of(flags),
         canonical: has_flag(flags, CANONICAL),
         compact: has_flag(flags, COMPACT),
+        codes: has_flag(flags, CODES),
     })
 }

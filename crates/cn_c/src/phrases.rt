@@ -55,6 +55,7 @@ fn kind_code(kind: PhraseKind) -> u32
         PhraseKind::Length => 8,
         PhraseKind::Score => 9,
         PhraseKind::Range => 10,
+        PhraseKind::Money => 11,
     }
 }
 

@@ -18,8 +18,8 @@ pub struct Style {
     pub case: ChineseCase,
 }
 
-// The way in which a magnitude is written.
-fn way_written(way: NamedWay, script: ChineseVariant, magnitude: u128) -> Way
+/// The way in which a magnitude is written.
+pub fn way_written(way: NamedWay, script: ChineseVariant, magnitude: u128) -> Way
     ensures { result ≡ way_written way script magnitude }
 {
     match way {

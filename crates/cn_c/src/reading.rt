@@ -26,7 +26,8 @@ pub struct Reading {
     pub byte_index: usize,
 }
 
-const NOTHING: Reading = Reading {
+/// The result if no number was read.
+pub const NOTHING: Reading = Reading {
     number: Number { low: 0, high: 0 },
     char_index: 0,
     byte_index: 0,

@@ -1,6 +1,6 @@
 // Writes a text with its quantities, or also its phrases, in figures.
 ghost use Rattle.cn_replace.specs.InFigures.{in_figures};
-ghost use Rattle.cn_phrase.specs.InText.{text_in_figures};
+ghost use Rattle.cn_codes.specs.CodesInText.{text_as_chosen};
 ghost use Rattle.cn_c.specs.Replaces.{IsReplaced};
 
 use crate::codes::{unit_of, upper_of};
@@ -8,8 +8,8 @@ use crate::flags::figures_of;
 use crate::quantity::method_of;
 use crate::status::{DONE, NO_ROOM, NOT_UTF8, UNKNOWN};
 use chinese_number::Wanted;
+use cn_codes::put_text_in_figures;
 use cn_dynamic::utf8_text;
-use cn_phrase::put_text_in_figures;
 use cn_replace::put_quantities_in_figures;
 
 /// Writes a text, with its quantities in figures, into the caller's buffer, `room`. By default
@@ -50,7 +50,7 @@ pub extern "C" fn chinese_quantities_to_figures(
 /// Writes a text, with its dates, times, durations, ranges and quantities in figures, into the caller's
 /// buffer, `room`, in the same way as `chinese_quantities_to_figures` writes its quantities. The flags of
 /// `included` apply to phrases too, where doubtful phrases and halves after one character stay as they
-/// are by default.
+/// are by default. With CODES codes are written too.
 #[unsafe(no_mangle)]
 pub extern "C" fn chinese_text_to_figures(
     text: &[u8],
@@ -61,7 +61,7 @@ pub extern "C" fn chinese_text_to_figures(
     room: &mut [u8],
     len: &mut usize,
 ) -> u32
-    ensures { IsReplaced text_in_figures text.now upper greatest method included room.old result room.new len.new }
+    ensures { IsReplaced text_as_chosen text.now upper greatest method included room.old result room.new len.new }
 {
     *len = 0;
     let (Some(upper), Some(greatest)) = (upper_of(upper), unit_of(greatest)) else {

@@ -3,8 +3,8 @@
 use Rattle.std.proofs.Common.{◌≡◌, ℕ, Bool, true, false, List, [], codes, refl}
 use Rattle.cn_core.specs.Characters.{digit_of, rank_of}
 use Rattle.cn_core.specs.FigureCharacters.{tens_of}
-use Rattle.cn_find.specs.Doubt.{is_doubtful_list, is_part, is_term, is_time}
-use Rattle.cn_find.specs.Expressions.{is_tens}
+use Rattle.cn_find.specs.Doubt.{ends_in_next_word, is_doubtful_list, is_part, is_term, is_time}
+use Rattle.cn_find.specs.Expressions.{is_han, is_tens}
 use Rattle.cn_find.specs.Ranges.{amount_of, is_of_amount, precedes}
 use Rattle.cn_find.specs.Words.{is_of_word}
 
@@ -44,6 +44,17 @@ parts : (is_part (codes "八五") (codes "折") ≡ true)
     × (is_part (codes "八") (codes "折算") ≡ false)))
 unfolding digit_of
 parts = (refl, (refl, (refl, refl)))
+
+-- 两百一个月, 八点一个人, 三十一共; not 两百一的, 三千一到三千二, 八点一个百分点 or 三点一米
+next_words : (ends_in_next_word (codes "两百一") (codes "个月") ≡ true)
+    × ((ends_in_next_word (codes "八点一") (codes "个人") ≡ true)
+    × ((ends_in_next_word (codes "三十一") (codes "共") ≡ true)
+    × ((ends_in_next_word (codes "两百一") (codes "的") ≡ false)
+    × ((ends_in_next_word (codes "三千一") (codes "到三千二") ≡ false)
+    × ((ends_in_next_word (codes "八点一") (codes "个百分点") ≡ false)
+    × (ends_in_next_word (codes "三点一") (codes "米") ≡ false))))))
+unfolding digit_of is_han
+next_words = (refl, (refl, (refl, (refl, (refl, (refl, refl))))))
 
 -- 下午三点五, 十点零五; not 三点零五倍
 times : (is_time (codes "午") (codes "三点五") [] ≡ true)

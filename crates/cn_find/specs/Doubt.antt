@@ -138,6 +138,37 @@ is_hour text = false
 abbrev pub ends_hour : List ℕ → Bool
 ends_hour text = first_then (char_set_contains (codes "点點")) is_hour text
 
+-- the text may be after a whole amount: it begins with no Han character, with one of these, or
+-- with 到 or 至 and a digit or 十
+abbrev pub may_follow_amount : List ℕ → Bool
+may_follow_amount after =
+    not (first_is is_han after)
+    || (begins_with (codes "的了吧吗嗎嘛呢啊么麼左以之和与與或就也都还還") after
+    || begins_with_two (codes "到至") (codes "一二两兩三四五六七八九十") after)
+
+-- the text may be after a decimal: it may be after an amount, or begins with a measure, 版, 声道, or
+-- 个 and 百 or 点, as in 三点一个百分点
+abbrev pub may_follow_decimal : List ℕ → Bool
+may_follow_decimal after =
+    may_follow_amount after
+    || (begins_with (codes "米公里升倍元圆圓级級度克吨噸斤尺寸吋厘釐毫微海英美欧歐港平立亩畝秒岁歲环環千兆瓦伏版") after
+    || begins_with_two (codes "个個声聲") (codes "百点點道") after)
+
+-- the text, given last character first, is an hour, 点 and 一
+abbrev pub ends_hour_and_one : List ℕ → Bool
+ends_hour_and_one text = first_then (char_set_contains (codes "一")) ends_hour text
+
+-- the last character of the text is a 一 that begins the next word: it is directly after 百, 千, 万,
+-- 亿 or 兆, as in 两百一个月, or after an hour and 点, as in 八点一个人, and what follows may not be after a
+-- number; or it is not alone and makes 一共, 一直, 一定, 一旦 or 一律 with what follows, as in 三十一共
+abbrev pub ends_in_next_word : List ℕ → List ℕ → Bool
+ends_in_next_word text after =
+    (begins_with_two (codes "一") (codes "百千万萬亿億兆") (reverse text)
+    && not (may_follow_amount after))
+    || ((ends_hour_and_one (reverse text) && not (may_follow_decimal after))
+    || (begins_with (codes "一") (reverse text)
+    && (nat_le 2 (length text) && begins_with (codes "共直定旦律") after)))
+
 -- the text, given last character first, is an hour, 点 and 零
 abbrev pub ends_zero_minutes : List ℕ → Bool
 ends_zero_minutes text = first_then (char_set_contains (codes "零〇")) ends_hour text
@@ -182,7 +213,8 @@ is_time front text after =
 abbrev pub doubt_of : List ℕ → List ℕ → List ℕ → Option Doubt
 doubt_of before text after =
     let front = reverse (chars before) in
-    if is_part (chars text) (chars after) then Some Part
+    if is_part (chars text) (chars after) || ends_in_next_word (chars text) (chars after)
+    then Some Part
     else (if is_of_word front (chars text) (chars after) then Some Word
     else (if is_doubtful_list front (chars text) (chars after) then Some Digits
     else (if is_term (chars text) (chars after) || is_of_article front (chars after) then Some Term

@@ -2,7 +2,7 @@
 ghost use Rattle.std.specs.Prelude.{◌≡◌, ◌||◌, ◌&&◌, false, true, codes, chars, is_some, List, ℕ, Option, nat_le, length};
 ghost use Rattle.std.specs.Char.{char_set_contains};
 ghost use Rattle.cn_core.specs.Characters.{digit_of};
-ghost use Rattle.cn_find.specs.Doubt.{are_chinese_digits, are_of_name, begins_article, begins_hour, begins_plenum, begins_second, begins_some_shares, begins_tens, begins_twenties, begins_without, counts, do_rise, doubt_of, ends_hour, ends_part_of_day, ends_zero_minutes, has_point, has_two_tens, is_clock_with_zero, is_doubtful_list, is_end_of_article, is_hour, is_hundredth, is_of_article, is_part, is_term, is_time, is_up_to_first, may_be_list};
+ghost use Rattle.cn_find.specs.Doubt.{are_chinese_digits, are_of_name, begins_article, begins_hour, begins_plenum, begins_second, begins_some_shares, begins_tens, begins_twenties, begins_without, counts, do_rise, doubt_of, ends_hour, ends_hour_and_one, ends_in_next_word, ends_part_of_day, ends_zero_minutes, has_point, has_two_tens, is_clock_with_zero, is_doubtful_list, is_end_of_article, is_hour, is_hundredth, is_of_article, is_part, is_term, is_time, is_up_to_first, may_be_list, may_follow_amount, may_follow_decimal};
 ghost use Rattle.cn_find.specs.Spans.{in_front};
 
 use crate::belongs::is_chinese_digit;
@@ -24,7 +24,7 @@ pub enum Doubt {
     /// 第二百六十四条.
     Term,
     /// It is part of a phrase with 折, 成, 半 or a share: 八五 of 八五折, 十六 of 十六分之几, 百分之一 of
-    /// 百分之一秒.
+    /// 百分之一秒; or its last 一 begins the next word: 两百一 of 两百一个月.
     Part,
     /// It may be a time as well as a decimal: 三点五 after 下午.
     Time,
@@ -275,6 +275,56 @@ fn ends_hour(text: &str) -> bool
     split_nearest(text).is_some_and(|(c, before)| matches!(c, '点' | '點') && is_hour(before))
 }
 
+// What can be directly after a whole amount that ends with an elided unit, as in 两百一的.
+const AFTER_AMOUNT: &[char] = &[
+    '的', '了', '吧', '吗', '嗎', '嘛', '呢', '啊', '么', '麼', '左', '以', '之', '和', '与', '與', '或', '就', '也',
+    '都', '还', '還',
+];
+
+// What else can be directly after a decimal that reads as an hour and 一, as in 三点一米.
+const AFTER_DECIMAL: &[char] = &[
+    '米', '公', '里', '升', '倍', '元', '圆', '圓', '级', '級', '度', '克', '吨', '噸', '斤', '尺', '寸', '吋', '厘',
+    '釐', '毫', '微', '海', '英', '美', '欧', '歐', '港', '平', '立', '亩', '畝', '秒', '岁', '歲', '环', '環', '千',
+    '兆', '瓦', '伏', '版',
+];
+
+const UP_TO_TEN: &[char] = &['一', '二', '两', '兩', '三', '四', '五', '六', '七', '八', '九', '十'];
+
+// Whether the text may be after a whole amount.
+fn may_follow_amount(after: &str) -> bool
+    ensures { result ≡ may_follow_amount (chars after.now) }
+{
+    !first_is(after, |c| is_han(c))
+        || begins_with(AFTER_AMOUNT, after)
+        || begins_with_two(&['到', '至'], UP_TO_TEN, after)
+}
+
+// Whether the text may be after a decimal.
+fn may_follow_decimal(after: &str) -> bool
+    ensures { result ≡ may_follow_decimal (chars after.now) }
+{
+    may_follow_amount(after)
+        || begins_with(AFTER_DECIMAL, after)
+        || begins_with_two(&['个', '個', '声', '聲'], &['百', '点', '點', '道'], after)
+}
+
+fn ends_hour_and_one(text: &str) -> bool
+    ensures { result ≡ ends_hour_and_one (in_front text.now) }
+{
+    split_nearest(text).is_some_and(|(c, before)| c == '一' && ends_hour(before))
+}
+
+// Whether the last character of the text is a 一 that begins the next word: 一 of 两百 and 一个月.
+fn ends_in_next_word(text: &str, after: &str) -> bool
+    ensures { result ≡ ends_in_next_word (chars text.now) (chars after.now) }
+{
+    (ends_with_two(&['一'], &['百', '千', '万', '萬', '亿', '億', '兆'], text) && !may_follow_amount(after))
+        || (ends_hour_and_one(text) && !may_follow_decimal(after))
+        || (ends_with(&['一'], text)
+            && !has_at_most(1, text)
+            && begins_with(&['共', '直', '定', '旦', '律'], after))
+}
+
 fn ends_zero_minutes(text: &str) -> bool
     ensures { result ≡ ends_zero_minutes (in_front text.now) }
 {
@@ -343,7 +393,7 @@ fn is_time(before: &str, text: &str, after: &str) -> bool
 pub fn doubt_of(before: &str, text: &str, after: &str) -> Option<Doubt>
     ensures { result ≡ doubt_of before.now text.now after.now }
 {
-    if is_part(text, after) {
+    if is_part(text, after) || ends_in_next_word(text, after) {
         return Some(Doubt::Part);
     }
     if is_of_word(before, text, after) {

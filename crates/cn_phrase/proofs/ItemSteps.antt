@@ -7,12 +7,17 @@ use Rattle.cn_find.specs.Expressions.{expression_rule}
 use Rattle.cn_find.specs.Rule.{Rule, is_joined}
 use Rattle.cn_find.specs.Spans.{Span, after_run, in_front, run_after}
 use Rattle.cn_phrase.specs.Between.{characters_before, part_between}
-use Rattle.cn_phrase.specs.Items.{ends_whole, first_of, item_rest, items_after, rest_of, ends_whole, whole_phrase}
+use Rattle.cn_phrase.specs.declared.money.MoneyForm.TheVariants.{Signed}
+use Rattle.cn_phrase.specs.Items.{Item, first_of, is_price_within, item_rest, items_after, rest_of, ends_whole, whole_phrase}
+use Rattle.cn_phrase.specs.Money.{Money, Tail, counted, counted_at, is_amount, money_at, signed, signed_at, signed_from, tail_at}
+use Rattle.cn_phrase.specs.Pieces.{without_blank}
+use Rattle.cn_phrase.specs.Written.{passed_text}
 use Rattle.cn_phrase.specs.Phrases.{Found, phrase_at}
 use Rattle.cn_phrase.specs.Ranges.{Ends, is_link, is_range, linked, range_at}
 use Rattle.cn_phrase.specs.Suffix.{EndsWith}
 use Rattle.cn_phrase.proofs.Advances.{IsAhead, phrase_ahead}
-use Rattle.cn_phrase.proofs.Suffixes.{Ends-again, Ends-self}
+use Rattle.cn_phrase.proofs.Suffixes.{Ends-again, Ends-blank, Ends-self, if-or}
+use Rattle.cn_phrase.proofs.Tails.{tail-in}
 
 -- what is left is a suffix, and shorter
 abbrev pub Leaves : List ℕ → List ℕ → Type 0
@@ -98,6 +103,102 @@ range-leaves wanted front text =
       first None h = tt
       first (Some rest) h = after-link (part_between front text rest) rest h
 
+-- what is left after a sum of money
+abbrev MoneyLeaves : List ℕ → Option Money → Type 0
+MoneyLeaves text o = IfSome o (λ m. Leaves text m.rest)
+
+-- what is left of what is left
+again : (text rest end : List ℕ) → Leaves text rest → EndsWith rest end → Leaves text end
+again text rest end h ends = (
+  Ends-again text rest end h.0 ends,
+  omega (arith, h.1, ap length ends.1, length-append ends.0 end),
+)
+
+counted-leaves : (text : List ℕ) (number : Span) (rest : List ℕ) → Leaves text rest
+    → MoneyLeaves text (counted number rest)
+counted-leaves text number rest h = by (tail_at number.text rest) (tail-in number.text rest) where
+  sum : Tail → Money
+  sum t = record {
+    form = t.form;
+    sign = [];
+    number = number;
+    tail = passed_text rest t.rest;
+    jiao = t.jiao;
+    fen = t.fen;
+    rest = t.rest;
+  }
+
+  chosen : (b : Bool) (t : Tail) → EndsWith rest t.rest
+      → MoneyLeaves text (if b then Some (sum t) else None)
+  chosen true t k = again text rest t.rest h k
+  chosen false t k = tt
+
+  by : (o : Option Tail) → IfSome o (λ t. EndsWith rest t.rest)
+      → MoneyLeaves text (option_and_then (λ t. if is_amount number then Some (sum t) else None) o)
+  by None k = tt
+  by (Some t) k = chosen (is_amount number) t k
+
+counted_at-leaves : (wanted : Wanted) (front text : List ℕ)
+    → MoneyLeaves text (counted_at wanted front text)
+counted_at-leaves wanted front text =
+    by (run_after (expression_rule wanted) front text) (run-leaves (expression_rule wanted) front text) where
+      by : (run : Option (List ℕ)) → IfSome run (Leaves text)
+          → MoneyLeaves text (option_and_then (λ rest. counted (part_between front text rest) rest) run)
+      by None h = tt
+      by (Some rest) h = counted-leaves text (part_between front text rest) rest h
+
+signed-leaves : (text sign : List ℕ) (number : Span) (rest : List ℕ) → Leaves text rest
+    → MoneyLeaves text (signed sign number rest)
+signed-leaves text sign number rest h = by _ where
+  by : (b : Bool) → MoneyLeaves text (if b then Some (record {
+    form = Signed;
+    sign = sign;
+    number = number;
+    tail = [];
+    jiao = 0;
+    fen = 0;
+    rest = rest;
+  }) else None)
+  by true = h
+  by false = tt
+
+signed_from-leaves : (wanted : Wanted) (front text start : List ℕ) → Leaves text start
+    → MoneyLeaves text (signed_from wanted front text start)
+signed_from-leaves wanted front text start h =
+    by (run_after (expression_rule wanted) before start)
+    (run-leaves (expression_rule wanted) before start) where
+      before : List ℕ
+      before = reverse (characters_before text start) ++ front
+
+      by : (run : Option (List ℕ)) → IfSome run (Leaves start)
+          → MoneyLeaves text (option_and_then (λ rest.
+          signed (passed_text text start) (part_between before start rest) rest) run)
+      by None k = tt
+      by (Some rest) k = signed-leaves text (passed_text text start) (part_between before start rest) rest
+          (again text start rest h k.0)
+
+signed_at-leaves : (wanted : Wanted) (front text : List ℕ) → MoneyLeaves text (signed_at wanted front text)
+signed_at-leaves wanted front [] = tt
+signed_at-leaves wanted front (c ∷ ahead) = by _ where
+  start : List ℕ
+  start = without_blank false ahead
+
+  begun : Leaves (c ∷ ahead) start
+  begun = let ends = Ends-blank false ahead in (
+    Ends-again (c ∷ ahead) ahead start (c ∷ [], refl) ends,
+    omega (arith, ap length ends.1, length-append ends.0 start),
+  )
+
+  by : (b : Bool) → MoneyLeaves (c ∷ ahead)
+      (if b then signed_from wanted front (c ∷ ahead) start else None)
+  by true = signed_from-leaves wanted front (c ∷ ahead) start begun
+  by false = tt
+
+money-leaves : (wanted : Wanted) (front text : List ℕ) → MoneyLeaves text (money_at wanted front text)
+money-leaves wanted front text =
+    if-or (λ m. Leaves text m.rest) (signed_at wanted front text) (counted_at wanted front text)
+    (signed_at-leaves wanted front text) (counted_at-leaves wanted front text)
+
 whole-ahead : (wanted : Wanted) (front text : List ℕ)
     → IfSome (whole_phrase wanted front text) (IsAhead text)
 whole-ahead wanted front text = by (phrase_at front text) (phrase_ahead front text) where
@@ -116,16 +217,26 @@ whole-ahead wanted front text = by (phrase_at front text) (phrase_ahead front te
 pub item-leaves : (wanted : Wanted) (front text : List ℕ)
     → IfSome (item_rest wanted front text) (Leaves text)
 item-leaves wanted front text =
-    by (whole_phrase wanted front text) (range_at wanted front text) (run_after (expression_rule wanted) front text)
-    (whole-ahead wanted front text) (range-leaves wanted front text)
-    (run-leaves (expression_rule wanted) front text) where
-      by : (o : Option Found) (r : Option Ends) (run : Option (List ℕ)) → IfSome o (IsAhead text)
-          → IfSome r (λ ends. Leaves text ends.rest) → IfSome run (Leaves text)
-          → IfSome (option_map rest_of (first_of o r run)) (Leaves text)
-      by (Some found) r run h k l = h
-      by None (Some ends) run h k l = k
-      by None None (Some rest) h k l = l
-      by None None None h k l = tt
+    unless (is_price_within wanted front text)
+    (first_of (whole_phrase wanted front text) (money_at wanted front text) (range_at wanted front text)
+    (run_after (expression_rule wanted) front text))
+    (by (whole_phrase wanted front text) (money_at wanted front text) (range_at wanted front text)
+    (run_after (expression_rule wanted) front text) (whole-ahead wanted front text)
+    (money-leaves wanted front text) (range-leaves wanted front text)
+    (run-leaves (expression_rule wanted) front text)) where
+      unless : (b : Bool) (item : Option Item) → IfSome (option_map rest_of item) (Leaves text)
+          → IfSome (option_map rest_of (if b then None else item)) (Leaves text)
+      unless true item h = tt
+      unless false item h = h
+
+      by : (o : Option Found) (m : Option Money) (r : Option Ends) (run : Option (List ℕ))
+          → IfSome o (IsAhead text) → MoneyLeaves text m → IfSome r (λ ends. Leaves text ends.rest)
+          → IfSome run (Leaves text) → IfSome (option_map rest_of (first_of o m r run)) (Leaves text)
+      by (Some found) m r run h j k l = h
+      by None (Some m) r run h j k l = j
+      by None None (Some ends) run h j k l = k
+      by None None None (Some rest) h j k l = l
+      by None None None None h j k l = tt
 
 -- characters of an item are passed over
 pass-all : (wanted : Wanted) (passed front text : List ℕ)

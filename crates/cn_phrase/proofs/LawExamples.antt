@@ -8,6 +8,7 @@ use Rattle.cn_core.specs.FigureCharacters.{tens_of}
 use Rattle.cn_find.specs.declared.wanted.Wanted.{Wanted}
 use Rattle.cn_find.specs.Belongs.{begins_measure, belongs, is_upper}
 use Rattle.cn_find.specs.Expressions.{is_item, is_kilo, is_numeric, is_tens, is_weight, joins}
+use Rattle.cn_phrase.specs.Money.{is_sign}
 use Rattle.cn_phrase.specs.Phrases.{is_blank}
 use Rattle.cn_phrase.specs.Pieces.{is_numeral}
 use Rattle.cn_phrase.specs.Plain.{has_no_phrase}
@@ -17,7 +18,7 @@ abbrev everyday : Wanted
 everyday = record { upper = false; greatest = Zhao }
 
 items_are_expressions_without_phrases : has_no_phrase everyday (encode_utf8_all (codes "去")) ≡ true
-unfolding chars encode_utf8 digit_of rank_of belongs is_upper begins_measure is_numeric is_tens joins is_weight is_item is_kilo tens_of is_blank is_numeral after_half_day after_weekday
+unfolding chars encode_utf8 digit_of rank_of belongs is_upper begins_measure is_numeric is_tens joins is_weight is_item is_kilo tens_of is_blank is_sign is_numeral after_half_day after_weekday
 items_are_expressions_without_phrases = refl
 
 texts_without_phrases_are_written_as_their_quantities : IsUtf8 (encode_utf8_all (codes "去"))

@@ -1,8 +1,9 @@
 -- The items of a text without phrases are its expressions.
-use Rattle.std.proofs.Common.{◌≡◌, ◌≢◌, ℕ, zero, suc, ◌-◌, ◌≤◌, Bool, true, false, not, List, [], ◌∷◌, ◌++◌, length, take, drop, reverse, chars, encode_utf8_all, IsUtf8, Option, Some, None, is_some, option_map, if◌then◌else◌, refl, sym, ap, ◌∙◌, subst, arith, length-append}
+use Rattle.std.proofs.Common.{◌≡◌, ◌≢◌, ℕ, zero, suc, ◌-◌, ◌==◌, ◌≤◌, Bool, true, false, not, ◌&&◌, List, [], ◌∷◌, ◌++◌, length, take, drop, reverse, chars, encode_utf8_all, IsUtf8, Option, Some, None, is_some, option_map, if◌then◌else◌, refl, sym, ap, ◌∙◌, subst, arith, length-append}
 use mathlib.Core.List.{reverse_aux}
 use Rattle.std.proofs.Math.Seq.{take-append_seam}
 use Rattle.std.specs.List.{Contains}
+use Rattle.std.proofs.lemmas.Bool.Decides.{nat_tests}
 use Rattle.std.proofs.Math.Utf8.{scalars}
 use Rattle.std.proofs.lemmas.Str.{chars-encodes, encodes-append, scalars-chars}
 use Rattle.cn_core.proofs.Fronts.{and-left, and-right}
@@ -10,15 +11,17 @@ use Rattle.cn_find.specs.declared.wanted.Wanted.{Wanted}
 use Rattle.cn_find.specs.Expressions.{expression_rule}
 use Rattle.cn_find.specs.Rule.{Rule, is_joined}
 use Rattle.cn_find.specs.Spans.{Span, after_run, expressions, in_front, run_after, run_of, span_at, spans_after}
-use Rattle.cn_find.specs.Runs.{IsRunBy, each_belongs}
+use Rattle.cn_find.specs.Runs.{IsRunBy, each_belongs, last_joined}
 use Rattle.cn_find.proofs.RunLaws.{found-is_run, scalars-end, scalars-start}
-use Rattle.cn_find.proofs.Runs.{first-span, next-character}
+use Rattle.cn_find.proofs.Runs.{first-span, next-character, not-joined}
 use Rattle.cn_phrase.specs.Between.{part_between}
-use Rattle.cn_phrase.specs.Items.{expression, first_of, item_at, item_rest, items, items_after, rest_of, whole_phrase}
+use Rattle.cn_phrase.specs.Items.{Item, ends_whole, expression, first_of, is_price_within, item_at, item_rest, items, items_after, rest_of, whole_phrase}
+use Rattle.cn_phrase.specs.Money.{Money, begins_one, money_at}
 use Rattle.cn_phrase.specs.Phrases.{Found}
 use Rattle.cn_phrase.specs.Plain.{begins_no_phrase, has_no_phrase}
 use Rattle.cn_phrase.specs.Ranges.{Ends, range_at}
 use Rattle.cn_phrase.proofs.ItemSteps.{none-here, some-here}
+use Rattle.cn_phrase.proofs.Between.{ends_with_it}
 
 -- a run and the characters after it are all
 run-parts : (rule : Rule) (front : List ℕ) (cs : List ℕ)
@@ -31,54 +34,114 @@ run-parts rule front (c ∷ ahead) = by (is_joined rule front c ahead) (run-part
   by true same = ap (λ l. c ∷ l) same
   by false same = refl
 
--- what there is of three things, if there is no first and no second
-only-last : (o : Option Found) (r : Option Ends) (run : Option (List ℕ)) → is_some o ≡ false
-    → is_some r ≡ false → option_map rest_of (first_of o r run) ≡ run
-only-last None None None e f = refl
-only-last None None (Some rest) e f = refl
-only-last None (Some ends) run e f = cc
-only-last (Some found) r run e f = cc
+-- what there is of four things, if there are not the first three
+only-last : (o : Option Found) (m : Option Money) (r : Option Ends) (run : Option (List ℕ))
+    → is_some o ≡ false → is_some m ≡ false → is_some r ≡ false
+    → option_map rest_of (first_of o m r run) ≡ run
+only-last None None None None d e f = refl
+only-last None None None (Some rest) d e f = refl
+only-last None None (Some ends) run d e f = cc
+only-last None (Some m) r run d e f = cc
+only-last (Some found) m r run d e f = cc
 
--- only the third of three things, if there is it alone
-only-third : (o : Option Found) (r : Option Ends) (rest : List ℕ) → is_some o ≡ false
-    → is_some r ≡ false → first_of o r (Some rest) ≡ Some (expression rest)
-only-third None None rest e f = refl
-only-third None (Some ends) rest e f = cc
-only-third (Some found) r rest e f = cc
+-- only the fourth of four things, if there is it alone
+only-fourth : (o : Option Found) (m : Option Money) (r : Option Ends) (rest : List ℕ)
+    → is_some o ≡ false → is_some m ≡ false → is_some r ≡ false
+    → first_of o m r (Some rest) ≡ Some (expression rest)
+only-fourth None None None rest d e f = refl
+only-fourth None None (Some ends) rest d e f = cc
+only-fourth None (Some m) r rest d e f = cc
+only-fourth (Some found) m r rest d e f = cc
 
 not-true : (b : Bool) → not b ≡ true → b ≡ false
 not-true false e = refl
 not-true true e = cc
 
+and-false : (b d : Bool) → d ≡ true → (b && not d) ≡ false
+and-false true true e = refl
+and-false false d e = refl
+and-false true false e = cc
+
+same-count : (n : ℕ) → (n == n) ≡ true
+same-count n = grind (arith, nat_tests)
+
 module _ (wanted : Wanted) where
   abbrev rule : Rule
   rule = expression_rule wanted
 
-  -- without a phrase and a range, an item is an expression
+  -- what is before a text ends whole, if its last character is not joined to the text
+  apart-whole : (front : List ℕ) (c : ℕ) (ahead : List ℕ) → is_joined rule front c ahead ≡ false
+      → ends_whole wanted (c ∷ front) ahead ≡ true
+  apart-whole front c ahead apart = by (rule.belongs front c ahead) where
+    by : (b : Bool)
+        → ends_with_it ahead (if b then Some (after_run rule front (c ∷ ahead)) else None) ≡ true
+    by false = refl
+    by true = rw apart (same-count (length (encode_utf8_all ahead)))
+
+  -- what is before a text ends whole after a run
+  run-whole : (front : List ℕ) (c : ℕ) (ahead : List ℕ)
+      → ends_whole wanted (reverse_aux (run_of rule front (c ∷ ahead)) front)
+      (after_run rule front (c ∷ ahead)) ≡ true
+  run-whole front c [] = apart-whole front c [] refl
+  run-whole front c (d ∷ ahead) =
+      by (is_joined rule front c (d ∷ ahead)) refl (run-whole (c ∷ front) d ahead) where
+        by : (b : Bool) → is_joined rule front c (d ∷ ahead) ≡ b
+            → ends_whole wanted (reverse_aux (run_of rule (c ∷ front) (d ∷ ahead)) (c ∷ front))
+            (after_run rule (c ∷ front) (d ∷ ahead)) ≡ true
+            → ends_whole wanted
+            (reverse_aux (c ∷ (if b then run_of rule (c ∷ front) (d ∷ ahead) else [])) front)
+            (if b then after_run rule (c ∷ front) (d ∷ ahead) else d ∷ ahead) ≡ true
+        by true e next = next
+        by false e next = apart-whole front c (d ∷ ahead) e
+
+  -- what is before a text ends whole, if no run goes on there
+  last-whole : (none : Bool) (front left right : List ℕ)
+      → (none ≡ false → ends_whole wanted front (left ++ right) ≡ true)
+      → last_joined rule none front left right ≡ false
+      → ends_whole wanted (reverse_aux left front) right ≡ true
+  last-whole none front [] right whole e = whole e
+  last-whole none front (c ∷ left) right whole e =
+      last-whole (is_joined rule front c (left ++ right)) (c ∷ front) left right
+      (apart-whole front c (left ++ right)) e
+
+  -- without a phrase, a sum of money and a range, an item is an expression, but within no other
   plain-rest : (front : List ℕ) (c : ℕ) (ahead : List ℕ)
-      → begins_no_phrase wanted front (c ∷ ahead) ≡ true
+      → begins_no_phrase wanted front (c ∷ ahead) ≡ true → ends_whole wanted front (c ∷ ahead) ≡ true
       → item_rest wanted front (c ∷ ahead) ≡ run_after rule front (c ∷ ahead)
-  plain-rest front c ahead plain =
-      only-last (whole_phrase wanted front (c ∷ ahead)) (range_at wanted front (c ∷ ahead))
-      (run_after rule front (c ∷ ahead))
+  plain-rest front c ahead plain whole =
+      ap (λ b. option_map rest_of (if b then None else first_of (whole_phrase wanted front (c ∷ ahead))
+      (money_at wanted front (c ∷ ahead)) (range_at wanted front (c ∷ ahead))
+      (run_after rule front (c ∷ ahead)))) (and-false (begins_one (c ∷ ahead)) _ whole)
+      ∙ only-last (whole_phrase wanted front (c ∷ ahead)) (money_at wanted front (c ∷ ahead))
+      (range_at wanted front (c ∷ ahead)) (run_after rule front (c ∷ ahead))
       (not-true _ (and-left _ _ plain)) (not-true _ (and-left _ _ (and-right _ _ plain)))
+      (not-true _ (and-left _ _ (and-right _ _ (and-right _ _ plain))))
 
   -- an expression begins here, if a character belongs to one
   plain-expression : (front : List ℕ) (c : ℕ) (ahead : List ℕ)
-      → begins_no_phrase wanted front (c ∷ ahead) ≡ true → rule.belongs front c ahead ≡ true
+      → begins_no_phrase wanted front (c ∷ ahead) ≡ true → ends_whole wanted front (c ∷ ahead) ≡ true
+      → rule.belongs front c ahead ≡ true
       → item_at wanted front (c ∷ ahead) ≡ Some (expression (after_run rule front (c ∷ ahead)))
-  plain-expression front c ahead plain here =
-      ap (first_of (whole_phrase wanted front (c ∷ ahead)) (range_at wanted front (c ∷ ahead))) begins
-      ∙ only-third (whole_phrase wanted front (c ∷ ahead)) (range_at wanted front (c ∷ ahead))
-      (after_run rule front (c ∷ ahead))
-      (not-true _ (and-left _ _ plain)) (not-true _ (and-left _ _ (and-right _ _ plain))) where
+  plain-expression front c ahead plain whole here =
+      ap (λ b. if b then None else first_of (whole_phrase wanted front (c ∷ ahead))
+      (money_at wanted front (c ∷ ahead)) (range_at wanted front (c ∷ ahead))
+      (run_after rule front (c ∷ ahead))) (and-false (begins_one (c ∷ ahead)) _ whole)
+      ∙ ap (first_of (whole_phrase wanted front (c ∷ ahead)) (money_at wanted front (c ∷ ahead))
+      (range_at wanted front (c ∷ ahead))) begins
+      ∙ only-fourth (whole_phrase wanted front (c ∷ ahead)) (money_at wanted front (c ∷ ahead))
+      (range_at wanted front (c ∷ ahead)) (after_run rule front (c ∷ ahead))
+      (not-true _ (and-left _ _ plain)) (not-true _ (and-left _ _ (and-right _ _ plain)))
+      (not-true _ (and-left _ _ (and-right _ _ (and-right _ _ plain)))) where
         begins : run_after rule front (c ∷ ahead) ≡ Some (after_run rule front (c ∷ ahead))
         begins = rw here refl
 
   plain-next : (front : List ℕ) (c : ℕ) (ahead : List ℕ)
       → begins_no_phrase wanted front (c ∷ ahead) ≡ true
       → begins_no_phrase wanted (c ∷ front) ahead ≡ true
-  plain-next front c ahead plain = and-right _ _ (and-right _ _ plain)
+  plain-next front c ahead plain =
+      and-right (not (is_some (range_at wanted front (c ∷ ahead)))) _
+      (and-right (not (is_some (money_at wanted front (c ∷ ahead)))) _
+      (and-right (not (is_some (whole_phrase wanted front (c ∷ ahead)))) _ plain))
 
   plain-after : (passed front rest : List ℕ) → begins_no_phrase wanted front (passed ++ rest) ≡ true
       → begins_no_phrase wanted (reverse_aux passed front) rest ≡ true
@@ -107,15 +170,15 @@ module _ (wanted : Wanted) where
   one-run : (front : List ℕ) (c : ℕ) (ahead passed rest : List ℕ)
       → c ∷ ahead ≡ c ∷ passed ++ rest → rule.belongs front c ahead ≡ true
       → run_of rule front (c ∷ ahead) ≡ c ∷ passed → after_run rule front (c ∷ ahead) ≡ rest
-      → begins_no_phrase wanted front (c ∷ ahead) ≡ true
+      → begins_no_phrase wanted front (c ∷ ahead) ≡ true → ends_whole wanted front (c ∷ ahead) ≡ true
       → items_after wanted 0 (reverse_aux (c ∷ passed) front) rest
       ≡ spans_after rule false (reverse_aux (c ∷ passed) front) rest
       → items_after wanted 0 front (c ∷ ahead) ≡ spans_after rule false front (c ∷ ahead)
-  one-run front c ahead passed rest parts here run after plain next =
+  one-run front c ahead passed rest parts here run after plain whole next =
       ap (items_after wanted 0 front) parts
       ∙ some-here wanted front passed rest c
       (subst (λ l. item_rest wanted front l ≡ Some rest) parts
-      (plain-rest front c ahead plain ∙ rw here (ap Some after)))
+      (plain-rest front c ahead plain whole ∙ rw here (ap Some after)))
       ∙ ap (λ l. part_between front (c ∷ passed ++ rest) rest ∷ l) next
       ∙ ap (λ s. s ∷ spans_after rule false (reverse_aux (c ∷ passed) front) rest)
       (part-is front c ahead passed rest run after)
@@ -124,27 +187,30 @@ module _ (wanted : Wanted) where
   -- the same items and runs, given those after this character and those after a run that begins here
   one-character : (front : List ℕ) (c : ℕ) (ahead : List ℕ) (b : Bool)
       → rule.belongs front c ahead ≡ b → begins_no_phrase wanted front (c ∷ ahead) ≡ true
-      → items_after wanted 0 (c ∷ front) ahead ≡ spans_after rule false (c ∷ front) ahead
+      → ends_whole wanted front (c ∷ ahead) ≡ true
+      → (rule.belongs front c ahead ≡ false
+      → items_after wanted 0 (c ∷ front) ahead ≡ spans_after rule false (c ∷ front) ahead)
       → items_after wanted 0 (reverse_aux (run_of rule front (c ∷ ahead)) front)
       (after_run rule front (c ∷ ahead))
       ≡ spans_after rule false (reverse_aux (run_of rule front (c ∷ ahead)) front)
       (after_run rule front (c ∷ ahead))
       → items_after wanted 0 front (c ∷ ahead) ≡ spans_after rule false front (c ∷ ahead)
-  one-character front c ahead false none plain next after =
-      none-here wanted front c ahead (plain-rest front c ahead plain ∙ rw none refl) ∙ next
+  one-character front c ahead false none plain whole next after =
+      none-here wanted front c ahead (plain-rest front c ahead plain whole ∙ rw none refl) ∙ next none
       ∙ sym (next-character rule front c ahead none)
-  one-character front c ahead true here plain next after =
+  one-character front c ahead true here plain whole next after =
       one-run front c ahead (drop 1 (run_of rule front (c ∷ ahead))) (after_run rule front (c ∷ ahead))
-      (run-parts rule front (c ∷ ahead)) here refl refl plain after
+      (run-parts rule front (c ∷ ahead)) here refl refl plain whole after
 
   plain-items : (n : ℕ) (front cs : List ℕ) → length cs ≤ n
-      → begins_no_phrase wanted front cs ≡ true
+      → begins_no_phrase wanted front cs ≡ true → ends_whole wanted front cs ≡ true
       → items_after wanted 0 front cs ≡ spans_after rule false front cs
-  plain-items n front [] few plain = refl
-  plain-items zero front (c ∷ ahead) few plain = absurd (omega (arith, few))
-  plain-items (suc n) front (c ∷ ahead) few plain =
-      one-character front c ahead (rule.belongs front c ahead) refl plain
-      (plain-items n (c ∷ front) ahead (omega (arith, few)) (plain-next front c ahead plain))
+  plain-items n front [] few plain whole = refl
+  plain-items zero front (c ∷ ahead) few plain whole = absurd (omega (arith, few))
+  plain-items (suc n) front (c ∷ ahead) few plain whole =
+      one-character front c ahead (rule.belongs front c ahead) refl plain whole
+      (λ none. plain-items n (c ∷ front) ahead (omega (arith, few)) (plain-next front c ahead plain)
+      (apart-whole front c ahead (not-joined rule front c ahead none)))
       (plain-items n (reverse_aux (run_of rule front (c ∷ ahead)) front)
       (after_run rule front (c ∷ ahead))
       (omega (
@@ -154,11 +220,12 @@ module _ (wanted : Wanted) where
         few,
       ))
       (plain-after (run_of rule front (c ∷ ahead)) front (after_run rule front (c ∷ ahead))
-      (subst (λ l. begins_no_phrase wanted front l ≡ true) (run-parts rule front (c ∷ ahead)) plain)))
+      (subst (λ l. begins_no_phrase wanted front l ≡ true) (run-parts rule front (c ∷ ahead)) plain))
+      (run-whole front c ahead))
 
   pub items-plain : (bytes : List ℕ) → has_no_phrase wanted bytes ≡ true
       → items wanted bytes ≡ expressions wanted bytes
-  items-plain bytes plain = plain-items (length (chars bytes)) [] (chars bytes) (omega arith) plain
+  items-plain bytes plain = plain-items (length (chars bytes)) [] (chars bytes) (omega arith) plain refl
 
   -- an expression of a text is an item that is one
   pub item-plain : (bytes : List ℕ) (span : Span) → IsUtf8 bytes → has_no_phrase wanted bytes ≡ true
@@ -191,6 +258,10 @@ module _ (wanted : Wanted) where
             (plain-after r.left [] (r.run ++ r.right)
             (subst (λ l. begins_no_phrase wanted [] l ≡ true) r.parts plain))
 
+        apart : ends_whole wanted (reverse r.left) (r.run ++ r.right) ≡ true
+        apart = subst (λ l. ends_whole wanted l (r.run ++ r.right) ≡ true) onto
+            (last-whole false [] r.left (r.run ++ r.right) (λ e. refl) r.apart_before)
+
         by : (run : List ℕ) → r.run ≡ run → r.run ≢ []
             → each_belongs rule (reverse r.left) r.run r.right ≡ true
             → (rest : List ℕ) × (item_at wanted (in_front span.before) (chars (span.text ++ span.after))
@@ -202,5 +273,6 @@ module _ (wanted : Wanted) where
               ∙ ap (item_at wanted (reverse r.left)) (text_is ∙ ap (λ l. l ++ r.right) e)
               ∙ plain-expression (reverse r.left) c (run ++ r.right)
               (subst (λ l. begins_no_phrase wanted (reverse r.left) (l ++ r.right) ≡ true) e here)
+              (subst (λ l. ends_whole wanted (reverse r.left) (l ++ r.right) ≡ true) e apart)
               (and-left _ _ (subst (λ l. each_belongs rule (reverse r.left) l r.right ≡ true) e each)),
         )

@@ -21,7 +21,7 @@ pub Ends-again : (text middle rest : List ℕ) → EndsWith text middle → Ends
 Ends-again text middle rest h k =
     (h.0 ++ k.0, h.1 ∙ ap (λ l. h.0 ++ l) k.1 ∙ sym (append_assoc h.0 k.0 rest))
 
-if-or : {A : Type 0} (P : A → Type 0) (a b : Option A) → IfSome a P → IfSome b P
+pub if-or : {A : Type 0} (P : A → Type 0) (a b : Option A) → IfSome a P → IfSome b P
     → IfSome (option_or a b) P
 if-or P None b h k = k
 if-or P (Some x) b h k = h
@@ -32,10 +32,10 @@ if-then P Q f None h k = tt
 if-then P Q f (Some x) h k = k x h
 
 -- a reader leaves a suffix of each text
-abbrev Leaves : (List ℕ → Option (List ℕ)) → Type 0
+abbrev pub Leaves : (List ℕ → Option (List ℕ)) → Type 0
 Leaves read = (text : List ℕ) → IfSome (read text) (EndsWith text)
 
-leaves-one : (these : List ℕ) → Leaves (after_one these)
+pub leaves-one : (these : List ℕ) → Leaves (after_one these)
 leaves-one these [] = tt
 leaves-one these (c ∷ rest) = by (char_set_contains these c) where
   by : (b : Bool) → IfSome (if b then Some rest else None) (EndsWith (c ∷ rest))
@@ -55,7 +55,7 @@ leaves-then one other h k text = if-then (EndsWith text) (EndsWith text) (λ res
       by None rest ends last = tt
       by (Some end) rest ends last = Ends-again text rest end ends last
 
-leaves-two : (first second : List ℕ) → Leaves (after_two first second)
+pub leaves-two : (first second : List ℕ) → Leaves (after_two first second)
 leaves-two first second =
     leaves-then (after_one first) (after_one second) (leaves-one first) (leaves-one second)
 
@@ -129,7 +129,7 @@ leaves-with_zhong : (c : ℕ) → Leaves (after_with_zhong c)
 leaves-with_zhong c text =
     two-or (c ∷ []) (codes "钟鐘") text _ (leaves-one (c ∷ []) text)
 
-Ends-any : (these text : List ℕ) → EndsWith text (after_any these text)
+pub Ends-any : (these text : List ℕ) → EndsWith text (after_any these text)
 Ends-any these text = by (after_one these text) (leaves-one these text) where
   by : (o : Option (List ℕ)) → IfSome o (EndsWith text) → EndsWith text (elim o [
     | None ↦ text

@@ -25,7 +25,7 @@ ends-again whole ahead rest ends more =
     (ends-parts whole ahead rest ends more)
 
 -- what is before it, given what is before the longer one
-fronts-are : (whole ahead rest : List ℕ) → IsEnd whole ahead → IsEnd ahead rest → IsUtf8 whole
+pub fronts-are : (whole ahead rest : List ℕ) → IsEnd whole ahead → IsEnd ahead rest → IsUtf8 whole
     → IsUtf8 ahead → IsUtf8 rest → in_front (text_before whole rest)
     ≡ reverse (characters_before (chars ahead) (chars rest)) ++ in_front (text_before whole ahead)
 fronts-are whole ahead rest ends more utf8 ahead_utf8 rest_utf8 =

@@ -1,5 +1,5 @@
 -- A phrase in its shortest form: 2026-01-05, 15:30, 1.5小时.
-use Rattle.std.specs.Prelude.{ℕ, ◌+◌, ◌*◌, nat_le, nat_lt, not, ◌&&◌, ◌||◌, Bool, true, false, List, [], ◌∷◌, ◌++◌, codes, take, encode_utf8_all, pos, Option, Some, None, is_some, if◌then◌else◌}
+use Rattle.std.specs.Prelude.{ℕ, ◌+◌, ◌*◌, nat_le, nat_lt, ◌&&◌, ◌||◌, Bool, true, false, List, [], ◌∷◌, ◌++◌, codes, take, encode_utf8_all, pos, Option, Some, None, is_some, if◌then◌else◌}
 use Rattle.std.specs.Char.{char_set_contains}
 use Rattle.std.specs.Option.{option_and_then, option_map, option_map_or}
 use Rattle.cn_core.specs.FigureCharacters.{is_figure}

@@ -1,7 +1,8 @@
 -- What an item of a text is, in numbers.
-use Rattle.std.specs.Prelude.{ℕ, ◌+◌, Bool, List, ◌++◌, length, chars, Option, Some, None, is_some, unwrap_or, if◌then◌else◌}
+use Rattle.std.specs.Prelude.{ℕ, ◌+◌, ◌/◌, ◌%◌, ◌^◌, Bool, List, ◌++◌, length, chars, Option, Some, None, is_some, unwrap_or, if◌then◌else◌}
 use Rattle.cn_find.specs.declared.wanted.Wanted.{Wanted}
 use Rattle.cn_find.specs.Spans.{Span, in_front}
+use Rattle.cn_quantity.specs.declared.quantity.Quantity.{Quantity}
 use Rattle.cn_phrase.specs.declared.described.Described.{Described}
 use Rattle.cn_phrase.specs.declared.described.PhraseKind.{PhraseKind}
 use Rattle.cn_phrase.specs.declared.described.PhraseKind.TheVariants as kind
@@ -18,7 +19,9 @@ use Rattle.cn_phrase.specs.declared.value.Value.{Value}
 use Rattle.cn_phrase.specs.declared.value.Value.TheVariants as value
 use Rattle.cn_phrase.specs.Hours.{hour_of_day}
 use Rattle.cn_phrase.specs.InText.{is_doubtful, is_range_doubtful}
-use Rattle.cn_phrase.specs.Items.{Item, phrase, range, item_at}
+use Rattle.cn_phrase.specs.Items.{Item, phrase, money, range, item_at}
+use Rattle.cn_phrase.specs.Money.{Money}
+use Rattle.cn_phrase.specs.MoneyText.{fen_of, is_money_doubtful, yuan_of}
 use Rattle.cn_phrase.specs.Phrases.{Found}
 use Rattle.cn_phrase.specs.Ranges.{Ends, range_of}
 use Rattle.cn_phrase.specs.Values.{value_by}
@@ -120,12 +123,35 @@ described_range ends = record {
   split = length ends.low.text;
 }
 
+-- a number of fen below 2^64 by its lower and its upper 32 bits, and 1; all 0 if it is not known
+abbrev pub of_fen : Option ℕ → PhraseNumbers
+of_fen None = numbers 0 0 0 0
+of_fen (Some fen) = numbers (fen % 2 ^ 32) (fen / 2 ^ 32) 1 0
+
+abbrev pub described_money : List ℕ → Money → Described
+described_money front m = record {
+  kind = kind.Money;
+  state = state_of (is_money_doubtful front m);
+  numbers = of_fen (fen_of m);
+  split = 0;
+}
+
 -- an item with which a text begins; the characters before it are `front`
 abbrev pub described_item : List ℕ → List ℕ → Option Item → Described
 described_item front text (Some (phrase found)) = described_phrase front found text
+described_item front text (Some (money m)) = described_money front m
 described_item front text (Some (range ends)) = described_range ends
 described_item front text other =
     record { kind = kind.Expression; state = Certain; numbers = numbers 0 0 0 0; split = 0 }
+
+-- the value in yuan of an item that is a sum of money
+abbrev pub yuan_of_item : Option Item → Option Quantity
+yuan_of_item (Some (money m)) = yuan_of m
+yuan_of_item other = None
+
+unfoldable pub yuan_of_phrase : Wanted → Span → Option Quantity
+yuan_of_phrase wanted span =
+    yuan_of_item (item_at wanted (in_front span.before) (chars (span.text ++ span.after)))
 
 -- an item of a text
 unfoldable pub described : Wanted → Span → Described

@@ -5,10 +5,7 @@ use Rattle.std.specs.List.{list_any}
 use Rattle.std.specs.Option.{option_map_or}
 use Rattle.cn_core.specs.declared.method.ChineseCountMethod.{ChineseCountMethod}
 use Rattle.cn_core.specs.FigureCharacters.{is_figure}
-use Rattle.cn_find.specs.declared.doubt.Doubt.{Doubt}
-use Rattle.cn_find.specs.declared.doubt.Doubt.TheVariants.{Word, Digits, Term, Time}
 use Rattle.cn_find.specs.declared.wanted.Wanted.{Wanted}
-use Rattle.cn_find.specs.Doubt.{doubt_of}
 use Rattle.cn_find.specs.Flags.{is_one_character}
 use Rattle.cn_find.specs.Spans.{Span, in_front}
 use Rattle.cn_find.specs.Words.{begins_with_two, ends_old_calendar, is_title_open}
@@ -24,10 +21,11 @@ use Rattle.cn_phrase.specs.declared.phrase.Lead.TheVariants.{Bare}
 use Rattle.cn_phrase.specs.declared.word.Word.TheVariants as word
 use Rattle.cn_phrase.specs.Compact.{compact_text}
 use Rattle.cn_phrase.specs.Forms.{pieces_of}
-use Rattle.cn_phrase.specs.Items.{Item, phrase, range, expression, item_at, items}
+use Rattle.cn_phrase.specs.Items.{Item, phrase, money, range, expression, item_at, items}
 use Rattle.cn_phrase.specs.Phrases.{Found, after_lead}
 use Rattle.cn_phrase.specs.Pieces.{is_numeral, reading_at}
-use Rattle.cn_phrase.specs.Ranges.{Ends, range_of, range_text}
+use Rattle.cn_phrase.specs.MoneyText.{money_new}
+use Rattle.cn_phrase.specs.Ranges.{Ends, is_doubtful_end, range_of, range_text}
 use Rattle.cn_phrase.specs.Values.{value_by}
 use Rattle.cn_phrase.specs.Words.{after_two, after_word}
 use Rattle.cn_phrase.specs.Written.{passed_text, pieces_text}
@@ -106,17 +104,6 @@ is_doubtful front found text =
 abbrev pub is_of_tenths : Ends → Bool
 is_of_tenths ends = begins (λ c. char_set_contains (codes "折成") c) ends.rest
 
--- an end of a range may mean something else, as 五一 does
-abbrev pub is_doubt_of_end : Option Doubt → Bool
-is_doubt_of_end (Some Word) = true
-is_doubt_of_end (Some Digits) = true
-is_doubt_of_end (Some Term) = true
-is_doubt_of_end (Some Time) = true
-is_doubt_of_end other = false
-
-abbrev pub is_doubtful_end : Span → Bool
-is_doubtful_end end = is_doubt_of_end (doubt_of end.before end.text end.after)
-
 -- a range of tenths, or one with a doubtful end
 abbrev pub is_range_doubtful : Ends → Bool
 is_range_doubtful ends = is_of_tenths ends || (is_doubtful_end ends.low || is_doubtful_end ends.high)
@@ -169,6 +156,7 @@ abbrev pub item_text : ChineseCountMethod → Figures → Span → List ℕ → 
 item_text method options span text None = None
 item_text method options span text (Some (phrase found)) =
     phrase_new options (in_front span.before) found text
+item_text method options span text (Some (money m)) = money_new method options (in_front span.before) m
 item_text method options span text (Some (range ends)) = range_new options ends
 item_text method options span text (Some (expression rest)) = figures_for method options span
 

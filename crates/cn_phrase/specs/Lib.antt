@@ -8,6 +8,8 @@ pub mod Values
 pub mod Phrases
 pub mod Suffix
 pub mod Items
+pub mod Money
+pub mod MoneyText
 pub mod Written
 pub mod Hours
 pub mod Compact

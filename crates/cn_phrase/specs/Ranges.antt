@@ -7,7 +7,10 @@ use Rattle.std.specs.Result.{result_ok}
 use Rattle.cn_core.specs.declared.method.ChineseCountMethod.TheVariants.{TenThousand}
 use Rattle.cn_core.specs.FigureCharacters.{is_figure}
 use Rattle.cn_core.specs.Refusal.{Refusal}
+use Rattle.cn_find.specs.declared.doubt.Doubt.{Doubt}
+use Rattle.cn_find.specs.declared.doubt.Doubt.TheVariants.{Word, Digits, Term, Time}
 use Rattle.cn_find.specs.declared.wanted.Wanted.{Wanted}
+use Rattle.cn_find.specs.Doubt.{doubt_of}
 use Rattle.cn_find.specs.Expressions.{expression_rule}
 use Rattle.cn_find.specs.Flags.{is_about}
 use Rattle.cn_find.specs.Spans.{Span, in_front, run_after, span_of}
@@ -81,6 +84,17 @@ abbrev pub is_end : Span → Bool
 is_end span =
     is_number (quantity_answer TenThousand span.text)
     && not (is_about (chars span.before) (chars span.text) (chars span.after))
+
+-- a number in a phrase may mean something else, as 五一 does
+abbrev pub is_doubt_of_end : Option Doubt → Bool
+is_doubt_of_end (Some Word) = true
+is_doubt_of_end (Some Digits) = true
+is_doubt_of_end (Some Term) = true
+is_doubt_of_end (Some Time) = true
+is_doubt_of_end other = false
+
+abbrev pub is_doubtful_end : Span → Bool
+is_doubtful_end end = is_doubt_of_end (doubt_of end.before end.text end.after)
 
 -- 一到 before 点, 时, 月, 日 or 号: 一到 may mean "as soon as"
 abbrev pub is_as_soon : List ℕ → List ℕ → Bool

@@ -1,10 +1,11 @@
 // What an item of a text is, in numbers, as other languages get it.
-ghost use Rattle.std.specs.Prelude.{◌≡◌, ◌+◌, ◌≤◌, chars, is_some};
+ghost use Rattle.std.specs.Prelude.{◌≡◌, ◌+◌, ◌<◌, ◌≤◌, ◌^◌, chars, is_some, IfSome};
 ghost use Rattle.std.specs.Option.{option_map};
 ghost use Rattle.cn_find.specs.Spans.{in_front, span_of};
 ghost use Rattle.cn_replace.specs.Chains.{IsPart};
-ghost use Rattle.cn_phrase.specs.Described.{described, described_item, described_phrase, described_range, flag, given_parts, kind_of, number_or, numbers, of_date, of_time, of_value, state_of};
+ghost use Rattle.cn_phrase.specs.Described.{described, described_item, described_money, described_phrase, described_range, flag, given_parts, kind_of, number_or, numbers, of_date, of_fen, of_time, of_value, state_of, yuan_of_item, yuan_of_phrase};
 ghost use Rattle.cn_phrase.specs.Items.{item_of};
+ghost use Rattle.cn_phrase.specs.Money.{money_of};
 ghost use Rattle.cn_phrase.specs.Phrases.{found_of};
 ghost use Rattle.cn_phrase.specs.Ranges.{ends_of};
 
@@ -12,10 +13,13 @@ use crate::form::Form;
 use crate::hour::hour_of_day;
 use crate::in_text::{is_doubtful, is_range_doubtful, item_for, text_from};
 use crate::items::Item;
+use crate::money::Money;
+use crate::money_text::{fen_of, is_money_doubtful, yuan_of};
 use crate::phrase::{Lead, Match};
 use crate::range::{Ends, range_of};
 use crate::value::{Date, Time, Value};
 use cn_find::{Found, Wanted};
+use cn_quantity::Quantity;
 
 /// What an item of a text is.
 #[derive(Debug, Copy, Clone, PartialEq, Eq)]
@@ -41,6 +45,8 @@ pub enum PhraseKind {
     Score,
     /// From a quantity to another one.
     Range,
+    /// A sum of money.
+    Money,
 }
 
 /// What is known of an item.
@@ -64,6 +70,7 @@ pub enum PhraseState {
 /// - half: the number without the half
 /// - length: the number before the decimals, the decimals, and how many decimals there are
 /// - score: the two numbers
+/// - money: the fen by their lower and their upper 32 bits, and 1; 0 if they are no whole number below 10^18
 #[derive(Debug, Copy, Clone, PartialEq, Eq)]
 pub struct PhraseNumbers {
     pub first: u32,
@@ -239,6 +246,34 @@ fn described_range(ends: Ends<'_>) -> Described
     }
 }
 
+// A number of fen by its lower and its upper 32 bits, and 1.
+fn of_fen(fen: Option<u64>) -> PhraseNumbers
+    requires { IfSome fen (λ n. n < 10 ^ 18) }
+    ensures { result ≡ of_fen fen }
+{
+    match fen {
+        Some(fen) => PhraseNumbers {
+            first: (fen % 4_294_967_296) as u32,
+            second: (fen / 4_294_967_296) as u32,
+            third: 1,
+            fourth: 0,
+        },
+        None => numbers(0, 0, 0, 0),
+    }
+}
+
+// A sum of money, after another text.
+fn described_money(before: &str, money: Money<'_>) -> Described
+    ensures { result ≡ described_money (in_front before.now) (money_of money.entry) }
+{
+    Described {
+        kind: PhraseKind::Money,
+        state: state_of(is_money_doubtful(before, money)),
+        numbers: of_fen(fen_of(money)),
+        split: 0,
+    }
+}
+
 // An item with which a text begins, after another one.
 fn described_item(before: &str, item: Option<Item<'_>>, text: &str) -> Described
     ensures { result ≡ described_item (in_front before.now) (chars text.now)
@@ -246,6 +281,7 @@ fn described_item(before: &str, item: Option<Item<'_>>, text: &str) -> Described
 {
     match item {
         Some(Item::Phrase(found)) => described_phrase(before, found, text),
+        Some(Item::Money(money)) => described_money(before, money),
         Some(Item::Range(ends)) => described_range(ends),
         _ => Described {
             kind: PhraseKind::Expression,
@@ -267,4 +303,24 @@ pub fn describe_phrase(whole: &str, part: Found<'_>, wanted: Wanted) -> Describe
         item_for(whole, part, wanted),
         text_from(whole, part),
     )
+}
+
+// The value in yuan of an item that is a sum of money.
+fn yuan_of_item(item: Option<Item<'_>>) -> Option<Quantity>
+    ensures { result ≡ yuan_of_item (option_map item_of item.entry) }
+{
+    match item {
+        Some(Item::Money(money)) => yuan_of(money),
+        _ => None,
+    }
+}
+
+/// The exact value in yuan of an item of a text that is a sum of money: 352/100 for 三块五毛二. `None` for any
+/// other item.
+#[tactic(auto, unfolding(crate::specs::Described::yuan_of_phrase))]
+pub fn yuan_of_phrase(whole: &str, part: Found<'_>, wanted: Wanted) -> Option<Quantity>
+    requires { IsPart whole.now (span_of part) }
+    ensures { result ≡ yuan_of_phrase wanted (span_of part.entry) }
+{
+    yuan_of_item(item_for(whole, part, wanted))
 }

@@ -1,26 +1,25 @@
 // A text with its phrases and expressions in figures.
-ghost use Rattle.std.specs.Prelude.{◌≡◌, ◌++◌, ◌-◌, ◌^◌, ◌≤◌, ◌==◌, min, drop, length, chars, is_some, string_bytes, IfOk, OnOk};
+ghost use Rattle.std.specs.Prelude.{◌≡◌, ◌++◌, chars, is_some, IfOk, OnOk};
 ghost use Rattle.std.specs.Option.{option_map};
 ghost use Rattle.std.specs.Char.{char_set_contains};
-ghost use Rattle.cn_core.specs.Buffers.{PutsPrefix};
 ghost use Rattle.cn_find.specs.Spans.{in_front, span_of, text_before};
 ghost use Rattle.cn_replace.specs.Chains.{IsPart};
 ghost use Rattle.cn_replace.specs.Pieces.{begins};
 ghost use Rattle.cn_replace.specs.Private.{PutsText};
-ghost use Rattle.cn_phrase.specs.InText.{follows_republic, is_doubtful, is_doubtful_end, is_half, is_minute, is_of_calendar, is_of_era, is_of_old_calendar, is_of_tenths, is_of_year, is_range_doubtful, may_be_decimal, is_phrase_included, is_range_included, is_short_half, is_short_while, item_holds, item_text, may_be_years, phrase_new, phrase_text, phrase_written, range_new, text_for_item, text_in_figures};
+ghost use Rattle.cn_phrase.specs.InText.{follows_republic, is_doubtful, is_half, is_minute, is_of_calendar, is_of_era, is_of_old_calendar, is_of_tenths, is_of_year, is_range_doubtful, may_be_decimal, is_phrase_included, is_range_included, is_short_half, is_short_while, item_holds, item_text, may_be_years, phrase_new, phrase_text, phrase_written, range_new, text_for_item, text_in_figures};
 ghost use Rattle.cn_phrase.specs.Items.{item_at, item_of};
 ghost use Rattle.cn_phrase.specs.Phrases.{found_of};
-ghost use Rattle.cn_phrase.specs.Ranges.{ends_of};
+ghost use Rattle.cn_phrase.specs.Ranges.{ends_of, is_doubtful_end};
 
 use crate::compact::{has_compact, put_compact};
 use crate::form::Form;
 use crate::items::{Item, item_at, next_item};
+use crate::money_text::put_money;
 use crate::phrase::{Lead, Match, begins_with, ends_with};
 use crate::piece::{Numeral, Progress};
 use crate::range::{Ends, put_range, range_of};
 use crate::word::{Word, after_two};
 use crate::written::{put_passed, put_pieces};
-use cn_core::{Buffer, ChineseCountMethod, split_first_char};
 use cn_find::{
     Doubt, Found, Wanted, ends_old_calendar, ends_with_two, is_one_character, is_one_of,
     is_title_open,
@@ -28,11 +27,10 @@ use cn_find::{
 use cn_replace::chains::put_in_chains;
 use cn_replace::nothing::Nothing;
 use cn_replace::pieces::{CharTest, Figure, any, begins, split_leading};
-use cn_replace::{Figures, InFigures, Included, Replacement, Rewriting, Sink};
-use std::alloc::{AllocError, Global};
+use cn_replace::{Figures, InFigures, Included, Rewriting, Sink};
 
-// Whether a year may be a number of years.
-fn may_be_years(form: Form, year: u16, text: &str, rest: &str) -> bool
+/// Whether a year, with which a text begins, may be a number of years, as in 1000年前.
+pub fn may_be_years(form: Form, year: u16, text: &str, rest: &str) -> bool
     ensures { result ≡ may_be_years form year (chars text.now) (chars rest.now) }
 {
     match form {
@@ -151,8 +149,8 @@ fn is_of_tenths(ends: Ends<'_>) -> bool
     begins_with(&['折', '成'], ends.high.after)
 }
 
-// Whether an end of a range may mean something else.
-fn is_doubtful_end(end: Found<'_>) -> bool
+/// Whether a number in a phrase, such as an end of a range, may mean something else.
+pub fn is_doubtful_end(end: Found<'_>) -> bool
     ensures { result ≡ is_doubtful_end (span_of end.entry) }
 {
     matches!(
@@ -311,6 +309,7 @@ impl InText {
         match item {
             None => Ok(false),
             Some(Item::Phrase(found)) => put_included(sink, figures, part.before, found, text),
+            Some(Item::Money(money)) => put_money(sink, self.replacement, part.before, money),
             Some(Item::Range(ends)) => put_range_included(sink, figures, ends),
             Some(Item::Expression(_)) => self.replacement.put_known(part, sink),
         }
@@ -383,74 +382,10 @@ impl Rewriting for InText {
     }
 }
 
-// Writes a text with its phrases and expressions in figures.
-fn put_text<S: Sink>(sink: &mut S, text: &str, in_text: InText) -> Result<(), S::Error>
+/// Writes a text with its phrases and expressions in figures. An error is one of the sink.
+pub fn put_in_figures<S: Sink>(sink: &mut S, text: &str, in_text: InText) -> Result<(), S::Error>
     ensures { OnOk result (S.took sink.old sink.new (text_in_figures in_text.replacement.method
         in_text.replacement.figures in_text.wanted text.now)) }
 {
     put_in_chains(sink, text, in_text)
-}
-
-/// Returns the text with its dates, times, durations, ranges and quantities in figures: numerals are
-/// changed, unless they may mean something else, and words stay. The rules are those of docs/RULES.md,
-/// "Phrases in figures".
-///
-/// ```text
-/// text_to_figures(alloc, "二零二六年一月五日下午三点半，三到五万元", Wanted::EVERYDAY,
-///     ChineseCountMethod::TenThousand, Figures::DEFAULT)
-///     == Ok("2026年1月5日下午3点半，3万到5万元")
-/// ```
-///
-/// The error means that memory ran out; memory is requested as the text grows.
-pub fn text_to_figures(
-    alloc: Global,
-    text: &str,
-    wanted: Wanted,
-    method: ChineseCountMethod,
-    figures: Figures,
-) -> Result<String, AllocError>
-    ensures { IfOk result (λ new. string_bytes new ≡ text_in_figures method figures wanted text.now) }
-{
-    let mut new = String::with_capacity(alloc, text.len())?;
-    let replacement = InFigures { method, figures };
-    put_text(
-        &mut new,
-        text,
-        InText {
-            wanted,
-            replacement,
-        },
-    )?;
-    Ok(new)
-}
-
-/// Writes the same text at the start of a buffer, if it fits, and returns the number of its bytes,
-/// at most the greatest `usize`. If it does not fit, a prefix of it is written. All other bytes of the
-/// buffer stay as they are.
-pub fn put_text_in_figures(
-    room: &mut [u8],
-    text: &str,
-    wanted: Wanted,
-    method: ChineseCountMethod,
-    figures: Figures,
-) -> usize
-    ensures count { let new = text_in_figures method figures wanted text.now in
-        result ≡ min (length new) (2 ^ 64 - 1) }
-    ensures put { let new = text_in_figures method figures wanted text.now in
-        length new ≤ length room.old → room.new ≡ new ++ drop (length new) room.old }
-    ensures prefix { PutsPrefix (text_in_figures method figures wanted text.now) room.old room.new }
-{
-    let mut buffer = Buffer::new(room);
-    let replacement = InFigures { method, figures };
-    match put_text(
-        &mut buffer,
-        text,
-        InText {
-            wanted,
-            replacement,
-        },
-    ) {
-        Ok(()) => buffer.count,
-        Err(never) => match never {},
-    }
 }

@@ -1,5 +1,5 @@
 // Finds the phrases of a text, and its expressions that are in none.
-ghost use Rattle.std.specs.Prelude.{◌≡◌, ◌++◌, ◌∷◌, [], ◌↔◌, chars, drop, IsCharBoundary, IsSome, MatchOption, IfSome};
+ghost use Rattle.std.specs.Prelude.{◌≡◌, ◌++◌, ◌∷◌, [], ◌↔◌, None, Some, chars, drop, IsCharBoundary, IsSome, MatchOption, IfSome};
 ghost use Rattle.std.specs.Iterator.{YieldsFirstBy, item_count};
 ghost use Rattle.std.specs.Option.{option_map};
 ghost use Rattle.cn_core.specs.Mark.{mark_of};
@@ -9,17 +9,20 @@ ghost use Rattle.cn_judge.specs.Marked.{marked};
 ghost use Rattle.cn_replace.specs.Chains.{IsPart};
 ghost use Rattle.cn_replace.specs.Pieces.{begins};
 ghost use Rattle.cn_phrase.specs.Between.{part_between};
-ghost use Rattle.cn_phrase.specs.Items.{ends_whole, item_at, item_of, item_rest, items, items_left, rest_of, whole_phrase};
+ghost use Rattle.cn_phrase.specs.Items.{ends_whole, first_of, is_price_within, item_at, item_of, item_rest, items, items_left, rest_of, whole_phrase};
+ghost use Rattle.cn_phrase.specs.Money.{counted, money_of, signed_at, signed_from};
 ghost use Rattle.cn_phrase.specs.Phrases.{found_of};
 ghost use Rattle.cn_phrase.specs.Private.{may_be_first};
 ghost use Rattle.cn_phrase.specs.Ranges.{ends_of, linked, range_from};
 
-use crate::phrase::{Match, may_lead, phrase_at};
+use crate::money::{Money, begins_one, counted, is_sign, signed};
+use crate::phrase::{Match, ends_with_name, may_lead, phrase_at};
+use crate::piece::without_blank;
 use crate::range::{Ends, is_link, is_range};
 use cn_core::{is_figure, split_first_char};
 use cn_find::{Found, Wanted, expression_after, is_extra, text_before};
 use cn_judge::{Mark, split_first_mark};
-use cn_replace::pieces::split_nearest;
+use cn_replace::pieces::{Figure, ends, split_nearest};
 use std::marker::Model;
 
 /// What is found in a text.
@@ -27,6 +30,8 @@ use std::marker::Model;
 pub enum Item<'a> {
     /// A phrase of one of the forms.
     Phrase(Match<'a>),
+    /// A sum of money.
+    Money(Money<'a>),
     /// Two quantities with a link between them.
     Range(Ends<'a>),
     /// An expression that is in no phrase, and the text after it.
@@ -40,6 +45,7 @@ impl<'a> Item<'a> {
     {
         match self {
             Item::Phrase(found) => found.rest,
+            Item::Money(money) => money.rest,
             Item::Range(ends) => ends.high.after,
             Item::Expression(rest) => rest,
         }
@@ -136,20 +142,81 @@ fn whole_phrase<'a>(whole: &'a str, ahead: &'a str, wanted: Wanted) -> Option<Ma
     }
 }
 
+// The sum of money after a sign, given the text from the sign on and the text after the sign.
+fn signed_from<'a>(
+    whole: &'a str,
+    ahead: &'a str,
+    start: &'a str,
+    wanted: Wanted,
+) -> Option<Money<'a>>
+    requires ahead { text_before whole.now ahead.now ++ ahead.now ≡ whole.now }
+    requires start { text_before ahead.now start.now ++ start.now ≡ ahead.now }
+    ensures { option_map money_of result ≡ signed_from wanted
+        (in_front (text_before whole.now ahead.now)) (chars ahead.now) (chars start.now) }
+{
+    match expression_at(whole, start, wanted) {
+        Some(number) => signed(text_before(ahead, start), number),
+        None => None,
+    }
+}
+
+// The sum of money that begins with a sign.
+fn signed_at<'a>(whole: &'a str, ahead: &'a str, wanted: Wanted) -> Option<Money<'a>>
+    requires { text_before whole.now ahead.now ++ ahead.now ≡ whole.now }
+    ensures { option_map money_of result
+        ≡ signed_at wanted (in_front (text_before whole.now ahead.now)) (chars ahead.now) }
+{
+    let (c, after) = split_first_char(ahead)?;
+    let before = text_before(whole, ahead);
+    if !is_sign(c) || ends_with_name(before) || ends(Figure, before) {
+        return None;
+    }
+    signed_from(whole, ahead, without_blank(false, after), wanted)
+}
+
+// What begins with an expression: a sum of money, a range, or the expression by itself.
+fn counted_item<'a>(whole: &'a str, low: Found<'a>, wanted: Wanted) -> Item<'a>
+    requires { IsPart whole.now (span_of low) }
+    ensures { Some (item_of result) ≡ first_of None
+        (counted (span_of low.entry) (chars low.entry.after.now))
+        (range_from (linked wanted (span_of low.entry) (chars low.entry.after.now)))
+        (Some (chars low.entry.after.now)) }
+{
+    if let Some(money) = counted(low) {
+        return Item::Money(money);
+    }
+    match range_after(whole, low, wanted) {
+        Some(ends) => Item::Range(ends),
+        None => Item::Expression(low.after),
+    }
+}
+
+// Whether a suffix of a text begins with the price of one, and within an expression.
+fn is_price_within(whole: &str, ahead: &str, wanted: Wanted) -> bool
+    requires { text_before whole.now ahead.now ++ ahead.now ≡ whole.now }
+    ensures { result
+        ≡ is_price_within wanted (in_front (text_before whole.now ahead.now)) (chars ahead.now) }
+{
+    begins_one(ahead) && !ends_whole(whole, ahead, wanted)
+}
+
 /// The item that begins with a suffix of a text; `None` if none begins there.
 pub fn item_at<'a>(whole: &'a str, ahead: &'a str, wanted: Wanted) -> Option<Item<'a>>
     requires { text_before whole.now ahead.now ++ ahead.now ≡ whole.now }
     ensures { option_map item_of result
         ≡ item_at wanted (in_front (text_before whole.now ahead.now)) (chars ahead.now) }
 {
+    if is_price_within(whole, ahead, wanted) {
+        return None;
+    }
     if let Some(found) = whole_phrase(whole, ahead, wanted) {
         return Some(Item::Phrase(found));
     }
+    if let Some(money) = signed_at(whole, ahead, wanted) {
+        return Some(Item::Money(money));
+    }
     match expression_at(whole, ahead, wanted) {
-        Some(low) => match range_after(whole, low, wanted) {
-            Some(ends) => Some(Item::Range(ends)),
-            None => Some(Item::Expression(low.after)),
-        },
+        Some(low) => Some(counted_item(whole, low, wanted)),
         None => None,
     }
 }

@@ -11,13 +11,13 @@ use cn_core::ChineseCountMethod;
 use cn_find::Wanted;
 use cn_replace::Figures;
 
-/// The items of a text in which no phrase and no range begins are its expressions.
+/// The items of a text in which no phrase, no sum of money and no range begins are its expressions.
 pub fn items_are_expressions_without_phrases(wanted: Wanted)
     ensures { (bytes : List ℕ) → has_no_phrase wanted bytes ≡ true
         → items wanted bytes ≡ expressions wanted bytes }
 {}
 
-/// A text in which no phrase and no range begins is written in figures as its quantities are.
+/// A text in which no phrase, no sum of money and no range begins is written in figures as its quantities are.
 pub fn texts_without_phrases_are_written_as_their_quantities(
     wanted: Wanted,
     method: ChineseCountMethod,

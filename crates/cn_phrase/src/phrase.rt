@@ -218,12 +218,19 @@ fn may_be_alone(form: Form, last: u16, before: &str, rest: &str) -> bool
     }
 }
 
-// Whether a text ends with a letter or `_`.
-fn ends_with_name(before: &str) -> bool
+/// Whether a character is a letter or `_`.
+pub fn is_name(c: char) -> bool
+    ensures { result ≡ is_name c }
+{
+    c.is_ascii_alphabetic() || is_one_of(&['_'], c)
+}
+
+/// Whether a text ends with a letter or `_`.
+pub fn ends_with_name(before: &str) -> bool
     ensures { result ≡ begins is_name (in_front before.now) }
 {
     match split_nearest(before) {
-        Some((c, _)) => c.is_ascii_alphabetic() || is_one_of(&['_'], c),
+        Some((c, _)) => is_name(c),
         None => false,
     }
 }

@@ -59,8 +59,8 @@ fn is_number(text: &str) -> bool
     }
 }
 
-// Whether an expression can be an end of a range.
-fn is_end(found: Found<'_>) -> bool
+/// Whether an expression can be an end of a range, or the number of a sum of money: 三 can, 三分之一 cannot.
+pub fn is_end(found: Found<'_>) -> bool
     ensures { result ≡ is_end (span_of found.entry) }
 {
     is_number(found.text) && !found.is_about()
@@ -157,8 +157,8 @@ fn goes_on(after: &str) -> bool
     }
 }
 
-// The percent sign of a quantity.
-fn is_percent(text: &str) -> bool
+/// Whether a text is a percentage, such as 5%.
+pub fn is_percent(text: &str) -> bool
     ensures { result ≡ is_percent text.now }
 {
     match quantity_of(text) {
@@ -167,8 +167,8 @@ fn is_percent(text: &str) -> bool
     }
 }
 
-// A product, if it is less than 2^128.
-fn product(a: u128, b: u128) -> Option<u128>
+/// A product, if it is less than 2^128.
+pub fn product(a: u128, b: u128) -> Option<u128>
     ensures { result ≡ product a b }
 {
     a.checked_mul(b)
@@ -250,8 +250,8 @@ fn counts_for_both(low: &str, high: &str) -> bool
         && are_less(quantity_of(low), quantity_of(before_units(high)))
 }
 
-// The units that count for both ends.
-fn shared_units<'a>(low: &str, high: &'a str) -> &'a str
+/// The units that count for both ends: 万 of 三到五万.
+pub fn shared_units<'a>(low: &str, high: &'a str) -> &'a str
     ensures { result.now ≡ shared_units low.now high.now }
 {
     if counts_for_both(low, high) {
@@ -348,8 +348,8 @@ pub fn is_range(ends: Ends<'_>) -> bool
         && is_linked(ends)
 }
 
-// Writes a number in figures, in a style, and returns whether it has such a text.
-fn put_in_style<S: Sink>(sink: &mut S, style: Style, number: &str) -> Result<bool, S::Error>
+/// Writes a number in figures, in a style, and returns whether it has such a text.
+pub fn put_in_style<S: Sink>(sink: &mut S, style: Style, number: &str) -> Result<bool, S::Error>
     ensures { IfOk result
         (PutsText S.took sink.old sink.new (text_in_style style (chars number.now))) }
 {

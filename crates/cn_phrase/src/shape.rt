@@ -2,6 +2,7 @@
 ghost use Rattle.std.specs.Prelude.{◌≡◌, ◌==◌, ◌<◌, ◌∷◌, ◌+◌, ◌*◌, [], ℕ, Option, None, Some, chars, if◌then◌else◌, IfSome};
 ghost use Rattle.std.specs.Option.{option_and_then};
 ghost use Rattle.cn_core.specs.FigureCharacters.{figure_of};
+ghost use Rattle.cn_phrase.specs.Money.{part_digit};
 ghost use Rattle.cn_phrase.specs.Shapes.{after_hundred, are_about, chinese_digit, clock_of, count_of, counting_digit, digit_alone_of, era_year_of, few_figures_of, four_digits, full_year_of, has_later_two, hundred_of, hundreds, is_hundred, is_ten, is_zero, long_count_of, number_of, short_year_of, small_of, three_figures_of, two_alone_of, two_digits, two_of, value_of, year_of, zero_digit_of};
 
 use cn_core::{digit_of, figure_of, split_first_char};
@@ -51,14 +52,24 @@ fn chinese_digit(c: char) -> Option<u8>
     }
 }
 
-// The value of a Chinese digit from 1 to 9.
-fn counting_digit(c: char) -> Option<u8>
+/// The value of a Chinese digit from 1 to 9, such as 2 for 两.
+pub fn counting_digit(c: char) -> Option<u8>
     ensures value { result ≡ counting_digit c }
     ensures small { IfSome result (λ n. n < 10) }
 {
     match chinese_digit(c)? {
         0 => None,
         n => Some(n),
+    }
+}
+
+/// The value of a digit of jiao or fen: a figure, or a Chinese digit from 1 to 9.
+pub fn part_digit(c: char) -> Option<u8>
+    ensures { result ≡ part_digit c }
+{
+    match Figures.value(c) {
+        Some(n) => Some(n),
+        None => counting_digit(c),
     }
 }
 

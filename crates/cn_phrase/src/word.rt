@@ -58,8 +58,9 @@ pub enum Word {
     Weekday,
 }
 
-// The text after its first character, if that is one of these.
-fn after_one<'a>(these: &[char], text: &'a str) -> Option<&'a str>
+/// The text after its first character, if that is one of these: after 元 it is 五角 of 元五角. `None` if it
+/// is not.
+pub fn after_one<'a>(these: &[char], text: &'a str) -> Option<&'a str>
     ensures { option_map (λ rest. chars rest.now) result ≡ after_one these.now (chars text.now) }
 {
     let (c, rest) = split_first_char(text)?;
@@ -79,8 +80,8 @@ pub fn after_two<'a>(first: &[char], second: &[char], text: &'a str) -> Option<&
     after_one(second, after_one(first, text)?)
 }
 
-// The text after a character, if there is one of these, or the text itself.
-fn after_any<'a>(these: &[char], text: &'a str) -> &'a str
+/// The text after a character, if there is one of these, or the text itself.
+pub fn after_any<'a>(these: &[char], text: &'a str) -> &'a str
     ensures { chars result.now ≡ after_any these.now (chars text.now) }
 {
     match after_one(these, text) {

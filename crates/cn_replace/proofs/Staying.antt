@@ -33,18 +33,18 @@ style-none : (method : ChineseCountMethod) (text : List ℕ) → is_in_figures t
 unfolding styled_text
 style-none method text e = rw e refl
 
-written-none : (method : ChineseCountMethod) (included : Included) (compact : Bool) (text : List ℕ)
+written-none : (method : ChineseCountMethod) (included : Included) (compact codes : Bool) (text : List ℕ)
     → is_in_figures text ≡ true
-    → written_text method (record { included = included; style = Kept; canonical = false; compact = compact }) text ≡ None
+    → written_text method (record { included = included; style = Kept; canonical = false; compact = compact; codes = codes }) text ≡ None
 unfolding written_text
-written-none method included compact text e =
+written-none method included compact codes text e =
     nothing (are_figures text) (styled_text method Kept text) (style-none method text e)
 
-pub figures-stay : (method : ChineseCountMethod) (included : Included) (compact : Bool) (span : Span)
+pub figures-stay : (method : ChineseCountMethod) (included : Included) (compact codes : Bool) (span : Span)
     → is_in_figures (chars span.text) ≡ true
-    → figures_for method (record { included = included; style = Kept; canonical = false; compact = compact }) span ≡ None
+    → figures_for method (record { included = included; style = Kept; canonical = false; compact = compact; codes = codes }) span ≡ None
 unfolding figures_for
-figures-stay method included compact span e =
+figures-stay method included compact codes span e =
     nothing-else (may_change method included span)
-    (written_text method (record { included = included; style = Kept; canonical = false; compact = compact })
-    (chars span.text)) (written-none method included compact (chars span.text) e)
+    (written_text method (record { included = included; style = Kept; canonical = false; compact = compact; codes = codes })
+    (chars span.text)) (written-none method included compact codes (chars span.text) e)

@@ -9,7 +9,7 @@ use Rattle.cn_core.specs.FigureCharacters.{is_figure, is_wide_figure, tens_of}
 use Rattle.cn_core.proofs.Fronts.{both}
 use Rattle.cn_find.specs.declared.doubt.Doubt.{Doubt}
 use Rattle.cn_find.specs.declared.doubt.Doubt.TheVariants.{Word, Digits, Term, Part, Time, Range}
-use Rattle.cn_find.specs.Doubt.{is_doubtful_list, is_of_article, is_part, is_term, is_time}
+use Rattle.cn_find.specs.Doubt.{ends_in_next_word, is_doubtful_list, is_of_article, is_part, is_term, is_time}
 use Rattle.cn_find.specs.Expressions.{binds_minus, is_extra, is_han, is_tens}
 use Rattle.cn_find.specs.Flags.{begins_estimate}
 use Rattle.cn_find.specs.Spans.{Span}
@@ -57,7 +57,7 @@ IsUnseen-of c unnamed unnoticed =
 -- a doubt by the characters before an expression, the nearest first, and those after it
 abbrev doubt-by : Bool → List ℕ → List ℕ → List ℕ → Bool → Option Doubt
 doubt-by in_title front text after is_end =
-    if is_part text after then Some Part
+    if is_part text after || ends_in_next_word text after then Some Part
     else (if ends_word front text || ((begins_weekday text && ends_week front)
     || ((in_title || (begins_with (codes "年") after && ends_era front))
     || begins_word text after)) then Some Word
@@ -71,7 +71,7 @@ module _ (c : ℕ) (u : IsUnseen c) (more : List ℕ) where
   doubt-after : (in_title : Bool) (front text : List ℕ) (is_end : Bool) (xs : List ℕ)
       → doubt-by in_title front text (xs ++ c ∷ more) is_end ≡ doubt-by in_title front text xs is_end
   unfolding is_named is_noticed is_han digit_of
-  doubt-after in_title front text is_end [] = simp (u.other, and-false)
+  doubt-after in_title front text is_end [] = simp (u.other, u.han, and-false)
   doubt-after in_title front text is_end (x ∷ []) = simp (u.other, u.han, and-false)
   doubt-after in_title front text is_end (x ∷ y ∷ []) = simp (u.other, and-false)
   doubt-after in_title front text is_end (x ∷ y ∷ z ∷ xs) = refl

@@ -44,12 +44,13 @@ pub fn texts_are_put_in_figures_in_parts(
 
 /// What has a figure and no 分之 stays in the kept style, unless canonical figures are requested.
 pub fn figures_stay(method: ChineseCountMethod, included: Included)
-    ensures { (compact : Bool) (span : Span) → is_in_figures (chars span.text) ≡ true
+    ensures { (compact codes : Bool) (span : Span) → is_in_figures (chars span.text) ≡ true
         → figures_for method (record {
           included = included;
           style = Kept;
           canonical = false;
           compact = compact;
+          codes = codes;
         }) span
         ≡ None }
 {}
@@ -59,5 +60,5 @@ pub fn figures_constants_are()
     ensures none { Included.NONE
         ≡ record { about = false; one_character = false; doubtful = false } }
     ensures default { Figures.DEFAULT
-        ≡ record { included = Included.NONE; style = Kept; canonical = false; compact = false } }
+        ≡ record { included = Included.NONE; style = Kept; canonical = false; compact = false; codes = false } }
 {}

@@ -41,6 +41,9 @@ pub struct Figures {
     /// Whether phrases are written in their shortest form: 2026-01-05, 15:30, 1.5小时. It changes no
     /// quantity.
     pub compact: bool,
+    /// Whether codes of Chinese digits, such as telephone numbers, are written too. It changes no
+    /// quantity.
+    pub codes: bool,
 }
 
 impl Figures {
@@ -50,5 +53,6 @@ impl Figures {
         style: Style::Kept,
         canonical: false,
         compact: false,
+        codes: false,
     };
 }

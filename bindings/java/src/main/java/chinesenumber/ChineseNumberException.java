@@ -26,25 +26,39 @@ public final class ChineseNumberException extends IllegalArgumentException {
     private final Status status;
     private final int charIndex;
     private final int index;
+    private final long row;
     /** Null if no text was read. */
     private final ReadText readText;
 
     ChineseNumberException(Status status, ReadText readText, int charIndex, int index) {
-        this(status, textOf(status, readText, charIndex), readText, charIndex, index);
+        this(status, textOf(status, readText, charIndex), readText, charIndex, index, -1);
     }
 
     /** The refusal of what cannot be written, or is too large to be read. */
     ChineseNumberException(Status status, String text) {
-        this(status, text, null, -1, -1);
+        this(status, text, null, -1, -1, -1);
     }
 
     private ChineseNumberException(Status status, String text, ReadText readText, int charIndex,
-        int index) {
+        int index, long row) {
         super(text);
         this.status = status;
         this.readText = readText;
         this.charIndex = charIndex;
         this.index = index;
+        this.row = row;
+    }
+
+    /** The same refusal, of a row of a column. */
+    ChineseNumberException atRow(long other) {
+        return new ChineseNumberException(status, super.getMessage(), readText, charIndex, index,
+            other);
+    }
+
+    /** The reason in English, with the place, and the row of a column. */
+    @Override
+    public String getMessage() {
+        return row < 0 ? super.getMessage() : super.getMessage() + " in row " + row;
     }
 
     private static String textOf(Status status, ReadText readText, int charIndex) {
@@ -97,6 +111,14 @@ public final class ChineseNumberException extends IllegalArgumentException {
      */
     public int index() {
         return index;
+    }
+
+    /**
+     * How many rows come before the refused one, if {@link ChineseColumns} has converted a column;
+     * otherwise -1.
+     */
+    public long row() {
+        return row;
     }
 
     /**

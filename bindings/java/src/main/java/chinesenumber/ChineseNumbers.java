@@ -621,6 +621,31 @@ public final class ChineseNumbers {
     }
 
     /**
+     * Rewrites a text as it is spoken, with its figures, signs and measures in Chinese characters:
+     * {@code textToSpeech("15:30到，共2.5kg")} is 十五点三十分到，共二点五千克. What no rule covers stays, such
+     * as x86.
+     */
+    public static String textToSpeech(CharSequence text) {
+        return textToSpeech(text, Voice.DEFAULT);
+    }
+
+    /**
+     * Rewrites a text as it is spoken by a voice: {@code textToSpeech("请拨打110",
+     * Voice.DEFAULT.withYao())} is 请拨打幺幺零.
+     */
+    public static String textToSpeech(CharSequence text, Voice voice) {
+        return Figures.spoken(text, requireNonNull(voice, "voice"));
+    }
+
+    /**
+     * Finds the parts with figures that {@link #textToSpeech(CharSequence)} leaves as they are; not
+     * all of them are quantities: {@code findUnspoken("2026.1.15，x86").count()} is 2.
+     */
+    public static Stream<FoundQuantity> findUnspoken(CharSequence text) {
+        return Search.UNSPOKEN.findAll(text, Wanted.DEFAULT).stream();
+    }
+
+    /**
      * Rewrites the numerals of a text in figures, but no dates and times: {@code
      * quantitiesToFigures("市值三点五亿元，占百分之十二点五")} is 市值3.5亿元，占12.5%.
      */
@@ -632,10 +657,12 @@ public final class ChineseNumbers {
      * Rewrites the numerals of a text in figures with options: {@code quantitiesToFigures("三千五百亿",
      * TextOptions.DEFAULT.withExpanded())} is 350000000000.
      *
-     * @throws IllegalArgumentException for the option {@link TextOptions#withCompact}
+     * @throws IllegalArgumentException for the options {@link TextOptions#withCompact} and {@link
+     *     TextOptions#withCodes}
      */
     public static String quantitiesToFigures(CharSequence text, TextOptions options) {
-        requireNonNull(options, "options").refuse(Codes.COMPACT, "quantitiesToFigures");
+        int others = Codes.COMPACT | Codes.CODES;
+        requireNonNull(options, "options").refuse(others, "quantitiesToFigures");
         return Figures.written(Core::chinese_quantities_to_figures, text, options);
     }
 
@@ -654,13 +681,14 @@ public final class ChineseNumbers {
      * expression, the function returns its {@link Found#text}.
      *
      * @throws IllegalArgumentException for the options {@link TextOptions#withExpanded}, {@link
-     *     TextOptions#withCanonical} and {@link TextOptions#withCompact}
+     *     TextOptions#withCanonical}, {@link TextOptions#withCompact} and {@link
+     *     TextOptions#withCodes}
      * @throws NullPointerException also if the function returns null
      */
     public static String replaceQuantities(CharSequence text,
         Function<? super FoundQuantity, String> replacement, TextOptions options) {
         requireNonNull(replacement, "replacement");
-        int others = Codes.EXPANDED | Codes.CANONICAL | Codes.COMPACT;
+        int others = Codes.EXPANDED | Codes.CANONICAL | Codes.COMPACT | Codes.CODES;
         requireNonNull(options, "options").refuse(others, "replaceQuantities");
         StringBuilder replaced = new StringBuilder();
         int end = 0;

@@ -19,6 +19,9 @@ final class Codes {
     static final int EXPANDED = 32;
     static final int CANONICAL = 64;
     static final int COMPACT = 128;
+    static final int CODES = 256;
+
+    static final int YAO = 1;
 
     static final int MOST_BYTES = 234;
     static final int MOST_QUANTITY_BYTES = 471;

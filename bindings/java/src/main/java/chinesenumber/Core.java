@@ -8,7 +8,7 @@ static int chinese_number_version(State m) {
   Core1.f2(m);
   throw State.trap();
  }
- Core6.f217(m);
+ Core9.f305(m);
  Core1.f1(m);
  return 1000;
 }
@@ -19,7 +19,7 @@ static int chinese_input_expected(State m, long l0, long l1, int l2, long l3) {
   Core1.f2(m);
   throw State.trap();
  }
- l2 = Core6.f219(m, l0, l1, l2, l3);
+ l2 = Core9.f307(m, l0, l1, l2, l3);
  Core1.f1(m);
  return l2;
 }
@@ -30,7 +30,7 @@ static int chinese_input_repair(State m, long l0, long l1, int l2, long l3) {
   Core1.f2(m);
   throw State.trap();
  }
- l2 = Core6.f221(m, l0, l1, l2, l3);
+ l2 = Core9.f309(m, l0, l1, l2, l3);
  Core1.f1(m);
  return l2;
 }
@@ -42,7 +42,7 @@ static int chinese_number_answer_line(State m, long l0, long l1, long l2, long l
   Core1.f2(m);
   throw State.trap();
  }
- l5 = Core6.f223(m, l0, l1, l2, l3, l4);
+ l5 = Core9.f311(m, l0, l1, l2, l3, l4);
  Core1.f1(m);
  return l5;
 }
@@ -53,9 +53,31 @@ static int chinese_input_message(State m, long l0, long l1, int l2, int l3, long
   Core1.f2(m);
   throw State.trap();
  }
- l3 = Core6.f225(m, l0, l1, l2, l3, l4, l5, l6);
+ l3 = Core9.f313(m, l0, l1, l2, l3, l4, l5, l6);
  Core1.f1(m);
  return l3;
+}
+
+static int chinese_amounts_read_column(State m, long l0, long l1, long l2, long l3, long l4, long l5, long l6, int l7, long l8, long l9, long l10, long l11) {
+ L1: {
+  if (Core1.f0(m) == 0) { break L1; }
+  Core1.f2(m);
+  throw State.trap();
+ }
+ l7 = Core9.f315(m, l0, l1, l2, l3, l4, l5, l6, l7, l8, l9, l10, l11);
+ Core1.f1(m);
+ return l7;
+}
+
+static int chinese_dates_read_column(State m, long l0, long l1, long l2, long l3, long l4, long l5, long l6, long l7, long l8, long l9, long l10) {
+ L1: {
+  if (Core1.f0(m) == 0) { break L1; }
+  Core1.f2(m);
+  throw State.trap();
+ }
+ Core9.f317(m, l0, l1, l2, l3, l4, l5, l6, l7, l8, l9, l10);
+ Core1.f1(m);
+ return 0;
 }
 
 static int chinese_date_print(State m, int l0, int l1, int l2, int l3, long l4, long l5, long l6) {
@@ -64,7 +86,7 @@ static int chinese_date_print(State m, int l0, int l1, int l2, int l3, long l4, 
   Core1.f2(m);
   throw State.trap();
  }
- l3 = Core6.f227(m, l0, l1, l2, l3, l4, l5, l6);
+ l3 = Core9.f319(m, l0, l1, l2, l3, l4, l5, l6);
  Core1.f1(m);
  return l3;
 }
@@ -75,7 +97,7 @@ static int chinese_signed_amount_print(State m, long l0, int l1, int l2, long l3
   Core1.f2(m);
   throw State.trap();
  }
- l2 = Core6.f229(m, l0, l1, l2, l3, l4, l5);
+ l2 = Core9.f321(m, l0, l1, l2, l3, l4, l5);
  Core1.f1(m);
  return l2;
 }
@@ -86,7 +108,7 @@ static int chinese_status_message(State m, int l0, int l1, long l2, long l3, lon
   Core1.f2(m);
   throw State.trap();
  }
- l1 = Core6.f231(m, l0, l1, l2, l3, l4);
+ l1 = Core9.f323(m, l0, l1, l2, l3, l4);
  Core1.f1(m);
  return l1;
 }
@@ -98,7 +120,7 @@ static int chinese_quantity_figures(State m, long l0, long l1, long l2, long l3)
   Core1.f2(m);
   throw State.trap();
  }
- l4 = Core6.f233(m, l0, l1, l2, l3);
+ l4 = Core9.f325(m, l0, l1, l2, l3);
  Core1.f1(m);
  return l4;
 }
@@ -110,7 +132,7 @@ static int chinese_amount_read(State m, long l0, long l1, long l2) {
   Core1.f2(m);
   throw State.trap();
  }
- l3 = Core7.f235(m, l0, l1, l2);
+ l3 = Core9.f327(m, l0, l1, l2);
  Core1.f1(m);
  return l3;
 }
@@ -122,7 +144,7 @@ static int chinese_typed_amount_read(State m, long l0, long l1, long l2) {
   Core1.f2(m);
   throw State.trap();
  }
- l3 = Core7.f237(m, l0, l1, l2);
+ l3 = Core9.f329(m, l0, l1, l2);
  Core1.f1(m);
  return l3;
 }
@@ -134,7 +156,7 @@ static int chinese_date_read(State m, long l0, long l1, long l2) {
   Core1.f2(m);
   throw State.trap();
  }
- l3 = Core7.f239(m, l0, l1, l2);
+ l3 = Core9.f331(m, l0, l1, l2);
  Core1.f1(m);
  return l3;
 }
@@ -145,9 +167,31 @@ static int chinese_amount_print(State m, long l0, int l1, int l2, long l3, long 
   Core1.f2(m);
   throw State.trap();
  }
- l2 = Core7.f241(m, l0, l1, l2, l3, l4, l5);
+ l2 = Core9.f333(m, l0, l1, l2, l3, l4, l5);
  Core1.f1(m);
  return l2;
+}
+
+static int chinese_amounts_print_column(State m, long l0, long l1, long l2, long l3, long l4, int l5, int l6, long l7, long l8, long l9, long l10, long l11, long l12, long l13) {
+ L1: {
+  if (Core1.f0(m) == 0) { break L1; }
+  Core1.f2(m);
+  throw State.trap();
+ }
+ l6 = Core9.f335(m, l0, l1, l2, l3, l4, l5, l6, l7, l8, l9, l10, l11, l12, l13);
+ Core1.f1(m);
+ return l6;
+}
+
+static int chinese_dates_print_column(State m, long l0, long l1, long l2, long l3, long l4, int l5, long l6, long l7, long l8, long l9, long l10, long l11, long l12) {
+ L1: {
+  if (Core1.f0(m) == 0) { break L1; }
+  Core1.f2(m);
+  throw State.trap();
+ }
+ l5 = Core9.f337(m, l0, l1, l2, l3, l4, l5, l6, l7, l8, l9, l10, l11, l12);
+ Core1.f1(m);
+ return l5;
 }
 
 static int chinese_figures_read(State m, long l0, long l1, long l2) {
@@ -157,7 +201,7 @@ static int chinese_figures_read(State m, long l0, long l1, long l2) {
   Core1.f2(m);
   throw State.trap();
  }
- l3 = Core7.f243(m, l0, l1, l2);
+ l3 = Core9.f339(m, l0, l1, l2);
  Core1.f1(m);
  return l3;
 }
@@ -169,7 +213,7 @@ static int chinese_signed_amount_read(State m, long l0, long l1, long l2) {
   Core1.f2(m);
   throw State.trap();
  }
- l3 = Core7.f245(m, l0, l1, l2);
+ l3 = Core9.f341(m, l0, l1, l2);
  Core1.f1(m);
  return l3;
 }
@@ -181,7 +225,7 @@ static int chinese_typed_signed_amount_read(State m, long l0, long l1, long l2) 
   Core1.f2(m);
   throw State.trap();
  }
- l3 = Core7.f247(m, l0, l1, l2);
+ l3 = Core9.f343(m, l0, l1, l2);
  Core1.f1(m);
  return l3;
 }
@@ -193,7 +237,7 @@ static int chinese_range_read(State m, long l0, long l1, long l2, long l3, long 
   Core1.f2(m);
   throw State.trap();
  }
- l6 = Core7.f249(m, l0, l1, l2, l3, l4, l5);
+ l6 = Core9.f345(m, l0, l1, l2, l3, l4, l5);
  Core1.f1(m);
  return l6;
 }
@@ -204,7 +248,7 @@ static int chinese_number_find(State m, long l0, long l1, long l2, int l3, int l
   Core1.f2(m);
   throw State.trap();
  }
- l4 = Core7.f251(m, l0, l1, l2, l3, l4, l5, l6, l7);
+ l4 = Core9.f347(m, l0, l1, l2, l3, l4, l5, l6, l7);
  Core1.f1(m);
  return l4;
 }
@@ -215,7 +259,7 @@ static int chinese_number_find_utf8(State m, long l0, long l1, long l2, int l3, 
   Core1.f2(m);
   throw State.trap();
  }
- l4 = Core7.f253(m, l0, l1, l2, l3, l4, l5, l6, l7);
+ l4 = Core9.f349(m, l0, l1, l2, l3, l4, l5, l6, l7);
  Core1.f1(m);
  return l4;
 }
@@ -226,7 +270,7 @@ static int chinese_phrase_find(State m, long l0, long l1, long l2, int l3, int l
   Core1.f2(m);
   throw State.trap();
  }
- l4 = Core7.f255(m, l0, l1, l2, l3, l4, l5, l6, l7);
+ l4 = Core9.f351(m, l0, l1, l2, l3, l4, l5, l6, l7);
  Core1.f1(m);
  return l4;
 }
@@ -237,7 +281,7 @@ static int chinese_phrase_find_utf8(State m, long l0, long l1, long l2, int l3, 
   Core1.f2(m);
   throw State.trap();
  }
- l4 = Core7.f257(m, l0, l1, l2, l3, l4, l5, l6, l7);
+ l4 = Core9.f353(m, l0, l1, l2, l3, l4, l5, l6, l7);
  Core1.f1(m);
  return l4;
 }
@@ -248,7 +292,7 @@ static int chinese_quantity_find_utf8(State m, long l0, long l1, long l2, int l3
   Core1.f2(m);
   throw State.trap();
  }
- l4 = Core7.f259(m, l0, l1, l2, l3, l4, l5, l6, l7);
+ l4 = Core9.f355(m, l0, l1, l2, l3, l4, l5, l6, l7);
  Core1.f1(m);
  return l4;
 }
@@ -259,7 +303,18 @@ static int chinese_quantity_find(State m, long l0, long l1, long l2, int l3, int
   Core1.f2(m);
   throw State.trap();
  }
- l4 = Core7.f261(m, l0, l1, l2, l3, l4, l5, l6, l7);
+ l4 = Core9.f357(m, l0, l1, l2, l3, l4, l5, l6, l7);
+ Core1.f1(m);
+ return l4;
+}
+
+static int chinese_speech_left(State m, long l0, long l1, long l2, int l3, int l4, long l5, long l6, long l7, long l8, long l9) {
+ L1: {
+  if (Core1.f0(m) == 0) { break L1; }
+  Core1.f2(m);
+  throw State.trap();
+ }
+ l4 = Core9.f359(m, l0, l1, l2, l3, l4, l5, l6, l7, l8, l9);
  Core1.f1(m);
  return l4;
 }
@@ -270,7 +325,7 @@ static int chinese_number_explain(State m, long l0, long l1, int l2, int l3, lon
   Core1.f2(m);
   throw State.trap();
  }
- l3 = Core7.f263(m, l0, l1, l2, l3, l4);
+ l3 = Core9.f361(m, l0, l1, l2, l3, l4);
  Core1.f1(m);
  return l3;
 }
@@ -281,7 +336,7 @@ static int chinese_number_message(State m, long l0, long l1, int l2, int l3, int
   Core1.f2(m);
   throw State.trap();
  }
- l4 = Core7.f265(m, l0, l1, l2, l3, l4, l5, l6, l7);
+ l4 = Core9.f363(m, l0, l1, l2, l3, l4, l5, l6, l7);
  Core1.f1(m);
  return l4;
 }
@@ -292,9 +347,31 @@ static int chinese_number_read_utf8(State m, long l0, long l1, int l2, int l3, l
   Core1.f2(m);
   throw State.trap();
  }
- l3 = Core7.f267(m, l0, l1, l2, l3, l4);
+ l3 = Core9.f365(m, l0, l1, l2, l3, l4);
  Core1.f1(m);
  return l3;
+}
+
+static int chinese_numbers_read_column(State m, long l0, long l1, long l2, long l3, long l4, long l5, long l6, int l7, int l8, long l9, long l10, long l11, long l12) {
+ L1: {
+  if (Core1.f0(m) == 0) { break L1; }
+  Core1.f2(m);
+  throw State.trap();
+ }
+ l8 = Core9.f367(m, l0, l1, l2, l3, l4, l5, l6, l7, l8, l9, l10, l11, l12);
+ Core1.f1(m);
+ return l8;
+}
+
+static int chinese_wide_numbers_read_column(State m, long l0, long l1, long l2, long l3, long l4, long l5, long l6, int l7, int l8, long l9, long l10, long l11, long l12) {
+ L1: {
+  if (Core1.f0(m) == 0) { break L1; }
+  Core1.f2(m);
+  throw State.trap();
+ }
+ l8 = Core9.f369(m, l0, l1, l2, l3, l4, l5, l6, l7, l8, l9, l10, l11, l12);
+ Core1.f1(m);
+ return l8;
 }
 
 static int chinese_quantities_to_figures(State m, long l0, long l1, int l2, int l3, int l4, int l5, long l6, long l7, long l8) {
@@ -303,7 +380,7 @@ static int chinese_quantities_to_figures(State m, long l0, long l1, int l2, int 
   Core1.f2(m);
   throw State.trap();
  }
- l5 = Core7.f269(m, l0, l1, l2, l3, l4, l5, l6, l7, l8);
+ l5 = Core9.f371(m, l0, l1, l2, l3, l4, l5, l6, l7, l8);
  Core1.f1(m);
  return l5;
 }
@@ -314,7 +391,7 @@ static int chinese_quantity_explain(State m, long l0, long l1, int l2, long l3) 
   Core1.f2(m);
   throw State.trap();
  }
- l2 = Core7.f271(m, l0, l1, l2, l3);
+ l2 = Core9.f373(m, l0, l1, l2, l3);
  Core1.f1(m);
  return l2;
 }
@@ -325,7 +402,7 @@ static int chinese_quantity_message(State m, long l0, long l1, int l2, int l3, l
   Core1.f2(m);
   throw State.trap();
  }
- l3 = Core7.f273(m, l0, l1, l2, l3, l4, l5, l6);
+ l3 = Core9.f375(m, l0, l1, l2, l3, l4, l5, l6);
  Core1.f1(m);
  return l3;
 }
@@ -336,7 +413,7 @@ static int chinese_quantity_read(State m, long l0, long l1, int l2, long l3) {
   Core1.f2(m);
   throw State.trap();
  }
- l2 = Core7.f275(m, l0, l1, l2, l3);
+ l2 = Core9.f377(m, l0, l1, l2, l3);
  Core1.f1(m);
  return l2;
 }
@@ -347,7 +424,7 @@ static int chinese_text_to_figures(State m, long l0, long l1, int l2, int l3, in
   Core1.f2(m);
   throw State.trap();
  }
- l5 = Core7.f277(m, l0, l1, l2, l3, l4, l5, l6, l7, l8);
+ l5 = Core10.f379(m, l0, l1, l2, l3, l4, l5, l6, l7, l8);
  Core1.f1(m);
  return l5;
 }
@@ -358,7 +435,7 @@ static int chinese_quantity_print(State m, long l0, int l1, int l2, int l3, long
   Core1.f2(m);
   throw State.trap();
  }
- l3 = Core7.f279(m, l0, l1, l2, l3, l4, l5, l6);
+ l3 = Core10.f381(m, l0, l1, l2, l3, l4, l5, l6);
  Core1.f1(m);
  return l3;
 }
@@ -369,9 +446,42 @@ static int chinese_number_read(State m, long l0, long l1, int l2, int l3, long l
   Core1.f2(m);
   throw State.trap();
  }
- l3 = Core7.f281(m, l0, l1, l2, l3, l4);
+ l3 = Core10.f383(m, l0, l1, l2, l3, l4);
  Core1.f1(m);
  return l3;
+}
+
+static int chinese_numbers_print_column(State m, long l0, long l1, long l2, long l3, long l4, int l5, int l6, int l7, int l8, long l9, long l10, long l11, long l12, long l13, long l14, long l15) {
+ L1: {
+  if (Core1.f0(m) == 0) { break L1; }
+  Core1.f2(m);
+  throw State.trap();
+ }
+ l8 = Core10.f385(m, l0, l1, l2, l3, l4, l5, l6, l7, l8, l9, l10, l11, l12, l13, l14, l15);
+ Core1.f1(m);
+ return l8;
+}
+
+static int chinese_wide_numbers_print_column(State m, long l0, long l1, long l2, long l3, long l4, int l5, int l6, int l7, int l8, long l9, long l10, long l11, long l12, long l13, long l14, long l15) {
+ L1: {
+  if (Core1.f0(m) == 0) { break L1; }
+  Core1.f2(m);
+  throw State.trap();
+ }
+ l8 = Core10.f387(m, l0, l1, l2, l3, l4, l5, l6, l7, l8, l9, l10, l11, l12, l13, l14, l15);
+ Core1.f1(m);
+ return l8;
+}
+
+static int chinese_text_to_speech(State m, long l0, long l1, int l2, int l3, int l4, int l5, int l6, long l7, long l8, long l9, long l10, long l11) {
+ L1: {
+  if (Core1.f0(m) == 0) { break L1; }
+  Core1.f2(m);
+  throw State.trap();
+ }
+ l6 = Core10.f389(m, l0, l1, l2, l3, l4, l5, l6, l7, l8, l9, l10, l11);
+ Core1.f1(m);
+ return l6;
 }
 
 static int chinese_number_print(State m, long l0, long l1, int l2, int l3, int l4, int l5, long l6, long l7, long l8) {
@@ -380,7 +490,7 @@ static int chinese_number_print(State m, long l0, long l1, int l2, int l3, int l
   Core1.f2(m);
   throw State.trap();
  }
- l5 = Core7.f283(m, l0, l1, l2, l3, l4, l5, l6, l7, l8);
+ l5 = Core10.f391(m, l0, l1, l2, l3, l4, l5, l6, l7, l8);
  Core1.f1(m);
  return l5;
 }

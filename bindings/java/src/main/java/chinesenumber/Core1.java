@@ -21,8 +21,8 @@ static void f3(State m, long l0, long l1, long l2, long l3, long l4) {
  final byte[] b = m.bytes;
  long l5 = 0;
  long l6 = 0;
- Words.put64(b, ((int) l0) - 60712, (((((l5 = l3 >>> 32L) * (l6 = l1 >>> 32L)) + (l2 * l3)) + (l4 * l1)) + ((l3 = ((l2 = (l3 = l3 & 4294967295L) * (l1 = l1 & 4294967295L)) >>> 32L) + (l3 * l6)) >>> 32L)) + ((l1 = (l3 & 4294967295L) + (l5 * l1)) >>> 32L));
- Words.put64(b, ((int) l0) - 60720, (l1 << 32L) | (l2 & 4294967295L));
+ Words.put64(b, ((int) l0) - 58904, (((((l5 = l3 >>> 32L) * (l6 = l1 >>> 32L)) + (l2 * l3)) + (l4 * l1)) + ((l3 = ((l2 = (l3 = l3 & 4294967295L) * (l1 = l1 & 4294967295L)) >>> 32L) + (l3 * l6)) >>> 32L)) + ((l1 = (l3 & 4294967295L) + (l5 * l1)) >>> 32L));
+ Words.put64(b, ((int) l0) - 58912, (l1 << 32L) | (l2 & 4294967295L));
 }
 
 static void f4(State m, long l0, long l1, long l2, int l3) {
@@ -38,8 +38,8 @@ static void f4(State m, long l0, long l1, long l2, int l3) {
   l2 = ((l1 >>> 1L) >>> (((l3 & 63) ^ 63) & 0xffffffffL)) | (l2 << (l4 = l3 & 0xffffffffL));
   l1 = l1 << l4;
  }
- Words.put64(b, ((int) l0) - 60712, l2);
- Words.put64(b, ((int) l0) - 60720, l1);
+ Words.put64(b, ((int) l0) - 58904, l2);
+ Words.put64(b, ((int) l0) - 58912, l1);
 }
 
 static void f5(State m, long l0, long l1, long l2, int l3) {
@@ -55,8 +55,8 @@ static void f5(State m, long l0, long l1, long l2, int l3) {
   l1 = ((l2 << 1L) << (((l3 & 63) ^ 63) & 0xffffffffL)) | (l1 >>> (l4 = l3 & 0xffffffffL));
   l2 = l2 >>> l4;
  }
- Words.put64(b, ((int) l0) - 60712, l2);
- Words.put64(b, ((int) l0) - 60720, l1);
+ Words.put64(b, ((int) l0) - 58904, l2);
+ Words.put64(b, ((int) l0) - 58912, l1);
 }
 
 static int f6(State m, long l0, long l1) {
@@ -76,7 +76,7 @@ static int f6(State m, long l0, long l1) {
      L5: {
       L6: {
        if (l1 + Long.MIN_VALUE < -9223372036854775804L) { break L6; }
-       l2 = Words.get32(b, ((int) l0) - 60720);
+       l2 = Words.get32(b, ((int) l0) - 58912);
        break L5;
       }
       L7: {
@@ -89,13 +89,13 @@ static int f6(State m, long l0, long l1) {
          default: break L9;
          }
         }
-        l2 = b[((int) l0) - 60720] & 0xff;
+        l2 = b[((int) l0) - 58912] & 0xff;
         break L5;
        }
-       l2 = Words.get16(b, ((int) l0) - 60720) & 0xffff;
+       l2 = Words.get16(b, ((int) l0) - 58912) & 0xffff;
        break L5;
       }
-      l2 = (Words.get16(b, ((int) l0) - 60720) & 0xffff) | ((b[((int) (l0 + 2L)) - 60720] & 0xff) << 16);
+      l2 = (Words.get16(b, ((int) l0) - 58912) & 0xffff) | ((b[((int) (l0 + 2L)) - 58912] & 0xff) << 16);
      }
      l4 = 3L;
      L10: {
@@ -112,7 +112,7 @@ static int f6(State m, long l0, long l1) {
         }
         l5 = 4L;
         if (l1 + Long.MIN_VALUE < -9223372036854775800L) { break L11; }
-        if ((Words.get64(b, ((int) l0) - 60720) & -9187201950435737472L) != 0L) { break L11; }
+        if ((Words.get64(b, ((int) l0) - 58912) & -9187201950435737472L) != 0L) { break L11; }
         L16: {
          if (l1 + Long.MIN_VALUE >= -9223372036854775784L) { break L16; }
          l4 = 8L;
@@ -123,7 +123,7 @@ static int f6(State m, long l0, long l1) {
         L17: {
          L18: while (true) {
           if (l6 + Long.MIN_VALUE < -9223372036854775800L) { break L17; }
-          if (((Words.get64(b, ((int) ((l7 = l0 + l4) + 8L)) - 60720) | Words.get64(b, ((int) l7) - 60720)) & -9187201950435737472L) != 0L) { break L17; }
+          if (((Words.get64(b, ((int) ((l7 = l0 + l4) + 8L)) - 58912) | Words.get64(b, ((int) l7) - 58912)) & -9187201950435737472L) != 0L) { break L17; }
           l4 = l4 + 16L;
           l7 = l6 + -8L;
           l6 = l6 + -16L;
@@ -191,83 +191,83 @@ static void f7(State m, long l0, int l1, long l2, long l3) {
          default: break L8;
          }
         }
-        Words.put32(b, ((int) l4) - 60176, 0);
-        Words.put32(b, ((int) l4) - 60173, 0);
+        Words.put32(b, ((int) l4) - 58368, 0);
+        Words.put32(b, ((int) l4) - 58365, 0);
         l5 = 0L;
-        Words.put64(b, ((int) l4) - 60472, 0L);
-        Words.put64(b, ((int) l4) - 60464, 0L);
-        Words.put64(b, ((int) l4) - 60456, 0L);
-        Words.put64(b, ((int) l4) - 60448, 0L);
-        Words.put64(b, ((int) l4) - 60440, 0L);
-        Words.put64(b, ((int) l4) - 60432, 0L);
-        Words.put64(b, ((int) l4) - 60424, 0L);
-        Words.put64(b, ((int) l4) - 60512, 0L);
+        Words.put64(b, ((int) l4) - 58664, 0L);
+        Words.put64(b, ((int) l4) - 58656, 0L);
+        Words.put64(b, ((int) l4) - 58648, 0L);
+        Words.put64(b, ((int) l4) - 58640, 0L);
+        Words.put64(b, ((int) l4) - 58632, 0L);
+        Words.put64(b, ((int) l4) - 58624, 0L);
+        Words.put64(b, ((int) l4) - 58616, 0L);
+        Words.put64(b, ((int) l4) - 58704, 0L);
         m.fill((int) (l4 + 344L), 0, (int) 200L);
-        Words.put64(b, ((int) l4) - 60504, 0L);
-        Words.put64(b, ((int) l4) - 60408, 0L);
-        Words.put64(b, ((int) l4) - 60496, 0L);
-        Words.put64(b, ((int) l4) - 60488, 0L);
+        Words.put64(b, ((int) l4) - 58696, 0L);
+        Words.put64(b, ((int) l4) - 58600, 0L);
+        Words.put64(b, ((int) l4) - 58688, 0L);
+        Words.put64(b, ((int) l4) - 58680, 0L);
         f8(m, l4 + 248L, l4 + 208L, l2, l3, -1L);
-        b[((int) l4) - 60408] = (byte) (l1 = b[((int) l4) - 60472] & 0xff);
-        Words.put16(b, ((int) l4) - 60407, (short) (Words.get16(b, ((int) l4) - 60471) & 0xffff));
-        Words.put64(b, ((int) l4) - 60400, Words.get64(b, ((int) l4) - 60464));
-        Words.put64(b, ((int) l4) - 60392, Words.get64(b, ((int) l4) - 60456));
-        Words.put64(b, ((int) l4) - 60384, Words.get64(b, ((int) l4) - 60448));
-        l3 = Words.get64(b, ((int) l4) - 60440);
+        b[((int) l4) - 58600] = (byte) (l1 = b[((int) l4) - 58664] & 0xff);
+        Words.put16(b, ((int) l4) - 58599, (short) (Words.get16(b, ((int) l4) - 58663) & 0xffff));
+        Words.put64(b, ((int) l4) - 58592, Words.get64(b, ((int) l4) - 58656));
+        Words.put64(b, ((int) l4) - 58584, Words.get64(b, ((int) l4) - 58648));
+        Words.put64(b, ((int) l4) - 58576, Words.get64(b, ((int) l4) - 58640));
+        l3 = Words.get64(b, ((int) l4) - 58632);
         f9(m, l4 + 344L, l4 + 312L);
         m.copy((int) (l4 + 551L), (int) (l4 + 344L), (int) 200L);
         m.copy((int) (l4 + 1L), (int) (l4 + 544L), (int) 207L);
         l1 = 655360 >>> l1;
         break L2;
        }
-       Words.put32(b, ((int) l4) - 60176, 0);
-       Words.put32(b, ((int) l4) - 60173, 0);
+       Words.put32(b, ((int) l4) - 58368, 0);
+       Words.put32(b, ((int) l4) - 58365, 0);
        l5 = 0L;
-       Words.put64(b, ((int) l4) - 60472, 0L);
-       Words.put64(b, ((int) l4) - 60464, 0L);
-       Words.put64(b, ((int) l4) - 60456, 0L);
-       Words.put64(b, ((int) l4) - 60448, 0L);
-       Words.put64(b, ((int) l4) - 60440, 0L);
-       Words.put64(b, ((int) l4) - 60432, 0L);
-       Words.put64(b, ((int) l4) - 60424, 0L);
-       Words.put64(b, ((int) l4) - 60416, 0L);
+       Words.put64(b, ((int) l4) - 58664, 0L);
+       Words.put64(b, ((int) l4) - 58656, 0L);
+       Words.put64(b, ((int) l4) - 58648, 0L);
+       Words.put64(b, ((int) l4) - 58640, 0L);
+       Words.put64(b, ((int) l4) - 58632, 0L);
+       Words.put64(b, ((int) l4) - 58624, 0L);
+       Words.put64(b, ((int) l4) - 58616, 0L);
+       Words.put64(b, ((int) l4) - 58608, 0L);
        m.fill((int) (l4 + 344L), 0, (int) 200L);
-       Words.put64(b, ((int) l4) - 60480, 0L);
-       Words.put64(b, ((int) l4) - 60488, 0L);
-       Words.put64(b, ((int) l4) - 60496, 0L);
-       Words.put64(b, ((int) l4) - 60504, 0L);
-       Words.put64(b, ((int) l4) - 60512, 0L);
+       Words.put64(b, ((int) l4) - 58672, 0L);
+       Words.put64(b, ((int) l4) - 58680, 0L);
+       Words.put64(b, ((int) l4) - 58688, 0L);
+       Words.put64(b, ((int) l4) - 58696, 0L);
+       Words.put64(b, ((int) l4) - 58704, 0L);
        f10(m, l4 + 248L, l4 + 208L, l2, l3, -1L);
-       l3 = Words.get64(b, ((int) l4) - 60432);
-       l1 = b[((int) l4) - 60464] & 0xff;
+       l3 = Words.get64(b, ((int) l4) - 58624);
+       l1 = b[((int) l4) - 58656] & 0xff;
        f11(m, l4 + 344L, l4 + 248L);
        m.copy((int) (l4 + 551L), (int) (l4 + 344L), (int) 200L);
        m.copy((int) (l4 + 1L), (int) (l4 + 544L), (int) 207L);
        l1 = 655360 >>> l1;
        break L2;
       }
-      Words.put32(b, ((int) l4) - 60176, 0);
-      Words.put32(b, ((int) l4) - 60173, 0);
-      Words.put64(b, ((int) l4) - 60472, 0L);
-      Words.put64(b, ((int) l4) - 60464, 0L);
-      Words.put64(b, ((int) l4) - 60456, 0L);
-      Words.put64(b, ((int) l4) - 60448, 0L);
-      Words.put64(b, ((int) l4) - 60440, 0L);
-      Words.put64(b, ((int) l4) - 60432, 0L);
-      Words.put64(b, ((int) l4) - 60424, 0L);
-      Words.put64(b, ((int) l4) - 60416, 0L);
+      Words.put32(b, ((int) l4) - 58368, 0);
+      Words.put32(b, ((int) l4) - 58365, 0);
+      Words.put64(b, ((int) l4) - 58664, 0L);
+      Words.put64(b, ((int) l4) - 58656, 0L);
+      Words.put64(b, ((int) l4) - 58648, 0L);
+      Words.put64(b, ((int) l4) - 58640, 0L);
+      Words.put64(b, ((int) l4) - 58632, 0L);
+      Words.put64(b, ((int) l4) - 58624, 0L);
+      Words.put64(b, ((int) l4) - 58616, 0L);
+      Words.put64(b, ((int) l4) - 58608, 0L);
       m.fill((int) (l4 + 344L), 0, (int) 200L);
-      Words.put32(b, ((int) l4) - 60509, 0);
-      b[((int) l4) - 60510] = (byte) 1;
-      Words.put16(b, ((int) l4) - 60512, (short) 257);
-      Words.put64(b, ((int) l4) - 60503, 0L);
-      Words.put16(b, ((int) l4) - 60505, (short) 768);
-      Words.put64(b, ((int) l4) - 60495, 0L);
-      Words.put64(b, ((int) l4) - 60487, 0L);
-      Words.put64(b, ((int) l4) - 60480, 0L);
+      Words.put32(b, ((int) l4) - 58701, 0);
+      b[((int) l4) - 58702] = (byte) 1;
+      Words.put16(b, ((int) l4) - 58704, (short) 257);
+      Words.put64(b, ((int) l4) - 58695, 0L);
+      Words.put16(b, ((int) l4) - 58697, (short) 768);
+      Words.put64(b, ((int) l4) - 58687, 0L);
+      Words.put64(b, ((int) l4) - 58679, 0L);
+      Words.put64(b, ((int) l4) - 58672, 0L);
       f12(m, l4 + 248L, l4 + 208L, l2, l3, -1L);
-      l3 = Words.get64(b, ((int) l4) - 60432);
-      l1 = b[((int) l4) - 60464] & 0xff;
+      l3 = Words.get64(b, ((int) l4) - 58624);
+      l1 = b[((int) l4) - 58656] & 0xff;
       f13(m, l4 + 344L, l4 + 248L);
       m.copy((int) (l4 + 551L), (int) (l4 + 344L), (int) 200L);
       m.copy((int) (l4 + 1L), (int) (l4 + 544L), (int) 207L);
@@ -275,28 +275,28 @@ static void f7(State m, long l0, int l1, long l2, long l3) {
       l5 = 1L;
       break L2;
      }
-     Words.put32(b, ((int) l4) - 60176, 0);
-     Words.put32(b, ((int) l4) - 60173, 0);
-     Words.put64(b, ((int) l4) - 60472, 0L);
-     Words.put64(b, ((int) l4) - 60464, 0L);
-     Words.put64(b, ((int) l4) - 60456, 0L);
-     Words.put64(b, ((int) l4) - 60448, 0L);
-     Words.put64(b, ((int) l4) - 60440, 0L);
-     Words.put64(b, ((int) l4) - 60432, 0L);
-     Words.put64(b, ((int) l4) - 60424, 0L);
-     Words.put64(b, ((int) l4) - 60416, 0L);
+     Words.put32(b, ((int) l4) - 58368, 0);
+     Words.put32(b, ((int) l4) - 58365, 0);
+     Words.put64(b, ((int) l4) - 58664, 0L);
+     Words.put64(b, ((int) l4) - 58656, 0L);
+     Words.put64(b, ((int) l4) - 58648, 0L);
+     Words.put64(b, ((int) l4) - 58640, 0L);
+     Words.put64(b, ((int) l4) - 58632, 0L);
+     Words.put64(b, ((int) l4) - 58624, 0L);
+     Words.put64(b, ((int) l4) - 58616, 0L);
+     Words.put64(b, ((int) l4) - 58608, 0L);
      m.fill((int) (l4 + 344L), 0, (int) 200L);
-     Words.put32(b, ((int) l4) - 60509, 0);
-     b[((int) l4) - 60510] = (byte) 1;
-     Words.put16(b, ((int) l4) - 60512, (short) 1);
-     Words.put64(b, ((int) l4) - 60503, 0L);
-     Words.put16(b, ((int) l4) - 60505, (short) 768);
-     Words.put64(b, ((int) l4) - 60495, 0L);
-     Words.put64(b, ((int) l4) - 60487, 0L);
-     Words.put64(b, ((int) l4) - 60480, 0L);
+     Words.put32(b, ((int) l4) - 58701, 0);
+     b[((int) l4) - 58702] = (byte) 1;
+     Words.put16(b, ((int) l4) - 58704, (short) 1);
+     Words.put64(b, ((int) l4) - 58695, 0L);
+     Words.put16(b, ((int) l4) - 58697, (short) 768);
+     Words.put64(b, ((int) l4) - 58687, 0L);
+     Words.put64(b, ((int) l4) - 58679, 0L);
+     Words.put64(b, ((int) l4) - 58672, 0L);
      f14(m, l4 + 248L, l4 + 208L, l2, l3, -1L);
-     l3 = Words.get64(b, ((int) l4) - 60432);
-     l1 = b[((int) l4) - 60464] & 0xff;
+     l3 = Words.get64(b, ((int) l4) - 58624);
+     l1 = b[((int) l4) - 58656] & 0xff;
      f15(m, l4 + 344L, l4 + 248L);
      m.copy((int) (l4 + 551L), (int) (l4 + 344L), (int) 200L);
      m.copy((int) (l4 + 1L), (int) (l4 + 544L), (int) 207L);
@@ -304,63 +304,63 @@ static void f7(State m, long l0, int l1, long l2, long l3) {
      l5 = 1L;
      break L2;
     }
-    Words.put32(b, ((int) l4) - 60176, 0);
-    Words.put32(b, ((int) l4) - 60173, 0);
+    Words.put32(b, ((int) l4) - 58368, 0);
+    Words.put32(b, ((int) l4) - 58365, 0);
     l5 = 0L;
-    Words.put64(b, ((int) l4) - 60472, 0L);
-    Words.put64(b, ((int) l4) - 60464, 0L);
-    Words.put64(b, ((int) l4) - 60456, 0L);
-    Words.put64(b, ((int) l4) - 60448, 0L);
-    Words.put64(b, ((int) l4) - 60440, 0L);
-    Words.put16(b, ((int) l4) - 60504, (short) 0);
+    Words.put64(b, ((int) l4) - 58664, 0L);
+    Words.put64(b, ((int) l4) - 58656, 0L);
+    Words.put64(b, ((int) l4) - 58648, 0L);
+    Words.put64(b, ((int) l4) - 58640, 0L);
+    Words.put64(b, ((int) l4) - 58632, 0L);
+    Words.put16(b, ((int) l4) - 58696, (short) 0);
     m.fill((int) (l4 + 344L), 0, (int) 200L);
-    Words.put64(b, ((int) l4) - 60512, 0L);
-    Words.put16(b, ((int) l4) - 60400, (short) 0);
-    b[((int) l4) - 60504] = (byte) 0;
+    Words.put64(b, ((int) l4) - 58704, 0L);
+    Words.put16(b, ((int) l4) - 58592, (short) 0);
+    b[((int) l4) - 58696] = (byte) 0;
     f16(m, l4 + 248L, l4 + 208L, l2, l3, -1L);
-    Words.put32(b, ((int) l4) - 60406, Words.get32(b, ((int) l4) - 60470));
-    Words.put16(b, ((int) l4) - 60408, (short) (l1 = b[((int) l4) - 60472] & 0xff));
-    b[((int) l4) - 60402] = (byte) (b[((int) l4) - 60466] & 0xff);
-    Words.put16(b, ((int) l4) - 60401, (short) (Words.get16(b, ((int) l4) - 60465) & 0xffff));
-    l3 = Words.get64(b, ((int) l4) - 60456);
+    Words.put32(b, ((int) l4) - 58598, Words.get32(b, ((int) l4) - 58662));
+    Words.put16(b, ((int) l4) - 58600, (short) (l1 = b[((int) l4) - 58664] & 0xff));
+    b[((int) l4) - 58594] = (byte) (b[((int) l4) - 58658] & 0xff);
+    Words.put16(b, ((int) l4) - 58593, (short) (Words.get16(b, ((int) l4) - 58657) & 0xffff));
+    l3 = Words.get64(b, ((int) l4) - 58648);
     f17(m, l4 + 344L, l4 + 312L);
     m.copy((int) (l4 + 551L), (int) (l4 + 344L), (int) 200L);
     m.copy((int) (l4 + 1L), (int) (l4 + 544L), (int) 207L);
     l1 = (l1 == 3) ? 1 : 0;
     break L2;
    }
-   Words.put32(b, ((int) l4) - 60176, 0);
-   Words.put32(b, ((int) l4) - 60173, 0);
+   Words.put32(b, ((int) l4) - 58368, 0);
+   Words.put32(b, ((int) l4) - 58365, 0);
    l5 = 0L;
-   Words.put64(b, ((int) l4) - 60472, 0L);
-   Words.put64(b, ((int) l4) - 60464, 0L);
-   Words.put64(b, ((int) l4) - 60456, 0L);
-   Words.put64(b, ((int) l4) - 60448, 0L);
-   Words.put64(b, ((int) l4) - 60440, 0L);
-   Words.put64(b, ((int) l4) - 60432, 0L);
-   Words.put64(b, ((int) l4) - 60424, 0L);
-   Words.put64(b, ((int) l4) - 60512, 0L);
-   Words.put64(b, ((int) l4) - 60504, 0L);
+   Words.put64(b, ((int) l4) - 58664, 0L);
+   Words.put64(b, ((int) l4) - 58656, 0L);
+   Words.put64(b, ((int) l4) - 58648, 0L);
+   Words.put64(b, ((int) l4) - 58640, 0L);
+   Words.put64(b, ((int) l4) - 58632, 0L);
+   Words.put64(b, ((int) l4) - 58624, 0L);
+   Words.put64(b, ((int) l4) - 58616, 0L);
+   Words.put64(b, ((int) l4) - 58704, 0L);
+   Words.put64(b, ((int) l4) - 58696, 0L);
    m.fill((int) (l4 + 344L), 0, (int) 200L);
-   Words.put64(b, ((int) l4) - 60400, 0L);
-   Words.put64(b, ((int) l4) - 60408, 0L);
-   Words.put64(b, ((int) l4) - 60488, 0L);
-   Words.put64(b, ((int) l4) - 60496, 1L);
+   Words.put64(b, ((int) l4) - 58592, 0L);
+   Words.put64(b, ((int) l4) - 58600, 0L);
+   Words.put64(b, ((int) l4) - 58680, 0L);
+   Words.put64(b, ((int) l4) - 58688, 1L);
    f18(m, l4 + 248L, l4 + 208L, l2, l3, -1L);
-   Words.put64(b, ((int) l4) - 60384, Words.get64(b, ((int) l4) - 60448));
-   Words.put64(b, ((int) l4) - 60392, b[((int) l4) - 60456] & 0xffL);
-   b[((int) l4) - 60400] = (byte) (l1 = b[((int) l4) - 60464] & 0xff);
-   b[((int) l4) - 60408] = (byte) (b[((int) l4) - 60472] & 0xff);
-   l3 = Words.get64(b, ((int) l4) - 60440);
+   Words.put64(b, ((int) l4) - 58576, Words.get64(b, ((int) l4) - 58640));
+   Words.put64(b, ((int) l4) - 58584, b[((int) l4) - 58648] & 0xffL);
+   b[((int) l4) - 58592] = (byte) (l1 = b[((int) l4) - 58656] & 0xff);
+   b[((int) l4) - 58600] = (byte) (b[((int) l4) - 58664] & 0xff);
+   l3 = Words.get64(b, ((int) l4) - 58632);
    f19(m, l4 + 344L, l4 + 312L);
    m.copy((int) (l4 + 551L), (int) (l4 + 344L), (int) 200L);
    m.copy((int) (l4 + 1L), (int) (l4 + 544L), (int) 207L);
    l1 = 6716 >>> l1;
   }
-  Words.put64(b, ((int) l0) - 60720, l3);
-  b[((int) l0) - 60712] = (byte) (l1 & 1);
+  Words.put64(b, ((int) l0) - 58912, l3);
+  b[((int) l0) - 58904] = (byte) (l1 & 1);
   m.copy((int) (l0 + 9L), (int) (l4 + 1L), (int) 207L);
-  Words.put64(b, ((int) l0) - 60504, l5);
+  Words.put64(b, ((int) l0) - 58696, l5);
   m.g0 = l4 + 752L;
   return;
  }
@@ -387,43 +387,43 @@ static void f8(State m, long l0, long l1, long l2, long l3, long l4) {
  long l20 = 0;
  L1: {
   if (m.g0 < 16L) { break L1; }
-  l5 = b[((int) (l1 + 1L)) - 60720] & 0xff;
-  l6 = b[((int) (l1 + 2L)) - 60720] & 0xff;
-  l15 = Words.get64(b, ((int) (l1 + 8L)) - 60720);
-  l16 = Words.get64(b, ((int) (l1 + 16L)) - 60720);
-  l17 = Words.get64(b, ((int) (l1 + 24L)) - 60720);
-  l7 = b[((int) l1) - 60720] & 0xff;
+  l5 = b[((int) (l1 + 1L)) - 58912] & 0xff;
+  l6 = b[((int) (l1 + 2L)) - 58912] & 0xff;
+  l15 = Words.get64(b, ((int) (l1 + 8L)) - 58912);
+  l16 = Words.get64(b, ((int) (l1 + 16L)) - 58912);
+  l17 = Words.get64(b, ((int) (l1 + 24L)) - 58912);
+  l7 = b[((int) l1) - 58912] & 0xff;
   l18 = 0L;
   L2: {
    if (l4 == 0L) { break L2; }
    if (l3 == 0L) { break L2; }
    l18 = 0L;
    L3: while (true) {
-    l9 = (l8 = (int) b[((int) l2) - 60720]) & 255;
+    l9 = (l8 = (int) b[((int) l2) - 58912]) & 255;
     l19 = 1L;
     L4: {
      if (l8 > -1) { break L4; }
-     l10 = (b[((int) l2) - 60719] & 0xff) & 63;
+     l10 = (b[((int) l2) - 58911] & 0xff) & 63;
      L5: {
       if (l8 + Integer.MIN_VALUE > 2147483615) { break L5; }
       l9 = ((l9 << 6) & 1984) | l10;
       l19 = 2L;
       break L4;
      }
-     l11 = (b[((int) l2) - 60718] & 0xff) & 63;
+     l11 = (b[((int) l2) - 58910] & 0xff) & 63;
      L6: {
       if (l8 + Integer.MIN_VALUE > 2147483631) { break L6; }
       l9 = ((l10 << 6) | ((l9 << 12) & 61440)) | l11;
       l19 = 3L;
       break L4;
      }
-     l9 = ((l11 << 6) | ((l10 << 12) | ((l9 << 18) & 1835008))) | ((b[((int) l2) - 60717] & 0xff) & 63);
+     l9 = ((l11 << 6) | ((l10 << 12) | ((l9 << 18) & 1835008))) | ((b[((int) l2) - 58909] & 0xff) & 63);
      l19 = 4L;
     }
     if (Words.get32(b, State.far((int) (l1 = (((l9 * 3227) >>> 7) & 0xffffffffL) & 504L), 65536)) != l9) { break L2; }
-    if (((b[((int) (l1 + 65540L)) - 60720] & 0xff) & 255) != 1) { break L2; }
-    l20 = b[((int) (l1 + 65542L)) - 60720] & 0xffL;
-    l9 = b[((int) (l1 + 65541L)) - 60720] & 0xff;
+    if (((b[((int) (l1 + 65540L)) - 58912] & 0xff) & 255) != 1) { break L2; }
+    l20 = b[((int) (l1 + 65542L)) - 58912] & 0xffL;
+    l9 = b[((int) (l1 + 65541L)) - 58912] & 0xff;
     L7: {
      L8: {
       L9: {
@@ -1394,17 +1394,17 @@ static void f8(State m, long l0, long l1, long l2, long l3, long l4) {
     break L3;
    }
   }
-  Words.put32(b, ((int) l0) - 60717, 0);
-  b[((int) l0) - 60718] = (byte) l6;
-  b[((int) l0) - 60719] = (byte) l5;
-  b[((int) l0) - 60720] = (byte) l7;
-  b[((int) l0) - 60713] = (byte) 0;
-  Words.put64(b, ((int) l0) - 60672, l3);
-  Words.put64(b, ((int) l0) - 60680, l2);
-  Words.put64(b, ((int) l0) - 60688, l18);
-  Words.put64(b, ((int) l0) - 60696, l17);
-  Words.put64(b, ((int) l0) - 60704, l16);
-  Words.put64(b, ((int) l0) - 60712, l15);
+  Words.put32(b, ((int) l0) - 58909, 0);
+  b[((int) l0) - 58910] = (byte) l6;
+  b[((int) l0) - 58911] = (byte) l5;
+  b[((int) l0) - 58912] = (byte) l7;
+  b[((int) l0) - 58905] = (byte) 0;
+  Words.put64(b, ((int) l0) - 58864, l3);
+  Words.put64(b, ((int) l0) - 58872, l2);
+  Words.put64(b, ((int) l0) - 58880, l18);
+  Words.put64(b, ((int) l0) - 58888, l17);
+  Words.put64(b, ((int) l0) - 58896, l16);
+  Words.put64(b, ((int) l0) - 58904, l15);
   return;
  }
  throw State.trap();
@@ -1423,16 +1423,16 @@ static void f9(State m, long l0, long l1) {
  m.g0 = l2 = m.g0 - 208L;
  L1: {
   if ((l3 = l2) < 16L) { break L1; }
-  l4 = b[((int) (l1 + 2L)) - 60720] & 0xff;
-  l5 = b[((int) (l1 + 1L)) - 60720] & 0xff;
-  l6 = b[((int) l1) - 60720] & 0xff;
+  l4 = b[((int) (l1 + 2L)) - 58912] & 0xff;
+  l5 = b[((int) (l1 + 1L)) - 58912] & 0xff;
+  l6 = b[((int) l1) - 58912] & 0xff;
   m.fill((int) (l3 + 8L), 0, (int) 200L);
   l1 = -128L;
   L2: while (true) {
    L3: {
-    if (Words.get32(b, State.far((int) (l2 = ((((l7 = Words.get32(b, ((int) (l1 + 66176L)) - 60720)) * 3227) >>> 7) & 0xffffffffL) & 504L), 65536)) != l7) { break L3; }
-    if (((b[((int) (l2 + 65540L)) - 60720] & 0xff) & 255) != 1) { break L3; }
-    l8 = b[((int) (l2 + 65541L)) - 60720] & 0xff;
+    if (Words.get32(b, State.far((int) (l2 = ((((l7 = Words.get32(b, ((int) (l1 + 66176L)) - 58912)) * 3227) >>> 7) & 0xffffffffL) & 504L), 65536)) != l7) { break L3; }
+    if (((b[((int) (l2 + 65540L)) - 58912] & 0xff) & 255) != 1) { break L3; }
+    l8 = b[((int) (l2 + 65541L)) - 58912] & 0xff;
     L4: {
      L5: {
       L6: {
@@ -1854,8 +1854,8 @@ static void f9(State m, long l0, long l1) {
      }
      if ((l8 & 254) != 6) { break L3; }
     }
-    Words.put32(b, ((int) ((l3 + 8L) + (Words.get64(b, ((int) l3) - 60520) << 2L))) - 60720, l7);
-    Words.put64(b, ((int) l3) - 60520, Words.get64(b, ((int) l3) - 60520) + 1L);
+    Words.put32(b, ((int) ((l3 + 8L) + (Words.get64(b, ((int) l3) - 58712) << 2L))) - 58912, l7);
+    Words.put64(b, ((int) l3) - 58712, Words.get64(b, ((int) l3) - 58712) + 1L);
    }
    if ((l1 = l1 + 4L) != 0L) { continue L2; }
    break L2;
@@ -1880,51 +1880,51 @@ static void f10(State m, long l0, long l1, long l2, long l3, long l4) {
  L1: {
   if ((l5 = l5) < 16L) { break L1; }
   l6 = 0L;
-  Words.put64(b, ((int) l5) - 60672, 0L);
-  Words.put64(b, ((int) l5) - 60680, 0L);
-  Words.put64(b, ((int) l5) - 60688, 0L);
-  Words.put64(b, ((int) l5) - 60696, 0L);
-  Words.put64(b, ((int) l5) - 60704, 0L);
-  Words.put64(b, ((int) l5) - 60712, 0L);
-  Words.put64(b, ((int) l5) - 60664, Words.get64(b, ((int) l1) - 60720));
-  Words.put64(b, ((int) l5) - 60656, Words.get64(b, ((int) l1) - 60712));
-  Words.put64(b, ((int) l5) - 60648, Words.get64(b, ((int) l1) - 60704));
-  Words.put64(b, ((int) l5) - 60640, Words.get64(b, ((int) l1) - 60696));
-  Words.put64(b, ((int) l5) - 60632, Words.get64(b, ((int) l1) - 60688));
+  Words.put64(b, ((int) l5) - 58864, 0L);
+  Words.put64(b, ((int) l5) - 58872, 0L);
+  Words.put64(b, ((int) l5) - 58880, 0L);
+  Words.put64(b, ((int) l5) - 58888, 0L);
+  Words.put64(b, ((int) l5) - 58896, 0L);
+  Words.put64(b, ((int) l5) - 58904, 0L);
+  Words.put64(b, ((int) l5) - 58856, Words.get64(b, ((int) l1) - 58912));
+  Words.put64(b, ((int) l5) - 58848, Words.get64(b, ((int) l1) - 58904));
+  Words.put64(b, ((int) l5) - 58840, Words.get64(b, ((int) l1) - 58896));
+  Words.put64(b, ((int) l5) - 58832, Words.get64(b, ((int) l1) - 58888));
+  Words.put64(b, ((int) l5) - 58824, Words.get64(b, ((int) l1) - 58880));
   L2: {
    if (l4 == 0L) { break L2; }
    if (l3 == 0L) { break L2; }
    l1 = l5 + 16L;
    l6 = 0L;
    L3: while (true) {
-    l9 = (l8 = (int) b[((int) l2) - 60720]) & 255;
+    l9 = (l8 = (int) b[((int) l2) - 58912]) & 255;
     l7 = 1L;
     L4: {
      if (l8 > -1) { break L4; }
-     l10 = (b[((int) l2) - 60719] & 0xff) & 63;
+     l10 = (b[((int) l2) - 58911] & 0xff) & 63;
      L5: {
       if (l8 + Integer.MIN_VALUE > 2147483615) { break L5; }
       l9 = ((l9 << 6) & 1984) | l10;
       l7 = 2L;
       break L4;
      }
-     l11 = (b[((int) l2) - 60718] & 0xff) & 63;
+     l11 = (b[((int) l2) - 58910] & 0xff) & 63;
      L6: {
       if (l8 + Integer.MIN_VALUE > 2147483631) { break L6; }
       l9 = ((l10 << 6) | ((l9 << 12) & 61440)) | l11;
       l7 = 3L;
       break L4;
      }
-     l9 = ((l11 << 6) | ((l10 << 12) | ((l9 << 18) & 1835008))) | ((b[((int) l2) - 60717] & 0xff) & 63);
+     l9 = ((l11 << 6) | ((l10 << 12) | ((l9 << 18) & 1835008))) | ((b[((int) l2) - 58909] & 0xff) & 63);
      l7 = 4L;
     }
     f20(m, l5 + 8L, l5 + 56L, l9);
-    if ((b[((int) l5) - 60712] & 0xff) != 1) { break L2; }
-    Words.put64(b, ((int) l5) - 60632, Words.get64(b, ((int) l1) - 60688));
-    Words.put64(b, ((int) l5) - 60640, Words.get64(b, ((int) l1) - 60696));
-    Words.put64(b, ((int) l5) - 60648, Words.get64(b, ((int) l1) - 60704));
-    Words.put64(b, ((int) l5) - 60656, Words.get64(b, ((int) l1) - 60712));
-    Words.put64(b, ((int) l5) - 60664, Words.get64(b, ((int) l1) - 60720));
+    if ((b[((int) l5) - 58904] & 0xff) != 1) { break L2; }
+    Words.put64(b, ((int) l5) - 58824, Words.get64(b, ((int) l1) - 58880));
+    Words.put64(b, ((int) l5) - 58832, Words.get64(b, ((int) l1) - 58888));
+    Words.put64(b, ((int) l5) - 58840, Words.get64(b, ((int) l1) - 58896));
+    Words.put64(b, ((int) l5) - 58848, Words.get64(b, ((int) l1) - 58904));
+    Words.put64(b, ((int) l5) - 58856, Words.get64(b, ((int) l1) - 58912));
     l2 = l2 + l7;
     l3 = l3 - l7;
     if ((l6 = l6 + 1L) + Long.MIN_VALUE >= l4 + Long.MIN_VALUE) { break L2; }
@@ -1932,14 +1932,14 @@ static void f10(State m, long l0, long l1, long l2, long l3, long l4) {
     break L3;
    }
   }
-  Words.put64(b, ((int) l0) - 60688, Words.get64(b, ((int) l5) - 60632));
-  Words.put64(b, ((int) l0) - 60696, Words.get64(b, ((int) l5) - 60640));
-  Words.put64(b, ((int) l0) - 60704, Words.get64(b, ((int) l5) - 60648));
-  Words.put64(b, ((int) l0) - 60712, Words.get64(b, ((int) l5) - 60656));
-  Words.put64(b, ((int) l0) - 60720, Words.get64(b, ((int) l5) - 60664));
-  Words.put64(b, ((int) l0) - 60664, l3);
-  Words.put64(b, ((int) l0) - 60672, l2);
-  Words.put64(b, ((int) l0) - 60680, l6);
+  Words.put64(b, ((int) l0) - 58880, Words.get64(b, ((int) l5) - 58824));
+  Words.put64(b, ((int) l0) - 58888, Words.get64(b, ((int) l5) - 58832));
+  Words.put64(b, ((int) l0) - 58896, Words.get64(b, ((int) l5) - 58840));
+  Words.put64(b, ((int) l0) - 58904, Words.get64(b, ((int) l5) - 58848));
+  Words.put64(b, ((int) l0) - 58912, Words.get64(b, ((int) l5) - 58856));
+  Words.put64(b, ((int) l0) - 58856, l3);
+  Words.put64(b, ((int) l0) - 58864, l2);
+  Words.put64(b, ((int) l0) - 58872, l6);
   m.g0 = l5 + 96L;
   return;
  }
@@ -1951,27 +1951,27 @@ static void f11(State m, long l0, long l1) {
  long l2 = 0;
  int l3 = 0;
  m.g0 = l2 = m.g0 - 288L;
- Words.put64(b, ((int) (l2 = l2)) - 60440, Words.get64(b, ((int) l1) - 60688));
- Words.put64(b, ((int) l2) - 60448, Words.get64(b, ((int) l1) - 60696));
- Words.put64(b, ((int) l2) - 60456, Words.get64(b, ((int) l1) - 60704));
- Words.put64(b, ((int) l2) - 60464, Words.get64(b, ((int) l1) - 60712));
- Words.put64(b, ((int) l2) - 60472, Words.get64(b, ((int) l1) - 60720));
+ Words.put64(b, ((int) (l2 = l2)) - 58632, Words.get64(b, ((int) l1) - 58880));
+ Words.put64(b, ((int) l2) - 58640, Words.get64(b, ((int) l1) - 58888));
+ Words.put64(b, ((int) l2) - 58648, Words.get64(b, ((int) l1) - 58896));
+ Words.put64(b, ((int) l2) - 58656, Words.get64(b, ((int) l1) - 58904));
+ Words.put64(b, ((int) l2) - 58664, Words.get64(b, ((int) l1) - 58912));
  L1: {
   if (l2 < 16L) { break L1; }
-  Words.put64(b, ((int) l2) - 60680, 0L);
-  Words.put64(b, ((int) l2) - 60688, 0L);
-  Words.put64(b, ((int) l2) - 60696, 0L);
-  Words.put64(b, ((int) l2) - 60704, 0L);
-  Words.put64(b, ((int) l2) - 60712, 0L);
-  Words.put64(b, ((int) l2) - 60720, 0L);
+  Words.put64(b, ((int) l2) - 58872, 0L);
+  Words.put64(b, ((int) l2) - 58880, 0L);
+  Words.put64(b, ((int) l2) - 58888, 0L);
+  Words.put64(b, ((int) l2) - 58896, 0L);
+  Words.put64(b, ((int) l2) - 58904, 0L);
+  Words.put64(b, ((int) l2) - 58912, 0L);
   m.fill((int) (l2 + 48L), 0, (int) 200L);
   l1 = -136L;
   L2: while (true) {
-   f20(m, l2, l2 + 248L, l3 = Words.get32(b, ((int) (l1 + 66184L)) - 60720));
+   f20(m, l2, l2 + 248L, l3 = Words.get32(b, ((int) (l1 + 66184L)) - 58912));
    L3: {
-    if ((b[((int) l2) - 60720] & 0xff) != 1) { break L3; }
-    Words.put32(b, ((int) ((l2 + 48L) + (Words.get64(b, ((int) l2) - 60480) << 2L))) - 60720, l3);
-    Words.put64(b, ((int) l2) - 60480, Words.get64(b, ((int) l2) - 60480) + 1L);
+    if ((b[((int) l2) - 58912] & 0xff) != 1) { break L3; }
+    Words.put32(b, ((int) ((l2 + 48L) + (Words.get64(b, ((int) l2) - 58672) << 2L))) - 58912, l3);
+    Words.put64(b, ((int) l2) - 58672, Words.get64(b, ((int) l2) - 58672) + 1L);
    }
    if ((l1 = l1 + 4L) != 0L) { continue L2; }
    break L2;
@@ -1998,16 +1998,16 @@ static void f12(State m, long l0, long l1, long l2, long l3, long l4) {
   L2: {
    if ((l5 = l5) < 16L) { break L2; }
    l6 = 0L;
-   Words.put64(b, ((int) l5) - 60688, 0L);
-   Words.put64(b, ((int) l5) - 60696, 0L);
-   Words.put64(b, ((int) l5) - 60704, 0L);
-   Words.put64(b, ((int) l5) - 60712, 0L);
-   Words.put64(b, ((int) l5) - 60720, 0L);
-   Words.put64(b, ((int) l5) - 60680, Words.get64(b, ((int) l1) - 60720));
-   Words.put64(b, ((int) l5) - 60672, Words.get64(b, ((int) l1) - 60712));
-   Words.put64(b, ((int) l5) - 60664, Words.get64(b, ((int) l1) - 60704));
-   Words.put64(b, ((int) l5) - 60656, Words.get64(b, ((int) l1) - 60696));
-   Words.put64(b, ((int) l5) - 60648, Words.get64(b, ((int) l1) - 60688));
+   Words.put64(b, ((int) l5) - 58880, 0L);
+   Words.put64(b, ((int) l5) - 58888, 0L);
+   Words.put64(b, ((int) l5) - 58896, 0L);
+   Words.put64(b, ((int) l5) - 58904, 0L);
+   Words.put64(b, ((int) l5) - 58912, 0L);
+   Words.put64(b, ((int) l5) - 58872, Words.get64(b, ((int) l1) - 58912));
+   Words.put64(b, ((int) l5) - 58864, Words.get64(b, ((int) l1) - 58904));
+   Words.put64(b, ((int) l5) - 58856, Words.get64(b, ((int) l1) - 58896));
+   Words.put64(b, ((int) l5) - 58848, Words.get64(b, ((int) l1) - 58888));
+   Words.put64(b, ((int) l5) - 58840, Words.get64(b, ((int) l1) - 58880));
    L3: {
     if (l4 == 0L) { break L3; }
     if (l3 == 0L) { break L3; }
@@ -2015,7 +2015,7 @@ static void f12(State m, long l0, long l1, long l2, long l3, long l4) {
     l6 = 0L;
     L4: while (true) {
      l8 = l2 + 1L;
-     l10 = (l9 = (int) b[((int) l2) - 60720]) & 255;
+     l10 = (l9 = (int) b[((int) l2) - 58912]) & 255;
      L5: {
       L6: {
        L7: {
@@ -2023,16 +2023,16 @@ static void f12(State m, long l0, long l1, long l2, long l3, long l4) {
          L9: {
           L10: {
            if (l9 < 0) { break L10; }
-           Words.put64(b, ((int) l5) - 60600, 0L);
-           Words.put64(b, ((int) l5) - 60608, 0L);
-           Words.put64(b, ((int) l5) - 60616, 0L);
-           Words.put64(b, ((int) l5) - 60624, 0L);
-           Words.put64(b, ((int) l5) - 60632, 0L);
-           Words.put64(b, ((int) l5) - 60640, 0L);
+           Words.put64(b, ((int) l5) - 58792, 0L);
+           Words.put64(b, ((int) l5) - 58800, 0L);
+           Words.put64(b, ((int) l5) - 58808, 0L);
+           Words.put64(b, ((int) l5) - 58816, 0L);
+           Words.put64(b, ((int) l5) - 58824, 0L);
+           Words.put64(b, ((int) l5) - 58832, 0L);
            l1 = l3 + -1L;
            break L9;
           }
-          l11 = (b[((int) l8) - 60720] & 0xff) & 63;
+          l11 = (b[((int) l8) - 58912] & 0xff) & 63;
           L11: {
            L12: {
             if (l9 + Integer.MIN_VALUE > 2147483615) { break L12; }
@@ -2040,22 +2040,22 @@ static void f12(State m, long l0, long l1, long l2, long l3, long l4) {
             l8 = 2L;
             break L11;
            }
-           l12 = (b[((int) l2) - 60718] & 0xff) & 63;
+           l12 = (b[((int) l2) - 58910] & 0xff) & 63;
            L13: {
             if (l9 + Integer.MIN_VALUE > 2147483631) { break L13; }
             l10 = ((l11 << 6) | ((l10 << 12) & 61440)) | l12;
             l8 = 3L;
             break L11;
            }
-           l10 = ((l12 << 6) | ((l11 << 12) | ((l10 << 18) & 1835008))) | ((b[((int) l2) - 60717] & 0xff) & 63);
+           l10 = ((l12 << 6) | ((l11 << 12) | ((l10 << 18) & 1835008))) | ((b[((int) l2) - 58909] & 0xff) & 63);
            l8 = 4L;
           }
-          Words.put64(b, ((int) l5) - 60600, 0L);
-          Words.put64(b, ((int) l5) - 60608, 0L);
-          Words.put64(b, ((int) l5) - 60616, 0L);
-          Words.put64(b, ((int) l5) - 60624, 0L);
-          Words.put64(b, ((int) l5) - 60632, 0L);
-          Words.put64(b, ((int) l5) - 60640, 0L);
+          Words.put64(b, ((int) l5) - 58792, 0L);
+          Words.put64(b, ((int) l5) - 58800, 0L);
+          Words.put64(b, ((int) l5) - 58808, 0L);
+          Words.put64(b, ((int) l5) - 58816, 0L);
+          Words.put64(b, ((int) l5) - 58824, 0L);
+          Words.put64(b, ((int) l5) - 58832, 0L);
           l1 = l3 - l8;
           l8 = l2 + l8;
           if (l10 + Integer.MIN_VALUE > -2147483521) { break L8; }
@@ -2079,25 +2079,25 @@ static void f12(State m, long l0, long l1, long l2, long l3, long l4) {
         if (l10 == 12288) { break L6; }
        }
        f21(m, l5 + 80L, l5 + 40L, l10);
-       if ((b[((int) l5) - 60640] & 0xff) != 1) { break L3; }
-       Words.put64(b, ((int) l5) - 60688, Words.get64(b, ((int) l7) - 60688));
-       Words.put64(b, ((int) l5) - 60696, Words.get64(b, ((int) l7) - 60696));
-       Words.put64(b, ((int) l5) - 60704, Words.get64(b, ((int) l7) - 60704));
-       Words.put64(b, ((int) l5) - 60712, Words.get64(b, ((int) l7) - 60712));
-       Words.put64(b, ((int) l5) - 60720, Words.get64(b, ((int) l7) - 60720));
+       if ((b[((int) l5) - 58832] & 0xff) != 1) { break L3; }
+       Words.put64(b, ((int) l5) - 58880, Words.get64(b, ((int) l7) - 58880));
+       Words.put64(b, ((int) l5) - 58888, Words.get64(b, ((int) l7) - 58888));
+       Words.put64(b, ((int) l5) - 58896, Words.get64(b, ((int) l7) - 58896));
+       Words.put64(b, ((int) l5) - 58904, Words.get64(b, ((int) l7) - 58904));
+       Words.put64(b, ((int) l5) - 58912, Words.get64(b, ((int) l7) - 58912));
        break L5;
       }
-      Words.put64(b, ((int) l5) - 60688, Words.get64(b, ((int) l5) - 60648));
-      Words.put64(b, ((int) l5) - 60696, Words.get64(b, ((int) l5) - 60656));
-      Words.put64(b, ((int) l5) - 60704, Words.get64(b, ((int) l5) - 60664));
-      Words.put64(b, ((int) l5) - 60712, Words.get64(b, ((int) l5) - 60672));
-      Words.put64(b, ((int) l5) - 60720, Words.get64(b, ((int) l5) - 60680));
+      Words.put64(b, ((int) l5) - 58880, Words.get64(b, ((int) l5) - 58840));
+      Words.put64(b, ((int) l5) - 58888, Words.get64(b, ((int) l5) - 58848));
+      Words.put64(b, ((int) l5) - 58896, Words.get64(b, ((int) l5) - 58856));
+      Words.put64(b, ((int) l5) - 58904, Words.get64(b, ((int) l5) - 58864));
+      Words.put64(b, ((int) l5) - 58912, Words.get64(b, ((int) l5) - 58872));
      }
-     Words.put64(b, ((int) l5) - 60680, Words.get64(b, ((int) l5) - 60720));
-     Words.put64(b, ((int) l5) - 60672, Words.get64(b, ((int) l5) - 60712));
-     Words.put64(b, ((int) l5) - 60664, Words.get64(b, ((int) l5) - 60704));
-     Words.put64(b, ((int) l5) - 60656, Words.get64(b, ((int) l5) - 60696));
-     Words.put64(b, ((int) l5) - 60648, Words.get64(b, ((int) l5) - 60688));
+     Words.put64(b, ((int) l5) - 58872, Words.get64(b, ((int) l5) - 58912));
+     Words.put64(b, ((int) l5) - 58864, Words.get64(b, ((int) l5) - 58904));
+     Words.put64(b, ((int) l5) - 58856, Words.get64(b, ((int) l5) - 58896));
+     Words.put64(b, ((int) l5) - 58848, Words.get64(b, ((int) l5) - 58888));
+     Words.put64(b, ((int) l5) - 58840, Words.get64(b, ((int) l5) - 58880));
      if ((l6 = l6 + 1L) + Long.MIN_VALUE >= l4 + Long.MIN_VALUE) { break L1; }
      l3 = l1;
      l2 = l8;
@@ -2111,14 +2111,14 @@ static void f12(State m, long l0, long l1, long l2, long l3, long l4) {
   }
   throw State.trap();
  }
- Words.put64(b, ((int) l0) - 60688, Words.get64(b, ((int) l5) - 60648));
- Words.put64(b, ((int) l0) - 60696, Words.get64(b, ((int) l5) - 60656));
- Words.put64(b, ((int) l0) - 60704, Words.get64(b, ((int) l5) - 60664));
- Words.put64(b, ((int) l0) - 60712, Words.get64(b, ((int) l5) - 60672));
- Words.put64(b, ((int) l0) - 60720, Words.get64(b, ((int) l5) - 60680));
- Words.put64(b, ((int) l0) - 60664, l1);
- Words.put64(b, ((int) l0) - 60672, l8);
- Words.put64(b, ((int) l0) - 60680, l6);
+ Words.put64(b, ((int) l0) - 58880, Words.get64(b, ((int) l5) - 58840));
+ Words.put64(b, ((int) l0) - 58888, Words.get64(b, ((int) l5) - 58848));
+ Words.put64(b, ((int) l0) - 58896, Words.get64(b, ((int) l5) - 58856));
+ Words.put64(b, ((int) l0) - 58904, Words.get64(b, ((int) l5) - 58864));
+ Words.put64(b, ((int) l0) - 58912, Words.get64(b, ((int) l5) - 58872));
+ Words.put64(b, ((int) l0) - 58856, l1);
+ Words.put64(b, ((int) l0) - 58864, l8);
+ Words.put64(b, ((int) l0) - 58872, l6);
  m.g0 = l5 + 128L;
 }
 
@@ -2134,17 +2134,17 @@ static void f13(State m, long l0, long l1) {
   m.fill((int) l2, 0, (int) 200L);
   l3 = -188L;
   L2: while (true) {
-   Words.put64(b, ((int) l2) - 60480, 0L);
-   Words.put64(b, ((int) l2) - 60472, 0L);
-   Words.put64(b, ((int) l2) - 60464, 0L);
-   Words.put64(b, ((int) l2) - 60456, 0L);
-   Words.put64(b, ((int) l2) - 60448, 0L);
-   Words.put64(b, ((int) l2) - 60440, 0L);
+   Words.put64(b, ((int) l2) - 58672, 0L);
+   Words.put64(b, ((int) l2) - 58664, 0L);
+   Words.put64(b, ((int) l2) - 58656, 0L);
+   Words.put64(b, ((int) l2) - 58648, 0L);
+   Words.put64(b, ((int) l2) - 58640, 0L);
+   Words.put64(b, ((int) l2) - 58632, 0L);
    L3: {
     L4: {
      L5: {
       L6: {
-       if ((l4 = Words.get32(b, ((int) (l3 + 66236L)) - 60720)) + Integer.MIN_VALUE > -2147483521) { break L6; }
+       if ((l4 = Words.get32(b, ((int) (l3 + 66236L)) - 58912)) + Integer.MIN_VALUE > -2147483521) { break L6; }
        if ((l4 + -9) + Integer.MIN_VALUE < -2147483643) { break L4; }
        if (l4 != 32) { break L5; }
        break L4;
@@ -2163,16 +2163,16 @@ static void f13(State m, long l0, long l1) {
       }
       if (l4 == 12288) { break L4; }
      }
-     Words.put64(b, ((int) l2) - 60488, Words.get64(b, ((int) l1) - 60688));
-     Words.put64(b, ((int) l2) - 60496, Words.get64(b, ((int) l1) - 60696));
-     Words.put64(b, ((int) l2) - 60504, Words.get64(b, ((int) l1) - 60704));
-     Words.put64(b, ((int) l2) - 60512, Words.get64(b, ((int) l1) - 60712));
-     Words.put64(b, ((int) l2) - 60520, Words.get64(b, ((int) l1) - 60720));
+     Words.put64(b, ((int) l2) - 58680, Words.get64(b, ((int) l1) - 58880));
+     Words.put64(b, ((int) l2) - 58688, Words.get64(b, ((int) l1) - 58888));
+     Words.put64(b, ((int) l2) - 58696, Words.get64(b, ((int) l1) - 58896));
+     Words.put64(b, ((int) l2) - 58704, Words.get64(b, ((int) l1) - 58904));
+     Words.put64(b, ((int) l2) - 58712, Words.get64(b, ((int) l1) - 58912));
      f21(m, l2 + 240L, l2 + 200L, l4);
-     if ((b[((int) l2) - 60480] & 0xff) != 1) { break L3; }
+     if ((b[((int) l2) - 58672] & 0xff) != 1) { break L3; }
     }
-    Words.put32(b, ((int) (l2 + (Words.get64(b, ((int) l2) - 60528) << 2L))) - 60720, l4);
-    Words.put64(b, ((int) l2) - 60528, Words.get64(b, ((int) l2) - 60528) + 1L);
+    Words.put32(b, ((int) (l2 + (Words.get64(b, ((int) l2) - 58720) << 2L))) - 58912, l4);
+    Words.put64(b, ((int) l2) - 58720, Words.get64(b, ((int) l2) - 58720) + 1L);
    }
    if ((l3 = l3 + 4L) != 0L) { continue L2; }
    break L2;
@@ -2199,16 +2199,16 @@ static void f14(State m, long l0, long l1, long l2, long l3, long l4) {
   L2: {
    if ((l5 = l5) < 16L) { break L2; }
    l6 = 0L;
-   Words.put64(b, ((int) l5) - 60688, 0L);
-   Words.put64(b, ((int) l5) - 60696, 0L);
-   Words.put64(b, ((int) l5) - 60704, 0L);
-   Words.put64(b, ((int) l5) - 60712, 0L);
-   Words.put64(b, ((int) l5) - 60720, 0L);
-   Words.put64(b, ((int) l5) - 60680, Words.get64(b, ((int) l1) - 60720));
-   Words.put64(b, ((int) l5) - 60672, Words.get64(b, ((int) l1) - 60712));
-   Words.put64(b, ((int) l5) - 60664, Words.get64(b, ((int) l1) - 60704));
-   Words.put64(b, ((int) l5) - 60656, Words.get64(b, ((int) l1) - 60696));
-   Words.put64(b, ((int) l5) - 60648, Words.get64(b, ((int) l1) - 60688));
+   Words.put64(b, ((int) l5) - 58880, 0L);
+   Words.put64(b, ((int) l5) - 58888, 0L);
+   Words.put64(b, ((int) l5) - 58896, 0L);
+   Words.put64(b, ((int) l5) - 58904, 0L);
+   Words.put64(b, ((int) l5) - 58912, 0L);
+   Words.put64(b, ((int) l5) - 58872, Words.get64(b, ((int) l1) - 58912));
+   Words.put64(b, ((int) l5) - 58864, Words.get64(b, ((int) l1) - 58904));
+   Words.put64(b, ((int) l5) - 58856, Words.get64(b, ((int) l1) - 58896));
+   Words.put64(b, ((int) l5) - 58848, Words.get64(b, ((int) l1) - 58888));
+   Words.put64(b, ((int) l5) - 58840, Words.get64(b, ((int) l1) - 58880));
    L3: {
     if (l4 == 0L) { break L3; }
     if (l3 == 0L) { break L3; }
@@ -2216,7 +2216,7 @@ static void f14(State m, long l0, long l1, long l2, long l3, long l4) {
     l6 = 0L;
     L4: while (true) {
      l8 = l2 + 1L;
-     l10 = (l9 = (int) b[((int) l2) - 60720]) & 255;
+     l10 = (l9 = (int) b[((int) l2) - 58912]) & 255;
      L5: {
       L6: {
        L7: {
@@ -2224,16 +2224,16 @@ static void f14(State m, long l0, long l1, long l2, long l3, long l4) {
          L9: {
           L10: {
            if (l9 < 0) { break L10; }
-           Words.put64(b, ((int) l5) - 60600, 0L);
-           Words.put64(b, ((int) l5) - 60608, 0L);
-           Words.put64(b, ((int) l5) - 60616, 0L);
-           Words.put64(b, ((int) l5) - 60624, 0L);
-           Words.put64(b, ((int) l5) - 60632, 0L);
-           Words.put64(b, ((int) l5) - 60640, 0L);
+           Words.put64(b, ((int) l5) - 58792, 0L);
+           Words.put64(b, ((int) l5) - 58800, 0L);
+           Words.put64(b, ((int) l5) - 58808, 0L);
+           Words.put64(b, ((int) l5) - 58816, 0L);
+           Words.put64(b, ((int) l5) - 58824, 0L);
+           Words.put64(b, ((int) l5) - 58832, 0L);
            l1 = l3 + -1L;
            break L9;
           }
-          l11 = (b[((int) l8) - 60720] & 0xff) & 63;
+          l11 = (b[((int) l8) - 58912] & 0xff) & 63;
           L11: {
            L12: {
             if (l9 + Integer.MIN_VALUE > 2147483615) { break L12; }
@@ -2241,22 +2241,22 @@ static void f14(State m, long l0, long l1, long l2, long l3, long l4) {
             l8 = 2L;
             break L11;
            }
-           l12 = (b[((int) l2) - 60718] & 0xff) & 63;
+           l12 = (b[((int) l2) - 58910] & 0xff) & 63;
            L13: {
             if (l9 + Integer.MIN_VALUE > 2147483631) { break L13; }
             l10 = ((l11 << 6) | ((l10 << 12) & 61440)) | l12;
             l8 = 3L;
             break L11;
            }
-           l10 = ((l12 << 6) | ((l11 << 12) | ((l10 << 18) & 1835008))) | ((b[((int) l2) - 60717] & 0xff) & 63);
+           l10 = ((l12 << 6) | ((l11 << 12) | ((l10 << 18) & 1835008))) | ((b[((int) l2) - 58909] & 0xff) & 63);
            l8 = 4L;
           }
-          Words.put64(b, ((int) l5) - 60600, 0L);
-          Words.put64(b, ((int) l5) - 60608, 0L);
-          Words.put64(b, ((int) l5) - 60616, 0L);
-          Words.put64(b, ((int) l5) - 60624, 0L);
-          Words.put64(b, ((int) l5) - 60632, 0L);
-          Words.put64(b, ((int) l5) - 60640, 0L);
+          Words.put64(b, ((int) l5) - 58792, 0L);
+          Words.put64(b, ((int) l5) - 58800, 0L);
+          Words.put64(b, ((int) l5) - 58808, 0L);
+          Words.put64(b, ((int) l5) - 58816, 0L);
+          Words.put64(b, ((int) l5) - 58824, 0L);
+          Words.put64(b, ((int) l5) - 58832, 0L);
           l1 = l3 - l8;
           l8 = l2 + l8;
           if (l10 + Integer.MIN_VALUE > -2147483521) { break L8; }
@@ -2280,25 +2280,25 @@ static void f14(State m, long l0, long l1, long l2, long l3, long l4) {
         if (l10 == 12288) { break L6; }
        }
        f21(m, l5 + 80L, l5 + 40L, l10);
-       if ((b[((int) l5) - 60640] & 0xff) != 1) { break L3; }
-       Words.put64(b, ((int) l5) - 60688, Words.get64(b, ((int) l7) - 60688));
-       Words.put64(b, ((int) l5) - 60696, Words.get64(b, ((int) l7) - 60696));
-       Words.put64(b, ((int) l5) - 60704, Words.get64(b, ((int) l7) - 60704));
-       Words.put64(b, ((int) l5) - 60712, Words.get64(b, ((int) l7) - 60712));
-       Words.put64(b, ((int) l5) - 60720, Words.get64(b, ((int) l7) - 60720));
+       if ((b[((int) l5) - 58832] & 0xff) != 1) { break L3; }
+       Words.put64(b, ((int) l5) - 58880, Words.get64(b, ((int) l7) - 58880));
+       Words.put64(b, ((int) l5) - 58888, Words.get64(b, ((int) l7) - 58888));
+       Words.put64(b, ((int) l5) - 58896, Words.get64(b, ((int) l7) - 58896));
+       Words.put64(b, ((int) l5) - 58904, Words.get64(b, ((int) l7) - 58904));
+       Words.put64(b, ((int) l5) - 58912, Words.get64(b, ((int) l7) - 58912));
        break L5;
       }
-      Words.put64(b, ((int) l5) - 60688, Words.get64(b, ((int) l5) - 60648));
-      Words.put64(b, ((int) l5) - 60696, Words.get64(b, ((int) l5) - 60656));
-      Words.put64(b, ((int) l5) - 60704, Words.get64(b, ((int) l5) - 60664));
-      Words.put64(b, ((int) l5) - 60712, Words.get64(b, ((int) l5) - 60672));
-      Words.put64(b, ((int) l5) - 60720, Words.get64(b, ((int) l5) - 60680));
+      Words.put64(b, ((int) l5) - 58880, Words.get64(b, ((int) l5) - 58840));
+      Words.put64(b, ((int) l5) - 58888, Words.get64(b, ((int) l5) - 58848));
+      Words.put64(b, ((int) l5) - 58896, Words.get64(b, ((int) l5) - 58856));
+      Words.put64(b, ((int) l5) - 58904, Words.get64(b, ((int) l5) - 58864));
+      Words.put64(b, ((int) l5) - 58912, Words.get64(b, ((int) l5) - 58872));
      }
-     Words.put64(b, ((int) l5) - 60680, Words.get64(b, ((int) l5) - 60720));
-     Words.put64(b, ((int) l5) - 60672, Words.get64(b, ((int) l5) - 60712));
-     Words.put64(b, ((int) l5) - 60664, Words.get64(b, ((int) l5) - 60704));
-     Words.put64(b, ((int) l5) - 60656, Words.get64(b, ((int) l5) - 60696));
-     Words.put64(b, ((int) l5) - 60648, Words.get64(b, ((int) l5) - 60688));
+     Words.put64(b, ((int) l5) - 58872, Words.get64(b, ((int) l5) - 58912));
+     Words.put64(b, ((int) l5) - 58864, Words.get64(b, ((int) l5) - 58904));
+     Words.put64(b, ((int) l5) - 58856, Words.get64(b, ((int) l5) - 58896));
+     Words.put64(b, ((int) l5) - 58848, Words.get64(b, ((int) l5) - 58888));
+     Words.put64(b, ((int) l5) - 58840, Words.get64(b, ((int) l5) - 58880));
      if ((l6 = l6 + 1L) + Long.MIN_VALUE >= l4 + Long.MIN_VALUE) { break L1; }
      l3 = l1;
      l2 = l8;
@@ -2312,14 +2312,14 @@ static void f14(State m, long l0, long l1, long l2, long l3, long l4) {
   }
   throw State.trap();
  }
- Words.put64(b, ((int) l0) - 60688, Words.get64(b, ((int) l5) - 60648));
- Words.put64(b, ((int) l0) - 60696, Words.get64(b, ((int) l5) - 60656));
- Words.put64(b, ((int) l0) - 60704, Words.get64(b, ((int) l5) - 60664));
- Words.put64(b, ((int) l0) - 60712, Words.get64(b, ((int) l5) - 60672));
- Words.put64(b, ((int) l0) - 60720, Words.get64(b, ((int) l5) - 60680));
- Words.put64(b, ((int) l0) - 60664, l1);
- Words.put64(b, ((int) l0) - 60672, l8);
- Words.put64(b, ((int) l0) - 60680, l6);
+ Words.put64(b, ((int) l0) - 58880, Words.get64(b, ((int) l5) - 58840));
+ Words.put64(b, ((int) l0) - 58888, Words.get64(b, ((int) l5) - 58848));
+ Words.put64(b, ((int) l0) - 58896, Words.get64(b, ((int) l5) - 58856));
+ Words.put64(b, ((int) l0) - 58904, Words.get64(b, ((int) l5) - 58864));
+ Words.put64(b, ((int) l0) - 58912, Words.get64(b, ((int) l5) - 58872));
+ Words.put64(b, ((int) l0) - 58856, l1);
+ Words.put64(b, ((int) l0) - 58864, l8);
+ Words.put64(b, ((int) l0) - 58872, l6);
  m.g0 = l5 + 128L;
 }
 
@@ -2335,17 +2335,17 @@ static void f15(State m, long l0, long l1) {
   m.fill((int) l2, 0, (int) 200L);
   l3 = -188L;
   L2: while (true) {
-   Words.put64(b, ((int) l2) - 60480, 0L);
-   Words.put64(b, ((int) l2) - 60472, 0L);
-   Words.put64(b, ((int) l2) - 60464, 0L);
-   Words.put64(b, ((int) l2) - 60456, 0L);
-   Words.put64(b, ((int) l2) - 60448, 0L);
-   Words.put64(b, ((int) l2) - 60440, 0L);
+   Words.put64(b, ((int) l2) - 58672, 0L);
+   Words.put64(b, ((int) l2) - 58664, 0L);
+   Words.put64(b, ((int) l2) - 58656, 0L);
+   Words.put64(b, ((int) l2) - 58648, 0L);
+   Words.put64(b, ((int) l2) - 58640, 0L);
+   Words.put64(b, ((int) l2) - 58632, 0L);
    L3: {
     L4: {
      L5: {
       L6: {
-       if ((l4 = Words.get32(b, ((int) (l3 + 66236L)) - 60720)) + Integer.MIN_VALUE > -2147483521) { break L6; }
+       if ((l4 = Words.get32(b, ((int) (l3 + 66236L)) - 58912)) + Integer.MIN_VALUE > -2147483521) { break L6; }
        if ((l4 + -9) + Integer.MIN_VALUE < -2147483643) { break L4; }
        if (l4 != 32) { break L5; }
        break L4;
@@ -2364,16 +2364,16 @@ static void f15(State m, long l0, long l1) {
       }
       if (l4 == 12288) { break L4; }
      }
-     Words.put64(b, ((int) l2) - 60488, Words.get64(b, ((int) l1) - 60688));
-     Words.put64(b, ((int) l2) - 60496, Words.get64(b, ((int) l1) - 60696));
-     Words.put64(b, ((int) l2) - 60504, Words.get64(b, ((int) l1) - 60704));
-     Words.put64(b, ((int) l2) - 60512, Words.get64(b, ((int) l1) - 60712));
-     Words.put64(b, ((int) l2) - 60520, Words.get64(b, ((int) l1) - 60720));
+     Words.put64(b, ((int) l2) - 58680, Words.get64(b, ((int) l1) - 58880));
+     Words.put64(b, ((int) l2) - 58688, Words.get64(b, ((int) l1) - 58888));
+     Words.put64(b, ((int) l2) - 58696, Words.get64(b, ((int) l1) - 58896));
+     Words.put64(b, ((int) l2) - 58704, Words.get64(b, ((int) l1) - 58904));
+     Words.put64(b, ((int) l2) - 58712, Words.get64(b, ((int) l1) - 58912));
      f21(m, l2 + 240L, l2 + 200L, l4);
-     if ((b[((int) l2) - 60480] & 0xff) != 1) { break L3; }
+     if ((b[((int) l2) - 58672] & 0xff) != 1) { break L3; }
     }
-    Words.put32(b, ((int) (l2 + (Words.get64(b, ((int) l2) - 60528) << 2L))) - 60720, l4);
-    Words.put64(b, ((int) l2) - 60528, Words.get64(b, ((int) l2) - 60528) + 1L);
+    Words.put32(b, ((int) (l2 + (Words.get64(b, ((int) l2) - 58720) << 2L))) - 58912, l4);
+    Words.put64(b, ((int) l2) - 58720, Words.get64(b, ((int) l2) - 58720) + 1L);
    }
    if ((l3 = l3 + 4L) != 0L) { continue L2; }
    break L2;
@@ -2401,52 +2401,52 @@ static void f16(State m, long l0, long l1, long l2, long l3, long l4) {
  m.g0 = l5 = m.g0 - 32L;
  L1: {
   if ((l5 = l5) < 16L) { break L1; }
-  Words.put16(b, ((int) l5) - 60690, (short) 0);
+  Words.put16(b, ((int) l5) - 58882, (short) 0);
   l6 = 0L;
-  Words.put64(b, ((int) l5) - 60712, 0L);
-  Words.put32(b, ((int) l5) - 60704, 0);
-  Words.put16(b, ((int) l5) - 60698, (short) (l7 = b[((int) l1) - 60720] & 0xff));
-  b[((int) l5) - 60690] = (byte) (l8 = b[((int) (l1 + 8L)) - 60720] & 0xff);
-  b[((int) l5) - 60691] = (byte) (l9 = b[((int) (l1 + 7L)) - 60720] & 0xff);
-  b[((int) l5) - 60692] = (byte) (l10 = b[((int) (l1 + 6L)) - 60720] & 0xff);
-  Words.put32(b, ((int) l5) - 60696, l11 = Words.get32(b, ((int) (l1 + 2L)) - 60720));
+  Words.put64(b, ((int) l5) - 58904, 0L);
+  Words.put32(b, ((int) l5) - 58896, 0);
+  Words.put16(b, ((int) l5) - 58890, (short) (l7 = b[((int) l1) - 58912] & 0xff));
+  b[((int) l5) - 58882] = (byte) (l8 = b[((int) (l1 + 8L)) - 58912] & 0xff);
+  b[((int) l5) - 58883] = (byte) (l9 = b[((int) (l1 + 7L)) - 58912] & 0xff);
+  b[((int) l5) - 58884] = (byte) (l10 = b[((int) (l1 + 6L)) - 58912] & 0xff);
+  Words.put32(b, ((int) l5) - 58888, l11 = Words.get32(b, ((int) (l1 + 2L)) - 58912));
   L2: {
    if (l4 == 0L) { break L2; }
    if (l3 == 0L) { break L2; }
    l6 = 0L;
    L3: while (true) {
-    l13 = (l12 = (int) b[((int) l2) - 60720]) & 255;
+    l13 = (l12 = (int) b[((int) l2) - 58912]) & 255;
     l1 = 1L;
     L4: {
      if (l12 > -1) { break L4; }
-     l14 = (b[((int) l2) - 60719] & 0xff) & 63;
+     l14 = (b[((int) l2) - 58911] & 0xff) & 63;
      L5: {
       if (l12 + Integer.MIN_VALUE > 2147483615) { break L5; }
       l13 = ((l13 << 6) & 1984) | l14;
       l1 = 2L;
       break L4;
      }
-     l15 = (b[((int) l2) - 60718] & 0xff) & 63;
+     l15 = (b[((int) l2) - 58910] & 0xff) & 63;
      L6: {
       if (l12 + Integer.MIN_VALUE > 2147483631) { break L6; }
       l13 = ((l14 << 6) | ((l13 << 12) & 61440)) | l15;
       l1 = 3L;
       break L4;
      }
-     l13 = ((l15 << 6) | ((l14 << 12) | ((l13 << 18) & 1835008))) | ((b[((int) l2) - 60717] & 0xff) & 63);
+     l13 = ((l15 << 6) | ((l14 << 12) | ((l13 << 18) & 1835008))) | ((b[((int) l2) - 58909] & 0xff) & 63);
      l1 = 4L;
     }
     f22(m, l5 + 8L, l5 + 22L, l13);
     L7: {
-     if ((b[((int) l5) - 60712] & 0xff) == 1) { break L7; }
+     if ((b[((int) l5) - 58904] & 0xff) == 1) { break L7; }
      l7 = l7 & 255;
      break L2;
     }
-    b[((int) l5) - 60690] = (byte) (l8 = b[((int) l5) - 60702] & 0xff);
-    b[((int) l5) - 60691] = (byte) (l9 = b[((int) l5) - 60703] & 0xff);
-    b[((int) l5) - 60692] = (byte) (l10 = b[((int) l5) - 60704] & 0xff);
-    Words.put32(b, ((int) l5) - 60696, l11 = Words.get32(b, ((int) l5) - 60708));
-    Words.put16(b, ((int) l5) - 60698, (short) (l7 = b[((int) l5) - 60710] & 0xff));
+    b[((int) l5) - 58882] = (byte) (l8 = b[((int) l5) - 58894] & 0xff);
+    b[((int) l5) - 58883] = (byte) (l9 = b[((int) l5) - 58895] & 0xff);
+    b[((int) l5) - 58884] = (byte) (l10 = b[((int) l5) - 58896] & 0xff);
+    Words.put32(b, ((int) l5) - 58888, l11 = Words.get32(b, ((int) l5) - 58900));
+    Words.put16(b, ((int) l5) - 58890, (short) (l7 = b[((int) l5) - 58902] & 0xff));
     l2 = l2 + l1;
     l3 = l3 - l1;
     if ((l6 = l6 + 1L) + Long.MIN_VALUE >= l4 + Long.MIN_VALUE) { break L2; }
@@ -2454,16 +2454,16 @@ static void f16(State m, long l0, long l1, long l2, long l3, long l4) {
     break L3;
    }
   }
-  Words.put32(b, ((int) l0) - 60711, 0);
-  b[((int) l0) - 60712] = (byte) l8;
-  b[((int) l0) - 60713] = (byte) l9;
-  b[((int) l0) - 60714] = (byte) l10;
-  Words.put32(b, ((int) l0) - 60718, l11);
-  Words.put16(b, ((int) l0) - 60720, (short) l7);
-  Words.put32(b, ((int) l0) - 60708, 0);
-  Words.put64(b, ((int) l0) - 60688, l3);
-  Words.put64(b, ((int) l0) - 60696, l2);
-  Words.put64(b, ((int) l0) - 60704, l6);
+  Words.put32(b, ((int) l0) - 58903, 0);
+  b[((int) l0) - 58904] = (byte) l8;
+  b[((int) l0) - 58905] = (byte) l9;
+  b[((int) l0) - 58906] = (byte) l10;
+  Words.put32(b, ((int) l0) - 58910, l11);
+  Words.put16(b, ((int) l0) - 58912, (short) l7);
+  Words.put32(b, ((int) l0) - 58900, 0);
+  Words.put64(b, ((int) l0) - 58880, l3);
+  Words.put64(b, ((int) l0) - 58888, l2);
+  Words.put64(b, ((int) l0) - 58896, l6);
   m.g0 = l5 + 32L;
   return;
  }
@@ -2475,23 +2475,23 @@ static void f17(State m, long l0, long l1) {
  long l2 = 0;
  int l3 = 0;
  m.g0 = l2 = m.g0 - 240L;
- Words.put16(b, ((int) (l2 = l2)) - 60482, (short) 0);
- Words.put16(b, ((int) l2) - 60490, (short) (b[((int) l1) - 60720] & 0xff));
- Words.put32(b, ((int) l2) - 60488, Words.get32(b, ((int) (l1 + 2L)) - 60720));
- Words.put16(b, ((int) l2) - 60484, (short) (Words.get16(b, ((int) (l1 + 6L)) - 60720) & 0xffff));
- b[((int) l2) - 60482] = (byte) (b[((int) (l1 + 8L)) - 60720] & 0xff);
+ Words.put16(b, ((int) (l2 = l2)) - 58674, (short) 0);
+ Words.put16(b, ((int) l2) - 58682, (short) (b[((int) l1) - 58912] & 0xff));
+ Words.put32(b, ((int) l2) - 58680, Words.get32(b, ((int) (l1 + 2L)) - 58912));
+ Words.put16(b, ((int) l2) - 58676, (short) (Words.get16(b, ((int) (l1 + 6L)) - 58912) & 0xffff));
+ b[((int) l2) - 58674] = (byte) (b[((int) (l1 + 8L)) - 58912] & 0xff);
  L1: {
   if (l2 < 16L) { break L1; }
-  Words.put32(b, ((int) l2) - 60704, 0);
-  Words.put64(b, ((int) l2) - 60712, 0L);
+  Words.put32(b, ((int) l2) - 58896, 0);
+  Words.put64(b, ((int) l2) - 58904, 0L);
   m.fill((int) (l2 + 24L), 0, (int) 200L);
   l1 = -72L;
   L2: while (true) {
-   f22(m, l2 + 8L, l2 + 230L, l3 = Words.get32(b, ((int) (l1 + 66564L)) - 60720));
+   f22(m, l2 + 8L, l2 + 230L, l3 = Words.get32(b, ((int) (l1 + 66564L)) - 58912));
    L3: {
-    if ((b[((int) l2) - 60712] & 0xff) != 1) { break L3; }
-    Words.put32(b, ((int) ((l2 + 24L) + (Words.get64(b, ((int) l2) - 60504) << 2L))) - 60720, l3);
-    Words.put64(b, ((int) l2) - 60504, Words.get64(b, ((int) l2) - 60504) + 1L);
+    if ((b[((int) l2) - 58904] & 0xff) != 1) { break L3; }
+    Words.put32(b, ((int) ((l2 + 24L) + (Words.get64(b, ((int) l2) - 58696) << 2L))) - 58912, l3);
+    Words.put64(b, ((int) l2) - 58696, Words.get64(b, ((int) l2) - 58696) + 1L);
    }
    if ((l1 = l1 + 4L) != 0L) { continue L2; }
    break L2;
@@ -2520,53 +2520,53 @@ static void f18(State m, long l0, long l1, long l2, long l3, long l4) {
  L1: {
   if ((l5 = l5) < 16L) { break L1; }
   l6 = 0L;
-  Words.put64(b, ((int) l5) - 60672, 0L);
-  Words.put64(b, ((int) l5) - 60664, 0L);
-  Words.put64(b, ((int) l5) - 60712, 0L);
-  Words.put64(b, ((int) l5) - 60704, 0L);
-  Words.put64(b, ((int) l5) - 60696, 0L);
-  Words.put64(b, ((int) l5) - 60688, 0L);
-  Words.put64(b, ((int) l5) - 60680, 0L);
-  b[((int) l5) - 60672] = (byte) (l9 = b[((int) l1) - 60720] & 0xff);
-  b[((int) l5) - 60664] = (byte) (l10 = b[((int) (l1 + 8L)) - 60720] & 0xff);
-  Words.put64(b, ((int) l5) - 60648, l7 = Words.get64(b, ((int) (l1 + 24L)) - 60720));
-  Words.put64(b, ((int) l5) - 60656, l8 = ((l11 = b[((int) (l1 + 16L)) - 60720] & 0xff) & 0xffffffffL) & 255L);
+  Words.put64(b, ((int) l5) - 58864, 0L);
+  Words.put64(b, ((int) l5) - 58856, 0L);
+  Words.put64(b, ((int) l5) - 58904, 0L);
+  Words.put64(b, ((int) l5) - 58896, 0L);
+  Words.put64(b, ((int) l5) - 58888, 0L);
+  Words.put64(b, ((int) l5) - 58880, 0L);
+  Words.put64(b, ((int) l5) - 58872, 0L);
+  b[((int) l5) - 58864] = (byte) (l9 = b[((int) l1) - 58912] & 0xff);
+  b[((int) l5) - 58856] = (byte) (l10 = b[((int) (l1 + 8L)) - 58912] & 0xff);
+  Words.put64(b, ((int) l5) - 58840, l7 = Words.get64(b, ((int) (l1 + 24L)) - 58912));
+  Words.put64(b, ((int) l5) - 58848, l8 = ((l11 = b[((int) (l1 + 16L)) - 58912] & 0xff) & 0xffffffffL) & 255L);
   L2: {
    if (l4 == 0L) { break L2; }
    if (l3 == 0L) { break L2; }
    l6 = 0L;
    L3: while (true) {
-    l13 = (l12 = (int) b[((int) l2) - 60720]) & 255;
+    l13 = (l12 = (int) b[((int) l2) - 58912]) & 255;
     l1 = 1L;
     L4: {
      if (l12 > -1) { break L4; }
-     l14 = (b[((int) l2) - 60719] & 0xff) & 63;
+     l14 = (b[((int) l2) - 58911] & 0xff) & 63;
      L5: {
       if (l12 + Integer.MIN_VALUE > 2147483615) { break L5; }
       l13 = ((l13 << 6) & 1984) | l14;
       l1 = 2L;
       break L4;
      }
-     l15 = (b[((int) l2) - 60718] & 0xff) & 63;
+     l15 = (b[((int) l2) - 58910] & 0xff) & 63;
      L6: {
       if (l12 + Integer.MIN_VALUE > 2147483631) { break L6; }
       l13 = ((l14 << 6) | ((l13 << 12) & 61440)) | l15;
       l1 = 3L;
       break L4;
      }
-     l13 = ((l15 << 6) | ((l14 << 12) | ((l13 << 18) & 1835008))) | ((b[((int) l2) - 60717] & 0xff) & 63);
+     l13 = ((l15 << 6) | ((l14 << 12) | ((l13 << 18) & 1835008))) | ((b[((int) l2) - 58909] & 0xff) & 63);
      l1 = 4L;
     }
     f23(m, l5 + 8L, l5 + 48L, l13);
     L7: {
-     if ((b[((int) l5) - 60712] & 0xff) == 1) { break L7; }
+     if ((b[((int) l5) - 58904] & 0xff) == 1) { break L7; }
      l8 = (l11 & 0xffffffffL) & 255L;
      break L2;
     }
-    Words.put64(b, ((int) l5) - 60648, l7 = Words.get64(b, ((int) l5) - 60680));
-    b[((int) l5) - 60664] = (byte) (l10 = b[((int) l5) - 60696] & 0xff);
-    b[((int) l5) - 60672] = (byte) (l9 = b[((int) l5) - 60704] & 0xff);
-    Words.put64(b, ((int) l5) - 60656, l8 = ((l11 = b[((int) l5) - 60688] & 0xff) & 0xffffffffL) & 255L);
+    Words.put64(b, ((int) l5) - 58840, l7 = Words.get64(b, ((int) l5) - 58872));
+    b[((int) l5) - 58856] = (byte) (l10 = b[((int) l5) - 58888] & 0xff);
+    b[((int) l5) - 58864] = (byte) (l9 = b[((int) l5) - 58896] & 0xff);
+    Words.put64(b, ((int) l5) - 58848, l8 = ((l11 = b[((int) l5) - 58880] & 0xff) & 0xffffffffL) & 255L);
     l2 = l2 + l1;
     l3 = l3 - l1;
     if ((l6 = l6 + 1L) + Long.MIN_VALUE >= l4 + Long.MIN_VALUE) { break L2; }
@@ -2574,17 +2574,17 @@ static void f18(State m, long l0, long l1, long l2, long l3, long l4) {
     break L3;
    }
   }
-  Words.put32(b, ((int) l0) - 60719, 0);
-  b[((int) l0) - 60720] = (byte) l9;
-  Words.put32(b, ((int) l0) - 60716, 0);
-  Words.put32(b, ((int) l0) - 60711, 0);
-  b[((int) l0) - 60712] = (byte) l10;
-  Words.put32(b, ((int) l0) - 60708, 0);
-  Words.put64(b, ((int) l0) - 60672, l3);
-  Words.put64(b, ((int) l0) - 60680, l2);
-  Words.put64(b, ((int) l0) - 60688, l6);
-  Words.put64(b, ((int) l0) - 60696, l7);
-  Words.put64(b, ((int) l0) - 60704, l8);
+  Words.put32(b, ((int) l0) - 58911, 0);
+  b[((int) l0) - 58912] = (byte) l9;
+  Words.put32(b, ((int) l0) - 58908, 0);
+  Words.put32(b, ((int) l0) - 58903, 0);
+  b[((int) l0) - 58904] = (byte) l10;
+  Words.put32(b, ((int) l0) - 58900, 0);
+  Words.put64(b, ((int) l0) - 58864, l3);
+  Words.put64(b, ((int) l0) - 58872, l2);
+  Words.put64(b, ((int) l0) - 58880, l6);
+  Words.put64(b, ((int) l0) - 58888, l7);
+  Words.put64(b, ((int) l0) - 58896, l8);
   m.g0 = l5 + 80L;
   return;
  }
@@ -2596,27 +2596,27 @@ static void f19(State m, long l0, long l1) {
  long l2 = 0;
  int l3 = 0;
  m.g0 = l2 = m.g0 - 272L;
- Words.put64(b, ((int) (l2 = l2)) - 60480, 0L);
- Words.put64(b, ((int) l2) - 60472, 0L);
- b[((int) l2) - 60480] = (byte) (b[((int) l1) - 60720] & 0xff);
- b[((int) l2) - 60472] = (byte) (b[((int) (l1 + 8L)) - 60720] & 0xff);
- Words.put64(b, ((int) l2) - 60464, b[((int) (l1 + 16L)) - 60720] & 0xffL);
- Words.put64(b, ((int) l2) - 60456, Words.get64(b, ((int) (l1 + 24L)) - 60720));
+ Words.put64(b, ((int) (l2 = l2)) - 58672, 0L);
+ Words.put64(b, ((int) l2) - 58664, 0L);
+ b[((int) l2) - 58672] = (byte) (b[((int) l1) - 58912] & 0xff);
+ b[((int) l2) - 58664] = (byte) (b[((int) (l1 + 8L)) - 58912] & 0xff);
+ Words.put64(b, ((int) l2) - 58656, b[((int) (l1 + 16L)) - 58912] & 0xffL);
+ Words.put64(b, ((int) l2) - 58648, Words.get64(b, ((int) (l1 + 24L)) - 58912));
  L1: {
   if (l2 < 16L) { break L1; }
-  Words.put64(b, ((int) l2) - 60688, 0L);
-  Words.put64(b, ((int) l2) - 60696, 0L);
-  Words.put64(b, ((int) l2) - 60704, 0L);
-  Words.put64(b, ((int) l2) - 60712, 0L);
-  Words.put64(b, ((int) l2) - 60720, 0L);
+  Words.put64(b, ((int) l2) - 58880, 0L);
+  Words.put64(b, ((int) l2) - 58888, 0L);
+  Words.put64(b, ((int) l2) - 58896, 0L);
+  Words.put64(b, ((int) l2) - 58904, 0L);
+  Words.put64(b, ((int) l2) - 58912, 0L);
   m.fill((int) (l2 + 40L), 0, (int) 200L);
   l1 = -116L;
   L2: while (true) {
-   f23(m, l2, l2 + 240L, l3 = Words.get32(b, ((int) (l1 + 66680L)) - 60720));
+   f23(m, l2, l2 + 240L, l3 = Words.get32(b, ((int) (l1 + 66680L)) - 58912));
    L3: {
-    if ((b[((int) l2) - 60720] & 0xff) != 1) { break L3; }
-    Words.put32(b, ((int) ((l2 + 40L) + (Words.get64(b, ((int) l2) - 60488) << 2L))) - 60720, l3);
-    Words.put64(b, ((int) l2) - 60488, Words.get64(b, ((int) l2) - 60488) + 1L);
+    if ((b[((int) l2) - 58912] & 0xff) != 1) { break L3; }
+    Words.put32(b, ((int) ((l2 + 40L) + (Words.get64(b, ((int) l2) - 58680) << 2L))) - 58912, l3);
+    Words.put64(b, ((int) l2) - 58680, Words.get64(b, ((int) l2) - 58680) + 1L);
    }
    if ((l1 = l1 + 4L) != 0L) { continue L2; }
    break L2;
@@ -2650,34 +2650,34 @@ static void f20(State m, long l0, long l1, int l2) {
       L6: {
        L7: {
         if (m.g0 < 16L) { break L7; }
-        l3 = Words.get64(b, ((int) l1) - 60688);
-        l4 = Words.get64(b, ((int) l1) - 60696);
-        l5 = Words.get64(b, ((int) l1) - 60704);
-        l8 = b[((int) l1) - 60710] & 0xff;
-        l9 = b[((int) l1) - 60711] & 0xff;
-        l10 = b[((int) l1) - 60712] & 0xff;
+        l3 = Words.get64(b, ((int) l1) - 58880);
+        l4 = Words.get64(b, ((int) l1) - 58888);
+        l5 = Words.get64(b, ((int) l1) - 58896);
+        l8 = b[((int) l1) - 58902] & 0xff;
+        l9 = b[((int) l1) - 58903] & 0xff;
+        l10 = b[((int) l1) - 58904] & 0xff;
         l12 = ((l11 = ((l2 != 36000) & (l2 != 36127)) ? 1 : 0) != 0) ? 1 : 2;
-        l13 = b[((int) l1) - 60720] & 0xff;
+        l13 = b[((int) l1) - 58912] & 0xff;
         L8: {
          if (l11 != 0) { break L8; }
          if (l13 != 0) { break L8; }
-         Words.put64(b, ((int) l0) - 60720, 1L);
-         Words.put32(b, ((int) (l0 + 19L)) - 60720, 0);
-         b[((int) (l0 + 18L)) - 60720] = (byte) l8;
-         b[((int) (l0 + 17L)) - 60720] = (byte) l9;
-         Words.put64(b, ((int) (l0 + 9L)) - 60720, (l10 & 0xffffffffL) << 56L);
-         b[((int) (l0 + 8L)) - 60720] = (byte) l12;
-         b[((int) (l0 + 23L)) - 60720] = (byte) 0;
-         Words.put64(b, ((int) (l0 + 40L)) - 60720, l3);
-         Words.put64(b, ((int) (l0 + 32L)) - 60720, l4);
-         Words.put64(b, ((int) (l0 + 24L)) - 60720, l5);
+         Words.put64(b, ((int) l0) - 58912, 1L);
+         Words.put32(b, ((int) (l0 + 19L)) - 58912, 0);
+         b[((int) (l0 + 18L)) - 58912] = (byte) l8;
+         b[((int) (l0 + 17L)) - 58912] = (byte) l9;
+         Words.put64(b, ((int) (l0 + 9L)) - 58912, (l10 & 0xffffffffL) << 56L);
+         b[((int) (l0 + 8L)) - 58912] = (byte) l12;
+         b[((int) (l0 + 23L)) - 58912] = (byte) 0;
+         Words.put64(b, ((int) (l0 + 40L)) - 58912, l3);
+         Words.put64(b, ((int) (l0 + 32L)) - 58912, l4);
+         Words.put64(b, ((int) (l0 + 24L)) - 58912, l5);
          return;
         }
         L9: {
          if (Words.get32(b, State.far((int) (l1 = (((l2 * 3227) >>> 7) & 0xffffffffL) & 504L), 65536)) != l2) { break L9; }
-         if (((b[((int) (l1 + 65540L)) - 60720] & 0xff) & 255) != 1) { break L9; }
-         l6 = b[((int) (l1 + 65542L)) - 60720] & 0xffL;
-         l2 = b[((int) (l1 + 65541L)) - 60720] & 0xff;
+         if (((b[((int) (l1 + 65540L)) - 58912] & 0xff) & 255) != 1) { break L9; }
+         l6 = b[((int) (l1 + 65542L)) - 58912] & 0xffL;
+         l2 = b[((int) (l1 + 65541L)) - 58912] & 0xff;
          L10: {
           L11: {
            L12: {
@@ -3410,12 +3410,12 @@ static void f20(State m, long l0, long l1, int l2) {
          l11 = l9;
          if (l2 == 4) { break L6; }
         }
-        Words.put64(b, ((int) l0) - 60680, 0L);
-        Words.put64(b, ((int) l0) - 60688, 0L);
-        Words.put64(b, ((int) l0) - 60696, 0L);
-        Words.put64(b, ((int) l0) - 60704, 0L);
-        Words.put64(b, ((int) l0) - 60712, 0L);
-        Words.put64(b, ((int) l0) - 60720, 0L);
+        Words.put64(b, ((int) l0) - 58872, 0L);
+        Words.put64(b, ((int) l0) - 58880, 0L);
+        Words.put64(b, ((int) l0) - 58888, 0L);
+        Words.put64(b, ((int) l0) - 58896, 0L);
+        Words.put64(b, ((int) l0) - 58904, 0L);
+        Words.put64(b, ((int) l0) - 58912, 0L);
         return;
        }
        throw State.trap();
@@ -3445,16 +3445,16 @@ static void f20(State m, long l0, long l1, int l2) {
   l10 = 0;
   l3 = 0L;
  }
- Words.put64(b, ((int) l0) - 60720, 1L);
- Words.put32(b, ((int) (l0 + 19L)) - 60720, 0);
- b[((int) (l0 + 18L)) - 60720] = (byte) l10;
- b[((int) (l0 + 17L)) - 60720] = (byte) l11;
- Words.put64(b, ((int) (l0 + 9L)) - 60720, l1 & 2233785415175766016L);
- b[((int) (l0 + 8L)) - 60720] = (byte) (l13 != 0 ? l13 : l12);
- b[((int) (l0 + 23L)) - 60720] = (byte) 0;
- Words.put64(b, ((int) (l0 + 40L)) - 60720, l3);
- Words.put64(b, ((int) (l0 + 32L)) - 60720, l4);
- Words.put64(b, ((int) (l0 + 24L)) - 60720, l5);
+ Words.put64(b, ((int) l0) - 58912, 1L);
+ Words.put32(b, ((int) (l0 + 19L)) - 58912, 0);
+ b[((int) (l0 + 18L)) - 58912] = (byte) l10;
+ b[((int) (l0 + 17L)) - 58912] = (byte) l11;
+ Words.put64(b, ((int) (l0 + 9L)) - 58912, l1 & 2233785415175766016L);
+ b[((int) (l0 + 8L)) - 58912] = (byte) (l13 != 0 ? l13 : l12);
+ b[((int) (l0 + 23L)) - 58912] = (byte) 0;
+ Words.put64(b, ((int) (l0 + 40L)) - 58912, l3);
+ Words.put64(b, ((int) (l0 + 32L)) - 58912, l4);
+ Words.put64(b, ((int) (l0 + 24L)) - 58912, l5);
 }
 
 static void f21(State m, long l0, long l1, int l2) {
@@ -3495,16 +3495,16 @@ static void f21(State m, long l0, long l1, int l2) {
                 L16: {
                  L17: {
                   if ((l3 = m.g0 - 16L) < 16L) { break L17; }
-                  l4 = ((l8 = b[((int) l1) - 60716] & 0xff) & 0xffffffffL) & 255L;
-                  l9 = b[((int) l1) - 60719] & 0xff;
-                  l5 = Words.get64(b, ((int) l1) - 60688);
-                  l6 = Words.get64(b, ((int) l1) - 60696);
-                  l7 = Words.get64(b, ((int) l1) - 60704);
-                  l10 = b[((int) l1) - 60710] & 0xff;
-                  l11 = b[((int) l1) - 60711] & 0xff;
-                  l12 = b[((int) l1) - 60712] & 0xff;
-                  l13 = b[((int) l1) - 60718] & 0xff;
-                  l14 = b[((int) l1) - 60720] & 0xff;
+                  l4 = ((l8 = b[((int) l1) - 58908] & 0xff) & 0xffffffffL) & 255L;
+                  l9 = b[((int) l1) - 58911] & 0xff;
+                  l5 = Words.get64(b, ((int) l1) - 58880);
+                  l6 = Words.get64(b, ((int) l1) - 58888);
+                  l7 = Words.get64(b, ((int) l1) - 58896);
+                  l10 = b[((int) l1) - 58902] & 0xff;
+                  l11 = b[((int) l1) - 58903] & 0xff;
+                  l12 = b[((int) l1) - 58904] & 0xff;
+                  l13 = b[((int) l1) - 58910] & 0xff;
+                  l14 = b[((int) l1) - 58912] & 0xff;
                   L18: {
                    L19: {
                     L20: {
@@ -3517,7 +3517,7 @@ static void f21(State m, long l0, long l1, int l2) {
                            L27: {
                             L28: {
                              L29: {
-                              switch (l15 = b[((int) l1) - 60717] & 0xff) {
+                              switch (l15 = b[((int) l1) - 58909] & 0xff) {
                               case 1: break L28;
                               case 2: break L27;
                               case 3: break L26;
@@ -3622,7 +3622,7 @@ static void f21(State m, long l0, long l1, int l2) {
                            }
                            L40: {
                             L41: {
-                             if (((b[((int) l1) - 60715] & 0xff) & 255) != 1) { break L41; }
+                             if (((b[((int) l1) - 58907] & 0xff) & 255) != 1) { break L41; }
                              if (l2 == 25968) { break L40; }
                              break L8;
                             }
@@ -3806,17 +3806,17 @@ static void f21(State m, long l0, long l1, int l2) {
            if (((1 << l15) & 190) == 0) { break L9; }
            break L8;
           }
-          b[((int) l3) - 60708] = (byte) 0;
-          Words.put32(b, ((int) l3) - 60712, 0);
+          b[((int) l3) - 58900] = (byte) 0;
+          Words.put32(b, ((int) l3) - 58904, 0);
           l1 = ((((l18 & 0xffffffffL) & 255L) << 8L) | (l1 << 16L)) | (l17 & 0xffffffffL);
           l4 = 1L;
           l2 = l11;
           break L1;
          }
          if (Words.get32(b, State.far((int) (l1 = (((l2 * 3227) >>> 7) & 0xffffffffL) & 504L), 65536)) != l2) { break L8; }
-         if (((b[((int) (l1 + 65540L)) - 60720] & 0xff) & 255) != 1) { break L8; }
-         l4 = b[((int) (l1 + 65542L)) - 60720] & 0xffL;
-         l8 = b[((int) (l1 + 65541L)) - 60720] & 0xff;
+         if (((b[((int) (l1 + 65540L)) - 58912] & 0xff) & 255) != 1) { break L8; }
+         l4 = b[((int) (l1 + 65542L)) - 58912] & 0xffL;
+         l8 = b[((int) (l1 + 65541L)) - 58912] & 0xff;
          L60: {
           L61: {
            L62: {
@@ -4551,8 +4551,8 @@ static void f21(State m, long l0, long l1, int l2) {
          if (l8 == 4) { break L7; }
         }
         l12 = 0;
-        b[((int) l3) - 60708] = (byte) 0;
-        Words.put32(b, ((int) l3) - 60712, 0);
+        b[((int) l3) - 58900] = (byte) 0;
+        Words.put32(b, ((int) l3) - 58904, 0);
         l4 = 0L;
         l1 = 0L;
         l2 = 0;
@@ -4587,21 +4587,21 @@ static void f21(State m, long l0, long l1, int l2) {
    l10 = 0;
    l5 = 0L;
   }
-  b[((int) l3) - 60708] = (byte) 0;
-  Words.put32(b, ((int) l3) - 60712, 0);
+  b[((int) l3) - 58900] = (byte) 0;
+  Words.put32(b, ((int) l3) - 58904, 0);
   l4 = 1L;
   l1 = (((((l13 & 0xffffffffL) & 1L) << 16L) | (((l9 & 0xffffffffL) & 255L) << 8L)) | ((l14 & 0xffffffffL) & 1L)) | 184549376L;
  }
- Words.put64(b, ((int) l0) - 60720, l4);
- b[((int) (l0 + 18L)) - 60720] = (byte) l10;
- b[((int) (l0 + 17L)) - 60720] = (byte) l2;
- b[((int) (l0 + 16L)) - 60720] = (byte) l12;
- Words.put64(b, ((int) (l0 + 8L)) - 60720, l1);
- Words.put32(b, ((int) (l0 + 19L)) - 60720, Words.get32(b, ((int) l3) - 60712));
- b[((int) (l0 + 23L)) - 60720] = (byte) (b[((int) l3) - 60708] & 0xff);
- Words.put64(b, ((int) (l0 + 40L)) - 60720, l5);
- Words.put64(b, ((int) (l0 + 32L)) - 60720, l6);
- Words.put64(b, ((int) (l0 + 24L)) - 60720, l7);
+ Words.put64(b, ((int) l0) - 58912, l4);
+ b[((int) (l0 + 18L)) - 58912] = (byte) l10;
+ b[((int) (l0 + 17L)) - 58912] = (byte) l2;
+ b[((int) (l0 + 16L)) - 58912] = (byte) l12;
+ Words.put64(b, ((int) (l0 + 8L)) - 58912, l1);
+ Words.put32(b, ((int) (l0 + 19L)) - 58912, Words.get32(b, ((int) l3) - 58904));
+ b[((int) (l0 + 23L)) - 58912] = (byte) (b[((int) l3) - 58900] & 0xff);
+ Words.put64(b, ((int) (l0 + 40L)) - 58912, l5);
+ Words.put64(b, ((int) (l0 + 32L)) - 58912, l6);
+ Words.put64(b, ((int) (l0 + 24L)) - 58912, l7);
 }
 
 static void f22(State m, long l0, long l1, int l2) {
@@ -4636,14 +4636,14 @@ static void f22(State m, long l0, long l1, int l2) {
             if (m.g0 < 16L) { break L11; }
             L12: {
              if ((l4 = Words.get32(b, State.far((int) (l3 = (((l2 * 69) >>> 1) & 0xffffffffL) & 248L), 66236))) != l2) { break L12; }
-             if (((b[((int) (l3 + 66240L)) - 60720] & 0xff) & 255) != 1) { break L12; }
-             final int t13 = l5 = b[((int) (l3 + 66242L)) - 60720] & 0xff;
+             if (((b[((int) (l3 + 66240L)) - 58912] & 0xff) & 255) != 1) { break L12; }
+             final int t13 = l5 = b[((int) (l3 + 66242L)) - 58912] & 0xff;
              final int t14 = (l4 == l2) ? 1 : 0;
              l6 = t14 != 0 ? t13 : 0;
-             l8 = (l7 = Words.get32(b, ((int) (l1 + 2L)) - 60720)) >>> 24;
+             l8 = (l7 = Words.get32(b, ((int) (l1 + 2L)) - 58912)) >>> 24;
              l9 = l7 >>> 16;
-             l10 = b[((int) (l1 + 6L)) - 60720] & 0xff;
-             l11 = b[((int) (l3 + 66241L)) - 60720] & 0xff;
+             l10 = b[((int) (l1 + 6L)) - 58912] & 0xff;
+             l11 = b[((int) (l3 + 66241L)) - 58912] & 0xff;
              l12 = 0;
              l4 = 0;
              l13 = 0;
@@ -4664,7 +4664,7 @@ static void f22(State m, long l0, long l1, int l2) {
                        L25: {
                         L26: {
                          L27: {
-                          switch ((int) (b[((int) l1) - 60720] & 0xffL)) {
+                          switch ((int) (b[((int) l1) - 58912] & 0xffL)) {
                           case 1: break L26;
                           case 2: break L25;
                           case 3: break L1;
@@ -4852,7 +4852,7 @@ static void f22(State m, long l0, long l1, int l2) {
                         l12 = 1;
                         break L5;
                        }
-                       l17 = b[((int) (l1 + 7L)) - 60720] & 0xff;
+                       l17 = b[((int) (l1 + 7L)) - 58912] & 0xff;
                        L50: {
                         if (l11 != 4) { break L50; }
                         l14 = 0;
@@ -4878,7 +4878,7 @@ static void f22(State m, long l0, long l1, int l2) {
                          l17 = l17 * 10;
                          break L9;
                         }
-                        l17 = (l17 * 10) + (b[((int) (l1 + 8L)) - 60720] & 0xff);
+                        l17 = (l17 * 10) + (b[((int) (l1 + 8L)) - 58912] & 0xff);
                         break L9;
                        }
                        l12 = 0;
@@ -4992,8 +4992,8 @@ static void f22(State m, long l0, long l1, int l2) {
              l15 = l2;
              break L8;
             }
-            Words.put32(b, ((int) l0) - 60713, 0);
-            Words.put64(b, ((int) l0) - 60720, 0L);
+            Words.put32(b, ((int) l0) - 58905, 0);
+            Words.put64(b, ((int) l0) - 58912, 0L);
             return;
            }
            throw State.trap();
@@ -5036,12 +5036,12 @@ static void f22(State m, long l0, long l1, int l2) {
   l15 = 0;
   l16 = 0;
  }
- Words.put16(b, ((int) l0) - 60720, (short) l12);
- b[((int) (l0 + 10L)) - 60720] = (byte) l16;
- b[((int) (l0 + 9L)) - 60720] = (byte) l15;
- b[((int) (l0 + 8L)) - 60720] = (byte) l14;
- Words.put16(b, ((int) (l0 + 2L)) - 60720, (short) l4);
- Words.put32(b, ((int) (l0 + 4L)) - 60720, (l2 << 16) | (l13 & 65535));
+ Words.put16(b, ((int) l0) - 58912, (short) l12);
+ b[((int) (l0 + 10L)) - 58912] = (byte) l16;
+ b[((int) (l0 + 9L)) - 58912] = (byte) l15;
+ b[((int) (l0 + 8L)) - 58912] = (byte) l14;
+ Words.put16(b, ((int) (l0 + 2L)) - 58912, (short) l4);
+ Words.put32(b, ((int) (l0 + 4L)) - 58912, (l2 << 16) | (l13 & 65535));
 }
 
 static void f23(State m, long l0, long l1, int l2) {
@@ -5065,10 +5065,10 @@ static void f23(State m, long l0, long l1, int l2) {
          L9: {
           L10: {
            if ((l3 = l3) < 16L) { break L10; }
-           l6 = b[((int) (l1 + 16L)) - 60720] & 0xff;
-           l4 = Words.get64(b, ((int) (l1 + 24L)) - 60720);
-           l7 = b[((int) (l1 + 8L)) - 60720] & 0xff;
-           l8 = b[((int) l1) - 60720] & 0xff;
+           l6 = b[((int) (l1 + 16L)) - 58912] & 0xff;
+           l4 = Words.get64(b, ((int) (l1 + 24L)) - 58912);
+           l7 = b[((int) (l1 + 8L)) - 58912] & 0xff;
+           l8 = b[((int) l1) - 58912] & 0xff;
            L11: {
             L12: {
              if (l2 == 45) { break L12; }
@@ -5122,8 +5122,8 @@ static void f23(State m, long l0, long l1, int l2) {
           throw State.trap();
          }
          f24(m, l3 + 8L, l2);
-         if (((b[((int) l3) - 60712] & 0xff) & 1) == 0) { break L8; }
-         l9 = b[((int) l3) - 60711] & 0xff;
+         if (((b[((int) l3) - 58904] & 0xff) & 1) == 0) { break L8; }
+         l9 = b[((int) l3) - 58903] & 0xff;
          l2 = 3;
          L21: {
           L22: {
@@ -5164,11 +5164,11 @@ static void f23(State m, long l0, long l1, int l2) {
          l2 = 12;
          break L3;
         }
-        Words.put64(b, ((int) l0) - 60720, 0L);
-        Words.put64(b, ((int) (l0 + 24L)) - 60720, 0L);
-        b[((int) (l0 + 16L)) - 60720] = (byte) 0;
-        b[((int) (l0 + 8L)) - 60720] = (byte) 0;
-        Words.put64(b, ((int) (l0 + 32L)) - 60720, 0L);
+        Words.put64(b, ((int) l0) - 58912, 0L);
+        Words.put64(b, ((int) (l0 + 24L)) - 58912, 0L);
+        b[((int) (l0 + 16L)) - 58912] = (byte) 0;
+        b[((int) (l0 + 8L)) - 58912] = (byte) 0;
+        Words.put64(b, ((int) (l0 + 32L)) - 58912, 0L);
         break L1;
        }
        final long t27 = l5 = l4 + (l1 = (l9 & 0xffffffffL) & 255L);
@@ -5206,18 +5206,18 @@ static void f23(State m, long l0, long l1, int l2) {
     final int t35 = l6 = (l1 + Long.MIN_VALUE < -8223372036854775808L) ? 1 : 0;
     l4 = t35 != 0 ? t34 : 0L;
    }
-   Words.put64(b, ((int) l0) - 60720, 1L);
-   Words.put64(b, ((int) (l0 + 32L)) - 60720, l4);
-   b[((int) (l0 + 16L)) - 60720] = (byte) l2;
-   b[((int) (l0 + 8L)) - 60720] = (byte) l8;
-   Words.put64(b, ((int) (l0 + 24L)) - 60720, (l6 & 0xffffffffL) & 255L);
+   Words.put64(b, ((int) l0) - 58912, 1L);
+   Words.put64(b, ((int) (l0 + 32L)) - 58912, l4);
+   b[((int) (l0 + 16L)) - 58912] = (byte) l2;
+   b[((int) (l0 + 8L)) - 58912] = (byte) l8;
+   Words.put64(b, ((int) (l0 + 24L)) - 58912, (l6 & 0xffffffffL) & 255L);
    break L1;
   }
-  Words.put64(b, ((int) l0) - 60720, 1L);
-  Words.put64(b, ((int) (l0 + 32L)) - 60720, l4);
-  Words.put64(b, ((int) (l0 + 24L)) - 60720, (l6 & 0xffffffffL) & 255L);
-  b[((int) (l0 + 16L)) - 60720] = (byte) l7;
-  b[((int) (l0 + 8L)) - 60720] = (byte) 2;
+  Words.put64(b, ((int) l0) - 58912, 1L);
+  Words.put64(b, ((int) (l0 + 32L)) - 58912, l4);
+  Words.put64(b, ((int) (l0 + 24L)) - 58912, (l6 & 0xffffffffL) & 255L);
+  b[((int) (l0 + 16L)) - 58912] = (byte) l7;
+  b[((int) (l0 + 8L)) - 58912] = (byte) 2;
  }
  m.g0 = l3 + 16L;
 }
@@ -5301,8 +5301,8 @@ static void f24(State m, long l0, int l1) {
    l3 = 0;
    l2 = 0;
   }
-  b[((int) l0) - 60719] = (byte) l2;
-  b[((int) l0) - 60720] = (byte) l3;
+  b[((int) l0) - 58911] = (byte) l2;
+  b[((int) l0) - 58912] = (byte) l3;
   return;
  }
  throw State.trap();
@@ -5323,7 +5323,7 @@ static void f25(State m, long l0, long l1, long l2, long l3) {
    l4 = 0L;
    l6 = l2;
    L3: while (true) {
-    if (l3 + Long.MIN_VALUE < (l7 = ((((((((((((((((((((((((((((((((((int) b[((int) (l7 = l1 + l4)) - 60720]) > -65) ? 1L : 0L) + ((((int) b[((int) (l7 + 1L)) - 60720]) > -65) ? 1L : 0L)) + ((((int) b[((int) (l7 + 2L)) - 60720]) > -65) ? 1L : 0L)) + ((((int) b[((int) (l7 + 3L)) - 60720]) > -65) ? 1L : 0L)) + ((((int) b[((int) (l7 + 4L)) - 60720]) > -65) ? 1L : 0L)) + ((((int) b[((int) (l7 + 5L)) - 60720]) > -65) ? 1L : 0L)) + ((((int) b[((int) (l7 + 6L)) - 60720]) > -65) ? 1L : 0L)) + ((((int) b[((int) (l7 + 7L)) - 60720]) > -65) ? 1L : 0L)) + ((((int) b[((int) (l7 + 8L)) - 60720]) > -65) ? 1L : 0L)) + ((((int) b[((int) (l7 + 9L)) - 60720]) > -65) ? 1L : 0L)) + ((((int) b[((int) (l7 + 10L)) - 60720]) > -65) ? 1L : 0L)) + ((((int) b[((int) (l7 + 11L)) - 60720]) > -65) ? 1L : 0L)) + ((((int) b[((int) (l7 + 12L)) - 60720]) > -65) ? 1L : 0L)) + ((((int) b[((int) (l7 + 13L)) - 60720]) > -65) ? 1L : 0L)) + ((((int) b[((int) (l7 + 14L)) - 60720]) > -65) ? 1L : 0L)) + ((((int) b[((int) (l7 + 15L)) - 60720]) > -65) ? 1L : 0L)) + ((((int) b[((int) (l7 + 16L)) - 60720]) > -65) ? 1L : 0L)) + ((((int) b[((int) (l7 + 17L)) - 60720]) > -65) ? 1L : 0L)) + ((((int) b[((int) (l7 + 18L)) - 60720]) > -65) ? 1L : 0L)) + ((((int) b[((int) (l7 + 19L)) - 60720]) > -65) ? 1L : 0L)) + ((((int) b[((int) (l7 + 20L)) - 60720]) > -65) ? 1L : 0L)) + ((((int) b[((int) (l7 + 21L)) - 60720]) > -65) ? 1L : 0L)) + ((((int) b[((int) (l7 + 22L)) - 60720]) > -65) ? 1L : 0L)) + ((((int) b[((int) (l7 + 23L)) - 60720]) > -65) ? 1L : 0L)) + ((((int) b[((int) (l7 + 24L)) - 60720]) > -65) ? 1L : 0L)) + ((((int) b[((int) (l7 + 25L)) - 60720]) > -65) ? 1L : 0L)) + ((((int) b[((int) (l7 + 26L)) - 60720]) > -65) ? 1L : 0L)) + ((((int) b[((int) (l7 + 27L)) - 60720]) > -65) ? 1L : 0L)) + ((((int) b[((int) (l7 + 28L)) - 60720]) > -65) ? 1L : 0L)) + ((((int) b[((int) (l7 + 29L)) - 60720]) > -65) ? 1L : 0L)) + ((((int) b[((int) (l7 + 30L)) - 60720]) > -65) ? 1L : 0L)) + ((((int) b[((int) (l7 + 31L)) - 60720]) > -65) ? 1L : 0L)) + Long.MIN_VALUE) { break L2; }
+    if (l3 + Long.MIN_VALUE < (l7 = ((((((((((((((((((((((((((((((((((int) b[((int) (l7 = l1 + l4)) - 58912]) > -65) ? 1L : 0L) + ((((int) b[((int) (l7 + 1L)) - 58912]) > -65) ? 1L : 0L)) + ((((int) b[((int) (l7 + 2L)) - 58912]) > -65) ? 1L : 0L)) + ((((int) b[((int) (l7 + 3L)) - 58912]) > -65) ? 1L : 0L)) + ((((int) b[((int) (l7 + 4L)) - 58912]) > -65) ? 1L : 0L)) + ((((int) b[((int) (l7 + 5L)) - 58912]) > -65) ? 1L : 0L)) + ((((int) b[((int) (l7 + 6L)) - 58912]) > -65) ? 1L : 0L)) + ((((int) b[((int) (l7 + 7L)) - 58912]) > -65) ? 1L : 0L)) + ((((int) b[((int) (l7 + 8L)) - 58912]) > -65) ? 1L : 0L)) + ((((int) b[((int) (l7 + 9L)) - 58912]) > -65) ? 1L : 0L)) + ((((int) b[((int) (l7 + 10L)) - 58912]) > -65) ? 1L : 0L)) + ((((int) b[((int) (l7 + 11L)) - 58912]) > -65) ? 1L : 0L)) + ((((int) b[((int) (l7 + 12L)) - 58912]) > -65) ? 1L : 0L)) + ((((int) b[((int) (l7 + 13L)) - 58912]) > -65) ? 1L : 0L)) + ((((int) b[((int) (l7 + 14L)) - 58912]) > -65) ? 1L : 0L)) + ((((int) b[((int) (l7 + 15L)) - 58912]) > -65) ? 1L : 0L)) + ((((int) b[((int) (l7 + 16L)) - 58912]) > -65) ? 1L : 0L)) + ((((int) b[((int) (l7 + 17L)) - 58912]) > -65) ? 1L : 0L)) + ((((int) b[((int) (l7 + 18L)) - 58912]) > -65) ? 1L : 0L)) + ((((int) b[((int) (l7 + 19L)) - 58912]) > -65) ? 1L : 0L)) + ((((int) b[((int) (l7 + 20L)) - 58912]) > -65) ? 1L : 0L)) + ((((int) b[((int) (l7 + 21L)) - 58912]) > -65) ? 1L : 0L)) + ((((int) b[((int) (l7 + 22L)) - 58912]) > -65) ? 1L : 0L)) + ((((int) b[((int) (l7 + 23L)) - 58912]) > -65) ? 1L : 0L)) + ((((int) b[((int) (l7 + 24L)) - 58912]) > -65) ? 1L : 0L)) + ((((int) b[((int) (l7 + 25L)) - 58912]) > -65) ? 1L : 0L)) + ((((int) b[((int) (l7 + 26L)) - 58912]) > -65) ? 1L : 0L)) + ((((int) b[((int) (l7 + 27L)) - 58912]) > -65) ? 1L : 0L)) + ((((int) b[((int) (l7 + 28L)) - 58912]) > -65) ? 1L : 0L)) + ((((int) b[((int) (l7 + 29L)) - 58912]) > -65) ? 1L : 0L)) + ((((int) b[((int) (l7 + 30L)) - 58912]) > -65) ? 1L : 0L)) + ((((int) b[((int) (l7 + 31L)) - 58912]) > -65) ? 1L : 0L)) + Long.MIN_VALUE) { break L2; }
     l4 = l4 + 32L;
     l3 = l3 - l7;
     if ((l6 = l6 + -32L) + Long.MIN_VALUE > -9223372036854775777L) { continue L3; }
@@ -5334,14 +5334,14 @@ static void f25(State m, long l0, long l1, long l2, long l3) {
   L4: {
    if (l4 + Long.MIN_VALUE >= l2 + Long.MIN_VALUE) { break L4; }
    L5: while (true) {
-    if (((int) b[((int) (l1 + l4)) - 60720]) > -65) { break L4; }
+    if (((int) b[((int) (l1 + l4)) - 58912]) > -65) { break L4; }
     if (l2 != (l4 = l4 + 1L)) { continue L5; }
     break L5;
    }
    l4 = l2;
   }
-  Words.put64(b, ((int) l0) - 60712, l3);
-  Words.put64(b, ((int) l0) - 60720, l4);
+  Words.put64(b, ((int) l0) - 58904, l3);
+  Words.put64(b, ((int) l0) - 58912, l4);
   return;
  }
  throw State.trap();
@@ -5360,9 +5360,9 @@ static int f26_1(State m, long l11, long l12, long l13, long l14, long l15, int 
     }
    }
    if (Words.get32(b, State.far((int) (l14 = (((l17 * 3227) >>> 7) & 0xffffffffL) & 504L), 65536)) != l17) { exit = 2; break PART; }
-   if (((b[((int) (l14 + 65540L)) - 60720] & 0xff) & 255) != 1) { exit = 2; break PART; }
-   l15 = b[((int) (l14 + 65542L)) - 60720] & 0xffL;
-   l21 = b[((int) (l14 + 65541L)) - 60720] & 0xff;
+   if (((b[((int) (l14 + 65540L)) - 58912] & 0xff) & 255) != 1) { exit = 2; break PART; }
+   l15 = b[((int) (l14 + 65542L)) - 58912] & 0xffL;
+   l21 = b[((int) (l14 + 65541L)) - 58912] & 0xff;
    L56: {
     L57: {
      L58: {
@@ -6727,53 +6727,53 @@ static int f26_3(State m, long l2, long l3, long l4, long l5, long l7, long l8, 
  PART: {
   L251: while (true) {
    L252: {
-    if ((b[((int) (l9 = (l4 + 432L) + l5)) - 60720] & 0xff) != 1) { break L252; }
-    if (l8 + Long.MIN_VALUE < (l7 = Words.get64(b, ((int) (l9 + 8L)) - 60720)) + Long.MIN_VALUE) { break L252; }
-    l17 = Words.get32(b, ((int) (l9 + 20L)) - 60720);
-    l16 = b[((int) (l9 + 16L)) - 60720] & 0xff;
-    Words.put64(b, ((int) l4) - 60400, 0L);
-    Words.put64(b, ((int) l4) - 60392, 0L);
-    Words.put64(b, ((int) l4) - 60384, 0L);
-    Words.put64(b, ((int) l4) - 60376, 0L);
-    Words.put64(b, ((int) l4) - 60368, 0L);
-    Words.put64(b, ((int) l4) - 60360, 0L);
-    Words.put64(b, ((int) l4) - 60352, 0L);
-    Words.put64(b, ((int) l4) - 60696, 0L);
-    Words.put64(b, ((int) l4) - 60688, 0L);
-    Words.put64(b, ((int) l4) - 60680, 0L);
-    Words.put64(b, ((int) l4) - 60672, 0L);
-    Words.put64(b, ((int) l4) - 60464, 0L);
-    Words.put64(b, ((int) l4) - 60456, 0L);
-    Words.put64(b, ((int) l4) - 60448, 0L);
-    Words.put64(b, ((int) l4) - 60440, 0L);
-    Words.put64(b, ((int) l4) - 60432, 0L);
-    Words.put64(b, ((int) l4) - 60424, 0L);
-    Words.put64(b, ((int) l4) - 60416, 0L);
-    Words.put64(b, ((int) l4) - 59288, 0L);
-    Words.put64(b, ((int) l4) - 59296, 0L);
-    Words.put64(b, ((int) l4) - 59280, 1L);
-    Words.put64(b, ((int) l4) - 59272, 0L);
+    if ((b[((int) (l9 = (l4 + 432L) + l5)) - 58912] & 0xff) != 1) { break L252; }
+    if (l8 + Long.MIN_VALUE < (l7 = Words.get64(b, ((int) (l9 + 8L)) - 58912)) + Long.MIN_VALUE) { break L252; }
+    l17 = Words.get32(b, ((int) (l9 + 20L)) - 58912);
+    l16 = b[((int) (l9 + 16L)) - 58912] & 0xff;
+    Words.put64(b, ((int) l4) - 58592, 0L);
+    Words.put64(b, ((int) l4) - 58584, 0L);
+    Words.put64(b, ((int) l4) - 58576, 0L);
+    Words.put64(b, ((int) l4) - 58568, 0L);
+    Words.put64(b, ((int) l4) - 58560, 0L);
+    Words.put64(b, ((int) l4) - 58552, 0L);
+    Words.put64(b, ((int) l4) - 58544, 0L);
+    Words.put64(b, ((int) l4) - 58888, 0L);
+    Words.put64(b, ((int) l4) - 58880, 0L);
+    Words.put64(b, ((int) l4) - 58872, 0L);
+    Words.put64(b, ((int) l4) - 58864, 0L);
+    Words.put64(b, ((int) l4) - 58656, 0L);
+    Words.put64(b, ((int) l4) - 58648, 0L);
+    Words.put64(b, ((int) l4) - 58640, 0L);
+    Words.put64(b, ((int) l4) - 58632, 0L);
+    Words.put64(b, ((int) l4) - 58624, 0L);
+    Words.put64(b, ((int) l4) - 58616, 0L);
+    Words.put64(b, ((int) l4) - 58608, 0L);
+    Words.put64(b, ((int) l4) - 57480, 0L);
+    Words.put64(b, ((int) l4) - 57488, 0L);
+    Words.put64(b, ((int) l4) - 57472, 1L);
+    Words.put64(b, ((int) l4) - 57464, 0L);
     f18(m, l4 + 320L, l4 + 1424L, l2, l3, l7);
-    l9 = Words.get64(b, ((int) l4) - 60352);
-    l10 = Words.get64(b, ((int) l4) - 60360);
-    l11 = Words.get64(b, ((int) l4) - 60376);
-    l18 = b[((int) l4) - 60392] & 0xff;
-    l19 = b[((int) l4) - 60400] & 0xff;
-    l20 = b[((int) l4) - 60384] & 0xff;
-    Words.put64(b, ((int) l4) - 60336, 0L);
-    Words.put64(b, ((int) l4) - 60328, 0L);
-    Words.put64(b, ((int) l4) - 60320, 0L);
-    Words.put64(b, ((int) l4) - 60312, 0L);
-    Words.put64(b, ((int) l4) - 60304, 0L);
-    Words.put64(b, ((int) l4) - 60504, 0L);
-    Words.put64(b, ((int) l4) - 60496, 0L);
-    Words.put64(b, ((int) l4) - 60656, 0L);
-    Words.put64(b, ((int) l4) - 60648, 0L);
-    Words.put64(b, ((int) l4) - 60640, 0L);
-    Words.put64(b, ((int) l4) - 60632, 0L);
-    Words.put64(b, ((int) l4) - 60624, 0L);
-    Words.put64(b, ((int) l4) - 60608, 0L);
-    Words.put64(b, ((int) l4) - 60600, 0L);
+    l9 = Words.get64(b, ((int) l4) - 58544);
+    l10 = Words.get64(b, ((int) l4) - 58552);
+    l11 = Words.get64(b, ((int) l4) - 58568);
+    l18 = b[((int) l4) - 58584] & 0xff;
+    l19 = b[((int) l4) - 58592] & 0xff;
+    l20 = b[((int) l4) - 58576] & 0xff;
+    Words.put64(b, ((int) l4) - 58528, 0L);
+    Words.put64(b, ((int) l4) - 58520, 0L);
+    Words.put64(b, ((int) l4) - 58512, 0L);
+    Words.put64(b, ((int) l4) - 58504, 0L);
+    Words.put64(b, ((int) l4) - 58496, 0L);
+    Words.put64(b, ((int) l4) - 58696, 0L);
+    Words.put64(b, ((int) l4) - 58688, 0L);
+    Words.put64(b, ((int) l4) - 58848, 0L);
+    Words.put64(b, ((int) l4) - 58840, 0L);
+    Words.put64(b, ((int) l4) - 58832, 0L);
+    Words.put64(b, ((int) l4) - 58824, 0L);
+    Words.put64(b, ((int) l4) - 58816, 0L);
+    Words.put64(b, ((int) l4) - 58800, 0L);
+    Words.put64(b, ((int) l4) - 58792, 0L);
     l13 = (l20 & 0xffffffffL) & 255L;
     L253: {
      L254: {
@@ -6785,22 +6785,22 @@ static int f26_3(State m, long l2, long l3, long l4, long l5, long l7, long l8, 
         default: break L256;
         }
        }
-       Words.put64(b, ((int) l4) - 60480, l11);
-       Words.put64(b, ((int) l4) - 60488, l13);
-       b[((int) l4) - 60496] = (byte) l18;
-       b[((int) l4) - 60504] = (byte) l19;
+       Words.put64(b, ((int) l4) - 58672, l11);
+       Words.put64(b, ((int) l4) - 58680, l13);
+       b[((int) l4) - 58688] = (byte) l18;
+       b[((int) l4) - 58696] = (byte) l19;
        f23(m, l4 + 384L, l4 + 216L, l17);
-       if ((b[((int) l4) - 60336] & 0xff) != 1) { break L252; }
-       l19 = b[((int) l4) - 60328] & 0xff;
-       l18 = b[((int) l4) - 60320] & 0xff;
-       l20 = b[((int) l4) - 60312] & 0xff;
-       l11 = Words.get64(b, ((int) l4) - 60304);
+       if ((b[((int) l4) - 58528] & 0xff) != 1) { break L252; }
+       l19 = b[((int) l4) - 58520] & 0xff;
+       l18 = b[((int) l4) - 58512] & 0xff;
+       l20 = b[((int) l4) - 58504] & 0xff;
+       l11 = Words.get64(b, ((int) l4) - 58496);
        break L253;
       }
       if (l9 == 0L) { break L252; }
       L257: {
        L258: {
-        if ((l20 = (int) b[((int) l10) - 60720]) <= -1) { break L258; }
+        if ((l20 = (int) b[((int) l10) - 58912]) <= -1) { break L258; }
         l14 = 1L;
         break L257;
        }
@@ -6811,24 +6811,24 @@ static int f26_3(State m, long l2, long l3, long l4, long l5, long l7, long l8, 
        }
        l14 = (l20 + Integer.MIN_VALUE < 2147483632) ? 3L : 4L;
       }
-      Words.put64(b, ((int) l4) - 60584, l11);
-      Words.put64(b, ((int) l4) - 60592, l13);
-      b[((int) l4) - 60600] = (byte) l18;
-      b[((int) l4) - 60608] = (byte) l19;
+      Words.put64(b, ((int) l4) - 58776, l11);
+      Words.put64(b, ((int) l4) - 58784, l13);
+      b[((int) l4) - 58792] = (byte) l18;
+      b[((int) l4) - 58800] = (byte) l19;
       f23(m, l4 + 64L, l4 + 112L, l17);
-      if ((b[((int) l4) - 60656] & 0xff) != 1) { break L252; }
+      if ((b[((int) l4) - 58848] & 0xff) != 1) { break L252; }
       l10 = l10 + l14;
       l9 = l9 - l14;
-      l19 = b[((int) l4) - 60648] & 0xff;
-      l18 = b[((int) l4) - 60640] & 0xff;
-      l20 = b[((int) l4) - 60632] & 0xff;
-      l11 = Words.get64(b, ((int) l4) - 60624);
+      l19 = b[((int) l4) - 58840] & 0xff;
+      l18 = b[((int) l4) - 58832] & 0xff;
+      l20 = b[((int) l4) - 58824] & 0xff;
+      l11 = Words.get64(b, ((int) l4) - 58816);
       break L253;
      }
      if (l9 == 0L) { break L252; }
      L260: {
       L261: {
-       if ((l22 = (int) b[((int) l10) - 60720]) <= -1) { break L261; }
+       if ((l22 = (int) b[((int) l10) - 58912]) <= -1) { break L261; }
        l13 = 1L;
        break L260;
       }
@@ -6842,20 +6842,20 @@ static int f26_3(State m, long l2, long l3, long l4, long l5, long l7, long l8, 
      l9 = l9 - l13;
      l10 = l10 + l13;
     }
-    Words.put64(b, ((int) l4) - 60672, l11);
-    b[((int) l4) - 60688] = (byte) l18;
-    b[((int) l4) - 60696] = (byte) l19;
-    Words.put64(b, ((int) l4) - 60680, (l20 & 0xffffffffL) & 255L);
+    Words.put64(b, ((int) l4) - 58864, l11);
+    b[((int) l4) - 58880] = (byte) l18;
+    b[((int) l4) - 58888] = (byte) l19;
+    Words.put64(b, ((int) l4) - 58872, (l20 & 0xffffffffL) & 255L);
     f18(m, l4 + 256L, l4 + 24L, l10, l9, -1L);
     L263: {
-     if (Words.get64(b, ((int) l4) - 60416) != 0L) { break L263; }
+     if (Words.get64(b, ((int) l4) - 58608) != 0L) { break L263; }
      l20 = 1;
      if (l12 != 0L) { exit = 1; break PART; }
-     if (((1 << (b[((int) l4) - 60456] & 0xff)) & 1475) != 0) { break L252; }
+     if (((1 << (b[((int) l4) - 58648] & 0xff)) & 1475) != 0) { break L252; }
      exit = 1; break PART;
     }
     if (l12 == 0L) { break L252; }
-    l9 = (Words.get64(b, ((int) l4) - 60368) + ((l16 != 2) ? 1L : 0L)) + Words.get64(b, ((int) l4) - 60432);
+    l9 = (Words.get64(b, ((int) l4) - 58560) + ((l16 != 2) ? 1L : 0L)) + Words.get64(b, ((int) l4) - 58624);
     l10 = 2L;
     L264: {
      L265: {
@@ -6874,24 +6874,24 @@ static int f26_3(State m, long l2, long l3, long l4, long l5, long l7, long l8, 
     l20 = 1;
     if ((l10 = l10 + l8) + Long.MIN_VALUE < l9 + Long.MIN_VALUE) { exit = 1; break PART; }
     if (l9 != l10) { break L252; }
-    l18 = (l19 = (int) b[((int) (l9 = Words.get64(b, ((int) l4) - 60424))) - 60720]) & 255;
+    l18 = (l19 = (int) b[((int) (l9 = Words.get64(b, ((int) l4) - 58616))) - 58912]) & 255;
     L267: {
      if (l19 > -1) { break L267; }
-     l22 = (b[((int) l9) - 60719] & 0xff) & 63;
+     l22 = (b[((int) l9) - 58911] & 0xff) & 63;
      L268: {
       if (l19 + Integer.MIN_VALUE > 2147483615) { break L268; }
       l18 = ((l18 << 6) & 1984) | l22;
       break L267;
      }
-     l21 = (b[((int) l9) - 60718] & 0xff) & 63;
+     l21 = (b[((int) l9) - 58910] & 0xff) & 63;
      L269: {
       if (l19 + Integer.MIN_VALUE > 2147483631) { break L269; }
       l18 = ((l22 << 6) | ((l18 << 12) & 61440)) | l21;
       break L267;
      }
-     l18 = ((l21 << 6) | ((l22 << 12) | ((l18 << 18) & 1835008))) | ((b[((int) l9) - 60717] & 0xff) & 63);
+     l18 = ((l21 << 6) | ((l22 << 12) | ((l18 << 18) & 1835008))) | ((b[((int) l9) - 58909] & 0xff) & 63);
     }
-    Words.put32(b, ((int) l4) - 60400, l18);
+    Words.put32(b, ((int) l4) - 58592, l18);
     if (f29(m, 66564L, 29L, l4 + 320L) == 0) { exit = 1; break PART; }
    }
    if ((l5 = l5 + 24L) != 336L) { continue L251; }
@@ -6921,38 +6921,38 @@ static int f26_4(State m, long l2, long l3, long l4, long l5, long l7, long l8, 
  PART: {
   L272: while (true) {
    L273: {
-    if ((b[((int) (l9 = (l4 + 432L) + l5)) - 60720] & 0xff) != 1) { break L273; }
-    if (l8 + Long.MIN_VALUE < (l7 = Words.get64(b, ((int) (l9 + 8L)) - 60720)) + Long.MIN_VALUE) { break L273; }
-    l17 = Words.get32(b, ((int) (l9 + 20L)) - 60720);
-    l16 = b[((int) (l9 + 16L)) - 60720] & 0xff;
-    Words.put64(b, ((int) l4) - 60464, 0L);
-    Words.put64(b, ((int) l4) - 60456, 0L);
-    Words.put64(b, ((int) l4) - 60448, 0L);
-    Words.put64(b, ((int) l4) - 60440, 0L);
-    Words.put64(b, ((int) l4) - 60432, 0L);
-    Words.put64(b, ((int) l4) - 60696, 0L);
-    Words.put16(b, ((int) l4) - 60688, (short) 0);
-    Words.put64(b, ((int) l4) - 60568, 0L);
-    Words.put64(b, ((int) l4) - 60560, 0L);
-    Words.put64(b, ((int) l4) - 60552, 0L);
-    Words.put64(b, ((int) l4) - 60544, 0L);
-    Words.put64(b, ((int) l4) - 60536, 0L);
-    Words.put64(b, ((int) l4) - 59296, 0L);
-    Words.put16(b, ((int) l4) - 59288, (short) 0);
+    if ((b[((int) (l9 = (l4 + 432L) + l5)) - 58912] & 0xff) != 1) { break L273; }
+    if (l8 + Long.MIN_VALUE < (l7 = Words.get64(b, ((int) (l9 + 8L)) - 58912)) + Long.MIN_VALUE) { break L273; }
+    l17 = Words.get32(b, ((int) (l9 + 20L)) - 58912);
+    l16 = b[((int) (l9 + 16L)) - 58912] & 0xff;
+    Words.put64(b, ((int) l4) - 58656, 0L);
+    Words.put64(b, ((int) l4) - 58648, 0L);
+    Words.put64(b, ((int) l4) - 58640, 0L);
+    Words.put64(b, ((int) l4) - 58632, 0L);
+    Words.put64(b, ((int) l4) - 58624, 0L);
+    Words.put64(b, ((int) l4) - 58888, 0L);
+    Words.put16(b, ((int) l4) - 58880, (short) 0);
+    Words.put64(b, ((int) l4) - 58760, 0L);
+    Words.put64(b, ((int) l4) - 58752, 0L);
+    Words.put64(b, ((int) l4) - 58744, 0L);
+    Words.put64(b, ((int) l4) - 58736, 0L);
+    Words.put64(b, ((int) l4) - 58728, 0L);
+    Words.put64(b, ((int) l4) - 57488, 0L);
+    Words.put16(b, ((int) l4) - 57480, (short) 0);
     f16(m, l4 + 256L, l4 + 1424L, l2, l3, l7);
-    l9 = Words.get64(b, ((int) l4) - 60432);
-    l10 = Words.get64(b, ((int) l4) - 60440);
-    l20 = b[((int) l4) - 60456] & 0xff;
-    l18 = b[((int) l4) - 60457] & 0xff;
-    l19 = b[((int) l4) - 60458] & 0xff;
-    l22 = Words.get32(b, ((int) l4) - 60462);
-    l21 = b[((int) l4) - 60464] & 0xff;
-    Words.put64(b, ((int) l4) - 60336, 0L);
-    Words.put32(b, ((int) l4) - 60328, 0);
-    Words.put16(b, ((int) l4) - 60496, (short) 0);
-    Words.put64(b, ((int) l4) - 60656, 0L);
-    Words.put32(b, ((int) l4) - 60648, 0);
-    Words.put16(b, ((int) l4) - 60600, (short) 0);
+    l9 = Words.get64(b, ((int) l4) - 58624);
+    l10 = Words.get64(b, ((int) l4) - 58632);
+    l20 = b[((int) l4) - 58648] & 0xff;
+    l18 = b[((int) l4) - 58649] & 0xff;
+    l19 = b[((int) l4) - 58650] & 0xff;
+    l22 = Words.get32(b, ((int) l4) - 58654);
+    l21 = b[((int) l4) - 58656] & 0xff;
+    Words.put64(b, ((int) l4) - 58528, 0L);
+    Words.put32(b, ((int) l4) - 58520, 0);
+    Words.put16(b, ((int) l4) - 58688, (short) 0);
+    Words.put64(b, ((int) l4) - 58848, 0L);
+    Words.put32(b, ((int) l4) - 58840, 0);
+    Words.put16(b, ((int) l4) - 58792, (short) 0);
     L274: {
      L275: {
       L276: {
@@ -6963,24 +6963,24 @@ static int f26_4(State m, long l2, long l3, long l4, long l5, long l7, long l8, 
         default: break L277;
         }
        }
-       b[((int) l4) - 60496] = (byte) l20;
-       b[((int) l4) - 60497] = (byte) l18;
-       b[((int) l4) - 60498] = (byte) l19;
-       Words.put32(b, ((int) l4) - 60502, l22);
-       Words.put16(b, ((int) l4) - 60504, (short) l21);
+       b[((int) l4) - 58688] = (byte) l20;
+       b[((int) l4) - 58689] = (byte) l18;
+       b[((int) l4) - 58690] = (byte) l19;
+       Words.put32(b, ((int) l4) - 58694, l22);
+       Words.put16(b, ((int) l4) - 58696, (short) l21);
        f22(m, l4 + 384L, l4 + 216L, l17);
-       if ((b[((int) l4) - 60336] & 0xff) != 1) { break L273; }
-       l22 = Words.get32(b, ((int) l4) - 60332);
-       l19 = b[((int) l4) - 60328] & 0xff;
-       l18 = b[((int) l4) - 60327] & 0xff;
-       l20 = b[((int) l4) - 60326] & 0xff;
-       l21 = b[((int) l4) - 60334] & 0xff;
+       if ((b[((int) l4) - 58528] & 0xff) != 1) { break L273; }
+       l22 = Words.get32(b, ((int) l4) - 58524);
+       l19 = b[((int) l4) - 58520] & 0xff;
+       l18 = b[((int) l4) - 58519] & 0xff;
+       l20 = b[((int) l4) - 58518] & 0xff;
+       l21 = b[((int) l4) - 58526] & 0xff;
        break L274;
       }
       if (l9 == 0L) { break L273; }
       L278: {
        L279: {
-        if ((l24 = (int) b[((int) l10) - 60720]) <= -1) { break L279; }
+        if ((l24 = (int) b[((int) l10) - 58912]) <= -1) { break L279; }
         l13 = 1L;
         break L278;
        }
@@ -6991,26 +6991,26 @@ static int f26_4(State m, long l2, long l3, long l4, long l5, long l7, long l8, 
        }
        l13 = (l24 + Integer.MIN_VALUE < 2147483632) ? 3L : 4L;
       }
-      b[((int) l4) - 60600] = (byte) l20;
-      b[((int) l4) - 60601] = (byte) l18;
-      b[((int) l4) - 60602] = (byte) l19;
-      Words.put32(b, ((int) l4) - 60606, l22);
-      Words.put16(b, ((int) l4) - 60608, (short) l21);
+      b[((int) l4) - 58792] = (byte) l20;
+      b[((int) l4) - 58793] = (byte) l18;
+      b[((int) l4) - 58794] = (byte) l19;
+      Words.put32(b, ((int) l4) - 58798, l22);
+      Words.put16(b, ((int) l4) - 58800, (short) l21);
       f22(m, l4 + 64L, l4 + 112L, l17);
-      if ((b[((int) l4) - 60656] & 0xff) != 1) { break L273; }
+      if ((b[((int) l4) - 58848] & 0xff) != 1) { break L273; }
       l10 = l10 + l13;
       l9 = l9 - l13;
-      l22 = Words.get32(b, ((int) l4) - 60652);
-      l19 = b[((int) l4) - 60648] & 0xff;
-      l18 = b[((int) l4) - 60647] & 0xff;
-      l20 = b[((int) l4) - 60646] & 0xff;
-      l21 = b[((int) l4) - 60654] & 0xff;
+      l22 = Words.get32(b, ((int) l4) - 58844);
+      l19 = b[((int) l4) - 58840] & 0xff;
+      l18 = b[((int) l4) - 58839] & 0xff;
+      l20 = b[((int) l4) - 58838] & 0xff;
+      l21 = b[((int) l4) - 58846] & 0xff;
       break L274;
      }
      if (l9 == 0L) { break L273; }
      L281: {
       L282: {
-       if ((l24 = (int) b[((int) l10) - 60720]) <= -1) { break L282; }
+       if ((l24 = (int) b[((int) l10) - 58912]) <= -1) { break L282; }
        l13 = 1L;
        break L281;
       }
@@ -7024,21 +7024,21 @@ static int f26_4(State m, long l2, long l3, long l4, long l5, long l7, long l8, 
      l9 = l9 - l13;
      l10 = l10 + l13;
     }
-    b[((int) l4) - 60688] = (byte) l20;
-    b[((int) l4) - 60689] = (byte) l18;
-    b[((int) l4) - 60690] = (byte) l19;
-    Words.put32(b, ((int) l4) - 60694, l22);
-    Words.put16(b, ((int) l4) - 60696, (short) (l21 & 255));
+    b[((int) l4) - 58880] = (byte) l20;
+    b[((int) l4) - 58881] = (byte) l18;
+    b[((int) l4) - 58882] = (byte) l19;
+    Words.put32(b, ((int) l4) - 58886, l22);
+    Words.put16(b, ((int) l4) - 58888, (short) (l21 & 255));
     f16(m, l4 + 152L, l4 + 24L, l10, l9, -1L);
     L284: {
-     if (Words.get64(b, ((int) l4) - 60536) != 0L) { break L284; }
+     if (Words.get64(b, ((int) l4) - 58728) != 0L) { break L284; }
      l20 = 1;
      if (l11 != 0L) { exit = 1; break PART; }
-     if (((b[((int) l4) - 60568] & 0xff) & 255) != 3) { break L273; }
+     if (((b[((int) l4) - 58760] & 0xff) & 255) != 3) { break L273; }
      exit = 1; break PART;
     }
     if (l11 == 0L) { break L273; }
-    l9 = (Words.get64(b, ((int) l4) - 60448) + ((l16 != 2) ? 1L : 0L)) + Words.get64(b, ((int) l4) - 60552);
+    l9 = (Words.get64(b, ((int) l4) - 58640) + ((l16 != 2) ? 1L : 0L)) + Words.get64(b, ((int) l4) - 58744);
     l10 = 2L;
     L285: {
      L286: {
@@ -7057,24 +7057,24 @@ static int f26_4(State m, long l2, long l3, long l4, long l5, long l7, long l8, 
     l20 = 1;
     if ((l10 = l10 + l8) + Long.MIN_VALUE < l9 + Long.MIN_VALUE) { exit = 1; break PART; }
     if (l9 != l10) { break L273; }
-    l18 = (l19 = (int) b[((int) (l9 = Words.get64(b, ((int) l4) - 60544))) - 60720]) & 255;
+    l18 = (l19 = (int) b[((int) (l9 = Words.get64(b, ((int) l4) - 58736))) - 58912]) & 255;
     L288: {
      if (l19 > -1) { break L288; }
-     l22 = (b[((int) l9) - 60719] & 0xff) & 63;
+     l22 = (b[((int) l9) - 58911] & 0xff) & 63;
      L289: {
       if (l19 + Integer.MIN_VALUE > 2147483615) { break L289; }
       l18 = ((l18 << 6) & 1984) | l22;
       break L288;
      }
-     l21 = (b[((int) l9) - 60718] & 0xff) & 63;
+     l21 = (b[((int) l9) - 58910] & 0xff) & 63;
      L290: {
       if (l19 + Integer.MIN_VALUE > 2147483631) { break L290; }
       l18 = ((l22 << 6) | ((l18 << 12) & 61440)) | l21;
       break L288;
      }
-     l18 = ((l21 << 6) | ((l22 << 12) | ((l18 << 18) & 1835008))) | ((b[((int) l9) - 60717] & 0xff) & 63);
+     l18 = ((l21 << 6) | ((l22 << 12) | ((l18 << 18) & 1835008))) | ((b[((int) l9) - 58909] & 0xff) & 63);
     }
-    Words.put32(b, ((int) l4) - 60464, l18);
+    Words.put32(b, ((int) l4) - 58656, l18);
     if (f29(m, 66492L, 18L, l4 + 256L) == 0) { exit = 1; break PART; }
    }
    if ((l5 = l5 + 24L) == 336L) { exit = 2; break PART; }
@@ -7103,38 +7103,38 @@ static int f26_5(State m, long l2, long l3, long l4, long l5, long l6, long l7, 
  PART: {
   L294: while (true) {
    L295: {
-    if ((b[((int) (l9 = (l4 + 432L) + l5)) - 60720] & 0xff) != 1) { break L295; }
-    if (l11 + Long.MIN_VALUE < (l7 = Words.get64(b, ((int) (l9 + 8L)) - 60720)) + Long.MIN_VALUE) { break L295; }
-    l17 = Words.get32(b, ((int) (l9 + 20L)) - 60720);
-    l16 = b[((int) (l9 + 16L)) - 60720] & 0xff;
-    Words.put64(b, ((int) l4) - 60400, 0L);
-    Words.put64(b, ((int) l4) - 60392, 0L);
-    Words.put64(b, ((int) l4) - 60384, 0L);
-    Words.put64(b, ((int) l4) - 60376, 0L);
-    Words.put64(b, ((int) l4) - 60368, 0L);
-    Words.put64(b, ((int) l4) - 60360, 0L);
-    Words.put64(b, ((int) l4) - 60352, 0L);
-    Words.put64(b, ((int) l4) - 60344, 0L);
-    Words.put64(b, ((int) l4) - 60464, 0L);
-    Words.put64(b, ((int) l4) - 60456, 0L);
-    Words.put64(b, ((int) l4) - 60448, 0L);
-    Words.put64(b, ((int) l4) - 60440, 0L);
-    Words.put64(b, ((int) l4) - 60432, 0L);
-    Words.put64(b, ((int) l4) - 60424, 0L);
-    Words.put64(b, ((int) l4) - 60416, 0L);
-    Words.put64(b, ((int) l4) - 60408, 0L);
-    b[((int) l4) - 60502] = (byte) 1;
-    Words.put16(b, ((int) l4) - 60504, (short) 1);
-    b[((int) l13) - 60716] = (byte) 0;
-    Words.put32(b, ((int) l13) - 60720, 0);
-    Words.put64(b, ((int) l8) - 60720, 0L);
-    Words.put64(b, ((int) l8) - 60712, 0L);
-    Words.put64(b, ((int) l8) - 60704, 0L);
-    Words.put64(b, ((int) l8) - 60697, 0L);
-    b[((int) l4) - 60496] = (byte) 3;
+    if ((b[((int) (l9 = (l4 + 432L) + l5)) - 58912] & 0xff) != 1) { break L295; }
+    if (l11 + Long.MIN_VALUE < (l7 = Words.get64(b, ((int) (l9 + 8L)) - 58912)) + Long.MIN_VALUE) { break L295; }
+    l17 = Words.get32(b, ((int) (l9 + 20L)) - 58912);
+    l16 = b[((int) (l9 + 16L)) - 58912] & 0xff;
+    Words.put64(b, ((int) l4) - 58592, 0L);
+    Words.put64(b, ((int) l4) - 58584, 0L);
+    Words.put64(b, ((int) l4) - 58576, 0L);
+    Words.put64(b, ((int) l4) - 58568, 0L);
+    Words.put64(b, ((int) l4) - 58560, 0L);
+    Words.put64(b, ((int) l4) - 58552, 0L);
+    Words.put64(b, ((int) l4) - 58544, 0L);
+    Words.put64(b, ((int) l4) - 58536, 0L);
+    Words.put64(b, ((int) l4) - 58656, 0L);
+    Words.put64(b, ((int) l4) - 58648, 0L);
+    Words.put64(b, ((int) l4) - 58640, 0L);
+    Words.put64(b, ((int) l4) - 58632, 0L);
+    Words.put64(b, ((int) l4) - 58624, 0L);
+    Words.put64(b, ((int) l4) - 58616, 0L);
+    Words.put64(b, ((int) l4) - 58608, 0L);
+    Words.put64(b, ((int) l4) - 58600, 0L);
+    b[((int) l4) - 58694] = (byte) 1;
+    Words.put16(b, ((int) l4) - 58696, (short) 1);
+    b[((int) l13) - 58908] = (byte) 0;
+    Words.put32(b, ((int) l13) - 58912, 0);
+    Words.put64(b, ((int) l8) - 58912, 0L);
+    Words.put64(b, ((int) l8) - 58904, 0L);
+    Words.put64(b, ((int) l8) - 58896, 0L);
+    Words.put64(b, ((int) l8) - 58889, 0L);
+    b[((int) l4) - 58688] = (byte) 3;
     f14(m, l4 + 320L, l4 + 216L, l2, l3, l7);
-    l9 = Words.get64(b, ((int) l4) - 60344);
-    l10 = Words.get64(b, ((int) l4) - 60352);
+    l9 = Words.get64(b, ((int) l4) - 58536);
+    l10 = Words.get64(b, ((int) l4) - 58544);
     L296: {
      L297: {
       L298: {
@@ -7151,12 +7151,12 @@ static int f26_5(State m, long l2, long l3, long l4, long l5, long l6, long l7, 
               default: break L305;
               }
              }
-             Words.put64(b, ((int) l4) - 60296, 0L);
-             Words.put64(b, ((int) l4) - 60304, 0L);
-             Words.put64(b, ((int) l4) - 60312, 0L);
-             Words.put64(b, ((int) l4) - 60320, 0L);
-             Words.put64(b, ((int) l4) - 60328, 0L);
-             Words.put64(b, ((int) l4) - 60336, 0L);
+             Words.put64(b, ((int) l4) - 58488, 0L);
+             Words.put64(b, ((int) l4) - 58496, 0L);
+             Words.put64(b, ((int) l4) - 58504, 0L);
+             Words.put64(b, ((int) l4) - 58512, 0L);
+             Words.put64(b, ((int) l4) - 58520, 0L);
+             Words.put64(b, ((int) l4) - 58528, 0L);
              L306: {
               if (l17 + Integer.MIN_VALUE > -2147483521) { break L306; }
               if ((l17 + -9) + Integer.MIN_VALUE < -2147483643) { break L297; }
@@ -7178,7 +7178,7 @@ static int f26_5(State m, long l2, long l3, long l4, long l5, long l6, long l7, 
             if (l9 == 0L) { break L295; }
             L308: {
              L309: {
-              if ((l20 = (int) b[((int) l10) - 60720]) <= -1) { break L309; }
+              if ((l20 = (int) b[((int) l10) - 58912]) <= -1) { break L309; }
               l14 = 1L;
               break L308;
              }
@@ -7189,12 +7189,12 @@ static int f26_5(State m, long l2, long l3, long l4, long l5, long l6, long l7, 
              }
              l14 = (l20 + Integer.MIN_VALUE < 2147483632) ? 3L : 4L;
             }
-            Words.put64(b, ((int) l4) - 60296, 0L);
-            Words.put64(b, ((int) l4) - 60304, 0L);
-            Words.put64(b, ((int) l4) - 60312, 0L);
-            Words.put64(b, ((int) l4) - 60320, 0L);
-            Words.put64(b, ((int) l4) - 60328, 0L);
-            Words.put64(b, ((int) l4) - 60336, 0L);
+            Words.put64(b, ((int) l4) - 58488, 0L);
+            Words.put64(b, ((int) l4) - 58496, 0L);
+            Words.put64(b, ((int) l4) - 58504, 0L);
+            Words.put64(b, ((int) l4) - 58512, 0L);
+            Words.put64(b, ((int) l4) - 58520, 0L);
+            Words.put64(b, ((int) l4) - 58528, 0L);
             l9 = l9 - l14;
             l10 = l10 + l14;
             L311: {
@@ -7218,7 +7218,7 @@ static int f26_5(State m, long l2, long l3, long l4, long l5, long l6, long l7, 
            if (l9 == 0L) { break L295; }
            L313: {
             L314: {
-             if ((l20 = (int) b[((int) l10) - 60720]) <= -1) { break L314; }
+             if ((l20 = (int) b[((int) l10) - 58912]) <= -1) { break L314; }
              l14 = 1L;
              break L313;
             }
@@ -7229,11 +7229,11 @@ static int f26_5(State m, long l2, long l3, long l4, long l5, long l6, long l7, 
             }
             l14 = (l20 + Integer.MIN_VALUE < 2147483632) ? 3L : 4L;
            }
-           Words.put64(b, ((int) l4) - 60624, Words.get64(b, ((int) l4) - 60368));
-           Words.put64(b, ((int) l4) - 60632, Words.get64(b, ((int) l4) - 60376));
-           Words.put64(b, ((int) l4) - 60640, Words.get64(b, ((int) l4) - 60384));
-           Words.put64(b, ((int) l4) - 60648, Words.get64(b, ((int) l4) - 60392));
-           Words.put64(b, ((int) l4) - 60656, Words.get64(b, ((int) l4) - 60400));
+           Words.put64(b, ((int) l4) - 58816, Words.get64(b, ((int) l4) - 58560));
+           Words.put64(b, ((int) l4) - 58824, Words.get64(b, ((int) l4) - 58568));
+           Words.put64(b, ((int) l4) - 58832, Words.get64(b, ((int) l4) - 58576));
+           Words.put64(b, ((int) l4) - 58840, Words.get64(b, ((int) l4) - 58584));
+           Words.put64(b, ((int) l4) - 58848, Words.get64(b, ((int) l4) - 58592));
            l9 = l9 - l14;
            l10 = l10 + l14;
            break L296;
@@ -7241,51 +7241,51 @@ static int f26_5(State m, long l2, long l3, long l4, long l5, long l6, long l7, 
           if (l17 == 12288) { break L300; }
          }
          f21(m, l4 + 384L, l4 + 320L, l17);
-         if ((b[((int) l4) - 60336] & 0xff) != 1) { break L295; }
-         Words.put64(b, ((int) l4) - 60624, Words.get64(b, ((int) l6) - 60688));
-         Words.put64(b, ((int) l4) - 60632, Words.get64(b, ((int) l6) - 60696));
-         Words.put64(b, ((int) l4) - 60640, Words.get64(b, ((int) l6) - 60704));
-         Words.put64(b, ((int) l4) - 60648, Words.get64(b, ((int) l6) - 60712));
-         Words.put64(b, ((int) l4) - 60656, Words.get64(b, ((int) l6) - 60720));
+         if ((b[((int) l4) - 58528] & 0xff) != 1) { break L295; }
+         Words.put64(b, ((int) l4) - 58816, Words.get64(b, ((int) l6) - 58880));
+         Words.put64(b, ((int) l4) - 58824, Words.get64(b, ((int) l6) - 58888));
+         Words.put64(b, ((int) l4) - 58832, Words.get64(b, ((int) l6) - 58896));
+         Words.put64(b, ((int) l4) - 58840, Words.get64(b, ((int) l6) - 58904));
+         Words.put64(b, ((int) l4) - 58848, Words.get64(b, ((int) l6) - 58912));
          break L296;
         }
-        Words.put64(b, ((int) l4) - 60624, Words.get64(b, ((int) l4) - 60368));
-        Words.put64(b, ((int) l4) - 60632, Words.get64(b, ((int) l4) - 60376));
-        Words.put64(b, ((int) l4) - 60640, Words.get64(b, ((int) l4) - 60384));
-        Words.put64(b, ((int) l4) - 60648, Words.get64(b, ((int) l4) - 60392));
-        Words.put64(b, ((int) l4) - 60656, Words.get64(b, ((int) l4) - 60400));
+        Words.put64(b, ((int) l4) - 58816, Words.get64(b, ((int) l4) - 58560));
+        Words.put64(b, ((int) l4) - 58824, Words.get64(b, ((int) l4) - 58568));
+        Words.put64(b, ((int) l4) - 58832, Words.get64(b, ((int) l4) - 58576));
+        Words.put64(b, ((int) l4) - 58840, Words.get64(b, ((int) l4) - 58584));
+        Words.put64(b, ((int) l4) - 58848, Words.get64(b, ((int) l4) - 58592));
         break L296;
        }
        if (l17 == 12288) { break L297; }
       }
       f21(m, l4 + 384L, l4 + 320L, l17);
-      if ((b[((int) l4) - 60336] & 0xff) != 1) { break L295; }
-      Words.put64(b, ((int) l4) - 60624, Words.get64(b, ((int) l6) - 60688));
-      Words.put64(b, ((int) l4) - 60632, Words.get64(b, ((int) l6) - 60696));
-      Words.put64(b, ((int) l4) - 60640, Words.get64(b, ((int) l6) - 60704));
-      Words.put64(b, ((int) l4) - 60648, Words.get64(b, ((int) l6) - 60712));
-      Words.put64(b, ((int) l4) - 60656, Words.get64(b, ((int) l6) - 60720));
+      if ((b[((int) l4) - 58528] & 0xff) != 1) { break L295; }
+      Words.put64(b, ((int) l4) - 58816, Words.get64(b, ((int) l6) - 58880));
+      Words.put64(b, ((int) l4) - 58824, Words.get64(b, ((int) l6) - 58888));
+      Words.put64(b, ((int) l4) - 58832, Words.get64(b, ((int) l6) - 58896));
+      Words.put64(b, ((int) l4) - 58840, Words.get64(b, ((int) l6) - 58904));
+      Words.put64(b, ((int) l4) - 58848, Words.get64(b, ((int) l6) - 58912));
       break L296;
      }
-     Words.put64(b, ((int) l4) - 60624, Words.get64(b, ((int) l4) - 60368));
-     Words.put64(b, ((int) l4) - 60632, Words.get64(b, ((int) l4) - 60376));
-     Words.put64(b, ((int) l4) - 60640, Words.get64(b, ((int) l4) - 60384));
-     Words.put64(b, ((int) l4) - 60648, Words.get64(b, ((int) l4) - 60392));
-     Words.put64(b, ((int) l4) - 60656, Words.get64(b, ((int) l4) - 60400));
+     Words.put64(b, ((int) l4) - 58816, Words.get64(b, ((int) l4) - 58560));
+     Words.put64(b, ((int) l4) - 58824, Words.get64(b, ((int) l4) - 58568));
+     Words.put64(b, ((int) l4) - 58832, Words.get64(b, ((int) l4) - 58576));
+     Words.put64(b, ((int) l4) - 58840, Words.get64(b, ((int) l4) - 58584));
+     Words.put64(b, ((int) l4) - 58848, Words.get64(b, ((int) l4) - 58592));
     }
     f14(m, l4 + 256L, l4 + 64L, l10, l9, -1L);
     L316: {
-     if (Words.get64(b, ((int) l4) - 60408) != 0L) { break L316; }
+     if (Words.get64(b, ((int) l4) - 58600) != 0L) { break L316; }
      l20 = 1;
      if (l12 != 0L) { exit = 1; break PART; }
-     if ((l18 = b[((int) l4) - 60456] & 0xff) + Integer.MIN_VALUE < -2147483631) { break L295; }
+     if ((l18 = b[((int) l4) - 58648] & 0xff) + Integer.MIN_VALUE < -2147483631) { break L295; }
      switch (l18 + -17) {
      case 1: break L295;
      default: exit = 1; break PART;
      }
     }
     if (l12 == 0L) { break L295; }
-    l9 = (Words.get64(b, ((int) l4) - 60360) + ((l16 != 2) ? 1L : 0L)) + Words.get64(b, ((int) l4) - 60424);
+    l9 = (Words.get64(b, ((int) l4) - 58552) + ((l16 != 2) ? 1L : 0L)) + Words.get64(b, ((int) l4) - 58616);
     l10 = 2L;
     L317: {
      L318: {
@@ -7304,24 +7304,24 @@ static int f26_5(State m, long l2, long l3, long l4, long l5, long l6, long l7, 
     l20 = 1;
     if ((l10 = l10 + l11) + Long.MIN_VALUE < l9 + Long.MIN_VALUE) { exit = 1; break PART; }
     if (l9 != l10) { break L295; }
-    l18 = (l19 = (int) b[((int) (l9 = Words.get64(b, ((int) l4) - 60416))) - 60720]) & 255;
+    l18 = (l19 = (int) b[((int) (l9 = Words.get64(b, ((int) l4) - 58608))) - 58912]) & 255;
     L320: {
      if (l19 > -1) { break L320; }
-     l22 = (b[((int) l9) - 60719] & 0xff) & 63;
+     l22 = (b[((int) l9) - 58911] & 0xff) & 63;
      L321: {
       if (l19 + Integer.MIN_VALUE > 2147483615) { break L321; }
       l18 = ((l18 << 6) & 1984) | l22;
       break L320;
      }
-     l21 = (b[((int) l9) - 60718] & 0xff) & 63;
+     l21 = (b[((int) l9) - 58910] & 0xff) & 63;
      L322: {
       if (l19 + Integer.MIN_VALUE > 2147483631) { break L322; }
       l18 = ((l22 << 6) | ((l18 << 12) & 61440)) | l21;
       break L320;
      }
-     l18 = ((l21 << 6) | ((l22 << 12) | ((l18 << 18) & 1835008))) | ((b[((int) l9) - 60717] & 0xff) & 63);
+     l18 = ((l21 << 6) | ((l22 << 12) | ((l18 << 18) & 1835008))) | ((b[((int) l9) - 58909] & 0xff) & 63);
     }
-    Words.put32(b, ((int) l4) - 60400, l18);
+    Words.put32(b, ((int) l4) - 58592, l18);
     if (f29(m, 66048L, 47L, l4 + 320L) == 0) { exit = 1; break PART; }
    }
    if ((l5 = l5 + 24L) == 336L) { exit = 2; break PART; }
@@ -7349,38 +7349,38 @@ static int f26_6(State m, long l2, long l3, long l4, long l5, long l6, long l7, 
  PART: {
   L326: while (true) {
    L327: {
-    if ((b[((int) (l9 = (l4 + 432L) + l5)) - 60720] & 0xff) != 1) { break L327; }
-    if (l11 + Long.MIN_VALUE < (l7 = Words.get64(b, ((int) (l9 + 8L)) - 60720)) + Long.MIN_VALUE) { break L327; }
-    l17 = Words.get32(b, ((int) (l9 + 20L)) - 60720);
-    l16 = b[((int) (l9 + 16L)) - 60720] & 0xff;
-    Words.put64(b, ((int) l4) - 60400, 0L);
-    Words.put64(b, ((int) l4) - 60392, 0L);
-    Words.put64(b, ((int) l4) - 60384, 0L);
-    Words.put64(b, ((int) l4) - 60376, 0L);
-    Words.put64(b, ((int) l4) - 60368, 0L);
-    Words.put64(b, ((int) l4) - 60360, 0L);
-    Words.put64(b, ((int) l4) - 60352, 0L);
-    Words.put64(b, ((int) l4) - 60344, 0L);
-    Words.put64(b, ((int) l4) - 60464, 0L);
-    Words.put64(b, ((int) l4) - 60456, 0L);
-    Words.put64(b, ((int) l4) - 60448, 0L);
-    Words.put64(b, ((int) l4) - 60440, 0L);
-    Words.put64(b, ((int) l4) - 60432, 0L);
-    Words.put64(b, ((int) l4) - 60424, 0L);
-    Words.put64(b, ((int) l4) - 60416, 0L);
-    Words.put64(b, ((int) l4) - 60408, 0L);
-    b[((int) l4) - 60502] = (byte) 1;
-    Words.put16(b, ((int) l4) - 60504, (short) 257);
-    b[((int) l13) - 60716] = (byte) 0;
-    Words.put32(b, ((int) l13) - 60720, 0);
-    Words.put64(b, ((int) l8) - 60720, 0L);
-    Words.put64(b, ((int) l8) - 60712, 0L);
-    Words.put64(b, ((int) l8) - 60704, 0L);
-    Words.put64(b, ((int) l8) - 60697, 0L);
-    b[((int) l4) - 60496] = (byte) 3;
+    if ((b[((int) (l9 = (l4 + 432L) + l5)) - 58912] & 0xff) != 1) { break L327; }
+    if (l11 + Long.MIN_VALUE < (l7 = Words.get64(b, ((int) (l9 + 8L)) - 58912)) + Long.MIN_VALUE) { break L327; }
+    l17 = Words.get32(b, ((int) (l9 + 20L)) - 58912);
+    l16 = b[((int) (l9 + 16L)) - 58912] & 0xff;
+    Words.put64(b, ((int) l4) - 58592, 0L);
+    Words.put64(b, ((int) l4) - 58584, 0L);
+    Words.put64(b, ((int) l4) - 58576, 0L);
+    Words.put64(b, ((int) l4) - 58568, 0L);
+    Words.put64(b, ((int) l4) - 58560, 0L);
+    Words.put64(b, ((int) l4) - 58552, 0L);
+    Words.put64(b, ((int) l4) - 58544, 0L);
+    Words.put64(b, ((int) l4) - 58536, 0L);
+    Words.put64(b, ((int) l4) - 58656, 0L);
+    Words.put64(b, ((int) l4) - 58648, 0L);
+    Words.put64(b, ((int) l4) - 58640, 0L);
+    Words.put64(b, ((int) l4) - 58632, 0L);
+    Words.put64(b, ((int) l4) - 58624, 0L);
+    Words.put64(b, ((int) l4) - 58616, 0L);
+    Words.put64(b, ((int) l4) - 58608, 0L);
+    Words.put64(b, ((int) l4) - 58600, 0L);
+    b[((int) l4) - 58694] = (byte) 1;
+    Words.put16(b, ((int) l4) - 58696, (short) 257);
+    b[((int) l13) - 58908] = (byte) 0;
+    Words.put32(b, ((int) l13) - 58912, 0);
+    Words.put64(b, ((int) l8) - 58912, 0L);
+    Words.put64(b, ((int) l8) - 58904, 0L);
+    Words.put64(b, ((int) l8) - 58896, 0L);
+    Words.put64(b, ((int) l8) - 58889, 0L);
+    b[((int) l4) - 58688] = (byte) 3;
     f12(m, l4 + 320L, l4 + 216L, l2, l3, l7);
-    l9 = Words.get64(b, ((int) l4) - 60344);
-    l10 = Words.get64(b, ((int) l4) - 60352);
+    l9 = Words.get64(b, ((int) l4) - 58536);
+    l10 = Words.get64(b, ((int) l4) - 58544);
     L328: {
      L329: {
       L330: {
@@ -7397,12 +7397,12 @@ static int f26_6(State m, long l2, long l3, long l4, long l5, long l6, long l7, 
               default: break L337;
               }
              }
-             Words.put64(b, ((int) l4) - 60296, 0L);
-             Words.put64(b, ((int) l4) - 60304, 0L);
-             Words.put64(b, ((int) l4) - 60312, 0L);
-             Words.put64(b, ((int) l4) - 60320, 0L);
-             Words.put64(b, ((int) l4) - 60328, 0L);
-             Words.put64(b, ((int) l4) - 60336, 0L);
+             Words.put64(b, ((int) l4) - 58488, 0L);
+             Words.put64(b, ((int) l4) - 58496, 0L);
+             Words.put64(b, ((int) l4) - 58504, 0L);
+             Words.put64(b, ((int) l4) - 58512, 0L);
+             Words.put64(b, ((int) l4) - 58520, 0L);
+             Words.put64(b, ((int) l4) - 58528, 0L);
              L338: {
               if (l17 + Integer.MIN_VALUE > -2147483521) { break L338; }
               if ((l17 + -9) + Integer.MIN_VALUE < -2147483643) { break L329; }
@@ -7424,7 +7424,7 @@ static int f26_6(State m, long l2, long l3, long l4, long l5, long l6, long l7, 
             if (l9 == 0L) { break L327; }
             L340: {
              L341: {
-              if ((l20 = (int) b[((int) l10) - 60720]) <= -1) { break L341; }
+              if ((l20 = (int) b[((int) l10) - 58912]) <= -1) { break L341; }
               l14 = 1L;
               break L340;
              }
@@ -7435,12 +7435,12 @@ static int f26_6(State m, long l2, long l3, long l4, long l5, long l6, long l7, 
              }
              l14 = (l20 + Integer.MIN_VALUE < 2147483632) ? 3L : 4L;
             }
-            Words.put64(b, ((int) l4) - 60296, 0L);
-            Words.put64(b, ((int) l4) - 60304, 0L);
-            Words.put64(b, ((int) l4) - 60312, 0L);
-            Words.put64(b, ((int) l4) - 60320, 0L);
-            Words.put64(b, ((int) l4) - 60328, 0L);
-            Words.put64(b, ((int) l4) - 60336, 0L);
+            Words.put64(b, ((int) l4) - 58488, 0L);
+            Words.put64(b, ((int) l4) - 58496, 0L);
+            Words.put64(b, ((int) l4) - 58504, 0L);
+            Words.put64(b, ((int) l4) - 58512, 0L);
+            Words.put64(b, ((int) l4) - 58520, 0L);
+            Words.put64(b, ((int) l4) - 58528, 0L);
             l9 = l9 - l14;
             l10 = l10 + l14;
             L343: {
@@ -7464,7 +7464,7 @@ static int f26_6(State m, long l2, long l3, long l4, long l5, long l6, long l7, 
            if (l9 == 0L) { break L327; }
            L345: {
             L346: {
-             if ((l20 = (int) b[((int) l10) - 60720]) <= -1) { break L346; }
+             if ((l20 = (int) b[((int) l10) - 58912]) <= -1) { break L346; }
              l14 = 1L;
              break L345;
             }
@@ -7475,11 +7475,11 @@ static int f26_6(State m, long l2, long l3, long l4, long l5, long l6, long l7, 
             }
             l14 = (l20 + Integer.MIN_VALUE < 2147483632) ? 3L : 4L;
            }
-           Words.put64(b, ((int) l4) - 60624, Words.get64(b, ((int) l4) - 60368));
-           Words.put64(b, ((int) l4) - 60632, Words.get64(b, ((int) l4) - 60376));
-           Words.put64(b, ((int) l4) - 60640, Words.get64(b, ((int) l4) - 60384));
-           Words.put64(b, ((int) l4) - 60648, Words.get64(b, ((int) l4) - 60392));
-           Words.put64(b, ((int) l4) - 60656, Words.get64(b, ((int) l4) - 60400));
+           Words.put64(b, ((int) l4) - 58816, Words.get64(b, ((int) l4) - 58560));
+           Words.put64(b, ((int) l4) - 58824, Words.get64(b, ((int) l4) - 58568));
+           Words.put64(b, ((int) l4) - 58832, Words.get64(b, ((int) l4) - 58576));
+           Words.put64(b, ((int) l4) - 58840, Words.get64(b, ((int) l4) - 58584));
+           Words.put64(b, ((int) l4) - 58848, Words.get64(b, ((int) l4) - 58592));
            l9 = l9 - l14;
            l10 = l10 + l14;
            break L328;
@@ -7487,51 +7487,51 @@ static int f26_6(State m, long l2, long l3, long l4, long l5, long l6, long l7, 
           if (l17 == 12288) { break L332; }
          }
          f21(m, l4 + 384L, l4 + 320L, l17);
-         if ((b[((int) l4) - 60336] & 0xff) != 1) { break L327; }
-         Words.put64(b, ((int) l4) - 60624, Words.get64(b, ((int) l6) - 60688));
-         Words.put64(b, ((int) l4) - 60632, Words.get64(b, ((int) l6) - 60696));
-         Words.put64(b, ((int) l4) - 60640, Words.get64(b, ((int) l6) - 60704));
-         Words.put64(b, ((int) l4) - 60648, Words.get64(b, ((int) l6) - 60712));
-         Words.put64(b, ((int) l4) - 60656, Words.get64(b, ((int) l6) - 60720));
+         if ((b[((int) l4) - 58528] & 0xff) != 1) { break L327; }
+         Words.put64(b, ((int) l4) - 58816, Words.get64(b, ((int) l6) - 58880));
+         Words.put64(b, ((int) l4) - 58824, Words.get64(b, ((int) l6) - 58888));
+         Words.put64(b, ((int) l4) - 58832, Words.get64(b, ((int) l6) - 58896));
+         Words.put64(b, ((int) l4) - 58840, Words.get64(b, ((int) l6) - 58904));
+         Words.put64(b, ((int) l4) - 58848, Words.get64(b, ((int) l6) - 58912));
          break L328;
         }
-        Words.put64(b, ((int) l4) - 60624, Words.get64(b, ((int) l4) - 60368));
-        Words.put64(b, ((int) l4) - 60632, Words.get64(b, ((int) l4) - 60376));
-        Words.put64(b, ((int) l4) - 60640, Words.get64(b, ((int) l4) - 60384));
-        Words.put64(b, ((int) l4) - 60648, Words.get64(b, ((int) l4) - 60392));
-        Words.put64(b, ((int) l4) - 60656, Words.get64(b, ((int) l4) - 60400));
+        Words.put64(b, ((int) l4) - 58816, Words.get64(b, ((int) l4) - 58560));
+        Words.put64(b, ((int) l4) - 58824, Words.get64(b, ((int) l4) - 58568));
+        Words.put64(b, ((int) l4) - 58832, Words.get64(b, ((int) l4) - 58576));
+        Words.put64(b, ((int) l4) - 58840, Words.get64(b, ((int) l4) - 58584));
+        Words.put64(b, ((int) l4) - 58848, Words.get64(b, ((int) l4) - 58592));
         break L328;
        }
        if (l17 == 12288) { break L329; }
       }
       f21(m, l4 + 384L, l4 + 320L, l17);
-      if ((b[((int) l4) - 60336] & 0xff) != 1) { break L327; }
-      Words.put64(b, ((int) l4) - 60624, Words.get64(b, ((int) l6) - 60688));
-      Words.put64(b, ((int) l4) - 60632, Words.get64(b, ((int) l6) - 60696));
-      Words.put64(b, ((int) l4) - 60640, Words.get64(b, ((int) l6) - 60704));
-      Words.put64(b, ((int) l4) - 60648, Words.get64(b, ((int) l6) - 60712));
-      Words.put64(b, ((int) l4) - 60656, Words.get64(b, ((int) l6) - 60720));
+      if ((b[((int) l4) - 58528] & 0xff) != 1) { break L327; }
+      Words.put64(b, ((int) l4) - 58816, Words.get64(b, ((int) l6) - 58880));
+      Words.put64(b, ((int) l4) - 58824, Words.get64(b, ((int) l6) - 58888));
+      Words.put64(b, ((int) l4) - 58832, Words.get64(b, ((int) l6) - 58896));
+      Words.put64(b, ((int) l4) - 58840, Words.get64(b, ((int) l6) - 58904));
+      Words.put64(b, ((int) l4) - 58848, Words.get64(b, ((int) l6) - 58912));
       break L328;
      }
-     Words.put64(b, ((int) l4) - 60624, Words.get64(b, ((int) l4) - 60368));
-     Words.put64(b, ((int) l4) - 60632, Words.get64(b, ((int) l4) - 60376));
-     Words.put64(b, ((int) l4) - 60640, Words.get64(b, ((int) l4) - 60384));
-     Words.put64(b, ((int) l4) - 60648, Words.get64(b, ((int) l4) - 60392));
-     Words.put64(b, ((int) l4) - 60656, Words.get64(b, ((int) l4) - 60400));
+     Words.put64(b, ((int) l4) - 58816, Words.get64(b, ((int) l4) - 58560));
+     Words.put64(b, ((int) l4) - 58824, Words.get64(b, ((int) l4) - 58568));
+     Words.put64(b, ((int) l4) - 58832, Words.get64(b, ((int) l4) - 58576));
+     Words.put64(b, ((int) l4) - 58840, Words.get64(b, ((int) l4) - 58584));
+     Words.put64(b, ((int) l4) - 58848, Words.get64(b, ((int) l4) - 58592));
     }
     f12(m, l4 + 256L, l4 + 64L, l10, l9, -1L);
     L348: {
-     if (Words.get64(b, ((int) l4) - 60408) != 0L) { break L348; }
+     if (Words.get64(b, ((int) l4) - 58600) != 0L) { break L348; }
      l20 = 1;
      if (l12 != 0L) { exit = 1; break PART; }
-     if ((l18 = b[((int) l4) - 60456] & 0xff) + Integer.MIN_VALUE < -2147483631) { break L327; }
+     if ((l18 = b[((int) l4) - 58648] & 0xff) + Integer.MIN_VALUE < -2147483631) { break L327; }
      switch (l18 + -17) {
      case 1: break L327;
      default: exit = 1; break PART;
      }
     }
     if (l12 == 0L) { break L327; }
-    l9 = (Words.get64(b, ((int) l4) - 60360) + ((l16 != 2) ? 1L : 0L)) + Words.get64(b, ((int) l4) - 60424);
+    l9 = (Words.get64(b, ((int) l4) - 58552) + ((l16 != 2) ? 1L : 0L)) + Words.get64(b, ((int) l4) - 58616);
     l10 = 2L;
     L349: {
      L350: {
@@ -7550,24 +7550,24 @@ static int f26_6(State m, long l2, long l3, long l4, long l5, long l6, long l7, 
     l20 = 1;
     if ((l10 = l10 + l11) + Long.MIN_VALUE < l9 + Long.MIN_VALUE) { exit = 1; break PART; }
     if (l9 != l10) { break L327; }
-    l18 = (l19 = (int) b[((int) (l9 = Words.get64(b, ((int) l4) - 60416))) - 60720]) & 255;
+    l18 = (l19 = (int) b[((int) (l9 = Words.get64(b, ((int) l4) - 58608))) - 58912]) & 255;
     L352: {
      if (l19 > -1) { break L352; }
-     l22 = (b[((int) l9) - 60719] & 0xff) & 63;
+     l22 = (b[((int) l9) - 58911] & 0xff) & 63;
      L353: {
       if (l19 + Integer.MIN_VALUE > 2147483615) { break L353; }
       l18 = ((l18 << 6) & 1984) | l22;
       break L352;
      }
-     l21 = (b[((int) l9) - 60718] & 0xff) & 63;
+     l21 = (b[((int) l9) - 58910] & 0xff) & 63;
      L354: {
       if (l19 + Integer.MIN_VALUE > 2147483631) { break L354; }
       l18 = ((l22 << 6) | ((l18 << 12) & 61440)) | l21;
       break L352;
      }
-     l18 = ((l21 << 6) | ((l22 << 12) | ((l18 << 18) & 1835008))) | ((b[((int) l9) - 60717] & 0xff) & 63);
+     l18 = ((l21 << 6) | ((l22 << 12) | ((l18 << 18) & 1835008))) | ((b[((int) l9) - 58909] & 0xff) & 63);
     }
-    Words.put32(b, ((int) l4) - 60400, l18);
+    Words.put32(b, ((int) l4) - 58592, l18);
     if (f29(m, 66048L, 47L, l4 + 320L) == 0) { exit = 1; break PART; }
    }
    if ((l5 = l5 + 24L) == 336L) { exit = 2; break PART; }
@@ -7595,46 +7595,46 @@ static int f26_7(State m, long l2, long l3, long l4, long l5, long l7, long l8, 
  PART: {
   L358: while (true) {
    L359: {
-    if ((b[((int) (l9 = (l4 + 432L) + l5)) - 60720] & 0xff) != 1) { break L359; }
-    if (l8 + Long.MIN_VALUE < (l7 = Words.get64(b, ((int) (l9 + 8L)) - 60720)) + Long.MIN_VALUE) { break L359; }
-    l17 = Words.get32(b, ((int) (l9 + 20L)) - 60720);
-    l16 = b[((int) (l9 + 16L)) - 60720] & 0xff;
-    Words.put64(b, ((int) l4) - 60400, 0L);
-    Words.put64(b, ((int) l4) - 60392, 0L);
-    Words.put64(b, ((int) l4) - 60384, 0L);
-    Words.put64(b, ((int) l4) - 60376, 0L);
-    Words.put64(b, ((int) l4) - 60368, 0L);
-    Words.put64(b, ((int) l4) - 60360, 0L);
-    Words.put64(b, ((int) l4) - 60352, 0L);
-    Words.put64(b, ((int) l4) - 60344, 0L);
-    Words.put64(b, ((int) l4) - 60464, 0L);
-    Words.put64(b, ((int) l4) - 60456, 0L);
-    Words.put64(b, ((int) l4) - 60448, 0L);
-    Words.put64(b, ((int) l4) - 60440, 0L);
-    Words.put64(b, ((int) l4) - 60432, 0L);
-    Words.put64(b, ((int) l4) - 60424, 0L);
-    Words.put64(b, ((int) l4) - 60416, 0L);
-    Words.put64(b, ((int) l4) - 60408, 0L);
-    Words.put64(b, ((int) l4) - 60608, 0L);
-    Words.put64(b, ((int) l4) - 60600, 0L);
-    Words.put64(b, ((int) l4) - 60592, 0L);
-    Words.put64(b, ((int) l4) - 60584, 0L);
-    Words.put64(b, ((int) l4) - 60576, 0L);
+    if ((b[((int) (l9 = (l4 + 432L) + l5)) - 58912] & 0xff) != 1) { break L359; }
+    if (l8 + Long.MIN_VALUE < (l7 = Words.get64(b, ((int) (l9 + 8L)) - 58912)) + Long.MIN_VALUE) { break L359; }
+    l17 = Words.get32(b, ((int) (l9 + 20L)) - 58912);
+    l16 = b[((int) (l9 + 16L)) - 58912] & 0xff;
+    Words.put64(b, ((int) l4) - 58592, 0L);
+    Words.put64(b, ((int) l4) - 58584, 0L);
+    Words.put64(b, ((int) l4) - 58576, 0L);
+    Words.put64(b, ((int) l4) - 58568, 0L);
+    Words.put64(b, ((int) l4) - 58560, 0L);
+    Words.put64(b, ((int) l4) - 58552, 0L);
+    Words.put64(b, ((int) l4) - 58544, 0L);
+    Words.put64(b, ((int) l4) - 58536, 0L);
+    Words.put64(b, ((int) l4) - 58656, 0L);
+    Words.put64(b, ((int) l4) - 58648, 0L);
+    Words.put64(b, ((int) l4) - 58640, 0L);
+    Words.put64(b, ((int) l4) - 58632, 0L);
+    Words.put64(b, ((int) l4) - 58624, 0L);
+    Words.put64(b, ((int) l4) - 58616, 0L);
+    Words.put64(b, ((int) l4) - 58608, 0L);
+    Words.put64(b, ((int) l4) - 58600, 0L);
+    Words.put64(b, ((int) l4) - 58800, 0L);
+    Words.put64(b, ((int) l4) - 58792, 0L);
+    Words.put64(b, ((int) l4) - 58784, 0L);
+    Words.put64(b, ((int) l4) - 58776, 0L);
+    Words.put64(b, ((int) l4) - 58768, 0L);
     f10(m, l4 + 320L, l4 + 112L, l2, l3, l7);
-    l9 = Words.get64(b, ((int) l4) - 60344);
-    l10 = Words.get64(b, ((int) l4) - 60352);
-    Words.put64(b, ((int) l4) - 60336, 0L);
-    Words.put64(b, ((int) l4) - 60328, 0L);
-    Words.put64(b, ((int) l4) - 60320, 0L);
-    Words.put64(b, ((int) l4) - 60312, 0L);
-    Words.put64(b, ((int) l4) - 60304, 0L);
-    Words.put64(b, ((int) l4) - 60296, 0L);
-    Words.put64(b, ((int) l4) - 60656, 0L);
-    Words.put64(b, ((int) l4) - 60648, 0L);
-    Words.put64(b, ((int) l4) - 60640, 0L);
-    Words.put64(b, ((int) l4) - 60632, 0L);
-    Words.put64(b, ((int) l4) - 60624, 0L);
-    Words.put64(b, ((int) l4) - 60616, 0L);
+    l9 = Words.get64(b, ((int) l4) - 58536);
+    l10 = Words.get64(b, ((int) l4) - 58544);
+    Words.put64(b, ((int) l4) - 58528, 0L);
+    Words.put64(b, ((int) l4) - 58520, 0L);
+    Words.put64(b, ((int) l4) - 58512, 0L);
+    Words.put64(b, ((int) l4) - 58504, 0L);
+    Words.put64(b, ((int) l4) - 58496, 0L);
+    Words.put64(b, ((int) l4) - 58488, 0L);
+    Words.put64(b, ((int) l4) - 58848, 0L);
+    Words.put64(b, ((int) l4) - 58840, 0L);
+    Words.put64(b, ((int) l4) - 58832, 0L);
+    Words.put64(b, ((int) l4) - 58824, 0L);
+    Words.put64(b, ((int) l4) - 58816, 0L);
+    Words.put64(b, ((int) l4) - 58808, 0L);
     L360: {
      L361: {
       L362: {
@@ -7646,18 +7646,18 @@ static int f26_7(State m, long l2, long l3, long l4, long l5, long l7, long l8, 
         }
        }
        f20(m, l4 + 384L, l4 + 320L, l17);
-       if ((b[((int) l4) - 60336] & 0xff) != 1) { break L359; }
-       Words.put64(b, ((int) l4) - 60472, Words.get64(b, ((int) l11) - 60688));
-       Words.put64(b, ((int) l4) - 60480, Words.get64(b, ((int) l11) - 60696));
-       Words.put64(b, ((int) l4) - 60488, Words.get64(b, ((int) l11) - 60704));
-       Words.put64(b, ((int) l4) - 60496, Words.get64(b, ((int) l11) - 60712));
-       Words.put64(b, ((int) l4) - 60504, Words.get64(b, ((int) l11) - 60720));
+       if ((b[((int) l4) - 58528] & 0xff) != 1) { break L359; }
+       Words.put64(b, ((int) l4) - 58664, Words.get64(b, ((int) l11) - 58880));
+       Words.put64(b, ((int) l4) - 58672, Words.get64(b, ((int) l11) - 58888));
+       Words.put64(b, ((int) l4) - 58680, Words.get64(b, ((int) l11) - 58896));
+       Words.put64(b, ((int) l4) - 58688, Words.get64(b, ((int) l11) - 58904));
+       Words.put64(b, ((int) l4) - 58696, Words.get64(b, ((int) l11) - 58912));
        break L360;
       }
       if (l9 == 0L) { break L359; }
       L364: {
        L365: {
-        if ((l20 = (int) b[((int) l10) - 60720]) <= -1) { break L365; }
+        if ((l20 = (int) b[((int) l10) - 58912]) <= -1) { break L365; }
         l14 = 1L;
         break L364;
        }
@@ -7669,12 +7669,12 @@ static int f26_7(State m, long l2, long l3, long l4, long l5, long l7, long l8, 
        l14 = (l20 + Integer.MIN_VALUE < 2147483632) ? 3L : 4L;
       }
       f20(m, l4 + 64L, l4 + 320L, l17);
-      if ((b[((int) l4) - 60656] & 0xff) != 1) { break L359; }
-      Words.put64(b, ((int) l4) - 60472, Words.get64(b, ((int) l13) - 60688));
-      Words.put64(b, ((int) l4) - 60480, Words.get64(b, ((int) l13) - 60696));
-      Words.put64(b, ((int) l4) - 60488, Words.get64(b, ((int) l13) - 60704));
-      Words.put64(b, ((int) l4) - 60496, Words.get64(b, ((int) l13) - 60712));
-      Words.put64(b, ((int) l4) - 60504, Words.get64(b, ((int) l13) - 60720));
+      if ((b[((int) l4) - 58848] & 0xff) != 1) { break L359; }
+      Words.put64(b, ((int) l4) - 58664, Words.get64(b, ((int) l13) - 58880));
+      Words.put64(b, ((int) l4) - 58672, Words.get64(b, ((int) l13) - 58888));
+      Words.put64(b, ((int) l4) - 58680, Words.get64(b, ((int) l13) - 58896));
+      Words.put64(b, ((int) l4) - 58688, Words.get64(b, ((int) l13) - 58904));
+      Words.put64(b, ((int) l4) - 58696, Words.get64(b, ((int) l13) - 58912));
       l10 = l10 + l14;
       l9 = l9 - l14;
       break L360;
@@ -7682,7 +7682,7 @@ static int f26_7(State m, long l2, long l3, long l4, long l5, long l7, long l8, 
      if (l9 == 0L) { break L359; }
      L367: {
       L368: {
-       if ((l20 = (int) b[((int) l10) - 60720]) <= -1) { break L368; }
+       if ((l20 = (int) b[((int) l10) - 58912]) <= -1) { break L368; }
        l14 = 1L;
        break L367;
       }
@@ -7693,11 +7693,11 @@ static int f26_7(State m, long l2, long l3, long l4, long l5, long l7, long l8, 
       }
       l14 = (l20 + Integer.MIN_VALUE < 2147483632) ? 3L : 4L;
      }
-     Words.put64(b, ((int) l4) - 60472, Words.get64(b, ((int) l4) - 60368));
-     Words.put64(b, ((int) l4) - 60480, Words.get64(b, ((int) l4) - 60376));
-     Words.put64(b, ((int) l4) - 60488, Words.get64(b, ((int) l4) - 60384));
-     Words.put64(b, ((int) l4) - 60496, Words.get64(b, ((int) l4) - 60392));
-     Words.put64(b, ((int) l4) - 60504, Words.get64(b, ((int) l4) - 60400));
+     Words.put64(b, ((int) l4) - 58664, Words.get64(b, ((int) l4) - 58560));
+     Words.put64(b, ((int) l4) - 58672, Words.get64(b, ((int) l4) - 58568));
+     Words.put64(b, ((int) l4) - 58680, Words.get64(b, ((int) l4) - 58576));
+     Words.put64(b, ((int) l4) - 58688, Words.get64(b, ((int) l4) - 58584));
+     Words.put64(b, ((int) l4) - 58696, Words.get64(b, ((int) l4) - 58592));
      l9 = l9 - l14;
      l10 = l10 + l14;
     }
@@ -7706,16 +7706,16 @@ static int f26_7(State m, long l2, long l3, long l4, long l5, long l7, long l8, 
      L371: {
       L372: {
        L373: {
-        if (Words.get64(b, ((int) l4) - 60408) != 0L) { break L373; }
+        if (Words.get64(b, ((int) l4) - 58600) != 0L) { break L373; }
         if (l12 != 0L) { break L372; }
-        if ((l9 = Words.get64(b, ((int) l4) - 60463) >>> 56L) + Long.MIN_VALUE < -9223372036854775791L) { break L359; }
+        if ((l9 = Words.get64(b, ((int) l4) - 58655) >>> 56L) + Long.MIN_VALUE < -9223372036854775791L) { break L359; }
         switch (((int) l9) + -17) {
         case 1: break L359;
         default: break L372;
         }
        }
        if (l12 == 0L) { break L359; }
-       l9 = (Words.get64(b, ((int) l4) - 60360) + ((l16 != 2) ? 1L : 0L)) + Words.get64(b, ((int) l4) - 60424);
+       l9 = (Words.get64(b, ((int) l4) - 58552) + ((l16 != 2) ? 1L : 0L)) + Words.get64(b, ((int) l4) - 58616);
        l10 = 2L;
        L374: {
         L375: {
@@ -7733,15 +7733,15 @@ static int f26_7(State m, long l2, long l3, long l4, long l5, long l7, long l8, 
        }
        if ((l10 = l10 + l8) + Long.MIN_VALUE < l9 + Long.MIN_VALUE) { break L372; }
        if (l9 != l10) { break L359; }
-       l20 = (l18 = (int) b[((int) (l9 = Words.get64(b, ((int) l4) - 60416))) - 60720]) & 255;
+       l20 = (l18 = (int) b[((int) (l9 = Words.get64(b, ((int) l4) - 58608))) - 58912]) & 255;
        if (l18 > -1) { break L370; }
-       l19 = (b[((int) l9) - 60719] & 0xff) & 63;
+       l19 = (b[((int) l9) - 58911] & 0xff) & 63;
        L377: {
         if (l18 + Integer.MIN_VALUE > 2147483615) { break L377; }
         l20 = ((l20 << 6) & 1984) | l19;
         break L370;
        }
-       l22 = (b[((int) l9) - 60718] & 0xff) & 63;
+       l22 = (b[((int) l9) - 58910] & 0xff) & 63;
        if (l18 + Integer.MIN_VALUE > 2147483631) { break L371; }
        l20 = ((l19 << 6) | ((l20 << 12) & 61440)) | l22;
        break L370;
@@ -7749,9 +7749,9 @@ static int f26_7(State m, long l2, long l3, long l4, long l5, long l7, long l8, 
       l20 = 1;
       exit = 1; break PART;
      }
-     l20 = ((l22 << 6) | ((l19 << 12) | ((l20 << 18) & 1835008))) | ((b[((int) l9) - 60717] & 0xff) & 63);
+     l20 = ((l22 << 6) | ((l19 << 12) | ((l20 << 18) & 1835008))) | ((b[((int) l9) - 58909] & 0xff) & 63);
     }
-    Words.put32(b, ((int) l4) - 60400, l20);
+    Words.put32(b, ((int) l4) - 58592, l20);
     if (f29(m, 66048L, 34L, l4 + 320L) != 0) { break L359; }
     l20 = 1;
     exit = 1; break PART;
@@ -7786,34 +7786,34 @@ static int f26_8(State m, long l0, int l1, long l2, long l3, long l4, long l5, l
      if (l16 != 0) { break L380; }
      if (l17 != 38646) { break L380; }
      f30(m, l4 + 8L, l2, l3, l7);
-     l20 = f31(m, l5 = Words.get64(b, ((int) l4) - 60712), l9 = Words.get64(b, ((int) l4) - 60704), 66808L, 3L);
+     l20 = f31(m, l5 = Words.get64(b, ((int) l4) - 58904), l9 = Words.get64(b, ((int) l4) - 58896), 66808L, 3L);
      L382: {
       L383: {
        if ((l1 = (l3 + Long.MIN_VALUE < -9223372036854775793L) ? 1 : 0) != 0) { break L383; }
        if (l20 == 0) { break L383; }
-       if (Words.get64(b, ((int) ((l8 = l2 + l3) + -15L)) - 60720) != -8365856802762875674L) { break L383; }
-       if (Words.get64(b, ((int) (l8 + -8L)) - 60720) == -6514484650975052149L) { break L382; }
+       if (Words.get64(b, ((int) ((l8 = l2 + l3) + -15L)) - 58912) != -8365856802762875674L) { break L383; }
+       if (Words.get64(b, ((int) (l8 + -8L)) - 58912) == -6514484650975052149L) { break L382; }
       }
       l20 = f31(m, l5, l9, 66811L, 3L);
       if (l1 != 0) { break L380; }
       if (l20 == 0) { break L380; }
-      if (Words.get64(b, ((int) ((l5 = l2 + l3) + -15L)) - 60720) != -8365854603739620122L) { break L380; }
-      if (Words.get64(b, ((int) (l5 + -8L)) - 60720) != -6514484650975052149L) { break L380; }
+      if (Words.get64(b, ((int) ((l5 = l2 + l3) + -15L)) - 58912) != -8365854603739620122L) { break L380; }
+      if (Words.get64(b, ((int) (l5 + -8L)) - 58912) != -6514484650975052149L) { break L380; }
      }
-     Words.put64(b, ((int) l0) - 60704, 0L);
-     Words.put64(b, ((int) l0) - 60712, 0L);
-     Words.put64(b, ((int) l0) - 60720, 0L);
+     Words.put64(b, ((int) l0) - 58896, 0L);
+     Words.put64(b, ((int) l0) - 58904, 0L);
+     Words.put64(b, ((int) l0) - 58912, 0L);
      break L379;
     }
-    Words.put64(b, ((int) l0) - 60704, 0L);
-    Words.put64(b, ((int) l0) - 60712, 0L);
-    Words.put64(b, ((int) l0) - 60720, 0L);
+    Words.put64(b, ((int) l0) - 58896, 0L);
+    Words.put64(b, ((int) l0) - 58904, 0L);
+    Words.put64(b, ((int) l0) - 58912, 0L);
     break L379;
    }
-   Words.put64(b, ((int) l0) - 60720, 1L);
-   Words.put32(b, ((int) (l0 + 20L)) - 60720, l17);
-   Words.put32(b, ((int) (l0 + 16L)) - 60720, l16);
-   Words.put64(b, ((int) (l0 + 8L)) - 60720, l7);
+   Words.put64(b, ((int) l0) - 58912, 1L);
+   Words.put32(b, ((int) (l0 + 20L)) - 58912, l17);
+   Words.put32(b, ((int) (l0 + 16L)) - 58912, l16);
+   Words.put64(b, ((int) (l0 + 8L)) - 58912, l7);
   }
  }
  m.kept[0] = l1;
@@ -7869,31 +7869,31 @@ static void f26(State m, long l0, int l1, long l2, long l3) {
           }
          }
          l5 = 0L;
-         Words.put64(b, ((int) l4) - 60568, 0L);
-         Words.put64(b, ((int) l4) - 60560, 0L);
-         Words.put64(b, ((int) l4) - 60552, 0L);
-         Words.put64(b, ((int) l4) - 60544, 0L);
-         Words.put64(b, ((int) l4) - 60536, 0L);
-         Words.put64(b, ((int) l4) - 60528, 0L);
-         Words.put64(b, ((int) l4) - 60520, 0L);
-         Words.put64(b, ((int) l4) - 60504, 0L);
-         Words.put64(b, ((int) l4) - 59384, 0L);
-         Words.put64(b, ((int) l4) - 59376, 0L);
-         Words.put64(b, ((int) l4) - 59368, 0L);
-         Words.put64(b, ((int) l4) - 59360, 0L);
-         Words.put64(b, ((int) l4) - 59352, 0L);
-         Words.put64(b, ((int) l4) - 59344, 0L);
-         Words.put64(b, ((int) l4) - 59336, 0L);
+         Words.put64(b, ((int) l4) - 58760, 0L);
+         Words.put64(b, ((int) l4) - 58752, 0L);
+         Words.put64(b, ((int) l4) - 58744, 0L);
+         Words.put64(b, ((int) l4) - 58736, 0L);
+         Words.put64(b, ((int) l4) - 58728, 0L);
+         Words.put64(b, ((int) l4) - 58720, 0L);
+         Words.put64(b, ((int) l4) - 58712, 0L);
+         Words.put64(b, ((int) l4) - 58696, 0L);
+         Words.put64(b, ((int) l4) - 57576, 0L);
+         Words.put64(b, ((int) l4) - 57568, 0L);
+         Words.put64(b, ((int) l4) - 57560, 0L);
+         Words.put64(b, ((int) l4) - 57552, 0L);
+         Words.put64(b, ((int) l4) - 57544, 0L);
+         Words.put64(b, ((int) l4) - 57536, 0L);
+         Words.put64(b, ((int) l4) - 57528, 0L);
          m.fill((int) (l4 + 1136L), 0, (int) 200L);
-         Words.put64(b, ((int) l4) - 60608, 0L);
+         Words.put64(b, ((int) l4) - 58800, 0L);
          m.fill((int) (l4 + 768L), 0, (int) 336L);
-         Words.put64(b, ((int) l4) - 60480, 0L);
-         Words.put64(b, ((int) l4) - 60488, 0L);
-         Words.put64(b, ((int) l4) - 60496, 0L);
+         Words.put64(b, ((int) l4) - 58672, 0L);
+         Words.put64(b, ((int) l4) - 58680, 0L);
+         Words.put64(b, ((int) l4) - 58688, 0L);
          f8(m, l4 + 152L, l4 + 216L, l2, l3, -1L);
-         l6 = Words.get64(b, ((int) l4) - 60520);
+         l6 = Words.get64(b, ((int) l4) - 58712);
          L10: {
-          if ((l16 = b[((int) l4) - 60568] & 0xff) + Integer.MIN_VALUE < -2147483631) { break L10; }
+          if ((l16 = b[((int) l4) - 58760] & 0xff) + Integer.MIN_VALUE < -2147483631) { break L10; }
           L11: {
            switch (l16 + -17) {
            case 1: break L10;
@@ -7902,50 +7902,50 @@ static void f26(State m, long l0, int l1, long l2, long l3) {
           }
           if (l6 == 0L) { break L2; }
          }
-         b[((int) l4) - 60608] = (byte) l16;
-         Words.put16(b, ((int) l4) - 60607, (short) (Words.get16(b, ((int) l4) - 60567) & 0xffff));
-         Words.put64(b, ((int) l4) - 60600, Words.get64(b, ((int) (l7 = l4 + 160L)) - 60720));
-         Words.put64(b, ((int) l4) - 60592, Words.get64(b, ((int) l7) - 60712));
-         Words.put64(b, ((int) l4) - 60584, Words.get64(b, ((int) l7) - 60704));
-         l8 = Words.get64(b, ((int) l4) - 60536);
+         b[((int) l4) - 58800] = (byte) l16;
+         Words.put16(b, ((int) l4) - 58799, (short) (Words.get16(b, ((int) l4) - 58759) & 0xffff));
+         Words.put64(b, ((int) l4) - 58792, Words.get64(b, ((int) (l7 = l4 + 160L)) - 58912));
+         Words.put64(b, ((int) l4) - 58784, Words.get64(b, ((int) l7) - 58904));
+         Words.put64(b, ((int) l4) - 58776, Words.get64(b, ((int) l7) - 58896));
+         l8 = Words.get64(b, ((int) l4) - 58728);
          f9(m, l4 + 1136L, l4 + 112L);
          f27(m, l4 + 1336L, l2, l3, l8, l4 + 1136L, 66048L, 32L);
          f28(m, l4 + 768L, l4 + 1336L);
          m.copy((int) (l4 + 432L), (int) (l4 + 768L), (int) 336L);
          L12: while (true) {
           L13: {
-           if ((b[((int) (l9 = (l4 + 432L) + l5)) - 60720] & 0xff) != 1) { break L13; }
-           if (l8 + Long.MIN_VALUE < (l7 = Words.get64(b, ((int) (l9 + 8L)) - 60720)) + Long.MIN_VALUE) { break L13; }
-           l17 = Words.get32(b, ((int) (l9 + 20L)) - 60720);
-           l16 = b[((int) (l9 + 16L)) - 60720] & 0xff;
-           Words.put64(b, ((int) l4) - 60400, 0L);
-           Words.put64(b, ((int) l4) - 60392, 0L);
-           Words.put64(b, ((int) l4) - 60384, 0L);
-           Words.put64(b, ((int) l4) - 60376, 0L);
-           Words.put64(b, ((int) l4) - 60368, 0L);
-           Words.put64(b, ((int) l4) - 60360, 0L);
-           Words.put64(b, ((int) l4) - 60352, 0L);
-           Words.put64(b, ((int) l4) - 60336, 0L);
-           Words.put64(b, ((int) l4) - 60464, 0L);
-           Words.put64(b, ((int) l4) - 60456, 0L);
-           Words.put64(b, ((int) l4) - 60448, 0L);
-           Words.put64(b, ((int) l4) - 60440, 0L);
-           Words.put64(b, ((int) l4) - 60432, 0L);
-           Words.put64(b, ((int) l4) - 60424, 0L);
-           Words.put64(b, ((int) l4) - 60416, 0L);
-           Words.put64(b, ((int) l4) - 60656, 0L);
-           Words.put64(b, ((int) l4) - 60648, 0L);
-           Words.put64(b, ((int) l4) - 60640, 0L);
-           Words.put64(b, ((int) l4) - 60632, 0L);
+           if ((b[((int) (l9 = (l4 + 432L) + l5)) - 58912] & 0xff) != 1) { break L13; }
+           if (l8 + Long.MIN_VALUE < (l7 = Words.get64(b, ((int) (l9 + 8L)) - 58912)) + Long.MIN_VALUE) { break L13; }
+           l17 = Words.get32(b, ((int) (l9 + 20L)) - 58912);
+           l16 = b[((int) (l9 + 16L)) - 58912] & 0xff;
+           Words.put64(b, ((int) l4) - 58592, 0L);
+           Words.put64(b, ((int) l4) - 58584, 0L);
+           Words.put64(b, ((int) l4) - 58576, 0L);
+           Words.put64(b, ((int) l4) - 58568, 0L);
+           Words.put64(b, ((int) l4) - 58560, 0L);
+           Words.put64(b, ((int) l4) - 58552, 0L);
+           Words.put64(b, ((int) l4) - 58544, 0L);
+           Words.put64(b, ((int) l4) - 58528, 0L);
+           Words.put64(b, ((int) l4) - 58656, 0L);
+           Words.put64(b, ((int) l4) - 58648, 0L);
+           Words.put64(b, ((int) l4) - 58640, 0L);
+           Words.put64(b, ((int) l4) - 58632, 0L);
+           Words.put64(b, ((int) l4) - 58624, 0L);
+           Words.put64(b, ((int) l4) - 58616, 0L);
+           Words.put64(b, ((int) l4) - 58608, 0L);
+           Words.put64(b, ((int) l4) - 58848, 0L);
+           Words.put64(b, ((int) l4) - 58840, 0L);
+           Words.put64(b, ((int) l4) - 58832, 0L);
+           Words.put64(b, ((int) l4) - 58824, 0L);
            f8(m, l4 + 320L, l4 + 64L, l2, l3, l7);
-           l9 = Words.get64(b, ((int) l4) - 60352);
-           l10 = Words.get64(b, ((int) l4) - 60360);
-           l11 = Words.get64(b, ((int) l4) - 60376);
-           l12 = Words.get64(b, ((int) l4) - 60384);
-           l13 = Words.get64(b, ((int) l4) - 60392);
-           l18 = b[((int) l4) - 60398] & 0xff;
-           l19 = b[((int) l4) - 60399] & 0xff;
-           l20 = b[((int) l4) - 60400] & 0xff;
+           l9 = Words.get64(b, ((int) l4) - 58544);
+           l10 = Words.get64(b, ((int) l4) - 58552);
+           l11 = Words.get64(b, ((int) l4) - 58568);
+           l12 = Words.get64(b, ((int) l4) - 58576);
+           l13 = Words.get64(b, ((int) l4) - 58584);
+           l18 = b[((int) l4) - 58590] & 0xff;
+           l19 = b[((int) l4) - 58591] & 0xff;
+           l20 = b[((int) l4) - 58592] & 0xff;
            L14: {
             L15: {
              L16: {
@@ -8025,7 +8025,7 @@ static void f26(State m, long l0, int l1, long l2, long l3) {
                                                    if (l9 == 0L) { break L13; }
                                                    L151: {
                                                     L152: {
-                                                     if ((l22 = (int) b[((int) l10) - 60720]) <= -1) { break L152; }
+                                                     if ((l22 = (int) b[((int) l10) - 58912]) <= -1) { break L152; }
                                                      l15 = 1L;
                                                      break L151;
                                                     }
@@ -8037,11 +8037,11 @@ static void f26(State m, long l0, int l1, long l2, long l3) {
                                                     l15 = (l22 + Integer.MIN_VALUE < 2147483632) ? 3L : 4L;
                                                    }
                                                    if (Words.get32(b, State.far((int) (l14 = (((l17 * 3227) >>> 7) & 0xffffffffL) & 504L), 65536)) != l17) { break L13; }
-                                                   if (((b[((int) (l14 + 65540L)) - 60720] & 0xff) & 255) != 1) { break L13; }
+                                                   if (((b[((int) (l14 + 65540L)) - 58912] & 0xff) & 255) != 1) { break L13; }
                                                    l9 = l9 - l15;
                                                    l10 = l10 + l15;
-                                                   l15 = b[((int) (l14 + 65542L)) - 60720] & 0xffL;
-                                                   l21 = b[((int) (l14 + 65541L)) - 60720] & 0xff;
+                                                   l15 = b[((int) (l14 + 65542L)) - 58912] & 0xffL;
+                                                   l21 = b[((int) (l14 + 65541L)) - 58912] & 0xff;
                                                    final int x239 = f26_2(m, l11, l12, l13, l18, l19, l20, l21, l22, l23, l24, l25);
                                                    l13 = m.kept[0];
                                                    l18 = (int) m.kept[1];
@@ -8140,7 +8140,7 @@ static void f26(State m, long l0, int l1, long l2, long l3) {
                                     if (l9 == 0L) { break L13; }
                                     L240: {
                                      L241: {
-                                      if ((l22 = (int) b[((int) l10) - 60720]) <= -1) { break L241; }
+                                      if ((l22 = (int) b[((int) l10) - 58912]) <= -1) { break L241; }
                                       l14 = 1L;
                                       break L240;
                                      }
@@ -8239,25 +8239,25 @@ static void f26(State m, long l0, int l1, long l2, long l3) {
             l12 = 0L;
             l11 = 0L;
            }
-           Words.put64(b, ((int) l4) - 60312, l11);
-           Words.put64(b, ((int) l4) - 60320, l12);
-           Words.put64(b, ((int) l4) - 60328, l13);
-           b[((int) l4) - 60334] = (byte) l18;
-           b[((int) l4) - 60335] = (byte) l22;
-           b[((int) l4) - 60336] = (byte) l20;
+           Words.put64(b, ((int) l4) - 58504, l11);
+           Words.put64(b, ((int) l4) - 58512, l12);
+           Words.put64(b, ((int) l4) - 58520, l13);
+           b[((int) l4) - 58526] = (byte) l18;
+           b[((int) l4) - 58527] = (byte) l22;
+           b[((int) l4) - 58528] = (byte) l20;
            f8(m, l4 + 256L, l4 + 384L, l10, l9, -1L);
            L243: {
-            if (Words.get64(b, ((int) l4) - 60416) != 0L) { break L243; }
+            if (Words.get64(b, ((int) l4) - 58608) != 0L) { break L243; }
             l20 = 1;
             if (l6 != 0L) { break L1; }
-            if ((l18 = b[((int) l4) - 60464] & 0xff) + Integer.MIN_VALUE < -2147483631) { break L13; }
+            if ((l18 = b[((int) l4) - 58656] & 0xff) + Integer.MIN_VALUE < -2147483631) { break L13; }
             switch (l18 + -17) {
             case 1: break L13;
             default: break L1;
             }
            }
            if (l6 == 0L) { break L13; }
-           l9 = (Words.get64(b, ((int) l4) - 60368) + ((l16 != 2) ? 1L : 0L)) + Words.get64(b, ((int) l4) - 60432);
+           l9 = (Words.get64(b, ((int) l4) - 58560) + ((l16 != 2) ? 1L : 0L)) + Words.get64(b, ((int) l4) - 58624);
            l10 = 2L;
            L244: {
             L245: {
@@ -8276,24 +8276,24 @@ static void f26(State m, long l0, int l1, long l2, long l3) {
            l20 = 1;
            if ((l10 = l10 + l8) + Long.MIN_VALUE < l9 + Long.MIN_VALUE) { break L1; }
            if (l9 != l10) { break L13; }
-           l18 = (l19 = (int) b[((int) (l9 = Words.get64(b, ((int) l4) - 60424))) - 60720]) & 255;
+           l18 = (l19 = (int) b[((int) (l9 = Words.get64(b, ((int) l4) - 58616))) - 58912]) & 255;
            L247: {
             if (l19 > -1) { break L247; }
-            l22 = (b[((int) l9) - 60719] & 0xff) & 63;
+            l22 = (b[((int) l9) - 58911] & 0xff) & 63;
             L248: {
              if (l19 + Integer.MIN_VALUE > 2147483615) { break L248; }
              l18 = ((l18 << 6) & 1984) | l22;
              break L247;
             }
-            l21 = (b[((int) l9) - 60718] & 0xff) & 63;
+            l21 = (b[((int) l9) - 58910] & 0xff) & 63;
             L249: {
              if (l19 + Integer.MIN_VALUE > 2147483631) { break L249; }
              l18 = ((l22 << 6) | ((l18 << 12) & 61440)) | l21;
              break L247;
             }
-            l18 = ((l21 << 6) | ((l22 << 12) | ((l18 << 18) & 1835008))) | ((b[((int) l9) - 60717] & 0xff) & 63);
+            l18 = ((l21 << 6) | ((l22 << 12) | ((l18 << 18) & 1835008))) | ((b[((int) l9) - 58909] & 0xff) & 63);
            }
-           Words.put32(b, ((int) l4) - 60400, l18);
+           Words.put32(b, ((int) l4) - 58592, l18);
            if (f29(m, 66048L, 32L, l4 + 320L) == 0) { break L1; }
           }
           if ((l5 = l5 + 24L) != 336L) { continue L12; }
@@ -8302,42 +8302,42 @@ static void f26(State m, long l0, int l1, long l2, long l3) {
         }
         throw State.trap();
        }
-       Words.put64(b, ((int) l4) - 60568, 0L);
-       Words.put64(b, ((int) l4) - 60560, 0L);
-       Words.put64(b, ((int) l4) - 60552, 0L);
-       Words.put64(b, ((int) l4) - 60544, 0L);
-       Words.put64(b, ((int) l4) - 60536, 0L);
-       Words.put64(b, ((int) l4) - 60528, 0L);
-       Words.put64(b, ((int) l4) - 60520, 0L);
-       Words.put64(b, ((int) l4) - 59328, 0L);
-       Words.put64(b, ((int) l4) - 59320, 0L);
-       Words.put64(b, ((int) l4) - 59384, 0L);
-       Words.put64(b, ((int) l4) - 59376, 0L);
-       Words.put64(b, ((int) l4) - 59368, 0L);
-       Words.put64(b, ((int) l4) - 59360, 0L);
-       Words.put64(b, ((int) l4) - 59352, 0L);
-       Words.put64(b, ((int) l4) - 59344, 0L);
-       Words.put64(b, ((int) l4) - 59336, 0L);
+       Words.put64(b, ((int) l4) - 58760, 0L);
+       Words.put64(b, ((int) l4) - 58752, 0L);
+       Words.put64(b, ((int) l4) - 58744, 0L);
+       Words.put64(b, ((int) l4) - 58736, 0L);
+       Words.put64(b, ((int) l4) - 58728, 0L);
+       Words.put64(b, ((int) l4) - 58720, 0L);
+       Words.put64(b, ((int) l4) - 58712, 0L);
+       Words.put64(b, ((int) l4) - 57520, 0L);
+       Words.put64(b, ((int) l4) - 57512, 0L);
+       Words.put64(b, ((int) l4) - 57576, 0L);
+       Words.put64(b, ((int) l4) - 57568, 0L);
+       Words.put64(b, ((int) l4) - 57560, 0L);
+       Words.put64(b, ((int) l4) - 57552, 0L);
+       Words.put64(b, ((int) l4) - 57544, 0L);
+       Words.put64(b, ((int) l4) - 57536, 0L);
+       Words.put64(b, ((int) l4) - 57528, 0L);
        m.fill((int) (l4 + 1136L), 0, (int) 200L);
-       Words.put64(b, ((int) l4) - 59608, 0L);
-       Words.put64(b, ((int) l4) - 59616, 0L);
+       Words.put64(b, ((int) l4) - 57800, 0L);
+       Words.put64(b, ((int) l4) - 57808, 0L);
        m.fill((int) (l4 + 768L), 0, (int) 336L);
-       Words.put64(b, ((int) l4) - 59304, 0L);
-       Words.put64(b, ((int) l4) - 59312, 1L);
+       Words.put64(b, ((int) l4) - 57496, 0L);
+       Words.put64(b, ((int) l4) - 57504, 1L);
        f18(m, l4 + 152L, l4 + 1392L, l2, l3, -1L);
-       l7 = Words.get64(b, ((int) l4) - 60544);
-       l5 = b[((int) l4) - 60552] & 0xffL;
-       l16 = b[((int) l4) - 60568] & 0xff;
-       l12 = Words.get64(b, ((int) l4) - 60520);
+       l7 = Words.get64(b, ((int) l4) - 58736);
+       l5 = b[((int) l4) - 58744] & 0xffL;
+       l16 = b[((int) l4) - 58760] & 0xff;
+       l12 = Words.get64(b, ((int) l4) - 58712);
        L250: {
-        if (((1 << (l17 = b[((int) l4) - 60560] & 0xff)) & 6716) == 0) { break L250; }
+        if (((1 << (l17 = b[((int) l4) - 58752] & 0xff)) & 6716) == 0) { break L250; }
         if (l12 == 0L) { break L2; }
        }
-       Words.put64(b, ((int) l4) - 59592, l7);
-       Words.put64(b, ((int) l4) - 59600, l5);
-       b[((int) l4) - 59608] = (byte) l17;
-       b[((int) l4) - 59616] = (byte) l16;
-       l8 = Words.get64(b, ((int) l4) - 60536);
+       Words.put64(b, ((int) l4) - 57784, l7);
+       Words.put64(b, ((int) l4) - 57792, l5);
+       b[((int) l4) - 57800] = (byte) l17;
+       b[((int) l4) - 57808] = (byte) l16;
+       l8 = Words.get64(b, ((int) l4) - 58728);
        f19(m, l4 + 1136L, l4 + 1104L);
        f27(m, l4 + 1336L, l2, l3, l8, l4 + 1136L, 66564L, 29L);
        f28(m, l4 + 768L, l4 + 1336L);
@@ -8368,38 +8368,38 @@ static void f26(State m, long l0, int l1, long l2, long l3) {
        break L1;
       }
       l7 = 0L;
-      Words.put64(b, ((int) l4) - 59384, 0L);
-      Words.put64(b, ((int) l4) - 59376, 0L);
-      Words.put64(b, ((int) l4) - 59368, 0L);
-      Words.put64(b, ((int) l4) - 59360, 0L);
-      Words.put64(b, ((int) l4) - 59352, 0L);
+      Words.put64(b, ((int) l4) - 57576, 0L);
+      Words.put64(b, ((int) l4) - 57568, 0L);
+      Words.put64(b, ((int) l4) - 57560, 0L);
+      Words.put64(b, ((int) l4) - 57552, 0L);
+      Words.put64(b, ((int) l4) - 57544, 0L);
       l20 = 0;
-      Words.put16(b, ((int) l4) - 59320, (short) 0);
-      Words.put64(b, ((int) l4) - 60400, 0L);
-      Words.put64(b, ((int) l4) - 60392, 0L);
-      Words.put64(b, ((int) l4) - 60384, 0L);
-      Words.put64(b, ((int) l4) - 60376, 0L);
-      Words.put64(b, ((int) l4) - 60368, 0L);
-      Words.put64(b, ((int) l4) - 60360, 0L);
-      Words.put64(b, ((int) l4) - 60352, 0L);
+      Words.put16(b, ((int) l4) - 57512, (short) 0);
+      Words.put64(b, ((int) l4) - 58592, 0L);
+      Words.put64(b, ((int) l4) - 58584, 0L);
+      Words.put64(b, ((int) l4) - 58576, 0L);
+      Words.put64(b, ((int) l4) - 58568, 0L);
+      Words.put64(b, ((int) l4) - 58560, 0L);
+      Words.put64(b, ((int) l4) - 58552, 0L);
+      Words.put64(b, ((int) l4) - 58544, 0L);
       m.fill((int) (l4 + 1136L), 0, (int) 200L);
-      Words.put16(b, ((int) l4) - 59608, (short) 0);
+      Words.put16(b, ((int) l4) - 57800, (short) 0);
       m.fill((int) (l4 + 768L), 0, (int) 336L);
-      b[((int) l4) - 59320] = (byte) 0;
-      Words.put64(b, ((int) l4) - 59328, 0L);
+      b[((int) l4) - 57512] = (byte) 0;
+      Words.put64(b, ((int) l4) - 57520, 0L);
       f16(m, l4 + 1336L, l4 + 1392L, l2, l3, -1L);
-      l18 = b[((int) l4) - 59384] & 0xff;
+      l18 = b[((int) l4) - 57576] & 0xff;
       L271: {
-       if ((l11 = Words.get64(b, ((int) l4) - 59352)) != 0L) { break L271; }
+       if ((l11 = Words.get64(b, ((int) l4) - 57544)) != 0L) { break L271; }
        l16 = 0;
        l17 = 0;
        if ((l18 & 255) == 3) { break L1; }
       }
-      Words.put32(b, ((int) l4) - 59614, Words.get32(b, ((int) l4) - 59382));
-      b[((int) l4) - 59610] = (byte) (b[((int) l4) - 59378] & 0xff);
-      Words.put16(b, ((int) l4) - 59609, (short) (Words.get16(b, ((int) l4) - 59377) & 0xffff));
-      Words.put16(b, ((int) l4) - 59616, (short) (l18 & 255));
-      l8 = Words.get64(b, ((int) l4) - 59368);
+      Words.put32(b, ((int) l4) - 57806, Words.get32(b, ((int) l4) - 57574));
+      b[((int) l4) - 57802] = (byte) (b[((int) l4) - 57570] & 0xff);
+      Words.put16(b, ((int) l4) - 57801, (short) (Words.get16(b, ((int) l4) - 57569) & 0xffff));
+      Words.put16(b, ((int) l4) - 57808, (short) (l18 & 255));
+      l8 = Words.get64(b, ((int) l4) - 57560);
       f17(m, l4 + 1136L, l4 + 1104L);
       f27(m, l4 + 320L, l2, l3, l8, l4 + 1136L, 66492L, 18L);
       f28(m, l4 + 768L, l4 + 320L);
@@ -8425,35 +8425,35 @@ static void f26(State m, long l0, int l1, long l2, long l3) {
       }
      }
      l5 = 0L;
-     Words.put64(b, ((int) l4) - 60568, 0L);
-     Words.put64(b, ((int) l4) - 60560, 0L);
-     Words.put64(b, ((int) l4) - 60552, 0L);
-     Words.put64(b, ((int) l4) - 60544, 0L);
-     Words.put64(b, ((int) l4) - 60536, 0L);
-     Words.put64(b, ((int) l4) - 60528, 0L);
-     Words.put64(b, ((int) l4) - 60520, 0L);
-     Words.put64(b, ((int) l4) - 60512, 0L);
-     Words.put64(b, ((int) l4) - 59384, 0L);
-     Words.put64(b, ((int) l4) - 59376, 0L);
-     Words.put64(b, ((int) l4) - 59368, 0L);
-     Words.put64(b, ((int) l4) - 59360, 0L);
-     Words.put64(b, ((int) l4) - 59352, 0L);
-     Words.put64(b, ((int) l4) - 59344, 0L);
-     Words.put64(b, ((int) l4) - 59336, 0L);
+     Words.put64(b, ((int) l4) - 58760, 0L);
+     Words.put64(b, ((int) l4) - 58752, 0L);
+     Words.put64(b, ((int) l4) - 58744, 0L);
+     Words.put64(b, ((int) l4) - 58736, 0L);
+     Words.put64(b, ((int) l4) - 58728, 0L);
+     Words.put64(b, ((int) l4) - 58720, 0L);
+     Words.put64(b, ((int) l4) - 58712, 0L);
+     Words.put64(b, ((int) l4) - 58704, 0L);
+     Words.put64(b, ((int) l4) - 57576, 0L);
+     Words.put64(b, ((int) l4) - 57568, 0L);
+     Words.put64(b, ((int) l4) - 57560, 0L);
+     Words.put64(b, ((int) l4) - 57552, 0L);
+     Words.put64(b, ((int) l4) - 57544, 0L);
+     Words.put64(b, ((int) l4) - 57536, 0L);
+     Words.put64(b, ((int) l4) - 57528, 0L);
      m.fill((int) (l4 + 1136L), 0, (int) 200L);
      m.fill((int) (l4 + 768L), 0, (int) 336L);
-     Words.put32(b, ((int) l4) - 60605, 0);
-     b[((int) l4) - 60606] = (byte) 1;
-     Words.put16(b, ((int) l4) - 60608, (short) 1);
-     Words.put64(b, ((int) l4) - 60599, 0L);
-     Words.put16(b, ((int) l4) - 60601, (short) 768);
-     Words.put64(b, ((int) l4) - 60591, 0L);
-     Words.put64(b, ((int) l4) - 60583, 0L);
-     Words.put64(b, ((int) l4) - 60576, 0L);
+     Words.put32(b, ((int) l4) - 58797, 0);
+     b[((int) l4) - 58798] = (byte) 1;
+     Words.put16(b, ((int) l4) - 58800, (short) 1);
+     Words.put64(b, ((int) l4) - 58791, 0L);
+     Words.put16(b, ((int) l4) - 58793, (short) 768);
+     Words.put64(b, ((int) l4) - 58783, 0L);
+     Words.put64(b, ((int) l4) - 58775, 0L);
+     Words.put64(b, ((int) l4) - 58768, 0L);
      f14(m, l4 + 152L, l4 + 112L, l2, l3, -1L);
-     l12 = Words.get64(b, ((int) l4) - 60512);
+     l12 = Words.get64(b, ((int) l4) - 58704);
      L292: {
-      if ((l16 = b[((int) l4) - 60560] & 0xff) + Integer.MIN_VALUE < -2147483631) { break L292; }
+      if ((l16 = b[((int) l4) - 58752] & 0xff) + Integer.MIN_VALUE < -2147483631) { break L292; }
       L293: {
        switch (l16 + -17) {
        case 1: break L292;
@@ -8462,7 +8462,7 @@ static void f26(State m, long l0, int l1, long l2, long l3) {
       }
       if (l12 == 0L) { break L2; }
      }
-     l11 = Words.get64(b, ((int) l4) - 60528);
+     l11 = Words.get64(b, ((int) l4) - 58720);
      f15(m, l4 + 1136L, l4 + 152L);
      f27(m, l4 + 1336L, l2, l3, l11, l4 + 1136L, 66048L, 47L);
      f28(m, l4 + 768L, l4 + 1336L);
@@ -8489,35 +8489,35 @@ static void f26(State m, long l0, int l1, long l2, long l3) {
      }
     }
     l5 = 0L;
-    Words.put64(b, ((int) l4) - 60568, 0L);
-    Words.put64(b, ((int) l4) - 60560, 0L);
-    Words.put64(b, ((int) l4) - 60552, 0L);
-    Words.put64(b, ((int) l4) - 60544, 0L);
-    Words.put64(b, ((int) l4) - 60536, 0L);
-    Words.put64(b, ((int) l4) - 60528, 0L);
-    Words.put64(b, ((int) l4) - 60520, 0L);
-    Words.put64(b, ((int) l4) - 60512, 0L);
-    Words.put64(b, ((int) l4) - 59384, 0L);
-    Words.put64(b, ((int) l4) - 59376, 0L);
-    Words.put64(b, ((int) l4) - 59368, 0L);
-    Words.put64(b, ((int) l4) - 59360, 0L);
-    Words.put64(b, ((int) l4) - 59352, 0L);
-    Words.put64(b, ((int) l4) - 59344, 0L);
-    Words.put64(b, ((int) l4) - 59336, 0L);
+    Words.put64(b, ((int) l4) - 58760, 0L);
+    Words.put64(b, ((int) l4) - 58752, 0L);
+    Words.put64(b, ((int) l4) - 58744, 0L);
+    Words.put64(b, ((int) l4) - 58736, 0L);
+    Words.put64(b, ((int) l4) - 58728, 0L);
+    Words.put64(b, ((int) l4) - 58720, 0L);
+    Words.put64(b, ((int) l4) - 58712, 0L);
+    Words.put64(b, ((int) l4) - 58704, 0L);
+    Words.put64(b, ((int) l4) - 57576, 0L);
+    Words.put64(b, ((int) l4) - 57568, 0L);
+    Words.put64(b, ((int) l4) - 57560, 0L);
+    Words.put64(b, ((int) l4) - 57552, 0L);
+    Words.put64(b, ((int) l4) - 57544, 0L);
+    Words.put64(b, ((int) l4) - 57536, 0L);
+    Words.put64(b, ((int) l4) - 57528, 0L);
     m.fill((int) (l4 + 1136L), 0, (int) 200L);
     m.fill((int) (l4 + 768L), 0, (int) 336L);
-    Words.put32(b, ((int) l4) - 60605, 0);
-    b[((int) l4) - 60606] = (byte) 1;
-    Words.put16(b, ((int) l4) - 60608, (short) 257);
-    Words.put64(b, ((int) l4) - 60599, 0L);
-    Words.put16(b, ((int) l4) - 60601, (short) 768);
-    Words.put64(b, ((int) l4) - 60591, 0L);
-    Words.put64(b, ((int) l4) - 60583, 0L);
-    Words.put64(b, ((int) l4) - 60576, 0L);
+    Words.put32(b, ((int) l4) - 58797, 0);
+    b[((int) l4) - 58798] = (byte) 1;
+    Words.put16(b, ((int) l4) - 58800, (short) 257);
+    Words.put64(b, ((int) l4) - 58791, 0L);
+    Words.put16(b, ((int) l4) - 58793, (short) 768);
+    Words.put64(b, ((int) l4) - 58783, 0L);
+    Words.put64(b, ((int) l4) - 58775, 0L);
+    Words.put64(b, ((int) l4) - 58768, 0L);
     f12(m, l4 + 152L, l4 + 112L, l2, l3, -1L);
-    l12 = Words.get64(b, ((int) l4) - 60512);
+    l12 = Words.get64(b, ((int) l4) - 58704);
     L324: {
-     if ((l16 = b[((int) l4) - 60560] & 0xff) + Integer.MIN_VALUE < -2147483631) { break L324; }
+     if ((l16 = b[((int) l4) - 58752] & 0xff) + Integer.MIN_VALUE < -2147483631) { break L324; }
      L325: {
       switch (l16 + -17) {
       case 1: break L324;
@@ -8526,7 +8526,7 @@ static void f26(State m, long l0, int l1, long l2, long l3) {
      }
      if (l12 == 0L) { break L2; }
     }
-    l11 = Words.get64(b, ((int) l4) - 60528);
+    l11 = Words.get64(b, ((int) l4) - 58720);
     f13(m, l4 + 1136L, l4 + 152L);
     f27(m, l4 + 1336L, l2, l3, l11, l4 + 1136L, 66048L, 47L);
     f28(m, l4 + 768L, l4 + 1336L);
@@ -8553,32 +8553,32 @@ static void f26(State m, long l0, int l1, long l2, long l3) {
     }
    }
    l5 = 0L;
-   Words.put64(b, ((int) l4) - 60568, 0L);
-   Words.put64(b, ((int) l4) - 60560, 0L);
-   Words.put64(b, ((int) l4) - 60552, 0L);
-   Words.put64(b, ((int) l4) - 60544, 0L);
-   Words.put64(b, ((int) l4) - 60536, 0L);
-   Words.put64(b, ((int) l4) - 60528, 0L);
-   Words.put64(b, ((int) l4) - 60520, 0L);
-   Words.put64(b, ((int) l4) - 60512, 0L);
-   Words.put64(b, ((int) l4) - 59384, 0L);
-   Words.put64(b, ((int) l4) - 59376, 0L);
-   Words.put64(b, ((int) l4) - 59368, 0L);
-   Words.put64(b, ((int) l4) - 59360, 0L);
-   Words.put64(b, ((int) l4) - 59352, 0L);
-   Words.put64(b, ((int) l4) - 59344, 0L);
-   Words.put64(b, ((int) l4) - 59336, 0L);
+   Words.put64(b, ((int) l4) - 58760, 0L);
+   Words.put64(b, ((int) l4) - 58752, 0L);
+   Words.put64(b, ((int) l4) - 58744, 0L);
+   Words.put64(b, ((int) l4) - 58736, 0L);
+   Words.put64(b, ((int) l4) - 58728, 0L);
+   Words.put64(b, ((int) l4) - 58720, 0L);
+   Words.put64(b, ((int) l4) - 58712, 0L);
+   Words.put64(b, ((int) l4) - 58704, 0L);
+   Words.put64(b, ((int) l4) - 57576, 0L);
+   Words.put64(b, ((int) l4) - 57568, 0L);
+   Words.put64(b, ((int) l4) - 57560, 0L);
+   Words.put64(b, ((int) l4) - 57552, 0L);
+   Words.put64(b, ((int) l4) - 57544, 0L);
+   Words.put64(b, ((int) l4) - 57536, 0L);
+   Words.put64(b, ((int) l4) - 57528, 0L);
    m.fill((int) (l4 + 1136L), 0, (int) 200L);
    m.fill((int) (l4 + 768L), 0, (int) 336L);
-   Words.put64(b, ((int) l4) - 60664, 0L);
-   Words.put64(b, ((int) l4) - 60672, 0L);
-   Words.put64(b, ((int) l4) - 60680, 0L);
-   Words.put64(b, ((int) l4) - 60688, 0L);
-   Words.put64(b, ((int) l4) - 60696, 0L);
+   Words.put64(b, ((int) l4) - 58856, 0L);
+   Words.put64(b, ((int) l4) - 58864, 0L);
+   Words.put64(b, ((int) l4) - 58872, 0L);
+   Words.put64(b, ((int) l4) - 58880, 0L);
+   Words.put64(b, ((int) l4) - 58888, 0L);
    f10(m, l4 + 152L, l4 + 24L, l2, l3, -1L);
-   l12 = Words.get64(b, ((int) l4) - 60512);
+   l12 = Words.get64(b, ((int) l4) - 58704);
    L356: {
-    if ((l7 = Words.get64(b, ((int) l4) - 60567) >>> 56L) + Long.MIN_VALUE < -9223372036854775791L) { break L356; }
+    if ((l7 = Words.get64(b, ((int) l4) - 58759) >>> 56L) + Long.MIN_VALUE < -9223372036854775791L) { break L356; }
     L357: {
      switch (((int) l7) + -17) {
      case 1: break L356;
@@ -8587,7 +8587,7 @@ static void f26(State m, long l0, int l1, long l2, long l3) {
     }
     if (l12 == 0L) { break L2; }
    }
-   l8 = Words.get64(b, ((int) l4) - 60528);
+   l8 = Words.get64(b, ((int) l4) - 58720);
    f11(m, l4 + 1136L, l4 + 152L);
    f27(m, l4 + 1336L, l2, l3, l8, l4 + 1136L, 66048L, 34L);
    f28(m, l4 + 768L, l4 + 1336L);
@@ -8656,28 +8656,28 @@ static void f27(State m, long l0, long l1, long l2, long l3, long l4, long l5, l
      l14 = 0;
      break L2;
     }
-    l14 = (l15 = (int) b[((int) l8) - 60720]) & 255;
+    l14 = (l15 = (int) b[((int) l8) - 58912]) & 255;
     L5: {
      L6: {
       if (l15 <= -1) { break L6; }
       l10 = 1L;
       break L5;
      }
-     l16 = (b[((int) l8) - 60719] & 0xff) & 63;
+     l16 = (b[((int) l8) - 58911] & 0xff) & 63;
      L7: {
       if (l15 + Integer.MIN_VALUE > 2147483615) { break L7; }
       l14 = ((l14 << 6) & 1984) | l16;
       l10 = 2L;
       break L5;
      }
-     l17 = (b[((int) l8) - 60718] & 0xff) & 63;
+     l17 = (b[((int) l8) - 58910] & 0xff) & 63;
      L8: {
       if (l15 + Integer.MIN_VALUE > 2147483631) { break L8; }
       l14 = ((l16 << 6) | ((l14 << 12) & 61440)) | l17;
       l10 = 3L;
       break L5;
      }
-     l14 = ((l17 << 6) | ((l16 << 12) | ((l14 << 18) & 1835008))) | ((b[((int) l8) - 60717] & 0xff) & 63);
+     l14 = ((l17 << 6) | ((l16 << 12) | ((l14 << 18) & 1835008))) | ((b[((int) l8) - 58909] & 0xff) & 63);
      l10 = 4L;
     }
     l9 = l9 - l10;
@@ -8709,28 +8709,28 @@ static void f27(State m, long l0, long l1, long l2, long l3, long l4, long l5, l
         l19 = 0;
         break L13;
        }
-       l17 = (l15 = (int) b[((int) l8) - 60720]) & 255;
+       l17 = (l15 = (int) b[((int) l8) - 58912]) & 255;
        L16: {
         L17: {
          if (l15 <= -1) { break L17; }
          l10 = 1L;
          break L16;
         }
-        l16 = (b[((int) l8) - 60719] & 0xff) & 63;
+        l16 = (b[((int) l8) - 58911] & 0xff) & 63;
         L18: {
          if (l15 + Integer.MIN_VALUE > 2147483615) { break L18; }
          l17 = ((l17 << 6) & 1984) | l16;
          l10 = 2L;
          break L16;
         }
-        l18 = (b[((int) l8) - 60718] & 0xff) & 63;
+        l18 = (b[((int) l8) - 58910] & 0xff) & 63;
         L19: {
          if (l15 + Integer.MIN_VALUE > 2147483631) { break L19; }
          l17 = ((l16 << 6) | ((l17 << 12) & 61440)) | l18;
          l10 = 3L;
          break L16;
         }
-        l17 = ((l18 << 6) | ((l16 << 12) | ((l17 << 18) & 1835008))) | ((b[((int) l8) - 60717] & 0xff) & 63);
+        l17 = ((l18 << 6) | ((l16 << 12) | ((l17 << 18) & 1835008))) | ((b[((int) l8) - 58909] & 0xff) & 63);
         l10 = 4L;
        }
        l9 = l9 - l10;
@@ -8761,25 +8761,25 @@ static void f27(State m, long l0, long l1, long l2, long l3, long l4, long l5, l
       l11 = 0;
       break L22;
      }
-     l18 = (l15 = (int) b[((int) l8) - 60720]) & 255;
+     l18 = (l15 = (int) b[((int) l8) - 58912]) & 255;
      l9 = 1L;
      L25: {
       if (l15 > -1) { break L25; }
-      l11 = (b[((int) l8) - 60719] & 0xff) & 63;
+      l11 = (b[((int) l8) - 58911] & 0xff) & 63;
       L26: {
        if (l15 + Integer.MIN_VALUE > 2147483615) { break L26; }
        l18 = ((l18 << 6) & 1984) | l11;
        l9 = 2L;
        break L25;
       }
-      l16 = (b[((int) l8) - 60718] & 0xff) & 63;
+      l16 = (b[((int) l8) - 58910] & 0xff) & 63;
       L27: {
        if (l15 + Integer.MIN_VALUE > 2147483631) { break L27; }
        l18 = ((l11 << 6) | ((l18 << 12) & 61440)) | l16;
        l9 = 3L;
        break L25;
       }
-      l18 = ((l16 << 6) | ((l11 << 12) | ((l18 << 18) & 1835008))) | ((b[((int) l8) - 60717] & 0xff) & 63);
+      l18 = ((l16 << 6) | ((l11 << 12) | ((l18 << 18) & 1835008))) | ((b[((int) l8) - 58909] & 0xff) & 63);
       l9 = 4L;
      }
      l10 = l10 - l9;
@@ -8803,25 +8803,25 @@ static void f27(State m, long l0, long l1, long l2, long l3, long l4, long l5, l
      l20 = 0;
      break L9;
     }
-    l20 = (l15 = (int) b[((int) l1) - 60720]) & 255;
+    l20 = (l15 = (int) b[((int) l1) - 58912]) & 255;
     l8 = 1L;
     L33: {
      if (l15 > -1) { break L33; }
-     l16 = (b[((int) l1) - 60719] & 0xff) & 63;
+     l16 = (b[((int) l1) - 58911] & 0xff) & 63;
      L34: {
       if (l15 + Integer.MIN_VALUE > 2147483615) { break L34; }
       l20 = ((l20 << 6) & 1984) | l16;
       l8 = 2L;
       break L33;
      }
-     l22 = (b[((int) l1) - 60718] & 0xff) & 63;
+     l22 = (b[((int) l1) - 58910] & 0xff) & 63;
      L35: {
       if (l15 + Integer.MIN_VALUE > 2147483631) { break L35; }
       l20 = ((l16 << 6) | ((l20 << 12) & 61440)) | l22;
       l8 = 3L;
       break L33;
      }
-     l20 = ((l22 << 6) | ((l16 << 12) | ((l20 << 18) & 1835008))) | ((b[((int) l1) - 60717] & 0xff) & 63);
+     l20 = ((l22 << 6) | ((l16 << 12) | ((l20 << 18) & 1835008))) | ((b[((int) l1) - 58909] & 0xff) & 63);
      l8 = 4L;
     }
     l2 = l2 - l8;
@@ -8837,7 +8837,7 @@ static void f27(State m, long l0, long l1, long l2, long l3, long l4, long l5, l
    if (l12 != 0) { break L36; }
    l8 = l6 + -1L;
    L37: while (true) {
-    if ((l16 = (Words.get32(b, ((int) l5) - 60720) == l14) ? 1 : 0) != 0) { break L36; }
+    if ((l16 = (Words.get32(b, ((int) l5) - 58912) == l14) ? 1 : 0) != 0) { break L36; }
     l5 = l5 + 4L;
     l15 = (l8 != 0L) ? 1 : 0;
     l8 = l8 + -1L;
@@ -8847,25 +8847,25 @@ static void f27(State m, long l0, long l1, long l2, long l3, long l4, long l5, l
   }
   l15 = 0;
   L38: {
-   if (Words.get64(b, ((int) (l4 + 192L)) - 60720) != 1L) { break L38; }
-   l15 = Words.get32(b, ((int) l4) - 60720);
+   if (Words.get64(b, ((int) (l4 + 192L)) - 58912) != 1L) { break L38; }
+   l15 = Words.get32(b, ((int) l4) - 58912);
    l22 = 1;
   }
-  Words.put16(b, ((int) l0) - 60679, (short) 0);
-  b[((int) l0) - 60680] = (byte) l16;
-  Words.put32(b, ((int) l0) - 60684, l14);
-  Words.put32(b, ((int) l0) - 60688, l13);
-  Words.put32(b, ((int) l0) - 60692, l20);
-  Words.put32(b, ((int) l0) - 60696, l21);
-  Words.put32(b, ((int) l0) - 60700, l18);
-  Words.put32(b, ((int) l0) - 60704, l11);
-  Words.put32(b, ((int) l0) - 60708, l17);
-  Words.put32(b, ((int) l0) - 60712, l19);
-  Words.put64(b, ((int) l0) - 60720, l3);
-  b[((int) l0) - 60677] = (byte) 0;
-  Words.put32(b, ((int) l0) - 60668, 0);
-  Words.put32(b, ((int) l0) - 60672, l15);
-  Words.put32(b, ((int) l0) - 60676, l22);
+  Words.put16(b, ((int) l0) - 58871, (short) 0);
+  b[((int) l0) - 58872] = (byte) l16;
+  Words.put32(b, ((int) l0) - 58876, l14);
+  Words.put32(b, ((int) l0) - 58880, l13);
+  Words.put32(b, ((int) l0) - 58884, l20);
+  Words.put32(b, ((int) l0) - 58888, l21);
+  Words.put32(b, ((int) l0) - 58892, l18);
+  Words.put32(b, ((int) l0) - 58896, l11);
+  Words.put32(b, ((int) l0) - 58900, l17);
+  Words.put32(b, ((int) l0) - 58904, l19);
+  Words.put64(b, ((int) l0) - 58912, l3);
+  b[((int) l0) - 58869] = (byte) 0;
+  Words.put32(b, ((int) l0) - 58860, 0);
+  Words.put32(b, ((int) l0) - 58864, l15);
+  Words.put32(b, ((int) l0) - 58868, l22);
   return;
  }
  throw State.trap();
@@ -8918,30 +8918,30 @@ static void f28(State m, long l0, long l1) {
      L5: {
       if ((l2 = l2) < 16L) { break L5; }
       l3 = 0L;
-      Words.put64(b, ((int) l2) - 60616, 0L);
-      Words.put64(b, ((int) l2) - 60624, 0L);
-      Words.put64(b, ((int) l2) - 60632, 0L);
-      Words.put64(b, ((int) l2) - 60656, 0L);
-      Words.put64(b, ((int) l2) - 60648, 0L);
-      Words.put64(b, ((int) l2) - 60640, 0L);
+      Words.put64(b, ((int) l2) - 58808, 0L);
+      Words.put64(b, ((int) l2) - 58816, 0L);
+      Words.put64(b, ((int) l2) - 58824, 0L);
+      Words.put64(b, ((int) l2) - 58848, 0L);
+      Words.put64(b, ((int) l2) - 58840, 0L);
+      Words.put64(b, ((int) l2) - 58832, 0L);
       l20 = 0;
       l21 = 0;
       l22 = 0;
       l4 = 0L;
       L6: {
        L7: {
-        if ((l23 = b[((int) (l1 + 32L)) - 60720] & 0xff) != 1) { break L7; }
-        f32(m, l2 + 56L, l24 = Words.get32(b, ((int) (l1 + 36L)) - 60720));
+        if ((l23 = b[((int) (l1 + 32L)) - 58912] & 0xff) != 1) { break L7; }
+        f32(m, l2 + 56L, l24 = Words.get32(b, ((int) (l1 + 36L)) - 58912));
         L8: {
          L9: {
-          if ((b[((int) l2) - 60664] & 0xff) == 1) { break L9; }
+          if ((b[((int) l2) - 58856] & 0xff) == 1) { break L9; }
           l22 = 0;
           l4 = 0L;
           l21 = 0;
           break L8;
          }
-         l21 = Words.get32(b, ((int) l2) - 60660);
-         l4 = Words.get64(b, ((int) l1) - 60720);
+         l21 = Words.get32(b, ((int) l2) - 58852);
+         l4 = Words.get64(b, ((int) l1) - 58912);
          l22 = 1;
         }
         L10: {
@@ -8970,10 +8970,10 @@ static void f28(State m, long l0, long l1) {
          l25 = 46;
         }
         l20 = 1;
-        l3 = l5 = Words.get64(b, ((int) l1) - 60720);
+        l3 = l5 = Words.get64(b, ((int) l1) - 58912);
         break L6;
        }
-       l5 = Words.get64(b, ((int) l1) - 60720);
+       l5 = Words.get64(b, ((int) l1) - 58912);
        l25 = 0;
       }
       l6 = 1L;
@@ -9019,7 +9019,7 @@ static void f28(State m, long l0, long l1) {
         l30 = 0;
         break L18;
        }
-       l31 = ((l24 = Words.get32(b, ((int) (l1 + 36L)) - 60720)) == 25342) ? 1 : 0;
+       l31 = ((l24 = Words.get32(b, ((int) (l1 + 36L)) - 58912)) == 25342) ? 1 : 0;
        L20: {
         L21: {
          if (l24 == 27491) { break L21; }
@@ -9039,16 +9039,16 @@ static void f28(State m, long l0, long l1) {
        l11 = 0L;
        l12 = 0L;
       }
-      l24 = Words.get32(b, ((int) (l1 + 48L)) - 60720);
+      l24 = Words.get32(b, ((int) (l1 + 48L)) - 58912);
       L22: {
        L23: {
-        if ((l32 = b[((int) (l1 + 44L)) - 60720] & 0xff) != 1) { break L23; }
+        if ((l32 = b[((int) (l1 + 44L)) - 58912] & 0xff) != 1) { break L23; }
         f32(m, l2 + 48L, l24);
         L24: {
          L25: {
-          final int t26 = Words.get32(b, ((int) l2) - 60668);
+          final int t26 = Words.get32(b, ((int) l2) - 58860);
           final int t27 = l24;
-          final int t28 = (b[((int) l2) - 60672] & 0xff) & 1;
+          final int t28 = (b[((int) l2) - 58864] & 0xff) & 1;
           if ((l31 = t28 != 0 ? t26 : t27) > 26577) { break L25; }
           L29: {
            if (l31 > 22776) { break L29; }
@@ -9079,25 +9079,25 @@ static void f28(State m, long l0, long l1) {
        l16 = 0L;
        l17 = 0L;
       }
-      f33(m, l2 + 88L, l1, 2L, l31 = b[((int) (l1 + 16L)) - 60720] & 0xff, l34 = Words.get32(b, ((int) (l1 + 20L)) - 60720));
-      f33(m, l2 + 64L, l1, 1L, l35 = b[((int) (l1 + 8L)) - 60720] & 0xff, l36 = Words.get32(b, ((int) (l1 + 12L)) - 60720));
+      f33(m, l2 + 88L, l1, 2L, l31 = b[((int) (l1 + 16L)) - 58912] & 0xff, l34 = Words.get32(b, ((int) (l1 + 20L)) - 58912));
+      f33(m, l2 + 64L, l1, 1L, l35 = b[((int) (l1 + 8L)) - 58912] & 0xff, l36 = Words.get32(b, ((int) (l1 + 12L)) - 58912));
       L31: {
        L32: {
         L33: {
-         if ((b[((int) (l1 + 24L)) - 60720] & 0xff) != 1) { break L33; }
+         if ((b[((int) (l1 + 24L)) - 58912] & 0xff) != 1) { break L33; }
          if ((l35 & 255) != 1) { break L33; }
          if ((l31 & 255) != 1) { break L33; }
-         if (Words.get32(b, ((int) (l1 + 28L)) - 60720) != 38646) { break L33; }
+         if (Words.get32(b, ((int) (l1 + 28L)) - 58912) != 38646) { break L33; }
          if (l34 != 22777) { break L33; }
          if (l36 != 25342) { break L33; }
          if (l23 != 1) { break L2; }
-         f32(m, l2 + 40L, l31 = Words.get32(b, ((int) (l1 + 36L)) - 60720));
+         f32(m, l2 + 40L, l31 = Words.get32(b, ((int) (l1 + 36L)) - 58912));
          L34: {
           L35: {
            L36: {
-            final int t37 = Words.get32(b, ((int) l2) - 60676);
+            final int t37 = Words.get32(b, ((int) l2) - 58868);
             final int t38 = l31;
-            final int t39 = (b[((int) l2) - 60680] & 0xff) & 1;
+            final int t39 = (b[((int) l2) - 58872] & 0xff) & 1;
             if ((l23 = t39 != 0 ? t37 : t38) > 26577) { break L36; }
             L40: {
              if (l23 > 22776) { break L40; }
@@ -9129,7 +9129,7 @@ static void f28(State m, long l0, long l1) {
          break L31;
         }
         if (l23 != 1) { break L2; }
-        l31 = Words.get32(b, ((int) (l1 + 36L)) - 60720);
+        l31 = Words.get32(b, ((int) (l1 + 36L)) - 58912);
        }
        l19 = 0L;
        l38 = 0;
@@ -9145,9 +9145,9 @@ static void f28(State m, long l0, long l1) {
         l34 = 0;
         L46: {
          L47: {
-          final int t48 = Words.get32(b, ((int) l2) - 60684);
+          final int t48 = Words.get32(b, ((int) l2) - 58876);
           final int t49 = l31;
-          final int t50 = (b[((int) l2) - 60688] & 0xff) & 1;
+          final int t50 = (b[((int) l2) - 58880] & 0xff) & 1;
           if ((l23 = t50 != 0 ? t48 : t49) > 26577) { break L47; }
           L51: {
            if (l23 > 22776) { break L51; }
@@ -9207,17 +9207,17 @@ static void f28(State m, long l0, long l1) {
         L60: {
          if ((l35 & 255) != 1) { break L60; }
          f32(m, l2 + 24L, l36);
-         l23 = b[((int) l2) - 60696] & 0xff;
-         l35 = Words.get32(b, ((int) l2) - 60692);
+         l23 = b[((int) l2) - 58888] & 0xff;
+         l35 = Words.get32(b, ((int) l2) - 58884);
          f32(m, l2 + 16L, l31);
          final int t61 = ((l23 & 1) != 0) ? l35 : l36;
-         final int t62 = Words.get32(b, ((int) l2) - 60700);
+         final int t62 = Words.get32(b, ((int) l2) - 58892);
          final int t63 = l31;
-         final int t64 = (b[((int) l2) - 60704] & 0xff) & 1;
+         final int t64 = (b[((int) l2) - 58896] & 0xff) & 1;
          if (t61 == (t64 != 0 ? t62 : t63)) { break L45; }
         }
         L65: {
-         if ((b[((int) (l1 + 40L)) - 60720] & 0xff) == 0) { break L65; }
+         if ((b[((int) (l1 + 40L)) - 58912] & 0xff) == 0) { break L65; }
          l35 = 0;
          break L44;
         }
@@ -9240,9 +9240,9 @@ static void f28(State m, long l0, long l1) {
       f32(m, l2 + 8L, l24);
       L67: {
        L68: {
-        final int t69 = Words.get32(b, ((int) l2) - 60708);
+        final int t69 = Words.get32(b, ((int) l2) - 58900);
         final int t70 = l24;
-        final int t71 = (b[((int) l2) - 60712] & 0xff) & 1;
+        final int t71 = (b[((int) l2) - 58904] & 0xff) & 1;
         if ((l23 = t71 != 0 ? t69 : t70) > 26577) { break L68; }
         L72: {
          if (l23 > 22776) { break L72; }
@@ -9286,61 +9286,61 @@ static void f28(State m, long l0, long l1) {
   l1 = 0L;
   l24 = 0;
  }
- Words.put32(b, ((int) l0) - 60388, l24);
- Words.put32(b, ((int) l0) - 60392, l23);
- Words.put64(b, ((int) l0) - 60400, l1);
- Words.put32(b, ((int) l0) - 60412, 0);
- Words.put32(b, ((int) l0) - 60416, l35);
- Words.put64(b, ((int) l0) - 60424, l18);
- Words.put32(b, ((int) l0) - 60436, 0);
- Words.put32(b, ((int) l0) - 60440, l38);
- Words.put64(b, ((int) l0) - 60448, l19);
- Words.put32(b, ((int) l0) - 60460, Words.get32(b, ((int) l2) - 60636));
- Words.put32(b, ((int) l0) - 60464, b[((int) l2) - 60640] & 0xff);
- Words.put64(b, ((int) l0) - 60472, Words.get64(b, ((int) l2) - 60648));
- Words.put64(b, ((int) l0) - 60480, b[((int) l2) - 60656] & 0xffL);
- Words.put32(b, ((int) l0) - 60484, Words.get32(b, ((int) l2) - 60612));
- Words.put32(b, ((int) l0) - 60488, b[((int) l2) - 60616] & 0xff);
- Words.put64(b, ((int) l0) - 60496, Words.get64(b, ((int) l2) - 60624));
- Words.put64(b, ((int) l0) - 60504, b[((int) l2) - 60632] & 0xffL);
- Words.put32(b, ((int) l0) - 60508, l33);
- Words.put32(b, ((int) l0) - 60512, 0);
- Words.put64(b, ((int) l0) - 60520, l17);
- Words.put64(b, ((int) l0) - 60528, l16);
- Words.put32(b, ((int) l0) - 60532, l30);
- Words.put32(b, ((int) l0) - 60536, 0);
- Words.put64(b, ((int) l0) - 60544, l10);
- Words.put64(b, ((int) l0) - 60552, l15);
- Words.put32(b, ((int) l0) - 60556, l29);
- Words.put32(b, ((int) l0) - 60560, 0);
- Words.put64(b, ((int) l0) - 60568, l12);
- Words.put64(b, ((int) l0) - 60576, l11);
- Words.put32(b, ((int) l0) - 60580, l28);
- Words.put32(b, ((int) l0) - 60584, 0);
- Words.put64(b, ((int) l0) - 60592, l14);
- Words.put64(b, ((int) l0) - 60600, l13);
- Words.put32(b, ((int) l0) - 60604, l26);
- Words.put32(b, ((int) l0) - 60608, 0);
- Words.put64(b, ((int) l0) - 60616, l9);
- Words.put64(b, ((int) l0) - 60624, l8);
- Words.put64(b, ((int) l0) - 60632, 165983306121216L);
- Words.put64(b, ((int) l0) - 60640, l5);
- Words.put64(b, ((int) l0) - 60648, 1L);
- Words.put32(b, ((int) l0) - 60652, l27);
- Words.put32(b, ((int) l0) - 60656, 0);
- Words.put64(b, ((int) l0) - 60664, l7);
- Words.put64(b, ((int) l0) - 60672, l6);
- Words.put32(b, ((int) l0) - 60676, l25);
- Words.put32(b, ((int) l0) - 60680, l20);
- Words.put64(b, ((int) l0) - 60688, l3);
- Words.put32(b, ((int) l0) - 60700, l21);
- Words.put32(b, ((int) l0) - 60704, l22);
- Words.put64(b, ((int) l0) - 60712, l4);
- Words.put64(b, ((int) l0) - 60408, l23 & 0xffffffffL);
- Words.put64(b, ((int) l0) - 60432, l34 & 0xffffffffL);
- Words.put64(b, ((int) l0) - 60456, l37 & 0xffffffffL);
- Words.put64(b, ((int) l0) - 60696, l20 & 0xffffffffL);
- Words.put64(b, ((int) l0) - 60720, l22 & 0xffffffffL);
+ Words.put32(b, ((int) l0) - 58580, l24);
+ Words.put32(b, ((int) l0) - 58584, l23);
+ Words.put64(b, ((int) l0) - 58592, l1);
+ Words.put32(b, ((int) l0) - 58604, 0);
+ Words.put32(b, ((int) l0) - 58608, l35);
+ Words.put64(b, ((int) l0) - 58616, l18);
+ Words.put32(b, ((int) l0) - 58628, 0);
+ Words.put32(b, ((int) l0) - 58632, l38);
+ Words.put64(b, ((int) l0) - 58640, l19);
+ Words.put32(b, ((int) l0) - 58652, Words.get32(b, ((int) l2) - 58828));
+ Words.put32(b, ((int) l0) - 58656, b[((int) l2) - 58832] & 0xff);
+ Words.put64(b, ((int) l0) - 58664, Words.get64(b, ((int) l2) - 58840));
+ Words.put64(b, ((int) l0) - 58672, b[((int) l2) - 58848] & 0xffL);
+ Words.put32(b, ((int) l0) - 58676, Words.get32(b, ((int) l2) - 58804));
+ Words.put32(b, ((int) l0) - 58680, b[((int) l2) - 58808] & 0xff);
+ Words.put64(b, ((int) l0) - 58688, Words.get64(b, ((int) l2) - 58816));
+ Words.put64(b, ((int) l0) - 58696, b[((int) l2) - 58824] & 0xffL);
+ Words.put32(b, ((int) l0) - 58700, l33);
+ Words.put32(b, ((int) l0) - 58704, 0);
+ Words.put64(b, ((int) l0) - 58712, l17);
+ Words.put64(b, ((int) l0) - 58720, l16);
+ Words.put32(b, ((int) l0) - 58724, l30);
+ Words.put32(b, ((int) l0) - 58728, 0);
+ Words.put64(b, ((int) l0) - 58736, l10);
+ Words.put64(b, ((int) l0) - 58744, l15);
+ Words.put32(b, ((int) l0) - 58748, l29);
+ Words.put32(b, ((int) l0) - 58752, 0);
+ Words.put64(b, ((int) l0) - 58760, l12);
+ Words.put64(b, ((int) l0) - 58768, l11);
+ Words.put32(b, ((int) l0) - 58772, l28);
+ Words.put32(b, ((int) l0) - 58776, 0);
+ Words.put64(b, ((int) l0) - 58784, l14);
+ Words.put64(b, ((int) l0) - 58792, l13);
+ Words.put32(b, ((int) l0) - 58796, l26);
+ Words.put32(b, ((int) l0) - 58800, 0);
+ Words.put64(b, ((int) l0) - 58808, l9);
+ Words.put64(b, ((int) l0) - 58816, l8);
+ Words.put64(b, ((int) l0) - 58824, 165983306121216L);
+ Words.put64(b, ((int) l0) - 58832, l5);
+ Words.put64(b, ((int) l0) - 58840, 1L);
+ Words.put32(b, ((int) l0) - 58844, l27);
+ Words.put32(b, ((int) l0) - 58848, 0);
+ Words.put64(b, ((int) l0) - 58856, l7);
+ Words.put64(b, ((int) l0) - 58864, l6);
+ Words.put32(b, ((int) l0) - 58868, l25);
+ Words.put32(b, ((int) l0) - 58872, l20);
+ Words.put64(b, ((int) l0) - 58880, l3);
+ Words.put32(b, ((int) l0) - 58892, l21);
+ Words.put32(b, ((int) l0) - 58896, l22);
+ Words.put64(b, ((int) l0) - 58904, l4);
+ Words.put64(b, ((int) l0) - 58600, l23 & 0xffffffffL);
+ Words.put64(b, ((int) l0) - 58624, l34 & 0xffffffffL);
+ Words.put64(b, ((int) l0) - 58648, l37 & 0xffffffffL);
+ Words.put64(b, ((int) l0) - 58888, l20 & 0xffffffffL);
+ Words.put64(b, ((int) l0) - 58912, l22 & 0xffffffffL);
  m.g0 = l2 + 112L;
 }
 
@@ -9361,22 +9361,22 @@ static int f29(State m, long l0, long l1, long l2) {
     }
     L5: {
      if (l1 + Long.MIN_VALUE > -9223372036854775806L) { break L5; }
-     l3 = ((Words.get32(b, ((int) l0) - 60720) == (l3 = Words.get32(b, ((int) l2) - 60720))) | (Words.get32(b, ((int) ((l0 + (l1 << 2L)) + -4L)) - 60720) == l3)) ? 1 : 0;
+     l3 = ((Words.get32(b, ((int) l0) - 58912) == (l3 = Words.get32(b, ((int) l2) - 58912))) | (Words.get32(b, ((int) ((l0 + (l1 << 2L)) + -4L)) - 58912) == l3)) ? 1 : 0;
      break L1;
     }
     L6: {
      if (l1 + Long.MIN_VALUE > -9223372036854775800L) { break L6; }
-     final int t7 = ((Words.get32(b, ((int) l0) - 60720) == (l3 = Words.get32(b, ((int) l2) - 60720))) | (Words.get32(b, ((int) (l0 + 4L)) - 60720) == l3)) ? 1 : 0;
+     final int t7 = ((Words.get32(b, ((int) l0) - 58912) == (l3 = Words.get32(b, ((int) l2) - 58912))) | (Words.get32(b, ((int) (l0 + 4L)) - 58912) == l3)) ? 1 : 0;
      final long t8 = l0;
      final long t9 = l2 = l1 + -2L;
      final int t10 = (l2 + Long.MIN_VALUE < -9223372036854775806L) ? 1 : 0;
-     l3 = ((t7 | (((Words.get32(b, ((int) (l4 = t8 + ((t10 != 0 ? t9 : 2L) << 2L))) - 60720) == l3) | (Words.get32(b, ((int) (l4 + 4L)) - 60720) == l3)) ? 1 : 0)) | (((Words.get32(b, ((int) (l4 = l0 + (((l2 + Long.MIN_VALUE < -9223372036854775804L) ? l2 : 4L) << 2L))) - 60720) == l3) | (Words.get32(b, ((int) (l4 + 4L)) - 60720) == l3)) ? 1 : 0)) | (((Words.get32(b, ((int) (l0 + (l2 << 2L))) - 60720) == l3) | (Words.get32(b, ((int) ((l0 + (l1 << 2L)) + -4L)) - 60720) == l3)) ? 1 : 0);
+     l3 = ((t7 | (((Words.get32(b, ((int) (l4 = t8 + ((t10 != 0 ? t9 : 2L) << 2L))) - 58912) == l3) | (Words.get32(b, ((int) (l4 + 4L)) - 58912) == l3)) ? 1 : 0)) | (((Words.get32(b, ((int) (l4 = l0 + (((l2 + Long.MIN_VALUE < -9223372036854775804L) ? l2 : 4L) << 2L))) - 58912) == l3) | (Words.get32(b, ((int) (l4 + 4L)) - 58912) == l3)) ? 1 : 0)) | (((Words.get32(b, ((int) (l0 + (l2 << 2L))) - 58912) == l3) | (Words.get32(b, ((int) ((l0 + (l1 << 2L)) + -4L)) - 58912) == l3)) ? 1 : 0);
      break L1;
     }
-    l3 = Words.get32(b, ((int) l2) - 60720);
+    l3 = Words.get32(b, ((int) l2) - 58912);
     L11: {
      if (l1 + Long.MIN_VALUE > -9223372036854775792L) { break L11; }
-     l3 = (((((((((Words.get32(b, ((int) l0) - 60720) == l3) | (Words.get32(b, ((int) (l0 + 4L)) - 60720) == l3)) | (Words.get32(b, ((int) (l0 + 8L)) - 60720) == l3)) | (Words.get32(b, ((int) (l0 + 12L)) - 60720) == l3)) | (Words.get32(b, ((int) (l0 + 16L)) - 60720) == l3)) | (Words.get32(b, ((int) (l0 + 20L)) - 60720) == l3)) | (Words.get32(b, ((int) (l0 + 24L)) - 60720) == l3)) | (Words.get32(b, ((int) (l0 + 28L)) - 60720) == l3)) | ((((((((Words.get32(b, ((int) ((l2 = l0 + (l1 << 2L)) + -32L)) - 60720) == l3) | (Words.get32(b, ((int) (l2 + -28L)) - 60720) == l3)) | (Words.get32(b, ((int) (l2 + -24L)) - 60720) == l3)) | (Words.get32(b, ((int) (l2 + -20L)) - 60720) == l3)) | (Words.get32(b, ((int) (l2 + -16L)) - 60720) == l3)) | (Words.get32(b, ((int) (l2 + -12L)) - 60720) == l3)) | (Words.get32(b, ((int) (l2 + -8L)) - 60720) == l3)) | (Words.get32(b, ((int) (l2 + -4L)) - 60720) == l3))) ? 1 : 0;
+     l3 = (((((((((Words.get32(b, ((int) l0) - 58912) == l3) | (Words.get32(b, ((int) (l0 + 4L)) - 58912) == l3)) | (Words.get32(b, ((int) (l0 + 8L)) - 58912) == l3)) | (Words.get32(b, ((int) (l0 + 12L)) - 58912) == l3)) | (Words.get32(b, ((int) (l0 + 16L)) - 58912) == l3)) | (Words.get32(b, ((int) (l0 + 20L)) - 58912) == l3)) | (Words.get32(b, ((int) (l0 + 24L)) - 58912) == l3)) | (Words.get32(b, ((int) (l0 + 28L)) - 58912) == l3)) | ((((((((Words.get32(b, ((int) ((l2 = l0 + (l1 << 2L)) + -32L)) - 58912) == l3) | (Words.get32(b, ((int) (l2 + -28L)) - 58912) == l3)) | (Words.get32(b, ((int) (l2 + -24L)) - 58912) == l3)) | (Words.get32(b, ((int) (l2 + -20L)) - 58912) == l3)) | (Words.get32(b, ((int) (l2 + -16L)) - 58912) == l3)) | (Words.get32(b, ((int) (l2 + -12L)) - 58912) == l3)) | (Words.get32(b, ((int) (l2 + -8L)) - 58912) == l3)) | (Words.get32(b, ((int) (l2 + -4L)) - 58912) == l3))) ? 1 : 0;
      break L1;
     }
     l5 = l1 & -16L;
@@ -9385,22 +9385,22 @@ static int f29(State m, long l0, long l1, long l2) {
     l2 = l0;
     L12: {
      L13: while (true) {
-      if (Words.get32(b, ((int) l2) - 60720) == l3) { break L12; }
-      if (Words.get32(b, ((int) (l2 + 4L)) - 60720) == l3) { break L12; }
-      if (Words.get32(b, ((int) (l2 + 8L)) - 60720) == l3) { break L12; }
-      if (Words.get32(b, ((int) (l2 + 12L)) - 60720) == l3) { break L12; }
-      if (Words.get32(b, ((int) (l2 + 16L)) - 60720) == l3) { break L12; }
-      if (Words.get32(b, ((int) (l2 + 20L)) - 60720) == l3) { break L12; }
-      if (Words.get32(b, ((int) (l2 + 24L)) - 60720) == l3) { break L12; }
-      if (Words.get32(b, ((int) (l2 + 28L)) - 60720) == l3) { break L12; }
-      if (Words.get32(b, ((int) (l2 + 32L)) - 60720) == l3) { break L12; }
-      if (Words.get32(b, ((int) (l2 + 36L)) - 60720) == l3) { break L12; }
-      if (Words.get32(b, ((int) (l2 + 40L)) - 60720) == l3) { break L12; }
-      if (Words.get32(b, ((int) (l2 + 44L)) - 60720) == l3) { break L12; }
-      if (Words.get32(b, ((int) (l2 + 48L)) - 60720) == l3) { break L12; }
-      if (Words.get32(b, ((int) (l2 + 52L)) - 60720) == l3) { break L12; }
-      if (Words.get32(b, ((int) (l2 + 56L)) - 60720) == l3) { break L12; }
-      if (Words.get32(b, ((int) (l2 + 60L)) - 60720) == l3) { break L12; }
+      if (Words.get32(b, ((int) l2) - 58912) == l3) { break L12; }
+      if (Words.get32(b, ((int) (l2 + 4L)) - 58912) == l3) { break L12; }
+      if (Words.get32(b, ((int) (l2 + 8L)) - 58912) == l3) { break L12; }
+      if (Words.get32(b, ((int) (l2 + 12L)) - 58912) == l3) { break L12; }
+      if (Words.get32(b, ((int) (l2 + 16L)) - 58912) == l3) { break L12; }
+      if (Words.get32(b, ((int) (l2 + 20L)) - 58912) == l3) { break L12; }
+      if (Words.get32(b, ((int) (l2 + 24L)) - 58912) == l3) { break L12; }
+      if (Words.get32(b, ((int) (l2 + 28L)) - 58912) == l3) { break L12; }
+      if (Words.get32(b, ((int) (l2 + 32L)) - 58912) == l3) { break L12; }
+      if (Words.get32(b, ((int) (l2 + 36L)) - 58912) == l3) { break L12; }
+      if (Words.get32(b, ((int) (l2 + 40L)) - 58912) == l3) { break L12; }
+      if (Words.get32(b, ((int) (l2 + 44L)) - 58912) == l3) { break L12; }
+      if (Words.get32(b, ((int) (l2 + 48L)) - 58912) == l3) { break L12; }
+      if (Words.get32(b, ((int) (l2 + 52L)) - 58912) == l3) { break L12; }
+      if (Words.get32(b, ((int) (l2 + 56L)) - 58912) == l3) { break L12; }
+      if (Words.get32(b, ((int) (l2 + 60L)) - 58912) == l3) { break L12; }
       l2 = l2 + 64L;
       l4 = l4 + 16L;
       if ((l6 = l6 + -16L) + Long.MIN_VALUE > -9223372036854775793L) { continue L13; }
@@ -9412,14 +9412,14 @@ static int f29(State m, long l0, long l1, long l2) {
     l2 = l0 + (l4 << 2L);
     L14: {
      L15: while (true) {
-      if (Words.get32(b, ((int) l2) - 60720) == l3) { break L14; }
-      if (Words.get32(b, ((int) (l2 + 4L)) - 60720) == l3) { break L14; }
-      if (Words.get32(b, ((int) (l2 + 8L)) - 60720) == l3) { break L14; }
-      if (Words.get32(b, ((int) (l2 + 12L)) - 60720) == l3) { break L14; }
-      if (Words.get32(b, ((int) (l2 + 16L)) - 60720) == l3) { break L14; }
-      if (Words.get32(b, ((int) (l2 + 20L)) - 60720) == l3) { break L14; }
-      if (Words.get32(b, ((int) (l2 + 24L)) - 60720) == l3) { break L14; }
-      if (Words.get32(b, ((int) (l2 + 28L)) - 60720) == l3) { break L14; }
+      if (Words.get32(b, ((int) l2) - 58912) == l3) { break L14; }
+      if (Words.get32(b, ((int) (l2 + 4L)) - 58912) == l3) { break L14; }
+      if (Words.get32(b, ((int) (l2 + 8L)) - 58912) == l3) { break L14; }
+      if (Words.get32(b, ((int) (l2 + 12L)) - 58912) == l3) { break L14; }
+      if (Words.get32(b, ((int) (l2 + 16L)) - 58912) == l3) { break L14; }
+      if (Words.get32(b, ((int) (l2 + 20L)) - 58912) == l3) { break L14; }
+      if (Words.get32(b, ((int) (l2 + 24L)) - 58912) == l3) { break L14; }
+      if (Words.get32(b, ((int) (l2 + 28L)) - 58912) == l3) { break L14; }
       l2 = l2 + 32L;
       if ((l6 = l6 + -8L) + Long.MIN_VALUE > -9223372036854775801L) { continue L15; }
       break L2;
@@ -9431,7 +9431,7 @@ static int f29(State m, long l0, long l1, long l2) {
    }
    throw State.trap();
   }
-  l3 = ((((((((Words.get32(b, ((int) ((l2 = l0 + (l1 << 2L)) + -32L)) - 60720) == l3) | (Words.get32(b, ((int) (l2 + -28L)) - 60720) == l3)) | (Words.get32(b, ((int) (l2 + -24L)) - 60720) == l3)) | (Words.get32(b, ((int) (l2 + -20L)) - 60720) == l3)) | (Words.get32(b, ((int) (l2 + -16L)) - 60720) == l3)) | (Words.get32(b, ((int) (l2 + -12L)) - 60720) == l3)) | (Words.get32(b, ((int) (l2 + -8L)) - 60720) == l3)) | (Words.get32(b, ((int) (l2 + -4L)) - 60720) == l3)) ? 1 : 0;
+  l3 = ((((((((Words.get32(b, ((int) ((l2 = l0 + (l1 << 2L)) + -32L)) - 58912) == l3) | (Words.get32(b, ((int) (l2 + -28L)) - 58912) == l3)) | (Words.get32(b, ((int) (l2 + -24L)) - 58912) == l3)) | (Words.get32(b, ((int) (l2 + -20L)) - 58912) == l3)) | (Words.get32(b, ((int) (l2 + -16L)) - 58912) == l3)) | (Words.get32(b, ((int) (l2 + -12L)) - 58912) == l3)) | (Words.get32(b, ((int) (l2 + -8L)) - 58912) == l3)) | (Words.get32(b, ((int) (l2 + -4L)) - 58912) == l3)) ? 1 : 0;
  }
  return l3 & 1;
 }
@@ -9450,8 +9450,8 @@ static void f30(State m, long l0, long l1, long l2, long l3) {
   L2: {
    if (l3 + Long.MIN_VALUE < -9223372036854775792L) { break L2; }
    f25(m, l5 + 16L, l1, l2, l3);
-   l4 = Words.get64(b, ((int) l5) - 60696);
-   l6 = Words.get64(b, ((int) l5) - 60704);
+   l4 = Words.get64(b, ((int) l5) - 58888);
+   l6 = Words.get64(b, ((int) l5) - 58896);
   }
   L3: {
    if (l4 + Long.MIN_VALUE < -9223372036854775805L) { break L3; }
@@ -9459,7 +9459,7 @@ static void f30(State m, long l0, long l1, long l2, long l3) {
     if ((l2 - l6) + Long.MIN_VALUE < -9223372036854775800L) { break L3; }
     L5: {
      L6: {
-      if (((l7 = Words.get64(b, ((int) (l1 + l6)) - 60720)) & 67553998437089520L) != 63050398541283552L) { break L6; }
+      if (((l7 = Words.get64(b, ((int) (l1 + l6)) - 58912)) & 67553998437089520L) != 63050398541283552L) { break L6; }
       l4 = l4 + -3L;
       l6 = l6 + 9L;
       break L5;
@@ -9478,7 +9478,7 @@ static void f30(State m, long l0, long l1, long l2, long l3) {
    if (l2 + Long.MIN_VALUE <= l6 + Long.MIN_VALUE) { break L7; }
    l4 = l4 + -1L;
    L8: while (true) {
-    l6 = Words.get64(b, ((int) (((((b[((int) (l1 + l6)) - 60720] & 0xff) >>> 1) & 0xffffffffL) & 120L) + 66680L)) - 60720) + l6;
+    l6 = Words.get64(b, ((int) (((((b[((int) (l1 + l6)) - 58912] & 0xff) >>> 1) & 0xffffffffL) & 120L) + 66680L)) - 58912) + l6;
     if (l4 == 0L) { break L7; }
     l4 = l4 + -1L;
     if (l2 + Long.MIN_VALUE > l6 + Long.MIN_VALUE) { continue L8; }
@@ -9491,8 +9491,8 @@ static void f30(State m, long l0, long l1, long l2, long l3) {
    final int t11 = (l7 == 0L) ? 1 : 0;
    if ((l7 = t11 != 0 ? -1L : t10) + Long.MIN_VALUE < -9223372036854775792L) { break L9; }
    f25(m, l5, l1, l2, l7);
-   l7 = Words.get64(b, ((int) l5) - 60712);
-   l4 = Words.get64(b, ((int) l5) - 60720);
+   l7 = Words.get64(b, ((int) l5) - 58904);
+   l4 = Words.get64(b, ((int) l5) - 58912);
   }
   L12: {
    if (l7 + Long.MIN_VALUE < -9223372036854775805L) { break L12; }
@@ -9500,7 +9500,7 @@ static void f30(State m, long l0, long l1, long l2, long l3) {
     if ((l2 - l4) + Long.MIN_VALUE < -9223372036854775800L) { break L12; }
     L14: {
      L15: {
-      if (((l3 = Words.get64(b, ((int) (l1 + l4)) - 60720)) & 67553998437089520L) != 63050398541283552L) { break L15; }
+      if (((l3 = Words.get64(b, ((int) (l1 + l4)) - 58912)) & 67553998437089520L) != 63050398541283552L) { break L15; }
       l7 = l7 + -3L;
       l4 = l4 + 9L;
       break L14;
@@ -9519,7 +9519,7 @@ static void f30(State m, long l0, long l1, long l2, long l3) {
    if (l2 + Long.MIN_VALUE <= l4 + Long.MIN_VALUE) { break L16; }
    l7 = l7 + -1L;
    L17: while (true) {
-    l4 = Words.get64(b, ((int) (((((b[((int) (l1 + l4)) - 60720] & 0xff) >>> 1) & 0xffffffffL) & 120L) + 66680L)) - 60720) + l4;
+    l4 = Words.get64(b, ((int) (((((b[((int) (l1 + l4)) - 58912] & 0xff) >>> 1) & 0xffffffffL) & 120L) + 66680L)) - 58912) + l4;
     if (l7 == 0L) { break L16; }
     l7 = l7 + -1L;
     if (l2 + Long.MIN_VALUE > l4 + Long.MIN_VALUE) { continue L17; }
@@ -9533,17 +9533,17 @@ static void f30(State m, long l0, long l1, long l2, long l3) {
    if (l4 + Long.MIN_VALUE < l6 + Long.MIN_VALUE) { break L18; }
    L19: {
     if (l6 == l2) { break L19; }
-    if (((int) b[((int) (l1 + l6)) - 60720]) < -64) { break L18; }
+    if (((int) b[((int) (l1 + l6)) - 58912]) < -64) { break L18; }
    }
    L20: {
     if (l4 == l2) { break L20; }
-    if (((int) b[((int) (l1 + l4)) - 60720]) < -64) { break L18; }
+    if (((int) b[((int) (l1 + l4)) - 58912]) < -64) { break L18; }
    }
    l7 = l4 - l6;
    l3 = l1 + l6;
   }
-  Words.put64(b, ((int) l0) - 60712, l7);
-  Words.put64(b, ((int) l0) - 60720, l3);
+  Words.put64(b, ((int) l0) - 58904, l7);
+  Words.put64(b, ((int) l0) - 58912, l3);
   m.g0 = l5 + 32L;
   return;
  }
@@ -9556,7 +9556,7 @@ static int f31_1(State m, long l3, int l4, long l5, long l6) {
  PART: {
   L21: while (true) {
    l4 = 1;
-   if (((((((((0 - ((((((b[((int) l3) - 60704] & 0xff) != (b[((int) l5) - 60704] & 0xff)) | ((b[((int) l3) - 60720] & 0xff) != (b[((int) l5) - 60720] & 0xff))) | ((b[((int) l3) - 60688] & 0xff) != (b[((int) l5) - 60688] & 0xff))) | ((b[((int) l3) - 60672] & 0xff) != (b[((int) l5) - 60672] & 0xff))) ? 1 : 0)) < 0) ? 1 : 0) | ((((0 - ((((((b[((int) l3) - 60703] & 0xff) != (b[((int) l5) - 60703] & 0xff)) | ((b[((int) l3) - 60719] & 0xff) != (b[((int) l5) - 60719] & 0xff))) | ((b[((int) l3) - 60687] & 0xff) != (b[((int) l5) - 60687] & 0xff))) | ((b[((int) l3) - 60671] & 0xff) != (b[((int) l5) - 60671] & 0xff))) ? 1 : 0)) < 0) ? 1 : 0) << 1)) | (((((0 - ((((((b[((int) l3) - 60701] & 0xff) != (b[((int) l5) - 60701] & 0xff)) | ((b[((int) l3) - 60717] & 0xff) != (b[((int) l5) - 60717] & 0xff))) | ((b[((int) l3) - 60685] & 0xff) != (b[((int) l5) - 60685] & 0xff))) | ((b[((int) l3) - 60669] & 0xff) != (b[((int) l5) - 60669] & 0xff))) ? 1 : 0)) < 0) ? 1 : 0) << 3) | ((((0 - ((((((b[((int) l3) - 60702] & 0xff) != (b[((int) l5) - 60702] & 0xff)) | ((b[((int) l3) - 60718] & 0xff) != (b[((int) l5) - 60718] & 0xff))) | ((b[((int) l3) - 60686] & 0xff) != (b[((int) l5) - 60686] & 0xff))) | ((b[((int) l3) - 60670] & 0xff) != (b[((int) l5) - 60670] & 0xff))) ? 1 : 0)) < 0) ? 1 : 0) << 2))) | ((((((0 - ((((((b[((int) l3) - 60700] & 0xff) != (b[((int) l5) - 60700] & 0xff)) | ((b[((int) l3) - 60716] & 0xff) != (b[((int) l5) - 60716] & 0xff))) | ((b[((int) l3) - 60684] & 0xff) != (b[((int) l5) - 60684] & 0xff))) | ((b[((int) l3) - 60668] & 0xff) != (b[((int) l5) - 60668] & 0xff))) ? 1 : 0)) < 0) ? 1 : 0) | ((((0 - ((((((b[((int) l3) - 60699] & 0xff) != (b[((int) l5) - 60699] & 0xff)) | ((b[((int) l3) - 60715] & 0xff) != (b[((int) l5) - 60715] & 0xff))) | ((b[((int) l3) - 60683] & 0xff) != (b[((int) l5) - 60683] & 0xff))) | ((b[((int) l3) - 60667] & 0xff) != (b[((int) l5) - 60667] & 0xff))) ? 1 : 0)) < 0) ? 1 : 0) << 1)) | (((((0 - ((((((b[((int) l3) - 60697] & 0xff) != (b[((int) l5) - 60697] & 0xff)) | ((b[((int) l3) - 60713] & 0xff) != (b[((int) l5) - 60713] & 0xff))) | ((b[((int) l3) - 60681] & 0xff) != (b[((int) l5) - 60681] & 0xff))) | ((b[((int) l3) - 60665] & 0xff) != (b[((int) l5) - 60665] & 0xff))) ? 1 : 0)) < 0) ? 1 : 0) << 3) | ((((0 - ((((((b[((int) l3) - 60698] & 0xff) != (b[((int) l5) - 60698] & 0xff)) | ((b[((int) l3) - 60714] & 0xff) != (b[((int) l5) - 60714] & 0xff))) | ((b[((int) l3) - 60682] & 0xff) != (b[((int) l5) - 60682] & 0xff))) | ((b[((int) l3) - 60666] & 0xff) != (b[((int) l5) - 60666] & 0xff))) ? 1 : 0)) < 0) ? 1 : 0) << 2))) << 4)) | (((((((0 - ((((((b[((int) l3) - 60692] & 0xff) != (b[((int) l5) - 60692] & 0xff)) | ((b[((int) l3) - 60708] & 0xff) != (b[((int) l5) - 60708] & 0xff))) | ((b[((int) l3) - 60676] & 0xff) != (b[((int) l5) - 60676] & 0xff))) | ((b[((int) l3) - 60660] & 0xff) != (b[((int) l5) - 60660] & 0xff))) ? 1 : 0)) < 0) ? 1 : 0) | ((((0 - ((((((b[((int) l3) - 60691] & 0xff) != (b[((int) l5) - 60691] & 0xff)) | ((b[((int) l3) - 60707] & 0xff) != (b[((int) l5) - 60707] & 0xff))) | ((b[((int) l3) - 60675] & 0xff) != (b[((int) l5) - 60675] & 0xff))) | ((b[((int) l3) - 60659] & 0xff) != (b[((int) l5) - 60659] & 0xff))) ? 1 : 0)) < 0) ? 1 : 0) << 1)) | (((((0 - ((((((b[((int) l3) - 60689] & 0xff) != (b[((int) l5) - 60689] & 0xff)) | ((b[((int) l3) - 60705] & 0xff) != (b[((int) l5) - 60705] & 0xff))) | ((b[((int) l3) - 60673] & 0xff) != (b[((int) l5) - 60673] & 0xff))) | ((b[((int) l3) - 60657] & 0xff) != (b[((int) l5) - 60657] & 0xff))) ? 1 : 0)) < 0) ? 1 : 0) << 3) | ((((0 - ((((((b[((int) l3) - 60690] & 0xff) != (b[((int) l5) - 60690] & 0xff)) | ((b[((int) l3) - 60706] & 0xff) != (b[((int) l5) - 60706] & 0xff))) | ((b[((int) l3) - 60674] & 0xff) != (b[((int) l5) - 60674] & 0xff))) | ((b[((int) l3) - 60658] & 0xff) != (b[((int) l5) - 60658] & 0xff))) ? 1 : 0)) < 0) ? 1 : 0) << 2))) << 12) | ((((((0 - ((((((b[((int) l3) - 60696] & 0xff) != (b[((int) l5) - 60696] & 0xff)) | ((b[((int) l3) - 60712] & 0xff) != (b[((int) l5) - 60712] & 0xff))) | ((b[((int) l3) - 60680] & 0xff) != (b[((int) l5) - 60680] & 0xff))) | ((b[((int) l3) - 60664] & 0xff) != (b[((int) l5) - 60664] & 0xff))) ? 1 : 0)) < 0) ? 1 : 0) | ((((0 - ((((((b[((int) l3) - 60695] & 0xff) != (b[((int) l5) - 60695] & 0xff)) | ((b[((int) l3) - 60711] & 0xff) != (b[((int) l5) - 60711] & 0xff))) | ((b[((int) l3) - 60679] & 0xff) != (b[((int) l5) - 60679] & 0xff))) | ((b[((int) l3) - 60663] & 0xff) != (b[((int) l5) - 60663] & 0xff))) ? 1 : 0)) < 0) ? 1 : 0) << 1)) | (((((0 - ((((((b[((int) l3) - 60693] & 0xff) != (b[((int) l5) - 60693] & 0xff)) | ((b[((int) l3) - 60709] & 0xff) != (b[((int) l5) - 60709] & 0xff))) | ((b[((int) l3) - 60677] & 0xff) != (b[((int) l5) - 60677] & 0xff))) | ((b[((int) l3) - 60661] & 0xff) != (b[((int) l5) - 60661] & 0xff))) ? 1 : 0)) < 0) ? 1 : 0) << 3) | ((((0 - ((((((b[((int) l3) - 60694] & 0xff) != (b[((int) l5) - 60694] & 0xff)) | ((b[((int) l3) - 60710] & 0xff) != (b[((int) l5) - 60710] & 0xff))) | ((b[((int) l3) - 60678] & 0xff) != (b[((int) l5) - 60678] & 0xff))) | ((b[((int) l3) - 60662] & 0xff) != (b[((int) l5) - 60662] & 0xff))) ? 1 : 0)) < 0) ? 1 : 0) << 2))) << 8))) & 65535) != 0) { exit = 1; break PART; }
+   if (((((((((0 - ((((((b[((int) l3) - 58896] & 0xff) != (b[((int) l5) - 58896] & 0xff)) | ((b[((int) l3) - 58912] & 0xff) != (b[((int) l5) - 58912] & 0xff))) | ((b[((int) l3) - 58880] & 0xff) != (b[((int) l5) - 58880] & 0xff))) | ((b[((int) l3) - 58864] & 0xff) != (b[((int) l5) - 58864] & 0xff))) ? 1 : 0)) < 0) ? 1 : 0) | ((((0 - ((((((b[((int) l3) - 58895] & 0xff) != (b[((int) l5) - 58895] & 0xff)) | ((b[((int) l3) - 58911] & 0xff) != (b[((int) l5) - 58911] & 0xff))) | ((b[((int) l3) - 58879] & 0xff) != (b[((int) l5) - 58879] & 0xff))) | ((b[((int) l3) - 58863] & 0xff) != (b[((int) l5) - 58863] & 0xff))) ? 1 : 0)) < 0) ? 1 : 0) << 1)) | (((((0 - ((((((b[((int) l3) - 58893] & 0xff) != (b[((int) l5) - 58893] & 0xff)) | ((b[((int) l3) - 58909] & 0xff) != (b[((int) l5) - 58909] & 0xff))) | ((b[((int) l3) - 58877] & 0xff) != (b[((int) l5) - 58877] & 0xff))) | ((b[((int) l3) - 58861] & 0xff) != (b[((int) l5) - 58861] & 0xff))) ? 1 : 0)) < 0) ? 1 : 0) << 3) | ((((0 - ((((((b[((int) l3) - 58894] & 0xff) != (b[((int) l5) - 58894] & 0xff)) | ((b[((int) l3) - 58910] & 0xff) != (b[((int) l5) - 58910] & 0xff))) | ((b[((int) l3) - 58878] & 0xff) != (b[((int) l5) - 58878] & 0xff))) | ((b[((int) l3) - 58862] & 0xff) != (b[((int) l5) - 58862] & 0xff))) ? 1 : 0)) < 0) ? 1 : 0) << 2))) | ((((((0 - ((((((b[((int) l3) - 58892] & 0xff) != (b[((int) l5) - 58892] & 0xff)) | ((b[((int) l3) - 58908] & 0xff) != (b[((int) l5) - 58908] & 0xff))) | ((b[((int) l3) - 58876] & 0xff) != (b[((int) l5) - 58876] & 0xff))) | ((b[((int) l3) - 58860] & 0xff) != (b[((int) l5) - 58860] & 0xff))) ? 1 : 0)) < 0) ? 1 : 0) | ((((0 - ((((((b[((int) l3) - 58891] & 0xff) != (b[((int) l5) - 58891] & 0xff)) | ((b[((int) l3) - 58907] & 0xff) != (b[((int) l5) - 58907] & 0xff))) | ((b[((int) l3) - 58875] & 0xff) != (b[((int) l5) - 58875] & 0xff))) | ((b[((int) l3) - 58859] & 0xff) != (b[((int) l5) - 58859] & 0xff))) ? 1 : 0)) < 0) ? 1 : 0) << 1)) | (((((0 - ((((((b[((int) l3) - 58889] & 0xff) != (b[((int) l5) - 58889] & 0xff)) | ((b[((int) l3) - 58905] & 0xff) != (b[((int) l5) - 58905] & 0xff))) | ((b[((int) l3) - 58873] & 0xff) != (b[((int) l5) - 58873] & 0xff))) | ((b[((int) l3) - 58857] & 0xff) != (b[((int) l5) - 58857] & 0xff))) ? 1 : 0)) < 0) ? 1 : 0) << 3) | ((((0 - ((((((b[((int) l3) - 58890] & 0xff) != (b[((int) l5) - 58890] & 0xff)) | ((b[((int) l3) - 58906] & 0xff) != (b[((int) l5) - 58906] & 0xff))) | ((b[((int) l3) - 58874] & 0xff) != (b[((int) l5) - 58874] & 0xff))) | ((b[((int) l3) - 58858] & 0xff) != (b[((int) l5) - 58858] & 0xff))) ? 1 : 0)) < 0) ? 1 : 0) << 2))) << 4)) | (((((((0 - ((((((b[((int) l3) - 58884] & 0xff) != (b[((int) l5) - 58884] & 0xff)) | ((b[((int) l3) - 58900] & 0xff) != (b[((int) l5) - 58900] & 0xff))) | ((b[((int) l3) - 58868] & 0xff) != (b[((int) l5) - 58868] & 0xff))) | ((b[((int) l3) - 58852] & 0xff) != (b[((int) l5) - 58852] & 0xff))) ? 1 : 0)) < 0) ? 1 : 0) | ((((0 - ((((((b[((int) l3) - 58883] & 0xff) != (b[((int) l5) - 58883] & 0xff)) | ((b[((int) l3) - 58899] & 0xff) != (b[((int) l5) - 58899] & 0xff))) | ((b[((int) l3) - 58867] & 0xff) != (b[((int) l5) - 58867] & 0xff))) | ((b[((int) l3) - 58851] & 0xff) != (b[((int) l5) - 58851] & 0xff))) ? 1 : 0)) < 0) ? 1 : 0) << 1)) | (((((0 - ((((((b[((int) l3) - 58881] & 0xff) != (b[((int) l5) - 58881] & 0xff)) | ((b[((int) l3) - 58897] & 0xff) != (b[((int) l5) - 58897] & 0xff))) | ((b[((int) l3) - 58865] & 0xff) != (b[((int) l5) - 58865] & 0xff))) | ((b[((int) l3) - 58849] & 0xff) != (b[((int) l5) - 58849] & 0xff))) ? 1 : 0)) < 0) ? 1 : 0) << 3) | ((((0 - ((((((b[((int) l3) - 58882] & 0xff) != (b[((int) l5) - 58882] & 0xff)) | ((b[((int) l3) - 58898] & 0xff) != (b[((int) l5) - 58898] & 0xff))) | ((b[((int) l3) - 58866] & 0xff) != (b[((int) l5) - 58866] & 0xff))) | ((b[((int) l3) - 58850] & 0xff) != (b[((int) l5) - 58850] & 0xff))) ? 1 : 0)) < 0) ? 1 : 0) << 2))) << 12) | ((((((0 - ((((((b[((int) l3) - 58888] & 0xff) != (b[((int) l5) - 58888] & 0xff)) | ((b[((int) l3) - 58904] & 0xff) != (b[((int) l5) - 58904] & 0xff))) | ((b[((int) l3) - 58872] & 0xff) != (b[((int) l5) - 58872] & 0xff))) | ((b[((int) l3) - 58856] & 0xff) != (b[((int) l5) - 58856] & 0xff))) ? 1 : 0)) < 0) ? 1 : 0) | ((((0 - ((((((b[((int) l3) - 58887] & 0xff) != (b[((int) l5) - 58887] & 0xff)) | ((b[((int) l3) - 58903] & 0xff) != (b[((int) l5) - 58903] & 0xff))) | ((b[((int) l3) - 58871] & 0xff) != (b[((int) l5) - 58871] & 0xff))) | ((b[((int) l3) - 58855] & 0xff) != (b[((int) l5) - 58855] & 0xff))) ? 1 : 0)) < 0) ? 1 : 0) << 1)) | (((((0 - ((((((b[((int) l3) - 58885] & 0xff) != (b[((int) l5) - 58885] & 0xff)) | ((b[((int) l3) - 58901] & 0xff) != (b[((int) l5) - 58901] & 0xff))) | ((b[((int) l3) - 58869] & 0xff) != (b[((int) l5) - 58869] & 0xff))) | ((b[((int) l3) - 58853] & 0xff) != (b[((int) l5) - 58853] & 0xff))) ? 1 : 0)) < 0) ? 1 : 0) << 3) | ((((0 - ((((((b[((int) l3) - 58886] & 0xff) != (b[((int) l5) - 58886] & 0xff)) | ((b[((int) l3) - 58902] & 0xff) != (b[((int) l5) - 58902] & 0xff))) | ((b[((int) l3) - 58870] & 0xff) != (b[((int) l5) - 58870] & 0xff))) | ((b[((int) l3) - 58854] & 0xff) != (b[((int) l5) - 58854] & 0xff))) ? 1 : 0)) < 0) ? 1 : 0) << 2))) << 8))) & 65535) != 0) { exit = 1; break PART; }
    l3 = l3 + 64L;
    l5 = l5 + 64L;
    if ((l6 = l6 + -64L) + Long.MIN_VALUE >= -9223372036854775743L) { continue L21; }
@@ -9584,7 +9584,7 @@ static int f31(State m, long l0, long l1, long l2, long l3) {
     if (l1 + Long.MIN_VALUE > -9223372036854775801L) { break L3; }
     L4: {
      if (l1 + Long.MIN_VALUE < -9223372036854775804L) { break L4; }
-     final int t5 = ((((((l5 = Words.get32(b, ((int) l0) - 60720) & 0xffffffffL) << 56L) | ((l5 & 65280L) << 40L)) | ((((l5 = (l0 = (l3 = Words.get32(b, ((int) (l0 + (l1 = l1 + -4L))) - 60720) & 0xffffffffL) << 32L) | l5) & 16711680L) << 24L) | ((l5 & 4278190080L) << 8L))) | ((((l3 << 24L) & 4278190080L) | ((l3 << 8L) & 16711680L)) | (((l3 >>> 8L) & 65280L) | (l0 >>> 56L)))) == (((((l5 = Words.get32(b, ((int) l2) - 60720) & 0xffffffffL) << 56L) | ((l5 & 65280L) << 40L)) | ((((l5 = (l2 = (l3 = Words.get32(b, ((int) (l2 + l1)) - 60720) & 0xffffffffL) << 32L) | l5) & 16711680L) << 24L) | ((l5 & 4278190080L) << 8L))) | ((((l3 << 24L) & 4278190080L) | ((l3 << 8L) & 16711680L)) | (((l3 >>> 8L) & 65280L) | (l2 >>> 56L))))) ? 1 : 0;
+     final int t5 = ((((((l5 = Words.get32(b, ((int) l0) - 58912) & 0xffffffffL) << 56L) | ((l5 & 65280L) << 40L)) | ((((l5 = (l0 = (l3 = Words.get32(b, ((int) (l0 + (l1 = l1 + -4L))) - 58912) & 0xffffffffL) << 32L) | l5) & 16711680L) << 24L) | ((l5 & 4278190080L) << 8L))) | ((((l3 << 24L) & 4278190080L) | ((l3 << 8L) & 16711680L)) | (((l3 >>> 8L) & 65280L) | (l0 >>> 56L)))) == (((((l5 = Words.get32(b, ((int) l2) - 58912) & 0xffffffffL) << 56L) | ((l5 & 65280L) << 40L)) | ((((l5 = (l2 = (l3 = Words.get32(b, ((int) (l2 + l1)) - 58912) & 0xffffffffL) << 32L) | l5) & 16711680L) << 24L) | ((l5 & 4278190080L) << 8L))) | ((((l3 << 24L) & 4278190080L) | ((l3 << 8L) & 16711680L)) | (((l3 >>> 8L) & 65280L) | (l2 >>> 56L))))) ? 1 : 0;
      return t5;
     }
     L6: {
@@ -9592,16 +9592,16 @@ static int f31(State m, long l0, long l1, long l2, long l3) {
      final int t7 = (0L == 0L) ? 1 : 0;
      return t7;
     }
-    final int t8 = (((((b[((int) (l0 + (l3 = l1 >>> 1L))) - 60720] & 0xffL) << 8L) | ((b[((int) l0) - 60720] & 0xffL) << 16L)) | (b[((int) (l0 + (l5 = l1 + -1L))) - 60720] & 0xffL)) == ((((b[((int) (l2 + l3)) - 60720] & 0xffL) << 8L) | ((b[((int) l2) - 60720] & 0xffL) << 16L)) | (b[((int) (l2 + l5)) - 60720] & 0xffL))) ? 1 : 0;
+    final int t8 = (((((b[((int) (l0 + (l3 = l1 >>> 1L))) - 58912] & 0xffL) << 8L) | ((b[((int) l0) - 58912] & 0xffL) << 16L)) | (b[((int) (l0 + (l5 = l1 + -1L))) - 58912] & 0xffL)) == ((((b[((int) (l2 + l3)) - 58912] & 0xffL) << 8L) | ((b[((int) l2) - 58912] & 0xffL) << 16L)) | (b[((int) (l2 + l5)) - 58912] & 0xffL))) ? 1 : 0;
     return t8;
    }
    L9: {
     if (l1 + Long.MIN_VALUE > -9223372036854775776L) { break L9; }
-    final int t10 = (Words.get64(b, ((int) l0) - 60720) == Words.get64(b, ((int) l2) - 60720)) ? 1 : 0;
+    final int t10 = (Words.get64(b, ((int) l0) - 58912) == Words.get64(b, ((int) l2) - 58912)) ? 1 : 0;
     final long t11 = l0;
     final long t12 = l3 = l1 + -8L;
     final int t13 = (l3 + Long.MIN_VALUE < -9223372036854775800L) ? 1 : 0;
-    final int t14 = ((t10 & ((Words.get64(b, ((int) (t11 + (l5 = t13 != 0 ? t12 : 8L))) - 60720) == Words.get64(b, ((int) (l2 + l5)) - 60720)) ? 1 : 0)) & ((Words.get64(b, ((int) (l0 + (l5 = (l3 + Long.MIN_VALUE < -9223372036854775792L) ? l3 : 16L))) - 60720) == Words.get64(b, ((int) (l2 + l5)) - 60720)) ? 1 : 0)) & ((Words.get64(b, ((int) (l0 + l3)) - 60720) == Words.get64(b, ((int) (l2 + l3)) - 60720)) ? 1 : 0);
+    final int t14 = ((t10 & ((Words.get64(b, ((int) (t11 + (l5 = t13 != 0 ? t12 : 8L))) - 58912) == Words.get64(b, ((int) (l2 + l5)) - 58912)) ? 1 : 0)) & ((Words.get64(b, ((int) (l0 + (l5 = (l3 + Long.MIN_VALUE < -9223372036854775792L) ? l3 : 16L))) - 58912) == Words.get64(b, ((int) (l2 + l5)) - 58912)) ? 1 : 0)) & ((Words.get64(b, ((int) (l0 + l3)) - 58912) == Words.get64(b, ((int) (l2 + l3)) - 58912)) ? 1 : 0);
     return t14;
    }
    l3 = l0;
@@ -9610,11 +9610,11 @@ static int f31(State m, long l0, long l1, long l2, long l3) {
    L15: {
     L16: {
      if (l1 + Long.MIN_VALUE >= -9223372036854775743L) { break L16; }
-     final int t17 = (((b[((int) l0) - 60720] & 0xff) != (b[((int) l2) - 60720] & 0xff)) | ((b[((int) l0) - 60704] & 0xff) != (b[((int) l2) - 60704] & 0xff))) ? 1 : 0;
+     final int t17 = (((b[((int) l0) - 58912] & 0xff) != (b[((int) l2) - 58912] & 0xff)) | ((b[((int) l0) - 58896] & 0xff) != (b[((int) l2) - 58896] & 0xff))) ? 1 : 0;
      final long t18 = l0;
      final long t19 = l6 = l1 + -16L;
      final int t20 = (l6 + Long.MIN_VALUE < -9223372036854775776L) ? 1 : 0;
-     l4 = ((((((((((t17 | (((b[((int) (l3 = t18 + (l5 = t20 != 0 ? t19 : 32L))) - 60720] & 0xff) != (b[((int) (l5 = l2 + l5)) - 60720] & 0xff)) ? 1 : 0)) | (((b[((int) (l1 = l0 + l6)) - 60720] & 0xff) != (b[((int) (l6 = l2 + l6)) - 60720] & 0xff)) ? 1 : 0)) | (((((((b[((int) l0) - 60719] & 0xff) != (b[((int) l2) - 60719] & 0xff)) | ((b[((int) l0) - 60703] & 0xff) != (b[((int) l2) - 60703] & 0xff))) | ((b[((int) l3) - 60719] & 0xff) != (b[((int) l5) - 60719] & 0xff))) | ((b[((int) l1) - 60719] & 0xff) != (b[((int) l6) - 60719] & 0xff))) ? 1 : 0) << 1)) | ((((((((b[((int) l0) - 60717] & 0xff) != (b[((int) l2) - 60717] & 0xff)) | ((b[((int) l0) - 60701] & 0xff) != (b[((int) l2) - 60701] & 0xff))) | ((b[((int) l3) - 60717] & 0xff) != (b[((int) l5) - 60717] & 0xff))) | ((b[((int) l1) - 60717] & 0xff) != (b[((int) l6) - 60717] & 0xff))) ? 1 : 0) << 3) | (((((((b[((int) l0) - 60718] & 0xff) != (b[((int) l2) - 60718] & 0xff)) | ((b[((int) l0) - 60702] & 0xff) != (b[((int) l2) - 60702] & 0xff))) | ((b[((int) l3) - 60718] & 0xff) != (b[((int) l5) - 60718] & 0xff))) | ((b[((int) l1) - 60718] & 0xff) != (b[((int) l6) - 60718] & 0xff))) ? 1 : 0) << 2))) & 15) | (((((((((b[((int) l0) - 60716] & 0xff) != (b[((int) l2) - 60716] & 0xff)) | ((b[((int) l0) - 60700] & 0xff) != (b[((int) l2) - 60700] & 0xff))) | ((b[((int) l3) - 60716] & 0xff) != (b[((int) l5) - 60716] & 0xff))) | ((b[((int) l1) - 60716] & 0xff) != (b[((int) l6) - 60716] & 0xff))) ? 1 : 0) | (((((((b[((int) l0) - 60715] & 0xff) != (b[((int) l2) - 60715] & 0xff)) | ((b[((int) l0) - 60699] & 0xff) != (b[((int) l2) - 60699] & 0xff))) | ((b[((int) l3) - 60715] & 0xff) != (b[((int) l5) - 60715] & 0xff))) | ((b[((int) l1) - 60715] & 0xff) != (b[((int) l6) - 60715] & 0xff))) ? 1 : 0) << 1)) | ((((((((b[((int) l0) - 60713] & 0xff) != (b[((int) l2) - 60713] & 0xff)) | ((b[((int) l0) - 60697] & 0xff) != (b[((int) l2) - 60697] & 0xff))) | ((b[((int) l3) - 60713] & 0xff) != (b[((int) l5) - 60713] & 0xff))) | ((b[((int) l1) - 60713] & 0xff) != (b[((int) l6) - 60713] & 0xff))) ? 1 : 0) << 3) | (((((((b[((int) l0) - 60714] & 0xff) != (b[((int) l2) - 60714] & 0xff)) | ((b[((int) l0) - 60698] & 0xff) != (b[((int) l2) - 60698] & 0xff))) | ((b[((int) l3) - 60714] & 0xff) != (b[((int) l5) - 60714] & 0xff))) | ((b[((int) l1) - 60714] & 0xff) != (b[((int) l6) - 60714] & 0xff))) ? 1 : 0) << 2))) << 4)) & 255) | ((((((((((b[((int) l0) - 60708] & 0xff) != (b[((int) l2) - 60708] & 0xff)) | ((b[((int) l0) - 60692] & 0xff) != (b[((int) l2) - 60692] & 0xff))) | ((b[((int) l3) - 60708] & 0xff) != (b[((int) l5) - 60708] & 0xff))) | ((b[((int) l1) - 60708] & 0xff) != (b[((int) l6) - 60708] & 0xff))) ? 1 : 0) | (((((((b[((int) l0) - 60707] & 0xff) != (b[((int) l2) - 60707] & 0xff)) | ((b[((int) l0) - 60691] & 0xff) != (b[((int) l2) - 60691] & 0xff))) | ((b[((int) l3) - 60707] & 0xff) != (b[((int) l5) - 60707] & 0xff))) | ((b[((int) l1) - 60707] & 0xff) != (b[((int) l6) - 60707] & 0xff))) ? 1 : 0) << 1)) | ((((((((b[((int) l0) - 60705] & 0xff) != (b[((int) l2) - 60705] & 0xff)) | ((b[((int) l0) - 60689] & 0xff) != (b[((int) l2) - 60689] & 0xff))) | ((b[((int) l3) - 60705] & 0xff) != (b[((int) l5) - 60705] & 0xff))) | ((b[((int) l1) - 60705] & 0xff) != (b[((int) l6) - 60705] & 0xff))) ? 1 : 0) << 3) | (((((((b[((int) l0) - 60706] & 0xff) != (b[((int) l2) - 60706] & 0xff)) | ((b[((int) l0) - 60690] & 0xff) != (b[((int) l2) - 60690] & 0xff))) | ((b[((int) l3) - 60706] & 0xff) != (b[((int) l5) - 60706] & 0xff))) | ((b[((int) l1) - 60706] & 0xff) != (b[((int) l6) - 60706] & 0xff))) ? 1 : 0) << 2))) << 12) | ((((((((((b[((int) l0) - 60712] & 0xff) != (b[((int) l2) - 60712] & 0xff)) | ((b[((int) l0) - 60696] & 0xff) != (b[((int) l2) - 60696] & 0xff))) | ((b[((int) l3) - 60712] & 0xff) != (b[((int) l5) - 60712] & 0xff))) | ((b[((int) l1) - 60712] & 0xff) != (b[((int) l6) - 60712] & 0xff))) ? 1 : 0) | (((((((b[((int) l0) - 60711] & 0xff) != (b[((int) l2) - 60711] & 0xff)) | ((b[((int) l0) - 60695] & 0xff) != (b[((int) l2) - 60695] & 0xff))) | ((b[((int) l3) - 60711] & 0xff) != (b[((int) l5) - 60711] & 0xff))) | ((b[((int) l1) - 60711] & 0xff) != (b[((int) l6) - 60711] & 0xff))) ? 1 : 0) << 1)) | ((((((((b[((int) l0) - 60709] & 0xff) != (b[((int) l2) - 60709] & 0xff)) | ((b[((int) l0) - 60693] & 0xff) != (b[((int) l2) - 60693] & 0xff))) | ((b[((int) l3) - 60709] & 0xff) != (b[((int) l5) - 60709] & 0xff))) | ((b[((int) l1) - 60709] & 0xff) != (b[((int) l6) - 60709] & 0xff))) ? 1 : 0) << 3) | (((((((b[((int) l0) - 60710] & 0xff) != (b[((int) l2) - 60710] & 0xff)) | ((b[((int) l0) - 60694] & 0xff) != (b[((int) l2) - 60694] & 0xff))) | ((b[((int) l3) - 60710] & 0xff) != (b[((int) l5) - 60710] & 0xff))) | ((b[((int) l1) - 60710] & 0xff) != (b[((int) l6) - 60710] & 0xff))) ? 1 : 0) << 2))) & 15) << 8))) & 65535) != 0) ? 1 : 0;
+     l4 = ((((((((((t17 | (((b[((int) (l3 = t18 + (l5 = t20 != 0 ? t19 : 32L))) - 58912] & 0xff) != (b[((int) (l5 = l2 + l5)) - 58912] & 0xff)) ? 1 : 0)) | (((b[((int) (l1 = l0 + l6)) - 58912] & 0xff) != (b[((int) (l6 = l2 + l6)) - 58912] & 0xff)) ? 1 : 0)) | (((((((b[((int) l0) - 58911] & 0xff) != (b[((int) l2) - 58911] & 0xff)) | ((b[((int) l0) - 58895] & 0xff) != (b[((int) l2) - 58895] & 0xff))) | ((b[((int) l3) - 58911] & 0xff) != (b[((int) l5) - 58911] & 0xff))) | ((b[((int) l1) - 58911] & 0xff) != (b[((int) l6) - 58911] & 0xff))) ? 1 : 0) << 1)) | ((((((((b[((int) l0) - 58909] & 0xff) != (b[((int) l2) - 58909] & 0xff)) | ((b[((int) l0) - 58893] & 0xff) != (b[((int) l2) - 58893] & 0xff))) | ((b[((int) l3) - 58909] & 0xff) != (b[((int) l5) - 58909] & 0xff))) | ((b[((int) l1) - 58909] & 0xff) != (b[((int) l6) - 58909] & 0xff))) ? 1 : 0) << 3) | (((((((b[((int) l0) - 58910] & 0xff) != (b[((int) l2) - 58910] & 0xff)) | ((b[((int) l0) - 58894] & 0xff) != (b[((int) l2) - 58894] & 0xff))) | ((b[((int) l3) - 58910] & 0xff) != (b[((int) l5) - 58910] & 0xff))) | ((b[((int) l1) - 58910] & 0xff) != (b[((int) l6) - 58910] & 0xff))) ? 1 : 0) << 2))) & 15) | (((((((((b[((int) l0) - 58908] & 0xff) != (b[((int) l2) - 58908] & 0xff)) | ((b[((int) l0) - 58892] & 0xff) != (b[((int) l2) - 58892] & 0xff))) | ((b[((int) l3) - 58908] & 0xff) != (b[((int) l5) - 58908] & 0xff))) | ((b[((int) l1) - 58908] & 0xff) != (b[((int) l6) - 58908] & 0xff))) ? 1 : 0) | (((((((b[((int) l0) - 58907] & 0xff) != (b[((int) l2) - 58907] & 0xff)) | ((b[((int) l0) - 58891] & 0xff) != (b[((int) l2) - 58891] & 0xff))) | ((b[((int) l3) - 58907] & 0xff) != (b[((int) l5) - 58907] & 0xff))) | ((b[((int) l1) - 58907] & 0xff) != (b[((int) l6) - 58907] & 0xff))) ? 1 : 0) << 1)) | ((((((((b[((int) l0) - 58905] & 0xff) != (b[((int) l2) - 58905] & 0xff)) | ((b[((int) l0) - 58889] & 0xff) != (b[((int) l2) - 58889] & 0xff))) | ((b[((int) l3) - 58905] & 0xff) != (b[((int) l5) - 58905] & 0xff))) | ((b[((int) l1) - 58905] & 0xff) != (b[((int) l6) - 58905] & 0xff))) ? 1 : 0) << 3) | (((((((b[((int) l0) - 58906] & 0xff) != (b[((int) l2) - 58906] & 0xff)) | ((b[((int) l0) - 58890] & 0xff) != (b[((int) l2) - 58890] & 0xff))) | ((b[((int) l3) - 58906] & 0xff) != (b[((int) l5) - 58906] & 0xff))) | ((b[((int) l1) - 58906] & 0xff) != (b[((int) l6) - 58906] & 0xff))) ? 1 : 0) << 2))) << 4)) & 255) | ((((((((((b[((int) l0) - 58900] & 0xff) != (b[((int) l2) - 58900] & 0xff)) | ((b[((int) l0) - 58884] & 0xff) != (b[((int) l2) - 58884] & 0xff))) | ((b[((int) l3) - 58900] & 0xff) != (b[((int) l5) - 58900] & 0xff))) | ((b[((int) l1) - 58900] & 0xff) != (b[((int) l6) - 58900] & 0xff))) ? 1 : 0) | (((((((b[((int) l0) - 58899] & 0xff) != (b[((int) l2) - 58899] & 0xff)) | ((b[((int) l0) - 58883] & 0xff) != (b[((int) l2) - 58883] & 0xff))) | ((b[((int) l3) - 58899] & 0xff) != (b[((int) l5) - 58899] & 0xff))) | ((b[((int) l1) - 58899] & 0xff) != (b[((int) l6) - 58899] & 0xff))) ? 1 : 0) << 1)) | ((((((((b[((int) l0) - 58897] & 0xff) != (b[((int) l2) - 58897] & 0xff)) | ((b[((int) l0) - 58881] & 0xff) != (b[((int) l2) - 58881] & 0xff))) | ((b[((int) l3) - 58897] & 0xff) != (b[((int) l5) - 58897] & 0xff))) | ((b[((int) l1) - 58897] & 0xff) != (b[((int) l6) - 58897] & 0xff))) ? 1 : 0) << 3) | (((((((b[((int) l0) - 58898] & 0xff) != (b[((int) l2) - 58898] & 0xff)) | ((b[((int) l0) - 58882] & 0xff) != (b[((int) l2) - 58882] & 0xff))) | ((b[((int) l3) - 58898] & 0xff) != (b[((int) l5) - 58898] & 0xff))) | ((b[((int) l1) - 58898] & 0xff) != (b[((int) l6) - 58898] & 0xff))) ? 1 : 0) << 2))) << 12) | ((((((((((b[((int) l0) - 58904] & 0xff) != (b[((int) l2) - 58904] & 0xff)) | ((b[((int) l0) - 58888] & 0xff) != (b[((int) l2) - 58888] & 0xff))) | ((b[((int) l3) - 58904] & 0xff) != (b[((int) l5) - 58904] & 0xff))) | ((b[((int) l1) - 58904] & 0xff) != (b[((int) l6) - 58904] & 0xff))) ? 1 : 0) | (((((((b[((int) l0) - 58903] & 0xff) != (b[((int) l2) - 58903] & 0xff)) | ((b[((int) l0) - 58887] & 0xff) != (b[((int) l2) - 58887] & 0xff))) | ((b[((int) l3) - 58903] & 0xff) != (b[((int) l5) - 58903] & 0xff))) | ((b[((int) l1) - 58903] & 0xff) != (b[((int) l6) - 58903] & 0xff))) ? 1 : 0) << 1)) | ((((((((b[((int) l0) - 58901] & 0xff) != (b[((int) l2) - 58901] & 0xff)) | ((b[((int) l0) - 58885] & 0xff) != (b[((int) l2) - 58885] & 0xff))) | ((b[((int) l3) - 58901] & 0xff) != (b[((int) l5) - 58901] & 0xff))) | ((b[((int) l1) - 58901] & 0xff) != (b[((int) l6) - 58901] & 0xff))) ? 1 : 0) << 3) | (((((((b[((int) l0) - 58902] & 0xff) != (b[((int) l2) - 58902] & 0xff)) | ((b[((int) l0) - 58886] & 0xff) != (b[((int) l2) - 58886] & 0xff))) | ((b[((int) l3) - 58902] & 0xff) != (b[((int) l5) - 58902] & 0xff))) | ((b[((int) l1) - 58902] & 0xff) != (b[((int) l6) - 58902] & 0xff))) ? 1 : 0) << 2))) & 15) << 8))) & 65535) != 0) ? 1 : 0;
      break L15;
     }
     final int x22 = f31_1(m, l3, l4, l5, l6);
@@ -9625,7 +9625,7 @@ static int f31(State m, long l0, long l1, long l2, long l3) {
     switch (x22) {
     case 1: break L15;
     }
-    l4 = (((((((((0 - ((((((b[((int) (l3 = l0 + (l5 = l1 + -64L))) - 60704] & 0xff) != (b[((int) (l5 = l2 + l5)) - 60704] & 0xff)) | ((b[((int) l3) - 60720] & 0xff) != (b[((int) l5) - 60720] & 0xff))) | ((b[((int) l3) - 60688] & 0xff) != (b[((int) l5) - 60688] & 0xff))) | ((b[((int) l3) - 60672] & 0xff) != (b[((int) l5) - 60672] & 0xff))) ? 1 : 0)) < 0) ? 1 : 0) | ((((0 - ((((((b[((int) l3) - 60703] & 0xff) != (b[((int) l5) - 60703] & 0xff)) | ((b[((int) l3) - 60719] & 0xff) != (b[((int) l5) - 60719] & 0xff))) | ((b[((int) l3) - 60687] & 0xff) != (b[((int) l5) - 60687] & 0xff))) | ((b[((int) l3) - 60671] & 0xff) != (b[((int) l5) - 60671] & 0xff))) ? 1 : 0)) < 0) ? 1 : 0) << 1)) | (((((0 - ((((((b[((int) l3) - 60701] & 0xff) != (b[((int) l5) - 60701] & 0xff)) | ((b[((int) l3) - 60717] & 0xff) != (b[((int) l5) - 60717] & 0xff))) | ((b[((int) l3) - 60685] & 0xff) != (b[((int) l5) - 60685] & 0xff))) | ((b[((int) l3) - 60669] & 0xff) != (b[((int) l5) - 60669] & 0xff))) ? 1 : 0)) < 0) ? 1 : 0) << 3) | ((((0 - ((((((b[((int) l3) - 60702] & 0xff) != (b[((int) l5) - 60702] & 0xff)) | ((b[((int) l3) - 60718] & 0xff) != (b[((int) l5) - 60718] & 0xff))) | ((b[((int) l3) - 60686] & 0xff) != (b[((int) l5) - 60686] & 0xff))) | ((b[((int) l3) - 60670] & 0xff) != (b[((int) l5) - 60670] & 0xff))) ? 1 : 0)) < 0) ? 1 : 0) << 2))) | ((((((0 - ((((((b[((int) l3) - 60700] & 0xff) != (b[((int) l5) - 60700] & 0xff)) | ((b[((int) l3) - 60716] & 0xff) != (b[((int) l5) - 60716] & 0xff))) | ((b[((int) l3) - 60684] & 0xff) != (b[((int) l5) - 60684] & 0xff))) | ((b[((int) l3) - 60668] & 0xff) != (b[((int) l5) - 60668] & 0xff))) ? 1 : 0)) < 0) ? 1 : 0) | ((((0 - ((((((b[((int) l3) - 60699] & 0xff) != (b[((int) l5) - 60699] & 0xff)) | ((b[((int) l3) - 60715] & 0xff) != (b[((int) l5) - 60715] & 0xff))) | ((b[((int) l3) - 60683] & 0xff) != (b[((int) l5) - 60683] & 0xff))) | ((b[((int) l3) - 60667] & 0xff) != (b[((int) l5) - 60667] & 0xff))) ? 1 : 0)) < 0) ? 1 : 0) << 1)) | (((((0 - ((((((b[((int) l3) - 60697] & 0xff) != (b[((int) l5) - 60697] & 0xff)) | ((b[((int) l3) - 60713] & 0xff) != (b[((int) l5) - 60713] & 0xff))) | ((b[((int) l3) - 60681] & 0xff) != (b[((int) l5) - 60681] & 0xff))) | ((b[((int) l3) - 60665] & 0xff) != (b[((int) l5) - 60665] & 0xff))) ? 1 : 0)) < 0) ? 1 : 0) << 3) | ((((0 - ((((((b[((int) l3) - 60698] & 0xff) != (b[((int) l5) - 60698] & 0xff)) | ((b[((int) l3) - 60714] & 0xff) != (b[((int) l5) - 60714] & 0xff))) | ((b[((int) l3) - 60682] & 0xff) != (b[((int) l5) - 60682] & 0xff))) | ((b[((int) l3) - 60666] & 0xff) != (b[((int) l5) - 60666] & 0xff))) ? 1 : 0)) < 0) ? 1 : 0) << 2))) << 4)) | (((((((0 - ((((((b[((int) l3) - 60692] & 0xff) != (b[((int) l5) - 60692] & 0xff)) | ((b[((int) l3) - 60708] & 0xff) != (b[((int) l5) - 60708] & 0xff))) | ((b[((int) l3) - 60676] & 0xff) != (b[((int) l5) - 60676] & 0xff))) | ((b[((int) l3) - 60660] & 0xff) != (b[((int) l5) - 60660] & 0xff))) ? 1 : 0)) < 0) ? 1 : 0) | ((((0 - ((((((b[((int) l3) - 60691] & 0xff) != (b[((int) l5) - 60691] & 0xff)) | ((b[((int) l3) - 60707] & 0xff) != (b[((int) l5) - 60707] & 0xff))) | ((b[((int) l3) - 60675] & 0xff) != (b[((int) l5) - 60675] & 0xff))) | ((b[((int) l3) - 60659] & 0xff) != (b[((int) l5) - 60659] & 0xff))) ? 1 : 0)) < 0) ? 1 : 0) << 1)) | (((((0 - ((((((b[((int) l3) - 60689] & 0xff) != (b[((int) l5) - 60689] & 0xff)) | ((b[((int) l3) - 60705] & 0xff) != (b[((int) l5) - 60705] & 0xff))) | ((b[((int) l3) - 60673] & 0xff) != (b[((int) l5) - 60673] & 0xff))) | ((b[((int) l3) - 60657] & 0xff) != (b[((int) l5) - 60657] & 0xff))) ? 1 : 0)) < 0) ? 1 : 0) << 3) | ((((0 - ((((((b[((int) l3) - 60690] & 0xff) != (b[((int) l5) - 60690] & 0xff)) | ((b[((int) l3) - 60706] & 0xff) != (b[((int) l5) - 60706] & 0xff))) | ((b[((int) l3) - 60674] & 0xff) != (b[((int) l5) - 60674] & 0xff))) | ((b[((int) l3) - 60658] & 0xff) != (b[((int) l5) - 60658] & 0xff))) ? 1 : 0)) < 0) ? 1 : 0) << 2))) << 12) | ((((((0 - ((((((b[((int) l3) - 60696] & 0xff) != (b[((int) l5) - 60696] & 0xff)) | ((b[((int) l3) - 60712] & 0xff) != (b[((int) l5) - 60712] & 0xff))) | ((b[((int) l3) - 60680] & 0xff) != (b[((int) l5) - 60680] & 0xff))) | ((b[((int) l3) - 60664] & 0xff) != (b[((int) l5) - 60664] & 0xff))) ? 1 : 0)) < 0) ? 1 : 0) | ((((0 - ((((((b[((int) l3) - 60695] & 0xff) != (b[((int) l5) - 60695] & 0xff)) | ((b[((int) l3) - 60711] & 0xff) != (b[((int) l5) - 60711] & 0xff))) | ((b[((int) l3) - 60679] & 0xff) != (b[((int) l5) - 60679] & 0xff))) | ((b[((int) l3) - 60663] & 0xff) != (b[((int) l5) - 60663] & 0xff))) ? 1 : 0)) < 0) ? 1 : 0) << 1)) | (((((0 - ((((((b[((int) l3) - 60693] & 0xff) != (b[((int) l5) - 60693] & 0xff)) | ((b[((int) l3) - 60709] & 0xff) != (b[((int) l5) - 60709] & 0xff))) | ((b[((int) l3) - 60677] & 0xff) != (b[((int) l5) - 60677] & 0xff))) | ((b[((int) l3) - 60661] & 0xff) != (b[((int) l5) - 60661] & 0xff))) ? 1 : 0)) < 0) ? 1 : 0) << 3) | ((((0 - ((((((b[((int) l3) - 60694] & 0xff) != (b[((int) l5) - 60694] & 0xff)) | ((b[((int) l3) - 60710] & 0xff) != (b[((int) l5) - 60710] & 0xff))) | ((b[((int) l3) - 60678] & 0xff) != (b[((int) l5) - 60678] & 0xff))) | ((b[((int) l3) - 60662] & 0xff) != (b[((int) l5) - 60662] & 0xff))) ? 1 : 0)) < 0) ? 1 : 0) << 2))) << 8))) & 65535) != 0) ? 1 : 0;
+    l4 = (((((((((0 - ((((((b[((int) (l3 = l0 + (l5 = l1 + -64L))) - 58896] & 0xff) != (b[((int) (l5 = l2 + l5)) - 58896] & 0xff)) | ((b[((int) l3) - 58912] & 0xff) != (b[((int) l5) - 58912] & 0xff))) | ((b[((int) l3) - 58880] & 0xff) != (b[((int) l5) - 58880] & 0xff))) | ((b[((int) l3) - 58864] & 0xff) != (b[((int) l5) - 58864] & 0xff))) ? 1 : 0)) < 0) ? 1 : 0) | ((((0 - ((((((b[((int) l3) - 58895] & 0xff) != (b[((int) l5) - 58895] & 0xff)) | ((b[((int) l3) - 58911] & 0xff) != (b[((int) l5) - 58911] & 0xff))) | ((b[((int) l3) - 58879] & 0xff) != (b[((int) l5) - 58879] & 0xff))) | ((b[((int) l3) - 58863] & 0xff) != (b[((int) l5) - 58863] & 0xff))) ? 1 : 0)) < 0) ? 1 : 0) << 1)) | (((((0 - ((((((b[((int) l3) - 58893] & 0xff) != (b[((int) l5) - 58893] & 0xff)) | ((b[((int) l3) - 58909] & 0xff) != (b[((int) l5) - 58909] & 0xff))) | ((b[((int) l3) - 58877] & 0xff) != (b[((int) l5) - 58877] & 0xff))) | ((b[((int) l3) - 58861] & 0xff) != (b[((int) l5) - 58861] & 0xff))) ? 1 : 0)) < 0) ? 1 : 0) << 3) | ((((0 - ((((((b[((int) l3) - 58894] & 0xff) != (b[((int) l5) - 58894] & 0xff)) | ((b[((int) l3) - 58910] & 0xff) != (b[((int) l5) - 58910] & 0xff))) | ((b[((int) l3) - 58878] & 0xff) != (b[((int) l5) - 58878] & 0xff))) | ((b[((int) l3) - 58862] & 0xff) != (b[((int) l5) - 58862] & 0xff))) ? 1 : 0)) < 0) ? 1 : 0) << 2))) | ((((((0 - ((((((b[((int) l3) - 58892] & 0xff) != (b[((int) l5) - 58892] & 0xff)) | ((b[((int) l3) - 58908] & 0xff) != (b[((int) l5) - 58908] & 0xff))) | ((b[((int) l3) - 58876] & 0xff) != (b[((int) l5) - 58876] & 0xff))) | ((b[((int) l3) - 58860] & 0xff) != (b[((int) l5) - 58860] & 0xff))) ? 1 : 0)) < 0) ? 1 : 0) | ((((0 - ((((((b[((int) l3) - 58891] & 0xff) != (b[((int) l5) - 58891] & 0xff)) | ((b[((int) l3) - 58907] & 0xff) != (b[((int) l5) - 58907] & 0xff))) | ((b[((int) l3) - 58875] & 0xff) != (b[((int) l5) - 58875] & 0xff))) | ((b[((int) l3) - 58859] & 0xff) != (b[((int) l5) - 58859] & 0xff))) ? 1 : 0)) < 0) ? 1 : 0) << 1)) | (((((0 - ((((((b[((int) l3) - 58889] & 0xff) != (b[((int) l5) - 58889] & 0xff)) | ((b[((int) l3) - 58905] & 0xff) != (b[((int) l5) - 58905] & 0xff))) | ((b[((int) l3) - 58873] & 0xff) != (b[((int) l5) - 58873] & 0xff))) | ((b[((int) l3) - 58857] & 0xff) != (b[((int) l5) - 58857] & 0xff))) ? 1 : 0)) < 0) ? 1 : 0) << 3) | ((((0 - ((((((b[((int) l3) - 58890] & 0xff) != (b[((int) l5) - 58890] & 0xff)) | ((b[((int) l3) - 58906] & 0xff) != (b[((int) l5) - 58906] & 0xff))) | ((b[((int) l3) - 58874] & 0xff) != (b[((int) l5) - 58874] & 0xff))) | ((b[((int) l3) - 58858] & 0xff) != (b[((int) l5) - 58858] & 0xff))) ? 1 : 0)) < 0) ? 1 : 0) << 2))) << 4)) | (((((((0 - ((((((b[((int) l3) - 58884] & 0xff) != (b[((int) l5) - 58884] & 0xff)) | ((b[((int) l3) - 58900] & 0xff) != (b[((int) l5) - 58900] & 0xff))) | ((b[((int) l3) - 58868] & 0xff) != (b[((int) l5) - 58868] & 0xff))) | ((b[((int) l3) - 58852] & 0xff) != (b[((int) l5) - 58852] & 0xff))) ? 1 : 0)) < 0) ? 1 : 0) | ((((0 - ((((((b[((int) l3) - 58883] & 0xff) != (b[((int) l5) - 58883] & 0xff)) | ((b[((int) l3) - 58899] & 0xff) != (b[((int) l5) - 58899] & 0xff))) | ((b[((int) l3) - 58867] & 0xff) != (b[((int) l5) - 58867] & 0xff))) | ((b[((int) l3) - 58851] & 0xff) != (b[((int) l5) - 58851] & 0xff))) ? 1 : 0)) < 0) ? 1 : 0) << 1)) | (((((0 - ((((((b[((int) l3) - 58881] & 0xff) != (b[((int) l5) - 58881] & 0xff)) | ((b[((int) l3) - 58897] & 0xff) != (b[((int) l5) - 58897] & 0xff))) | ((b[((int) l3) - 58865] & 0xff) != (b[((int) l5) - 58865] & 0xff))) | ((b[((int) l3) - 58849] & 0xff) != (b[((int) l5) - 58849] & 0xff))) ? 1 : 0)) < 0) ? 1 : 0) << 3) | ((((0 - ((((((b[((int) l3) - 58882] & 0xff) != (b[((int) l5) - 58882] & 0xff)) | ((b[((int) l3) - 58898] & 0xff) != (b[((int) l5) - 58898] & 0xff))) | ((b[((int) l3) - 58866] & 0xff) != (b[((int) l5) - 58866] & 0xff))) | ((b[((int) l3) - 58850] & 0xff) != (b[((int) l5) - 58850] & 0xff))) ? 1 : 0)) < 0) ? 1 : 0) << 2))) << 12) | ((((((0 - ((((((b[((int) l3) - 58888] & 0xff) != (b[((int) l5) - 58888] & 0xff)) | ((b[((int) l3) - 58904] & 0xff) != (b[((int) l5) - 58904] & 0xff))) | ((b[((int) l3) - 58872] & 0xff) != (b[((int) l5) - 58872] & 0xff))) | ((b[((int) l3) - 58856] & 0xff) != (b[((int) l5) - 58856] & 0xff))) ? 1 : 0)) < 0) ? 1 : 0) | ((((0 - ((((((b[((int) l3) - 58887] & 0xff) != (b[((int) l5) - 58887] & 0xff)) | ((b[((int) l3) - 58903] & 0xff) != (b[((int) l5) - 58903] & 0xff))) | ((b[((int) l3) - 58871] & 0xff) != (b[((int) l5) - 58871] & 0xff))) | ((b[((int) l3) - 58855] & 0xff) != (b[((int) l5) - 58855] & 0xff))) ? 1 : 0)) < 0) ? 1 : 0) << 1)) | (((((0 - ((((((b[((int) l3) - 58885] & 0xff) != (b[((int) l5) - 58885] & 0xff)) | ((b[((int) l3) - 58901] & 0xff) != (b[((int) l5) - 58901] & 0xff))) | ((b[((int) l3) - 58869] & 0xff) != (b[((int) l5) - 58869] & 0xff))) | ((b[((int) l3) - 58853] & 0xff) != (b[((int) l5) - 58853] & 0xff))) ? 1 : 0)) < 0) ? 1 : 0) << 3) | ((((0 - ((((((b[((int) l3) - 58886] & 0xff) != (b[((int) l5) - 58886] & 0xff)) | ((b[((int) l3) - 58902] & 0xff) != (b[((int) l5) - 58902] & 0xff))) | ((b[((int) l3) - 58870] & 0xff) != (b[((int) l5) - 58870] & 0xff))) | ((b[((int) l3) - 58854] & 0xff) != (b[((int) l5) - 58854] & 0xff))) ? 1 : 0)) < 0) ? 1 : 0) << 2))) << 8))) & 65535) != 0) ? 1 : 0;
    }
    l4 = l4 ^ 1;
   }
@@ -9865,8 +9865,8 @@ static void f32(State m, long l0, int l1) {
   }
   l3 = 1;
  }
- Words.put32(b, ((int) l0) - 60716, l2);
- b[((int) l0) - 60720] = (byte) l3;
+ Words.put32(b, ((int) l0) - 58908, l2);
+ b[((int) l0) - 58912] = (byte) l3;
 }
 
 static void f33(State m, long l0, long l1, long l2, int l3, int l4) {
@@ -9892,20 +9892,20 @@ static void f33(State m, long l0, long l1, long l2, int l3, int l4) {
        l7 = 0L;
        break L3;
       }
-      Words.put64(b, ((int) l0) - 60704, 0L);
-      Words.put64(b, ((int) l0) - 60712, 0L);
-      Words.put64(b, ((int) l0) - 60720, 0L);
+      Words.put64(b, ((int) l0) - 58896, 0L);
+      Words.put64(b, ((int) l0) - 58904, 0L);
+      Words.put64(b, ((int) l0) - 58912, 0L);
       break L1;
      }
      L7: {
       L8: {
-       if ((b[((int) (l1 + 32L)) - 60720] & 0xff) != 1) { break L8; }
-       f32(m, l5 + 8L, l8 = Words.get32(b, ((int) (l1 + 36L)) - 60720));
+       if ((b[((int) (l1 + 32L)) - 58912] & 0xff) != 1) { break L8; }
+       f32(m, l5 + 8L, l8 = Words.get32(b, ((int) (l1 + 36L)) - 58912));
        L9: {
         L10: {
-         final int t11 = Words.get32(b, ((int) l5) - 60708);
+         final int t11 = Words.get32(b, ((int) l5) - 58900);
          final int t12 = l8;
-         final int t13 = (b[((int) l5) - 60712] & 0xff) & 1;
+         final int t13 = (b[((int) l5) - 58904] & 0xff) & 1;
          if ((l4 = t13 != 0 ? t11 : t12) > 26577) { break L10; }
          L14: {
           if (l4 > 22776) { break L14; }
@@ -9956,24 +9956,24 @@ static void f33(State m, long l0, long l1, long l2, int l3, int l4) {
        l7 = 0L;
        break L3;
       }
-      Words.put64(b, ((int) l0) - 60704, 0L);
-      Words.put64(b, ((int) l0) - 60712, 0L);
-      Words.put64(b, ((int) l0) - 60720, 0L);
+      Words.put64(b, ((int) l0) - 58896, 0L);
+      Words.put64(b, ((int) l0) - 58904, 0L);
+      Words.put64(b, ((int) l0) - 58912, 0L);
       break L1;
      }
      l7 = 0L;
      if ((l8 + -65306) + Integer.MIN_VALUE >= 2147483638) { break L3; }
     }
-    final long t21 = l6 = (l1 = Words.get64(b, ((int) l1) - 60720)) - l2;
+    final long t21 = l6 = (l1 = Words.get64(b, ((int) l1) - 58912)) - l2;
     final int t22 = (l6 + Long.MIN_VALUE > l1 + Long.MIN_VALUE) ? 1 : 0;
     l7 = t22 != 0 ? 0L : t21;
     l3 = ((l4 = (l1 + Long.MIN_VALUE >= l2 + Long.MIN_VALUE) ? 1 : 0) != 0) ? 2 : 0;
     l6 = l4 & 0xffffffffL;
    }
-   Words.put64(b, ((int) l0) - 60720, l6);
-   Words.put32(b, ((int) (l0 + 20L)) - 60720, 0);
-   Words.put32(b, ((int) (l0 + 16L)) - 60720, l3);
-   Words.put64(b, ((int) (l0 + 8L)) - 60720, l7);
+   Words.put64(b, ((int) l0) - 58912, l6);
+   Words.put32(b, ((int) (l0 + 20L)) - 58912, 0);
+   Words.put32(b, ((int) (l0 + 16L)) - 58912, l3);
+   Words.put64(b, ((int) (l0 + 8L)) - 58912, l7);
    break L1;
   }
   throw State.trap();
@@ -9994,9 +9994,9 @@ static int f34(State m, int l0) {
   L2: {
    L3: {
     L4: {
-     final int t5 = Words.get32(b, ((int) l1) - 60708);
+     final int t5 = Words.get32(b, ((int) l1) - 58900);
      final int t6 = l0;
-     final int t7 = (b[((int) l1) - 60712] & 0xff) & 1;
+     final int t7 = (b[((int) l1) - 58904] & 0xff) & 1;
      if ((l3 = t7 != 0 ? t5 : t6) > 26577) { break L4; }
      L8: {
       if (l3 > 22776) { break L8; }
@@ -10065,9 +10065,9 @@ static int f35(State m, long l0, int l1) {
   if (m.g0 < 16L) { break L1; }
   l2 = 0;
   L2: {
-   if ((b[((int) (l0 + 8L)) - 60720] & 0xff) != 1) { break L2; }
+   if ((b[((int) (l0 + 8L)) - 58912] & 0xff) != 1) { break L2; }
    L3: {
-    if (((l3 = Words.get32(b, ((int) (l0 + 12L)) - 60720)) + -48) + Integer.MIN_VALUE < -2147483638) { break L3; }
+    if (((l3 = Words.get32(b, ((int) (l0 + 12L)) - 58912)) + -48) + Integer.MIN_VALUE < -2147483638) { break L3; }
     if ((l3 + -65296) + Integer.MIN_VALUE > -2147483639) { break L2; }
    }
    l2 = 1;
@@ -10106,10 +10106,10 @@ static int f36_1(State m, long l2, long l3, long l4, long l5, long l6, long l7, 
                   L49: {
                    if ((l23 & 255) != 0) { break L49; }
                    l6 = 0L;
-                   Words.put64(b, ((int) l5) - 60600, 0L);
-                   Words.put64(b, ((int) l5) - 60608, 0L);
-                   Words.put64(b, ((int) l5) - 60616, 0L);
-                   Words.put64(b, ((int) l5) - 60624, 0L);
+                   Words.put64(b, ((int) l5) - 58792, 0L);
+                   Words.put64(b, ((int) l5) - 58800, 0L);
+                   Words.put64(b, ((int) l5) - 58808, 0L);
+                   Words.put64(b, ((int) l5) - 58816, 0L);
                    L50: {
                     if (l24 != 0) { break L50; }
                     l4 = l2;
@@ -10122,14 +10122,14 @@ static int f36_1(State m, long l2, long l3, long l4, long l5, long l6, long l7, 
                     L52: while (true) {
                      L53: {
                       L54: {
-                       if ((l21 = b[((int) l3) - 60720] & 0xff) + Integer.MIN_VALUE > -2147483616) { break L54; }
+                       if ((l21 = b[((int) l3) - 58912] & 0xff) + Integer.MIN_VALUE > -2147483616) { break L54; }
                        l4 = 1L;
                        if (((1L << (l21 & 0xffffffffL)) & 4294983168L) != 0L) { break L53; }
                       }
                       L55: {
                        if (l21 != 194) { break L55; }
                        l4 = 1L;
-                       l21 = b[((int) l3) - 60719] & 0xff;
+                       l21 = b[((int) l3) - 58911] & 0xff;
                        L56: {
                         if (l2 != 1L) { break L56; }
                         l22 = l21 & 63;
@@ -10143,8 +10143,8 @@ static int f36_1(State m, long l2, long l3, long l4, long l5, long l6, long l7, 
                       }
                       if (l2 + Long.MIN_VALUE < -9223372036854775805L) { break L48; }
                       if (((l21 + 28) & 255) + Integer.MIN_VALUE < -2147483395) { break L48; }
-                      l23 = b[((int) (l3 + 1L)) - 60720] & 0xff;
-                      l22 = (int) (byte) (l24 = b[((int) (l3 + 2L)) - 60720] & 0xff);
+                      l23 = b[((int) (l3 + 1L)) - 58912] & 0xff;
+                      l22 = (int) (byte) (l24 = b[((int) (l3 + 2L)) - 58912] & 0xff);
                       L57: {
                        if (l21 != 226) { break L57; }
                        if ((l23 & 255) != 128) { break L57; }
@@ -10189,10 +10189,10 @@ static int f36_1(State m, long l2, long l3, long l4, long l5, long l6, long l7, 
                   }
                   l23 = l21 != 0 ? 0 : l22;
                   l6 = 0L;
-                  Words.put64(b, ((int) l5) - 60600, 0L);
-                  Words.put64(b, ((int) l5) - 60608, 0L);
-                  Words.put64(b, ((int) l5) - 60616, 0L);
-                  Words.put64(b, ((int) l5) - 60624, 0L);
+                  Words.put64(b, ((int) l5) - 58792, 0L);
+                  Words.put64(b, ((int) l5) - 58800, 0L);
+                  Words.put64(b, ((int) l5) - 58808, 0L);
+                  Words.put64(b, ((int) l5) - 58816, 0L);
                   L62: {
                    L63: {
                     L64: {
@@ -10215,14 +10215,14 @@ static int f36_1(State m, long l2, long l3, long l4, long l5, long l6, long l7, 
                              L74: while (true) {
                               L75: {
                                L76: {
-                                if ((l21 = b[((int) l3) - 60720] & 0xff) + Integer.MIN_VALUE > -2147483616) { break L76; }
+                                if ((l21 = b[((int) l3) - 58912] & 0xff) + Integer.MIN_VALUE > -2147483616) { break L76; }
                                 l4 = 1L;
                                 if (((1L << (l21 & 0xffffffffL)) & 4294983168L) != 0L) { break L75; }
                                }
                                L77: {
                                 if (l21 != 194) { break L77; }
                                 l4 = 1L;
-                                l21 = b[((int) l3) - 60719] & 0xff;
+                                l21 = b[((int) l3) - 58911] & 0xff;
                                 L78: {
                                  if (l2 != 1L) { break L78; }
                                  l24 = l21 & 63;
@@ -10236,8 +10236,8 @@ static int f36_1(State m, long l2, long l3, long l4, long l5, long l6, long l7, 
                                }
                                if (l2 + Long.MIN_VALUE < -9223372036854775805L) { break L72; }
                                if (((l21 + 28) & 255) + Integer.MIN_VALUE < -2147483395) { break L72; }
-                               l22 = b[((int) (l3 + 1L)) - 60720] & 0xff;
-                               l24 = (int) (byte) (l25 = b[((int) (l3 + 2L)) - 60720] & 0xff);
+                               l22 = b[((int) (l3 + 1L)) - 58912] & 0xff;
+                               l24 = (int) (byte) (l25 = b[((int) (l3 + 2L)) - 58912] & 0xff);
                                L79: {
                                 if (l21 != 226) { break L79; }
                                 if ((l22 & 255) != 128) { break L79; }
@@ -10281,11 +10281,11 @@ static int f36_1(State m, long l2, long l3, long l4, long l5, long l6, long l7, 
                             break L65;
                            }
                            if (l2 + Long.MIN_VALUE >= -9223372036854775805L) { break L71; }
-                           l22 = b[((int) l3) - 60720] & 0xff;
+                           l22 = b[((int) l3) - 58912] & 0xff;
                            break L70;
                           }
-                          if (((l22 = b[((int) l3) - 60720] & 0xff) & 240) != 224) { break L70; }
-                          l21 = (((b[((int) l3) - 60718] & 0xff) + ((b[((int) l3) - 60719] & 0xff) << 6)) + (l22 << 12)) + -925824;
+                          if (((l22 = b[((int) l3) - 58912] & 0xff) & 240) != 224) { break L70; }
+                          l21 = (((b[((int) l3) - 58910] & 0xff) + ((b[((int) l3) - 58911] & 0xff) << 6)) + (l22 << 12)) + -925824;
                           l10 = l2 + -3L;
                           l7 = l3 + 3L;
                           l4 = l2;
@@ -10295,20 +10295,20 @@ static int f36_1(State m, long l2, long l3, long l4, long l5, long l6, long l7, 
                          l7 = 1L;
                          L84: {
                           if (((int) (byte) l22) > -1) { break L84; }
-                          l24 = (b[((int) l3) - 60719] & 0xff) & 63;
+                          l24 = (b[((int) l3) - 58911] & 0xff) & 63;
                           L85: {
                            if ((l22 & 255) + Integer.MIN_VALUE > -2147483425) { break L85; }
                            l4 = l2;
                            break L69;
                           }
-                          l25 = (b[((int) l3) - 60718] & 0xff) & 63;
+                          l25 = (b[((int) l3) - 58910] & 0xff) & 63;
                           L86: {
                            if ((l22 & 255) + Integer.MIN_VALUE > -2147483409) { break L86; }
                            l21 = ((l24 << 6) | ((l21 << 12) & 61440)) | l25;
                            l7 = 3L;
                            break L84;
                           }
-                          l21 = ((l25 << 6) | ((l24 << 12) | ((l21 << 18) & 1835008))) | ((b[((int) l3) - 60717] & 0xff) & 63);
+                          l21 = ((l25 << 6) | ((l24 << 12) | ((l21 << 18) & 1835008))) | ((b[((int) l3) - 58909] & 0xff) & 63);
                           l7 = 4L;
                          }
                          l4 = l2;
@@ -10339,19 +10339,19 @@ static int f36_1(State m, long l2, long l3, long l4, long l5, long l6, long l7, 
                    Core2.f38(m, l5 + 96L, l23, l6, l7, l10);
                    l21 = l22 != 0 ? 3 : 2;
                   }
-                  l11 = Words.get64(b, ((int) l5) - 60600);
-                  l12 = Words.get64(b, ((int) l5) - 60608);
+                  l11 = Words.get64(b, ((int) l5) - 58792);
+                  l12 = Words.get64(b, ((int) l5) - 58800);
                   L88: {
-                   if ((b[((int) l5) - 60624] & 0xff) != 0) { break L88; }
-                   final int t89 = (l12 + Long.MIN_VALUE > Words.get64(b, ((int) (l4 = l9 + (l22 != 0 ? 67904L : 67888L))) - 60720) + Long.MIN_VALUE) ? 1 : 0;
-                   final int t90 = (l11 + Long.MIN_VALUE > (l4 = Words.get64(b, ((int) l4) - 60712)) + Long.MIN_VALUE) ? 1 : 0;
+                   if ((b[((int) l5) - 58816] & 0xff) != 0) { break L88; }
+                   final int t89 = (l12 + Long.MIN_VALUE > Words.get64(b, ((int) (l4 = l9 + (l22 != 0 ? 67904L : 67888L))) - 58912) + Long.MIN_VALUE) ? 1 : 0;
+                   final int t90 = (l11 + Long.MIN_VALUE > (l4 = Words.get64(b, ((int) l4) - 58904)) + Long.MIN_VALUE) ? 1 : 0;
                    final int t91 = (l11 == l4) ? 1 : 0;
                    if ((t91 != 0 ? t89 : t90) != 0) { break L38; }
                    l13 = l22 & 0xffffffffL;
                    break L36;
                   }
                   final int t92 = l21;
-                  final int t93 = l23 = b[((int) l5) - 60616] & 0xff;
+                  final int t93 = l23 = b[((int) l5) - 58808] & 0xff;
                   final int t94 = l23 = (l23 == 2) ? 1 : 0;
                   l21 = t94 != 0 ? t92 : t93;
                   l11 = 0L;
@@ -10359,11 +10359,11 @@ static int f36_1(State m, long l2, long l3, long l4, long l5, long l6, long l7, 
                   break L34;
                  }
                  if (l2 + Long.MIN_VALUE >= -9223372036854775805L) { break L47; }
-                 l23 = b[((int) l3) - 60720] & 0xff;
+                 l23 = b[((int) l3) - 58912] & 0xff;
                  break L46;
                 }
-                if (((l23 = b[((int) l3) - 60720] & 0xff) & 240) != 224) { break L46; }
-                l21 = (((b[((int) l3) - 60718] & 0xff) + ((b[((int) l3) - 60719] & 0xff) << 6)) + (l23 << 12)) + -925824;
+                if (((l23 = b[((int) l3) - 58912] & 0xff) & 240) != 224) { break L46; }
+                l21 = (((b[((int) l3) - 58910] & 0xff) + ((b[((int) l3) - 58911] & 0xff) << 6)) + (l23 << 12)) + -925824;
                 l10 = l2 + -3L;
                 l7 = l3 + 3L;
                 l4 = l2;
@@ -10373,20 +10373,20 @@ static int f36_1(State m, long l2, long l3, long l4, long l5, long l6, long l7, 
                l7 = 1L;
                L95: {
                 if (((int) (byte) l23) > -1) { break L95; }
-                l22 = (b[((int) l3) - 60719] & 0xff) & 63;
+                l22 = (b[((int) l3) - 58911] & 0xff) & 63;
                 L96: {
                  if ((l23 & 255) + Integer.MIN_VALUE > -2147483425) { break L96; }
                  l4 = l2;
                  break L45;
                 }
-                l24 = (b[((int) l3) - 60718] & 0xff) & 63;
+                l24 = (b[((int) l3) - 58910] & 0xff) & 63;
                 L97: {
                  if ((l23 & 255) + Integer.MIN_VALUE > -2147483409) { break L97; }
                  l21 = ((l22 << 6) | ((l21 << 12) & 61440)) | l24;
                  l7 = 3L;
                  break L95;
                 }
-                l21 = ((l24 << 6) | ((l22 << 12) | ((l21 << 18) & 1835008))) | ((b[((int) l3) - 60717] & 0xff) & 63);
+                l21 = ((l24 << 6) | ((l22 << 12) | ((l21 << 18) & 1835008))) | ((b[((int) l3) - 58909] & 0xff) & 63);
                 l7 = 4L;
                }
                l4 = l2;
@@ -10417,11 +10417,11 @@ static int f36_1(State m, long l2, long l3, long l4, long l5, long l6, long l7, 
          Core2.f39(m, l5 + 96L, l6, l7, l10);
          l21 = l23 != 0 ? 3 : 2;
         }
-        l11 = Words.get64(b, ((int) l5) - 60600);
-        l12 = Words.get64(b, ((int) l5) - 60608);
-        if ((b[((int) l5) - 60624] & 0xff) != 0) { break L35; }
-        final int t99 = (l12 + Long.MIN_VALUE > Words.get64(b, ((int) (l4 = l9 + (l23 != 0 ? 67904L : 67888L))) - 60720) + Long.MIN_VALUE) ? 1 : 0;
-        final int t100 = (l11 + Long.MIN_VALUE > (l4 = Words.get64(b, ((int) l4) - 60712)) + Long.MIN_VALUE) ? 1 : 0;
+        l11 = Words.get64(b, ((int) l5) - 58792);
+        l12 = Words.get64(b, ((int) l5) - 58800);
+        if ((b[((int) l5) - 58816] & 0xff) != 0) { break L35; }
+        final int t99 = (l12 + Long.MIN_VALUE > Words.get64(b, ((int) (l4 = l9 + (l23 != 0 ? 67904L : 67888L))) - 58912) + Long.MIN_VALUE) ? 1 : 0;
+        final int t100 = (l11 + Long.MIN_VALUE > (l4 = Words.get64(b, ((int) l4) - 58904)) + Long.MIN_VALUE) ? 1 : 0;
         final int t101 = (l11 == l4) ? 1 : 0;
         if ((t101 != 0 ? t99 : t100) == 0) { break L37; }
        }
@@ -10438,7 +10438,7 @@ static int f36_1(State m, long l2, long l3, long l4, long l5, long l6, long l7, 
      break L33;
     }
     final int t102 = l21;
-    final int t103 = l23 = b[((int) l5) - 60616] & 0xff;
+    final int t103 = l23 = b[((int) l5) - 58808] & 0xff;
     final int t104 = l23 = (l23 == 2) ? 1 : 0;
     l21 = t104 != 0 ? t102 : t103;
     l11 = 0L;
@@ -10497,14 +10497,14 @@ static void f36(State m, long l0, long l1, long l2, long l3) {
      L5: {
       L6: {
        if ((l5 = l4) < 16L) { break L6; }
-       b[((int) l5) - 60622] = (byte) 0;
-       Words.put16(b, ((int) l5) - 60624, (short) 0);
+       b[((int) l5) - 58814] = (byte) 0;
+       Words.put16(b, ((int) l5) - 58816, (short) 0);
        if (l3 == 0L) { break L3; }
        l6 = l3 + -2L;
        l4 = 0L;
        L7: {
         L8: while (true) {
-         if ((b[((int) (l7 = l2 + l4)) - 60720] & 0xff) == 32) { break L7; }
+         if ((b[((int) (l7 = l2 + l4)) - 58912] & 0xff) == 32) { break L7; }
          l6 = l6 + -1L;
          if (l3 != (l4 = l4 + 1L)) { continue L8; }
          break L3;
@@ -10517,19 +10517,19 @@ static void f36(State m, long l0, long l1, long l2, long l3) {
        l3 = 0L;
        L9: {
         L10: while (true) {
-         if ((b[((int) ((l7 + l3) + 1L)) - 60720] & 0xff) == 32) { break L9; }
+         if ((b[((int) ((l7 + l3) + 1L)) - 58912] & 0xff) == 32) { break L9; }
          if (l10 != (l3 = l3 + 1L)) { continue L10; }
          break L3;
         }
        }
        f37(m, l5 + 96L, l9, l3);
-       if ((l21 = ((b[((int) l5) - 60624] & 0xff) != 1) ? 1 : 0) != 0) { break L3; }
+       if ((l21 = ((b[((int) l5) - 58816] & 0xff) != 1) ? 1 : 0) != 0) { break L3; }
        if (l4 == 0L) { break L3; }
-       l22 = b[((int) l5) - 60622] & 0xff;
-       l23 = b[((int) l5) - 60623] & 0xff;
+       l22 = b[((int) l5) - 58814] & 0xff;
+       l23 = b[((int) l5) - 58815] & 0xff;
        L11: {
         L12: {
-         switch ((b[((int) l2) - 60720] & 0xff) + -105) {
+         switch ((b[((int) l2) - 58912] & 0xff) + -105) {
          case 0: break L11;
          case 12: break L12;
          default: break L3;
@@ -10543,7 +10543,7 @@ static void f36(State m, long l0, long l1, long l2, long l3) {
           default: break L3;
           }
          }
-         if ((b[((int) (l2 + 1L)) - 60720] & 0xff) != 56) { break L3; }
+         if ((b[((int) (l2 + 1L)) - 58912] & 0xff) != 56) { break L3; }
          l9 = 0L;
          l24 = 0;
          break L4;
@@ -10553,40 +10553,40 @@ static void f36(State m, long l0, long l1, long l2, long l3) {
          L16: {
           L17: {
            L18: {
-            switch ((b[((int) (l2 + 1L)) - 60720] & 0xff) + -49) {
+            switch ((b[((int) (l2 + 1L)) - 58912] & 0xff) + -49) {
             case 0: break L18;
             case 2: break L17;
             case 5: break L16;
             default: break L3;
             }
            }
-           if ((b[((int) (l2 + 2L)) - 60720] & 0xff) != 54) { break L3; }
+           if ((b[((int) (l2 + 2L)) - 58912] & 0xff) != 54) { break L3; }
            l9 = 32L;
            l24 = 0;
            break L4;
           }
-          if ((b[((int) (l2 + 2L)) - 60720] & 0xff) != 50) { break L3; }
+          if ((b[((int) (l2 + 2L)) - 58912] & 0xff) != 50) { break L3; }
           l9 = 64L;
           l24 = 0;
           break L4;
          }
-         if ((b[((int) (l2 + 2L)) - 60720] & 0xff) != 52) { break L3; }
+         if ((b[((int) (l2 + 2L)) - 58912] & 0xff) != 52) { break L3; }
          break L5;
         }
         L19: {
          if (l4 != 4L) { break L19; }
-         if ((b[((int) (l2 + 1L)) - 60720] & 0xff) != 49) { break L3; }
-         if ((b[((int) (l2 + 2L)) - 60720] & 0xff) != 50) { break L3; }
-         if ((b[((int) (l2 + 3L)) - 60720] & 0xff) != 56) { break L3; }
+         if ((b[((int) (l2 + 1L)) - 58912] & 0xff) != 49) { break L3; }
+         if ((b[((int) (l2 + 2L)) - 58912] & 0xff) != 50) { break L3; }
+         if ((b[((int) (l2 + 3L)) - 58912] & 0xff) != 56) { break L3; }
          l9 = 128L;
          l24 = 0;
          break L4;
         }
         if (l4 + Long.MIN_VALUE > -9223372036854775803L) { break L3; }
-        if ((b[((int) (l2 + 1L)) - 60720] & 0xff) != 115) { break L3; }
-        if ((b[((int) (l2 + 2L)) - 60720] & 0xff) != 105) { break L3; }
-        if ((b[((int) (l2 + 3L)) - 60720] & 0xff) != 122) { break L3; }
-        if ((b[((int) (l2 + 4L)) - 60720] & 0xff) == 101) { break L5; }
+        if ((b[((int) (l2 + 1L)) - 58912] & 0xff) != 115) { break L3; }
+        if ((b[((int) (l2 + 2L)) - 58912] & 0xff) != 105) { break L3; }
+        if ((b[((int) (l2 + 3L)) - 58912] & 0xff) != 122) { break L3; }
+        if ((b[((int) (l2 + 4L)) - 58912] & 0xff) == 101) { break L5; }
         break L3;
        }
        L20: {
@@ -10598,7 +10598,7 @@ static void f36(State m, long l0, long l1, long l2, long l3) {
           default: break L3;
           }
          }
-         if ((b[((int) (l2 + 1L)) - 60720] & 0xff) != 56) { break L3; }
+         if ((b[((int) (l2 + 1L)) - 58912] & 0xff) != 56) { break L3; }
          l9 = 160L;
          break L20;
         }
@@ -10608,37 +10608,37 @@ static void f36(State m, long l0, long l1, long l2, long l3) {
           L25: {
            L26: {
             L27: {
-             switch ((b[((int) (l2 + 1L)) - 60720] & 0xff) + -49) {
+             switch ((b[((int) (l2 + 1L)) - 58912] & 0xff) + -49) {
              case 0: break L27;
              case 2: break L26;
              case 5: break L25;
              default: break L3;
              }
             }
-            if ((b[((int) (l2 + 2L)) - 60720] & 0xff) != 54) { break L3; }
+            if ((b[((int) (l2 + 2L)) - 58912] & 0xff) != 54) { break L3; }
             l9 = 192L;
             break L20;
            }
-           if ((b[((int) (l2 + 2L)) - 60720] & 0xff) != 50) { break L3; }
+           if ((b[((int) (l2 + 2L)) - 58912] & 0xff) != 50) { break L3; }
            l9 = 224L;
            break L20;
           }
-          if ((b[((int) (l2 + 2L)) - 60720] & 0xff) == 52) { break L23; }
+          if ((b[((int) (l2 + 2L)) - 58912] & 0xff) == 52) { break L23; }
           break L3;
          }
          L28: {
           if (l4 != 4L) { break L28; }
-          if ((b[((int) (l2 + 1L)) - 60720] & 0xff) != 49) { break L3; }
-          if ((b[((int) (l2 + 2L)) - 60720] & 0xff) != 50) { break L3; }
-          if ((b[((int) (l2 + 3L)) - 60720] & 0xff) != 56) { break L3; }
+          if ((b[((int) (l2 + 1L)) - 58912] & 0xff) != 49) { break L3; }
+          if ((b[((int) (l2 + 2L)) - 58912] & 0xff) != 50) { break L3; }
+          if ((b[((int) (l2 + 3L)) - 58912] & 0xff) != 56) { break L3; }
           l9 = 288L;
           break L20;
          }
          if (l4 + Long.MIN_VALUE > -9223372036854775803L) { break L3; }
-         if ((b[((int) (l2 + 1L)) - 60720] & 0xff) != 115) { break L3; }
-         if ((b[((int) (l2 + 2L)) - 60720] & 0xff) != 105) { break L3; }
-         if ((b[((int) (l2 + 3L)) - 60720] & 0xff) != 122) { break L3; }
-         if ((b[((int) (l2 + 4L)) - 60720] & 0xff) != 101) { break L3; }
+         if ((b[((int) (l2 + 1L)) - 58912] & 0xff) != 115) { break L3; }
+         if ((b[((int) (l2 + 2L)) - 58912] & 0xff) != 105) { break L3; }
+         if ((b[((int) (l2 + 3L)) - 58912] & 0xff) != 122) { break L3; }
+         if ((b[((int) (l2 + 4L)) - 58912] & 0xff) != 101) { break L3; }
         }
         l9 = 256L;
        }
@@ -10658,7 +10658,7 @@ static void f36(State m, long l0, long l1, long l2, long l3) {
       l4 = l3;
       l6 = l2;
       L31: while (true) {
-       if (((Words.get32(b, ((int) l4) - 60720) + 16776990) & 12632312) != 8421376) { break L29; }
+       if (((Words.get32(b, ((int) l4) - 58912) + 16776990) & 12632312) != 8421376) { break L29; }
        l4 = l4 + 3L;
        if ((l6 = l6 + -3L) + Long.MIN_VALUE > -9223372036854775805L) { continue L31; }
        break L31;
@@ -10672,7 +10672,7 @@ static void f36(State m, long l0, long l1, long l2, long l3) {
       default: break L2;
       }
      }
-     if (((((Words.get16(b, ((int) l4) - 60720) & 0xffff) | ((b[((int) (l4 + 2L)) - 60720] & 0xff) << 16)) + 16776990) & 12632312) == 8421376) { break L2; }
+     if (((((Words.get16(b, ((int) l4) - 58912) & 0xffff) | ((b[((int) (l4 + 2L)) - 58912] & 0xff) << 16)) + 16776990) & 12632312) == 8421376) { break L2; }
     }
     if (f6(m, l3, l2) != 0) { break L2; }
    }
@@ -10721,16 +10721,16 @@ static void f36(State m, long l0, long l1, long l2, long l3) {
        if (l21 != 0) { break L120; }
        if (((l6 ^ 127L) | l7) == 0L) { break L120; }
        f4(m, l5 + 32L, l16, l15, 127 - ((int) l6));
-       l3 = Words.get64(b, ((int) l5) - 60680);
-       l4 = Words.get64(b, ((int) l5) - 60688);
+       l3 = Words.get64(b, ((int) l5) - 58872);
+       l4 = Words.get64(b, ((int) l5) - 58880);
        L121: {
         L122: {
          if (((l6 = l6 + 1L) | (l9 = l7 + ((l6 == 0L) ? 1L : 0L))) == 0L) { break L122; }
          f5(m, l5 + 16L, l16, l15, (int) l6);
          l17 = 10L + -1L;
          l18 = 0L - ((10L == 0L) ? 1L : 0L);
-         l2 = Words.get64(b, ((int) l5) - 60696);
-         l7 = Words.get64(b, ((int) l5) - 60704);
+         l2 = Words.get64(b, ((int) l5) - 58888);
+         l7 = Words.get64(b, ((int) l5) - 58896);
          l10 = 0L;
          L123: while (true) {
           l8 = l10;
@@ -10751,7 +10751,7 @@ static void f36(State m, long l0, long l1, long l2, long l3) {
        l4 = l10 | (l4 << 1L);
       }
       f3(m, l5, l4, l4, 10L, 0L);
-      b[((int) (l1 + (l6 = l14 + -1L))) - 60720] = (byte) (((int) (l16 - Words.get64(b, ((int) l5) - 60720))) | 48);
+      b[((int) (l1 + (l6 = l14 + -1L))) - 58912] = (byte) (((int) (l16 - Words.get64(b, ((int) l5) - 58912))) | 48);
       final int t124 = (l16 + Long.MIN_VALUE > -9223372036854775709L) ? 1 : 0;
       final int t125 = l23;
       final int t126 = (l15 == 0L) ? 1 : 0;
@@ -10780,7 +10780,7 @@ static void f36(State m, long l0, long l1, long l2, long l3) {
        }
       }
       l4 = 255L;
-      b[((int) (l1 + 255L)) - 60720] = (byte) 41;
+      b[((int) (l1 + 255L)) - 58912] = (byte) 41;
       L131: {
        if (l13 + Long.MIN_VALUE < -9223372036854775798L) { break L131; }
        l3 = 0L;
@@ -10800,16 +10800,16 @@ static void f36(State m, long l0, long l1, long l2, long l3) {
          if (l21 != 0) { break L141; }
          if (((l6 ^ 127L) | l7) == 0L) { break L141; }
          f4(m, l5 + 80L, l16, l15, 127 - ((int) l6));
-         l3 = Words.get64(b, ((int) l5) - 60632);
-         l4 = Words.get64(b, ((int) l5) - 60640);
+         l3 = Words.get64(b, ((int) l5) - 58824);
+         l4 = Words.get64(b, ((int) l5) - 58832);
          L142: {
           L143: {
            if (((l6 = l6 + 1L) | (l9 = l7 + ((l6 == 0L) ? 1L : 0L))) == 0L) { break L143; }
            f5(m, l5 + 64L, l16, l15, (int) l6);
            l17 = 10L + -1L;
            l18 = 0L - ((10L == 0L) ? 1L : 0L);
-           l2 = Words.get64(b, ((int) l5) - 60648);
-           l7 = Words.get64(b, ((int) l5) - 60656);
+           l2 = Words.get64(b, ((int) l5) - 58840);
+           l7 = Words.get64(b, ((int) l5) - 58848);
            l10 = 0L;
            L144: while (true) {
             l8 = l10;
@@ -10830,7 +10830,7 @@ static void f36(State m, long l0, long l1, long l2, long l3) {
          l13 = l10 | (l4 << 1L);
         }
         f3(m, l5 + 48L, l13, l4, 10L, 0L);
-        b[((int) (l1 + (l4 = l14 + -1L))) - 60720] = (byte) (((int) (l16 - Words.get64(b, ((int) l5) - 60672))) | 48);
+        b[((int) (l1 + (l4 = l14 + -1L))) - 58912] = (byte) (((int) (l16 - Words.get64(b, ((int) l5) - 58864))) | 48);
         final int t145 = (l16 + Long.MIN_VALUE > -9223372036854775709L) ? 1 : 0;
         final int t146 = (l15 != 0L) ? 1 : 0;
         final int t147 = (l15 == 0L) ? 1 : 0;
@@ -10853,57 +10853,57 @@ static void f36(State m, long l0, long l1, long l2, long l3) {
     l4 = 69131L;
     break L1;
    }
-   b[((int) (l6 = l1 + l3)) - 60720] = (byte) (l21 | 48);
+   b[((int) (l6 = l1 + l3)) - 58912] = (byte) (l21 | 48);
    L148: {
     L149: {
      if (((l4 = l6 + -47L) - 69177L) + Long.MIN_VALUE > -9223372036854775762L) { break L149; }
-     b[((int) l4) - 60720] = (byte) 101;
-     Words.put16(b, ((int) (l6 + -2L)) - 60720, (short) 8250);
-     Words.put32(b, ((int) (l6 + -6L)) - 60720, 1852795252);
-     Words.put64(b, ((int) (l6 + -14L)) - 60720, 7598539523804394595L);
-     Words.put64(b, ((int) (l6 + -22L)) - 60720, 7310030967910852896L);
-     Words.put64(b, ((int) (l6 + -30L)) - 60720, 8316213862615641461L);
-     Words.put64(b, ((int) (l6 + -38L)) - 60720, 7935454089724193128L);
-     Words.put64(b, ((int) (l6 + -46L)) - 60720, 7142820508308894322L);
+     b[((int) l4) - 58912] = (byte) 101;
+     Words.put16(b, ((int) (l6 + -2L)) - 58912, (short) 8250);
+     Words.put32(b, ((int) (l6 + -6L)) - 58912, 1852795252);
+     Words.put64(b, ((int) (l6 + -14L)) - 58912, 7598539523804394595L);
+     Words.put64(b, ((int) (l6 + -22L)) - 58912, 7310030967910852896L);
+     Words.put64(b, ((int) (l6 + -30L)) - 58912, 8316213862615641461L);
+     Words.put64(b, ((int) (l6 + -38L)) - 58912, 7935454089724193128L);
+     Words.put64(b, ((int) (l6 + -46L)) - 58912, 7142820508308894322L);
      break L148;
     }
-    Words.put64(b, ((int) l4) - 60681, Words.get64(b, State.far((int) 0L, 69216)));
-    Words.put64(b, ((int) l4) - 60688, Words.get64(b, State.far((int) 0L, 69209)));
-    Words.put64(b, ((int) l4) - 60696, Words.get64(b, State.far((int) 0L, 69201)));
-    Words.put64(b, ((int) l4) - 60704, Words.get64(b, State.far((int) 0L, 69193)));
-    Words.put64(b, ((int) l4) - 60712, Words.get64(b, State.far((int) 0L, 69185)));
-    Words.put64(b, ((int) l4) - 60720, Words.get64(b, State.far((int) 0L, 69177)));
+    Words.put64(b, ((int) l4) - 58873, Words.get64(b, State.far((int) 0L, 69216)));
+    Words.put64(b, ((int) l4) - 58880, Words.get64(b, State.far((int) 0L, 69209)));
+    Words.put64(b, ((int) l4) - 58888, Words.get64(b, State.far((int) 0L, 69201)));
+    Words.put64(b, ((int) l4) - 58896, Words.get64(b, State.far((int) 0L, 69193)));
+    Words.put64(b, ((int) l4) - 58904, Words.get64(b, State.far((int) 0L, 69185)));
+    Words.put64(b, ((int) l4) - 58912, Words.get64(b, State.far((int) 0L, 69177)));
    }
    l6 = 303L - l3;
    break L1;
   }
-  b[((int) (l1 + l6)) - 60720] = (byte) (l21 | 48);
+  b[((int) (l1 + l6)) - 58912] = (byte) (l21 | 48);
   L150: {
    L151: {
     if ((l12 | l11) == 0L) { break L151; }
     if ((((int) l13) & 1) == 0) { break L151; }
     L152: {
      if (((l6 = l1 + (l4 = l6 + -4L)) - 69088L) + Long.MIN_VALUE > -9223372036854775805L) { break L152; }
-     Words.put32(b, ((int) l6) - 60720, 757099375);
+     Words.put32(b, ((int) l6) - 58912, 757099375);
      break L150;
     }
-    Words.put32(b, ((int) l6) - 60720, 757099375);
+    Words.put32(b, ((int) l6) - 58912, 757099375);
     break L150;
    }
    L153: {
     if (((l6 = l1 + (l4 = l6 + -3L)) - 69092L) + Long.MIN_VALUE > -9223372036854775806L) { break L153; }
-    b[((int) l6) - 60718] = (byte) 32;
-    Words.put16(b, ((int) l6) - 60720, (short) 27503);
+    b[((int) l6) - 58910] = (byte) 32;
+    Words.put16(b, ((int) l6) - 58912, (short) 27503);
     break L150;
    }
-   b[((int) l6) - 60718] = (byte) (b[State.far((int) 0L, 69094)] & 0xff);
-   Words.put16(b, ((int) l6) - 60720, (short) (Words.get16(b, State.far((int) 0L, 69092)) & 0xffff));
+   b[((int) l6) - 58910] = (byte) (b[State.far((int) 0L, 69094)] & 0xff);
+   Words.put16(b, ((int) l6) - 58912, (short) (Words.get16(b, State.far((int) 0L, 69092)) & 0xffff));
   }
   l6 = 256L - l4;
   l4 = l1 + l4;
  }
- Words.put64(b, ((int) l0) - 60712, l6);
- Words.put64(b, ((int) l0) - 60720, l4);
+ Words.put64(b, ((int) l0) - 58904, l6);
+ Words.put64(b, ((int) l0) - 58912, l4);
  m.g0 = l5 + 128L;
 }
 
@@ -10933,48 +10933,48 @@ static void f37(State m, long l0, long l1, long l2) {
          default: break L7;
          }
         }
-        if ((b[((int) l1) - 60720] & 0xff) != 110) { break L3; }
-        if (((b[((int) (l1 + 1L)) - 60720] & 0xff) & 255) != 97) { break L3; }
-        if (((b[((int) (l1 + 2L)) - 60720] & 0xff) & 255) != 105) { break L3; }
-        if (((b[((int) (l1 + 3L)) - 60720] & 0xff) & 255) != 118) { break L3; }
+        if ((b[((int) l1) - 58912] & 0xff) != 110) { break L3; }
+        if (((b[((int) (l1 + 1L)) - 58912] & 0xff) & 255) != 97) { break L3; }
+        if (((b[((int) (l1 + 2L)) - 58912] & 0xff) & 255) != 105) { break L3; }
+        if (((b[((int) (l1 + 3L)) - 58912] & 0xff) & 255) != 118) { break L3; }
         if (Core2.f40(m, l1, 5L, 66822L) == 0) { break L3; }
         l5 = 1;
         l6 = 0;
         l7 = 0;
         break L2;
        }
-       if ((b[((int) l1) - 60720] & 0xff) != 108) { break L3; }
-       if ((b[((int) (l1 + 1L)) - 60720] & 0xff) != 111) { break L3; }
-       if ((b[((int) (l1 + 2L)) - 60720] & 0xff) != 119) { break L3; }
+       if ((b[((int) l1) - 58912] & 0xff) != 108) { break L3; }
+       if ((b[((int) (l1 + 1L)) - 58912] & 0xff) != 111) { break L3; }
+       if ((b[((int) (l1 + 2L)) - 58912] & 0xff) != 119) { break L3; }
        l7 = 1;
        l6 = 0;
        l5 = 1;
        break L2;
       }
-      if ((b[((int) l1) - 60720] & 0xff) != 116) { break L3; }
-      if (((b[((int) (l1 + 1L)) - 60720] & 0xff) & 255) != 101) { break L3; }
-      if (((b[((int) (l1 + 2L)) - 60720] & 0xff) & 255) != 110) { break L3; }
-      if (((b[((int) (l1 + 3L)) - 60720] & 0xff) & 255) != 95) { break L3; }
+      if ((b[((int) l1) - 58912] & 0xff) != 116) { break L3; }
+      if (((b[((int) (l1 + 1L)) - 58912] & 0xff) & 255) != 101) { break L3; }
+      if (((b[((int) (l1 + 2L)) - 58912] & 0xff) & 255) != 110) { break L3; }
+      if (((b[((int) (l1 + 3L)) - 58912] & 0xff) & 255) != 95) { break L3; }
       if (Core2.f40(m, l1, l2, 66827L) == 0) { break L3; }
       l6 = 1;
       l7 = 1;
       l5 = 1;
       break L2;
      }
-     if ((b[((int) l1) - 60720] & 0xff) != 109) { break L3; }
-     if (((b[((int) (l1 + 1L)) - 60720] & 0xff) & 255) != 105) { break L3; }
-     if (((b[((int) (l1 + 2L)) - 60720] & 0xff) & 255) != 100) { break L3; }
-     if (((b[((int) (l1 + 3L)) - 60720] & 0xff) & 255) != 100) { break L3; }
+     if ((b[((int) l1) - 58912] & 0xff) != 109) { break L3; }
+     if (((b[((int) (l1 + 1L)) - 58912] & 0xff) & 255) != 105) { break L3; }
+     if (((b[((int) (l1 + 2L)) - 58912] & 0xff) & 255) != 100) { break L3; }
+     if (((b[((int) (l1 + 3L)) - 58912] & 0xff) & 255) != 100) { break L3; }
      if (Core2.f40(m, l1, l2, 66839L) == 0) { break L3; }
      l7 = 1;
      l6 = 2;
      l5 = 1;
      break L2;
     }
-    if ((b[((int) l1) - 60720] & 0xff) != 104) { break L3; }
-    if (((b[((int) (l1 + 1L)) - 60720] & 0xff) & 255) != 105) { break L3; }
-    if (((b[((int) (l1 + 2L)) - 60720] & 0xff) & 255) != 103) { break L3; }
-    if (((b[((int) (l1 + 3L)) - 60720] & 0xff) & 255) != 104) { break L3; }
+    if ((b[((int) l1) - 58912] & 0xff) != 104) { break L3; }
+    if (((b[((int) (l1 + 1L)) - 58912] & 0xff) & 255) != 105) { break L3; }
+    if (((b[((int) (l1 + 2L)) - 58912] & 0xff) & 255) != 103) { break L3; }
+    if (((b[((int) (l1 + 3L)) - 58912] & 0xff) & 255) != 104) { break L3; }
     if (Core2.f40(m, l1, l2, 66845L) == 0) { break L3; }
     l7 = 1;
     l6 = 3;
@@ -10985,9 +10985,9 @@ static void f37(State m, long l0, long l1, long l2) {
    l7 = 0;
    l5 = 0;
   }
-  b[((int) l0) - 60720] = (byte) l5;
-  b[((int) (l0 + 2L)) - 60720] = (byte) l6;
-  b[((int) (l0 + 1L)) - 60720] = (byte) l7;
+  b[((int) l0) - 58912] = (byte) l5;
+  b[((int) (l0 + 2L)) - 58912] = (byte) l6;
+  b[((int) (l0 + 1L)) - 58912] = (byte) l7;
   m.g0 = l3;
   return;
  }

@@ -2,7 +2,1256 @@
 package chinesenumber;
 
 final class Core3 {
-static void f82(State m, long l0, int l1, long l2, long l3, long l4) {
+static void f80(State m, long l0, long l1, long l2, int l3) {
+ final byte[] b = m.bytes;
+ long l4 = 0;
+ long l5 = 0;
+ long l6 = 0;
+ long l7 = 0;
+ long l8 = 0;
+ long l9 = 0;
+ long l10 = 0;
+ long l11 = 0;
+ long l12 = 0;
+ int l13 = 0;
+ int l14 = 0;
+ int l15 = 0;
+ int l16 = 0;
+ m.g0 = l4 = m.g0 - 528L;
+ L1: {
+  L2: {
+   L3: {
+    L4: {
+     L5: {
+      L6: {
+       if ((l4 = l4) < 16L) { break L6; }
+       Words.put64(b, ((int) l4) - 58665, 0L);
+       Words.put64(b, ((int) l4) - 58672, 0L);
+       Words.put64(b, ((int) l4) - 58704, 0L);
+       Words.put64(b, ((int) l4) - 58696, 0L);
+       Words.put64(b, ((int) l4) - 58688, 0L);
+       Words.put64(b, ((int) l4) - 58680, 0L);
+       Words.put64(b, ((int) l4) - 58752, 0L);
+       Words.put64(b, ((int) l4) - 58744, 0L);
+       Words.put64(b, ((int) l4) - 58736, 0L);
+       Words.put64(b, ((int) l4) - 58728, 0L);
+       Words.put64(b, ((int) l4) - 58720, 0L);
+       Words.put64(b, ((int) l4) - 58712, 0L);
+       Words.put64(b, ((int) l4) - 58816, 0L);
+       Words.put64(b, ((int) l4) - 58808, 0L);
+       Words.put64(b, ((int) l4) - 58800, 0L);
+       Words.put64(b, ((int) l4) - 58792, 0L);
+       Words.put64(b, ((int) l4) - 58784, 0L);
+       Words.put64(b, ((int) l4) - 58776, 0L);
+       Words.put64(b, ((int) l4) - 58768, 0L);
+       Words.put64(b, ((int) l4) - 58760, 0L);
+       f83(m, l4 + 208L, l1, l2);
+       l5 = Words.get64(b, ((int) l4) - 58680);
+       l6 = Words.get64(b, ((int) l4) - 58688);
+       l7 = Words.get64(b, ((int) l4) - 58696);
+       l13 = b[((int) l4) - 58703] & 0xff;
+       L7: {
+        if ((l14 = b[((int) l4) - 58704] & 0xff) == 1) { break L7; }
+        f84(m, l4 + 160L, l6, l5);
+        if ((b[((int) l4) - 58752] & 0xff) != 1) { break L7; }
+        f85(m, l4 + 96L, l3, l7, l4 + 168L);
+        l2 = Words.get64(b, ((int) l4) - 58800);
+        L8: {
+         L9: {
+          if ((b[((int) l4) - 58816] & 0xff) != 0) { break L9; }
+          L10: {
+           final int t11 = (l2 == 0L) ? 1 : 0;
+           final int t12 = ((l6 = Words.get64(b, ((int) l4) - 58792)) > -1L) ? 1 : 0;
+           final int t13 = (l6 == -9223372036854775808L) ? 1 : 0;
+           if ((t13 != 0 ? t11 : t12) == 0) { break L10; }
+           l1 = 0L;
+           l8 = 0L - l2;
+           l2 = 0L - (l6 + ((l2 != 0L) ? 1L : 0L));
+           l6 = Words.get64(b, ((int) l4) - 58776);
+           l5 = Words.get64(b, ((int) l4) - 58784);
+           l3 = b[((int) l4) - 58768] & 0xff;
+           l7 = 0L;
+           break L8;
+          }
+          l8 = 0L;
+          l3 = 0;
+          l7 = 3L;
+          l1 = 1L;
+          l2 = 0L;
+          l5 = 0L;
+          l6 = 0L;
+          break L8;
+         }
+         l6 = 0L;
+         l8 = ((l15 = ((l3 = b[((int) l4) - 58808] & 0xff) == 2) ? 1 : 0) != 0) ? 0L : l2;
+         l7 = (l15 != 0 ? 3 : l3) & 0xffffffffL;
+         l3 = 0;
+         l1 = 1L;
+         l2 = 0L;
+         l5 = 0L;
+        }
+        Words.put64(b, ((int) l0) - 58912, l1);
+        Words.put64(b, ((int) (l0 + 40L)) - 58912, l6);
+        Words.put64(b, ((int) (l0 + 32L)) - 58912, l5);
+        Words.put64(b, ((int) (l0 + 24L)) - 58912, l2);
+        Words.put64(b, ((int) (l0 + 16L)) - 58912, l8);
+        Words.put64(b, ((int) (l0 + 49L)) - 58912, 0L);
+        b[((int) (l0 + 48L)) - 58912] = (byte) l3;
+        Words.put64(b, ((int) (l0 + 8L)) - 58912, l7);
+        Words.put64(b, ((int) (l0 + 56L)) - 58912, 0L);
+        break L1;
+       }
+       Words.put64(b, ((int) l4) - 58624, 0L);
+       Words.put64(b, ((int) l4) - 58616, 0L);
+       Words.put64(b, ((int) l4) - 58608, 0L);
+       Words.put64(b, ((int) l4) - 58600, 0L);
+       Words.put64(b, ((int) l4) - 58480, 0L);
+       Words.put64(b, ((int) l4) - 58472, 0L);
+       Words.put64(b, ((int) l4) - 58464, 0L);
+       Words.put64(b, ((int) l4) - 58456, 0L);
+       Words.put64(b, ((int) l4) - 58448, 0L);
+       Words.put64(b, ((int) l4) - 58440, 0L);
+       Words.put64(b, ((int) l4) - 58416, 0L);
+       Words.put64(b, ((int) l4) - 58408, 0L);
+       Words.put64(b, ((int) l4) - 58400, 0L);
+       Words.put64(b, ((int) l4) - 58392, 0L);
+       Words.put64(b, ((int) l4) - 58656, 0L);
+       Words.put64(b, ((int) l4) - 58648, 0L);
+       Words.put64(b, ((int) l4) - 58640, 0L);
+       Words.put64(b, ((int) l4) - 58632, 0L);
+       Words.put64(b, ((int) l4) - 58488, 0L);
+       Words.put64(b, ((int) l4) - 58496, 0L);
+       Words.put64(b, ((int) l4) - 58504, 0L);
+       Words.put64(b, ((int) l4) - 58512, 0L);
+       Words.put64(b, ((int) l4) - 58520, 0L);
+       Words.put64(b, ((int) l4) - 58528, 0L);
+       Words.put64(b, ((int) l4) - 58552, 0L);
+       Words.put64(b, ((int) l4) - 58560, 0L);
+       Words.put64(b, ((int) l4) - 58568, 0L);
+       Words.put64(b, ((int) l4) - 58576, 0L);
+       l2 = l6;
+       l1 = l5;
+       L14: {
+        L15: {
+         L16: while (true) {
+          f86(m, l4 + 336L, l2, l8 = l1);
+          if ((b[((int) l4) - 58576] & 0xff) != 1) { break L15; }
+          l1 = Words.get64(b, ((int) l4) - 58552);
+          l2 = Words.get64(b, ((int) l4) - 58560);
+          if (Words.get32(b, ((int) l4) - 58568) != 21448) { continue L16; }
+          break L16;
+         }
+         f86(m, l4 + 288L, l6, l8 = l5 - l8);
+         if ((b[((int) l4) - 58624] & 0xff) != 1) { break L15; }
+         f87(m, l4 + 432L, l2, l1);
+         if ((b[((int) l4) - 58480] & 0xff) != 1) { break L15; }
+         l2 = Words.get64(b, ((int) l4) - 58440);
+         l1 = Words.get64(b, ((int) l4) - 58448);
+         l9 = Words.get64(b, ((int) l4) - 58464);
+         l10 = Words.get64(b, ((int) l4) - 58472);
+         f88(m, l4 + 496L, l3, 0L, l6, l8);
+         f89(m, l4 + 256L, l3, 0L, l10, l9);
+         f90(m, l4 + 384L, l3, 0L, l1, l2);
+         if ((b[((int) l4) - 58416] & 0xff) != 0) { break L15; }
+         if (((b[((int) l4) - 58656] & 0xff) & 255) != 0) { break L15; }
+         if (((b[((int) l4) - 58528] & 0xff) & 255) != 0) { break L15; }
+         if (Words.get64(b, ((int) l4) - 58496) != 0L) { break L15; }
+         final int t17 = ((l8 = Words.get64(b, ((int) l4) - 58640)) + Long.MIN_VALUE <= (l10 = Words.get64(b, ((int) l4) - 58512)) + Long.MIN_VALUE) ? 1 : 0;
+         final int t18 = ((l1 = Words.get64(b, ((int) l4) - 58632)) + Long.MIN_VALUE <= (l2 = Words.get64(b, ((int) l4) - 58504)) + Long.MIN_VALUE) ? 1 : 0;
+         final int t19 = (l1 == l2) ? 1 : 0;
+         if ((t19 != 0 ? t17 : t18) != 0) { break L15; }
+         l9 = Words.get64(b, ((int) l4) - 58392);
+         Core1.f3(m, l4 + 48L, l8, 0L, l11 = Words.get64(b, ((int) l4) - 58400), 0L);
+         Core1.f3(m, l4 + 80L, l1, 0L, l11, 0L);
+         Core1.f3(m, l4 + 32L, l8, 0L, l9, 0L);
+         Core1.f3(m, l4 + 64L, l1, 0L, l9, 0L);
+         if ((((Words.get64(b, ((int) l4) - 58872) + (((l12 = (l9 = (l11 = Words.get64(b, ((int) l4) - 58856)) + Words.get64(b, ((int) l4) - 58832)) + Words.get64(b, ((int) l4) - 58880)) + Long.MIN_VALUE < l9 + Long.MIN_VALUE) ? 1L : 0L)) | (l11 = (l9 = Words.get64(b, ((int) l4) - 58824) + ((l9 + Long.MIN_VALUE < l11 + Long.MIN_VALUE) ? 1L : 0L)) + Words.get64(b, ((int) l4) - 58848))) | (Words.get64(b, ((int) l4) - 58840) + ((l11 + Long.MIN_VALUE < l9 + Long.MIN_VALUE) ? 1L : 0L))) != 0L) { break L15; }
+         final int t20 = ((l9 = Words.get64(b, ((int) l4) - 58864)) + Long.MIN_VALUE > (l10 ^ -1L) + Long.MIN_VALUE) ? 1 : 0;
+         final int t21 = (l12 + Long.MIN_VALUE > (l11 = l2 ^ -1L) + Long.MIN_VALUE) ? 1 : 0;
+         final int t22 = (l12 == l11) ? 1 : 0;
+         if ((t22 != 0 ? t20 : t21) != 0) { break L15; }
+         Words.put64(b, ((int) l4) - 58473, 0L);
+         Words.put64(b, ((int) l4) - 58480, 0L);
+         l2 = (l12 + l2) + (((l6 = l9 + l10) + Long.MIN_VALUE < l9 + Long.MIN_VALUE) ? 1L : 0L);
+         l15 = 3;
+         break L14;
+        }
+        Words.put64(b, ((int) l4) - 58480, 0L);
+        Words.put64(b, ((int) l4) - 58472, 0L);
+        Words.put64(b, ((int) l4) - 58464, 0L);
+        Words.put64(b, ((int) l4) - 58456, 0L);
+        Words.put64(b, ((int) l4) - 58448, 0L);
+        Words.put64(b, ((int) l4) - 58440, 0L);
+        Words.put64(b, ((int) l4) - 58432, 0L);
+        Words.put64(b, ((int) l4) - 58424, 0L);
+        Words.put64(b, ((int) l4) - 58528, 0L);
+        Words.put64(b, ((int) l4) - 58520, 0L);
+        Words.put64(b, ((int) l4) - 58512, 0L);
+        Words.put64(b, ((int) l4) - 58504, 0L);
+        Words.put64(b, ((int) l4) - 58496, 0L);
+        Words.put64(b, ((int) l4) - 58488, 0L);
+        Words.put64(b, ((int) l4) - 58576, 0L);
+        Words.put64(b, ((int) l4) - 58568, 0L);
+        Words.put64(b, ((int) l4) - 58560, 0L);
+        Words.put64(b, ((int) l4) - 58552, 0L);
+        Words.put64(b, ((int) l4) - 58544, 0L);
+        Words.put64(b, ((int) l4) - 58536, 0L);
+        Words.put64(b, ((int) l4) - 58584, 0L);
+        Words.put64(b, ((int) l4) - 58592, 0L);
+        Words.put64(b, ((int) l4) - 58600, 0L);
+        Words.put64(b, ((int) l4) - 58608, 0L);
+        Words.put64(b, ((int) l4) - 58616, 0L);
+        Words.put64(b, ((int) l4) - 58624, 0L);
+        f87(m, l4 + 384L, l6, l5);
+        L23: {
+         if ((b[((int) l4) - 58528] & 0xff) == 1) { break L23; }
+         Words.put64(b, ((int) l4) - 58392, 0L);
+         Words.put64(b, ((int) l4) - 58400, 0L);
+         Words.put64(b, ((int) l4) - 58408, 0L);
+         Words.put64(b, ((int) l4) - 58416, 0L);
+         f91(m, l4 + 496L, l6, l5);
+         L24: {
+          L25: {
+           L26: {
+            L27: {
+             if ((b[((int) l4) - 58416] & 0xff) != 1) { break L27; }
+             l16 = Words.get32(b, ((int) l4) - 58408);
+             f86(m, l4 + 496L, l2 = Words.get64(b, ((int) l4) - 58400), l1 = Words.get64(b, ((int) l4) - 58392));
+             if ((b[((int) l4) - 58416] & 0xff) != 1) { break L27; }
+             l8 = 100L;
+             l15 = 2;
+             L28: {
+              if (l16 == 37) { break L28; }
+              if (l16 == 65285) { break L28; }
+              if (l16 != 8240) { break L27; }
+              l8 = 1000L;
+              l15 = 3;
+             }
+             f92(m, l4 + 336L, l3, l7, l2, l1);
+             l5 = Words.get64(b, ((int) l4) - 58560);
+             L29: {
+              if ((b[((int) l4) - 58576] & 0xff) != 0) { break L29; }
+              l3 = 2;
+              L30: {
+               if ((l1 = Words.get64(b, ((int) l4) - 58544)) + Long.MIN_VALUE <= -9223372036854775770L) { break L30; }
+               l6 = 0L;
+               break L26;
+              }
+              l2 = Words.get64(b, ((int) l4) - 58552);
+              l6 = 0L;
+              Core1.f3(m, l4 + 16L, Words.get64(b, ((int) ((l1 = l1 << 4L) + 68336L)) - 58912), 0L, l8, 0L);
+              Core1.f3(m, l4, Words.get64(b, ((int) (l1 + 68344L)) - 58912), 0L, l8, 0L);
+              if ((Words.get64(b, ((int) l4) - 58904) + (((l1 = (l8 = Words.get64(b, ((int) l4) - 58888)) + Words.get64(b, ((int) l4) - 58912)) + Long.MIN_VALUE < l8 + Long.MIN_VALUE) ? 1L : 0L)) != 0L) { break L26; }
+              l8 = Words.get64(b, ((int) l4) - 58896) & -4L;
+              l6 = l5;
+              break L24;
+             }
+             Words.put64(b, ((int) l4) - 58456, 0L);
+             Words.put64(b, ((int) l4) - 58464, l5);
+             Words.put64(b, ((int) l4) - 58448, 0L);
+             Words.put64(b, ((int) l4) - 58440, 0L);
+             Words.put64(b, ((int) l4) - 58432, 0L);
+             Words.put64(b, ((int) l4) - 58424, 0L);
+             l3 = b[((int) l4) - 58568] & 0xff;
+             l6 = l5;
+             break L26;
+            }
+            f92(m, l4 + 288L, l3, l7, l6, l5);
+            l6 = Words.get64(b, ((int) l4) - 58608);
+            L31: {
+             if ((b[((int) l4) - 58624] & 0xff) != 0) { break L31; }
+             if ((l2 = Words.get64(b, ((int) l4) - 58592)) + Long.MIN_VALUE <= -9223372036854775770L) { break L25; }
+             l3 = 2;
+             l6 = 0L;
+             break L26;
+            }
+            Words.put64(b, ((int) l4) - 58456, 0L);
+            Words.put64(b, ((int) l4) - 58464, l6);
+            Words.put64(b, ((int) l4) - 58448, 0L);
+            Words.put64(b, ((int) l4) - 58440, 0L);
+            Words.put64(b, ((int) l4) - 58432, 0L);
+            Words.put64(b, ((int) l4) - 58424, 0L);
+            l3 = b[((int) l4) - 58616] & 0xff;
+           }
+           Words.put64(b, ((int) l4) - 58473, 0L);
+           Words.put64(b, ((int) l4) - 58480, 0L);
+           break L4;
+          }
+          l15 = (l2 != 0L) ? 1 : 0;
+          l1 = Words.get64(b, ((int) ((l2 = l2 << 4L) + 68344L)) - 58912);
+          l8 = Words.get64(b, ((int) (l2 + 68336L)) - 58912);
+          l2 = Words.get64(b, ((int) l4) - 58600);
+         }
+         Words.put64(b, ((int) l4) - 58473, 0L);
+         Words.put64(b, ((int) l4) - 58480, 0L);
+         break L14;
+        }
+        f85(m, l4 + 432L, l3, l7, l4 + 392L);
+        l1 = Words.get64(b, ((int) l4) - 58440);
+        l8 = Words.get64(b, ((int) l4) - 58448);
+        l2 = Words.get64(b, ((int) l4) - 58456);
+        l6 = Words.get64(b, ((int) l4) - 58464);
+        l15 = b[((int) l4) - 58432] & 0xff;
+        l3 = b[((int) l4) - 58472] & 0xff;
+        l16 = b[((int) l4) - 58480] & 0xff;
+        Words.put64(b, ((int) l4) - 58473, 0L);
+        Words.put64(b, ((int) l4) - 58480, 0L);
+        if (l16 != 0) { break L4; }
+       }
+       L32: {
+        L33: {
+         if (l14 != 1) { break L33; }
+         if ((l13 & 255) != 1) { break L33; }
+         L34: {
+          final int t35 = (l6 == 0L) ? 1 : 0;
+          final int t36 = (l2 > -1L) ? 1 : 0;
+          final int t37 = (l2 == -9223372036854775808L) ? 1 : 0;
+          if ((t37 != 0 ? t35 : t36) != 0) { break L34; }
+          l3 = 3;
+          break L32;
+         }
+         l7 = 0L;
+         l5 = 0L - l6;
+         l2 = 0L - (l2 + ((l6 != 0L) ? 1L : 0L));
+         l3 = 0;
+         break L2;
+        }
+        if (l2 > -1L) { break L5; }
+        l3 = 2;
+       }
+       l5 = 0L;
+       l15 = 0;
+       l7 = 1L;
+       l2 = 0L;
+       break L3;
+      }
+      throw State.trap();
+     }
+     l3 = 0;
+     l7 = 0L;
+     l5 = l6;
+     break L2;
+    }
+    l2 = 0L;
+    l5 = ((l15 = (((l14 == 1) & ((l13 & 255) == 1)) & ((l3 & 255) == 2)) ? 1 : 0) != 0) ? 0L : l6;
+    l3 = l15 != 0 ? 3 : l3;
+    l15 = 0;
+    l7 = 1L;
+   }
+   l8 = 0L;
+   l1 = 0L;
+  }
+  Words.put64(b, ((int) l4) - 58665, Words.get64(b, ((int) l4) - 58473));
+  Words.put64(b, ((int) l4) - 58672, Words.get64(b, ((int) l4) - 58480));
+  Words.put64(b, ((int) (l0 + 40L)) - 58912, l1);
+  Words.put64(b, ((int) (l0 + 32L)) - 58912, l8);
+  Words.put64(b, ((int) (l0 + 24L)) - 58912, l2);
+  Words.put64(b, ((int) (l0 + 16L)) - 58912, l5);
+  b[((int) (l0 + 48L)) - 58912] = (byte) l15;
+  Words.put64(b, ((int) (l0 + 8L)) - 58912, (l3 & 0xffffffffL) & 255L);
+  Words.put64(b, ((int) l0) - 58912, l7);
+  Words.put64(b, ((int) (l0 + 49L)) - 58912, Words.get64(b, ((int) l4) - 58672));
+  Words.put64(b, ((int) (l0 + 56L)) - 58912, Words.get64(b, ((int) l4) - 58665));
+ }
+ m.g0 = l4 + 528L;
+}
+
+static void f81(State m, long l0, long l1, long l2, long l3, long l4) {
+ final byte[] b = m.bytes;
+ long l5 = 0;
+ long l6 = 0;
+ long l7 = 0;
+ long l8 = 0;
+ long l9 = 0;
+ long l10 = 0;
+ long l11 = 0;
+ long l12 = 0;
+ long l13 = 0;
+ long l14 = 0;
+ int l15 = 0;
+ int l16 = 0;
+ int l17 = 0;
+ int l18 = 0;
+ m.g0 = l5 = m.g0 - 240L;
+ L1: {
+  if ((l5 = l5) < 16L) { break L1; }
+  l6 = 0L;
+  l7 = 83372L;
+  L2: {
+   if (l4 + Long.MIN_VALUE > -9223372036854775760L) { break L2; }
+   l8 = l1;
+   l9 = l2;
+   L3: {
+    L4: while (true) {
+     if (l9 == 0L) { break L3; }
+     l16 = (l15 = (int) b[((int) l8) - 58912]) & 255;
+     l10 = 1L;
+     L5: {
+      if (l15 > -1) { break L5; }
+      l17 = (b[((int) l8) - 58911] & 0xff) & 63;
+      L6: {
+       if (l15 + Integer.MIN_VALUE > 2147483615) { break L6; }
+       l16 = ((l16 << 6) & 1984) | l17;
+       l10 = 2L;
+       break L5;
+      }
+      l18 = (b[((int) l8) - 58910] & 0xff) & 63;
+      L7: {
+       if (l15 + Integer.MIN_VALUE > 2147483631) { break L7; }
+       l16 = ((l17 << 6) | ((l16 << 12) & 61440)) | l18;
+       l10 = 3L;
+       break L5;
+      }
+      l16 = ((l18 << 6) | ((l17 << 12) | ((l16 << 18) & 1835008))) | ((b[((int) l8) - 58909] & 0xff) & 63);
+      l10 = 4L;
+     }
+     Core2.f61(m, l5 + 168L, l16);
+     l9 = l9 - l10;
+     l8 = l8 + l10;
+     if ((b[((int) l5) - 58744] & 0xff) != 1) { continue L4; }
+     if (((b[((int) l5) - 58743] & 0xff) & 255) + Integer.MIN_VALUE <= -2147483647) { continue L4; }
+     break L2;
+    }
+   }
+   l6 = 0L;
+   Words.put64(b, ((int) l5) - 58680, 0L);
+   Words.put64(b, ((int) l5) - 58688, 0L);
+   Words.put64(b, ((int) l5) - 58696, 0L);
+   Words.put64(b, ((int) l5) - 58704, 0L);
+   Words.put64(b, ((int) l5) - 58712, 0L);
+   Words.put64(b, ((int) l5) - 58720, 0L);
+   Words.put64(b, ((int) l5) - 58728, 0L);
+   Words.put64(b, ((int) l5) - 58736, 0L);
+   f80(m, l5 + 176L, l1, l2, 1);
+   if ((b[((int) l5) - 58736] & 0xff) != 0) { break L2; }
+   final int t8 = (Words.get64(b, ((int) l5) - 58720) == 0L) ? 1 : 0;
+   final int t9 = ((l8 = Words.get64(b, ((int) l5) - 58712)) < 0L) ? 1 : 0;
+   final int t10 = (l8 == 0L) ? 1 : 0;
+   if ((t10 != 0 ? t8 : t9) != 0) { break L2; }
+   Words.put64(b, ((int) l5) - 58680, 0L);
+   Words.put64(b, ((int) l5) - 58688, 0L);
+   Words.put64(b, ((int) l5) - 58696, 0L);
+   Words.put64(b, ((int) l5) - 58704, 0L);
+   Words.put64(b, ((int) l5) - 58712, 0L);
+   Words.put64(b, ((int) l5) - 58720, 0L);
+   Words.put64(b, ((int) l5) - 58728, 0L);
+   Words.put64(b, ((int) l5) - 58736, 0L);
+   f80(m, l5 + 176L, l1, l2, 1);
+   l1 = Words.get64(b, ((int) l5) - 58696);
+   l11 = Words.get64(b, ((int) l5) - 58704);
+   l8 = Words.get64(b, ((int) l5) - 58712);
+   l10 = Words.get64(b, ((int) l5) - 58720);
+   l16 = b[((int) l5) - 58736] & 0xff;
+   f105(m, l5 + 152L, l3, l4);
+   l9 = Words.get64(b, ((int) l5) - 58752);
+   Words.put64(b, ((int) l5) - 58680, 0L);
+   Words.put64(b, ((int) l5) - 58688, 0L);
+   Words.put64(b, ((int) l5) - 58696, 0L);
+   Words.put64(b, ((int) l5) - 58704, 0L);
+   Words.put64(b, ((int) l5) - 58712, 0L);
+   Words.put64(b, ((int) l5) - 58720, 0L);
+   Words.put64(b, ((int) l5) - 58728, 0L);
+   Words.put64(b, ((int) l5) - 58736, 0L);
+   f80(m, l5 + 176L, l3, l4 - l9, 1);
+   L11: {
+    if (((l16 | (l15 = b[((int) l5) - 58736] & 0xff)) & 255) == 0) { break L11; }
+    l6 = 0L;
+    break L2;
+   }
+   l12 = Words.get64(b, ((int) l5) - 58696);
+   l9 = Words.get64(b, ((int) l5) - 58712);
+   l2 = Words.get64(b, ((int) l5) - 58720);
+   l6 = 0L;
+   final long t12 = l5 + 32L;
+   final long t13 = Words.get64(b, ((int) l5) - 58704);
+   final int t14 = l15 = l15 & 255;
+   final long t15 = l13 = t14 != 0 ? 0L : t13;
+   final long t16 = 0L - l10;
+   final long t17 = l10;
+   final int t18 = l17 = (l8 < 0L) ? 1 : 0;
+   final long t19 = t18 != 0 ? t16 : t17;
+   final int t20 = l16 = l16 & 255;
+   Core1.f3(m, t12, t15, 0L, l14 = t20 != 0 ? 0L : t19, 0L);
+   Core1.f3(m, l5 + 16L, l12 = l15 != 0 ? 0L : l12, 0L, l14, 0L);
+   final long t21 = l5 + 64L;
+   final long t22 = l13;
+   final long t23 = 0L - (l8 + ((l10 != 0L) ? 1L : 0L));
+   final long t24 = l8;
+   final int t25 = l17;
+   final long t26 = t25 != 0 ? t23 : t24;
+   final int t27 = l16;
+   Core1.f3(m, t21, t22, 0L, l8 = t27 != 0 ? 0L : t26, 0L);
+   Core1.f3(m, l5 + 48L, l12, 0L, l8, 0L);
+   final long t28 = l5 + 96L;
+   final long t29 = 0L - l2;
+   final long t30 = l2;
+   final int t31 = l17 = (l9 < 0L) ? 1 : 0;
+   final long t32 = t31 != 0 ? t29 : t30;
+   final int t33 = l15;
+   Core1.f3(m, t28, l8 = t33 != 0 ? 0L : t32, 0L, l10 = l16 != 0 ? 0L : l11, 0L);
+   Core1.f3(m, l5 + 80L, l8, 0L, l1 = l16 != 0 ? 0L : l1, 0L);
+   final long t34 = l5 + 128L;
+   final long t35 = 0L - (l9 + ((l2 != 0L) ? 1L : 0L));
+   final long t36 = l9;
+   final int t37 = l17;
+   final long t38 = t37 != 0 ? t35 : t36;
+   final int t39 = l15;
+   Core1.f3(m, t34, l8 = t39 != 0 ? 0L : t38, 0L, l10, 0L);
+   Core1.f3(m, l5 + 112L, l8, 0L, l1, 0L);
+   if (((((Words.get64(b, ((int) l5) - 58840) + (((l9 = (l8 = (l10 = Words.get64(b, ((int) l5) - 58872)) + Words.get64(b, ((int) l5) - 58896)) + Words.get64(b, ((int) l5) - 58848)) + Long.MIN_VALUE < l8 + Long.MIN_VALUE) ? 1L : 0L)) | (l2 = (l10 = Words.get64(b, ((int) l5) - 58888) + ((l8 + Long.MIN_VALUE < l10 + Long.MIN_VALUE) ? 1L : 0L)) + Words.get64(b, ((int) l5) - 58864))) | ((Words.get64(b, ((int) l5) - 58776) + (((l11 = (l8 = (l1 = Words.get64(b, ((int) l5) - 58808)) + Words.get64(b, ((int) l5) - 58832)) + Words.get64(b, ((int) l5) - 58784)) + Long.MIN_VALUE < l8 + Long.MIN_VALUE) ? 1L : 0L)) | (l1 = (l8 = Words.get64(b, ((int) l5) - 58824) + ((l8 + Long.MIN_VALUE < l1 + Long.MIN_VALUE) ? 1L : 0L)) + Words.get64(b, ((int) l5) - 58800)))) | ((Words.get64(b, ((int) l5) - 58856) + ((l2 + Long.MIN_VALUE < l10 + Long.MIN_VALUE) ? 1L : 0L)) | (Words.get64(b, ((int) l5) - 58792) + ((l1 + Long.MIN_VALUE < l8 + Long.MIN_VALUE) ? 1L : 0L)))) != 0L) { break L2; }
+   final int t40 = (Words.get64(b, ((int) l5) - 58816) + Long.MIN_VALUE <= Words.get64(b, ((int) l5) - 58880) + Long.MIN_VALUE) ? 1 : 0;
+   final int t41 = (l11 + Long.MIN_VALUE <= l9 + Long.MIN_VALUE) ? 1 : 0;
+   final int t42 = (l11 == l9) ? 1 : 0;
+   if ((t42 != 0 ? t40 : t41) != 0) { break L2; }
+   f105(m, l5, l3, l4);
+   l6 = Words.get64(b, ((int) l5) - 58904);
+   l7 = Words.get64(b, ((int) l5) - 58912);
+  }
+  Words.put64(b, ((int) l0) - 58904, l6);
+  Words.put64(b, ((int) l0) - 58912, l7);
+  m.g0 = l5 + 240L;
+  return;
+ }
+ throw State.trap();
+}
+
+static void f82(State m, long l0, long l1, long l2, long l3, long l4) {
+ final byte[] b = m.bytes;
+ long l5 = 0;
+ long l6 = 0;
+ long l7 = 0;
+ int l8 = 0;
+ int l9 = 0;
+ m.g0 = l5 = m.g0 - 256L;
+ L1: {
+  L2: {
+   if ((l5 = l5) < 16L) { break L2; }
+   L3: {
+    L4: {
+     if (l2 + Long.MIN_VALUE > -9223372036854775760L) { break L4; }
+     if (l4 + Long.MIN_VALUE < -9223372036854775759L) { break L3; }
+    }
+    Words.put64(b, ((int) l0) - 58856, 0L);
+    Words.put64(b, ((int) l0) - 58864, 0L);
+    Words.put64(b, ((int) l0) - 58872, 0L);
+    Words.put64(b, ((int) l0) - 58880, 0L);
+    Words.put64(b, ((int) l0) - 58888, 0L);
+    Words.put64(b, ((int) l0) - 58896, 0L);
+    Words.put64(b, ((int) l0) - 58904, 0L);
+    Words.put64(b, ((int) l0) - 58912, 0L);
+    break L1;
+   }
+   m.fill((int) (l5 + 8L), 0, (int) 96L);
+   l6 = 0L;
+   Words.put64(b, ((int) l5) - 58752, 0L);
+   Words.put64(b, ((int) l5) - 58760, 96L);
+   Words.put64(b, ((int) l5) - 58768, l5 + 8L);
+   Core2.f53(m, l5 + 144L, l1, l2);
+   Core2.f53(m, l5 + 144L, l3, l4);
+   l4 = Words.get64(b, ((int) l5) - 58768);
+   l2 = Words.get64(b, ((int) l5) - 58752);
+   l3 = Words.get64(b, ((int) l5) - 58760);
+   Words.put64(b, ((int) l5) - 58712, 0L);
+   Words.put64(b, ((int) l5) - 58720, 0L);
+   Words.put64(b, ((int) l5) - 58728, 0L);
+   Words.put64(b, ((int) l5) - 58736, 0L);
+   Words.put64(b, ((int) l5) - 58744, 0L);
+   Words.put64(b, ((int) l5) - 58752, 0L);
+   Words.put64(b, ((int) l5) - 58760, 0L);
+   Words.put64(b, ((int) l5) - 58768, 0L);
+   l8 = 1;
+   f80(m, l5 + 144L, ((l9 = (l3 + Long.MIN_VALUE < l2 + Long.MIN_VALUE) ? 1 : 0) != 0) ? 83372L : l4, l9 != 0 ? 0L : l2, 1);
+   L5: {
+    L6: {
+     if ((b[((int) l5) - 58768] & 0xff) != 0) { break L6; }
+     Words.put64(b, ((int) l5) - 58696, Words.get64(b, ((int) l5) - 58744));
+     Words.put64(b, ((int) l5) - 58688, Words.get64(b, ((int) l5) - 58736));
+     Words.put64(b, ((int) l5) - 58680, Words.get64(b, ((int) l5) - 58728));
+     Words.put64(b, ((int) l5) - 58672, Words.get64(b, ((int) l5) - 58720));
+     Words.put64(b, ((int) l5) - 58664, Words.get64(b, ((int) l5) - 58712));
+     l6 = Words.get64(b, ((int) l5) - 58752);
+     break L5;
+    }
+    Words.put64(b, ((int) l5) - 58664, 0L);
+    Words.put64(b, ((int) l5) - 58672, 0L);
+    Words.put64(b, ((int) l5) - 58680, 0L);
+    Words.put64(b, ((int) l5) - 58688, 0L);
+    Words.put64(b, ((int) l5) - 58696, 0L);
+    l8 = 0;
+   }
+   Words.put64(b, ((int) l5) - 58776, l2 = Words.get64(b, ((int) l5) - 58664));
+   Words.put64(b, ((int) l5) - 58784, l4 = Words.get64(b, ((int) l5) - 58672));
+   Words.put64(b, ((int) l5) - 58792, l3 = Words.get64(b, ((int) l5) - 58680));
+   Words.put64(b, ((int) l5) - 58800, l1 = Words.get64(b, ((int) l5) - 58688));
+   Words.put64(b, ((int) l5) - 58808, l7 = Words.get64(b, ((int) l5) - 58696));
+   Words.put64(b, ((int) l0) - 58904, 0L);
+   Words.put64(b, ((int) l0) - 58912, l8 & 0xffffffffL);
+   Words.put64(b, ((int) (l0 + 16L)) - 58912, l6);
+   Words.put64(b, ((int) (l0 + 24L)) - 58912, l7);
+   Words.put64(b, ((int) (l0 + 32L)) - 58912, l1);
+   Words.put64(b, ((int) (l0 + 40L)) - 58912, l3);
+   Words.put64(b, ((int) (l0 + 48L)) - 58912, l4);
+   Words.put64(b, ((int) (l0 + 56L)) - 58912, l2);
+   break L1;
+  }
+  throw State.trap();
+ }
+ m.g0 = l5 + 256L;
+}
+
+static void f83(State m, long l0, long l1, long l2) {
+ final byte[] b = m.bytes;
+ long l3 = 0;
+ long l4 = 0;
+ long l5 = 0;
+ long l6 = 0;
+ long l7 = 0;
+ long l8 = 0;
+ int l9 = 0;
+ int l10 = 0;
+ int l11 = 0;
+ m.g0 = l3 = m.g0 - 112L;
+ L1: {
+  L2: {
+   L3: {
+    if ((l4 = l3) < 16L) { break L3; }
+    Words.put64(b, ((int) l4) - 58840, 0L);
+    Words.put64(b, ((int) l4) - 58848, 0L);
+    Words.put64(b, ((int) l4) - 58856, 0L);
+    Words.put64(b, ((int) l4) - 58864, 0L);
+    Words.put64(b, ((int) l4) - 58808, 0L);
+    Words.put64(b, ((int) l4) - 58816, 0L);
+    Words.put64(b, ((int) l4) - 58824, 0L);
+    Words.put64(b, ((int) l4) - 58832, 0L);
+    f86(m, l4 + 80L, l1, l2);
+    L4: {
+     L5: {
+      if ((b[((int) l4) - 58832] & 0xff) != 1) { break L5; }
+      l9 = Words.get32(b, ((int) l4) - 58824);
+      f86(m, l4 + 80L, Words.get64(b, ((int) l4) - 58816), Words.get64(b, ((int) l4) - 58808));
+      if ((b[((int) l4) - 58832] & 0xff) != 1) { break L5; }
+      l10 = Words.get32(b, ((int) l4) - 58824);
+      f86(m, l4 + 80L, l3 = Words.get64(b, ((int) l4) - 58816), l5 = Words.get64(b, ((int) l4) - 58808));
+      if ((b[((int) l4) - 58832] & 0xff) != 1) { break L5; }
+      if (l9 != 38646) { break L5; }
+      if (l10 != 19979) { break L5; }
+      Core2.f63(m, l4 + 40L, l10 = Words.get32(b, ((int) l4) - 58824));
+      l9 = 1;
+      if ((b[((int) l4) - 58872] & 0xff) == 1) { break L4; }
+      Core1.f24(m, l4 + 32L, l10);
+      if ((b[((int) l4) - 58880] & 0xff) == 1) { break L4; }
+      Core2.f61(m, l4 + 24L, l10);
+      if ((b[((int) l4) - 58888] & 0xff) != 1) { break L5; }
+      if (((b[((int) l4) - 58887] & 0xff) & 255) == 1) { break L4; }
+     }
+     f86(m, l4 + 48L, l1, l2);
+     l9 = 1;
+     if ((b[((int) l4) - 58864] & 0xff) != 1) { break L2; }
+     l10 = 0;
+     l5 = Words.get64(b, ((int) l4) - 58840);
+     l3 = Words.get64(b, ((int) l4) - 58848);
+     L6: {
+      L7: {
+       if ((l11 = Words.get32(b, ((int) l4) - 58856)) > 35999) { break L7; }
+       L8: {
+        switch (l11 + -43) {
+        case 0: break L1;
+        case 1: break L2;
+        case 2: break L6;
+        default: break L8;
+        }
+       }
+       if (l11 == 8722) { break L6; }
+       if (l11 == 27491) { break L1; }
+       break L2;
+      }
+      L9: {
+       switch (l11 + -65291) {
+       case 0: break L1;
+       case 1: break L2;
+       case 2: break L6;
+       default: break L9;
+       }
+      }
+      if (l11 == 36127) { break L6; }
+      if (l11 != 36000) { break L2; }
+     }
+     l9 = 1;
+    }
+    l10 = 1;
+    break L1;
+   }
+   throw State.trap();
+  }
+  l9 = 0;
+  l10 = 0;
+  l3 = l1;
+  l5 = l2;
+ }
+ Words.put64(b, ((int) l4) - 58832, 0L);
+ Words.put64(b, ((int) l4) - 58824, 0L);
+ Words.put64(b, ((int) l4) - 58816, 0L);
+ Words.put64(b, ((int) l4) - 58808, 0L);
+ Words.put64(b, ((int) l4) - 58864, 0L);
+ Words.put64(b, ((int) l4) - 58856, 0L);
+ Words.put64(b, ((int) l4) - 58848, 0L);
+ Words.put64(b, ((int) l4) - 58840, 0L);
+ f86(m, l4 + 80L, l3, l5);
+ L10: {
+  L11: {
+   if ((b[((int) l4) - 58832] & 0xff) != 1) { break L11; }
+   l11 = Words.get32(b, ((int) l4) - 58824);
+   f86(m, l4 + 48L, l6 = Words.get64(b, ((int) l4) - 58816), l7 = Words.get64(b, ((int) l4) - 58808));
+   if ((b[((int) l4) - 58864] & 0xff) != 1) { break L11; }
+   L12: {
+    if (l11 == 65509) { break L12; }
+    if (l11 != 165) { break L11; }
+   }
+   Core1.f24(m, l4 + 16L, Words.get32(b, ((int) l4) - 58856));
+   if ((b[((int) l4) - 58896] & 0xff) == 1) { break L10; }
+  }
+  l7 = l5;
+  l6 = l3;
+ }
+ l5 = 0L;
+ l3 = 0L;
+ L13: {
+  if ((l2 = l2 - l7) + Long.MIN_VALUE < -9223372036854775776L) { break L13; }
+  Core1.f25(m, l4, l1, l2, l2);
+  l5 = l2 - Words.get64(b, ((int) l4) - 58904);
+  l3 = Words.get64(b, ((int) l4) - 58912);
+ }
+ L14: {
+  if ((l2 - l3) + Long.MIN_VALUE < -9223372036854775800L) { break L14; }
+  L15: while (true) {
+   L16: {
+    L17: {
+     if (((l8 = Words.get64(b, ((int) (l1 + l3)) - 58912)) & 67553998437089520L) != 63050398541283552L) { break L17; }
+     l5 = l5 + 3L;
+     l3 = l3 + 9L;
+     break L16;
+    }
+    if ((l8 & -9187201950435737472L) != 0L) { break L14; }
+    l5 = l5 + 8L;
+    l3 = l3 + 8L;
+   }
+   if ((l2 - l3) + Long.MIN_VALUE > -9223372036854775801L) { continue L15; }
+   break L15;
+  }
+ }
+ L18: {
+  if (l3 + Long.MIN_VALUE >= l2 + Long.MIN_VALUE) { break L18; }
+  L19: while (true) {
+   l5 = l5 + 1L;
+   if ((l3 = Words.get64(b, ((int) (((((b[((int) (l1 + l3)) - 58912] & 0xff) >>> 1) & 0xffffffffL) & 120L) + 66680L)) - 58912) + l3) + Long.MIN_VALUE < l2 + Long.MIN_VALUE) { continue L19; }
+   break L19;
+  }
+ }
+ b[((int) l0) - 58912] = (byte) l9;
+ Words.put64(b, ((int) (l0 + 24L)) - 58912, l7);
+ Words.put64(b, ((int) (l0 + 16L)) - 58912, l6);
+ Words.put64(b, ((int) (l0 + 8L)) - 58912, l5);
+ b[((int) (l0 + 1L)) - 58912] = (byte) l10;
+ m.g0 = l4 + 112L;
+}
+
+static void f84(State m, long l0, long l1, long l2) {
+ final byte[] b = m.bytes;
+ long l3 = 0;
+ long l4 = 0;
+ long l5 = 0;
+ long l6 = 0;
+ long l7 = 0;
+ long l8 = 0;
+ long l9 = 0;
+ int l10 = 0;
+ m.g0 = l3 = m.g0 - 112L;
+ L1: {
+  L2: {
+   L3: {
+    L4: {
+     if ((l3 = l3) < 16L) { break L4; }
+     Words.put64(b, ((int) l3) - 58808, 0L);
+     Words.put64(b, ((int) l3) - 58816, 0L);
+     Words.put64(b, ((int) l3) - 58824, 0L);
+     Words.put64(b, ((int) l3) - 58832, 0L);
+     Words.put64(b, ((int) l3) - 58840, 0L);
+     Words.put64(b, ((int) l3) - 58848, 0L);
+     Words.put64(b, ((int) l3) - 58880, 0L);
+     Words.put64(b, ((int) l3) - 58872, 0L);
+     Words.put64(b, ((int) l3) - 58864, 0L);
+     Words.put64(b, ((int) l3) - 58856, 0L);
+     Words.put64(b, ((int) l3) - 58896, 0L);
+     Words.put64(b, ((int) l3) - 58888, 0L);
+     f87(m, l3 + 64L, l1, l2);
+     L5: {
+      L6: {
+       L7: {
+        if ((b[((int) l3) - 58848] & 0xff) != 1) { break L7; }
+        f86(m, l3 + 32L, Words.get64(b, ((int) l3) - 58816), Words.get64(b, ((int) l3) - 58808));
+        if ((b[((int) l3) - 58880] & 0xff) != 1) { break L6; }
+        l10 = Words.get32(b, ((int) l3) - 58872);
+        f86(m, l3 + 32L, l4 = Words.get64(b, ((int) l3) - 58864), l5 = Words.get64(b, ((int) l3) - 58856));
+        if ((b[((int) l3) - 58880] & 0xff) == 1) { break L5; }
+        Words.put64(b, ((int) l0) - 58872, 0L);
+        Words.put64(b, ((int) l0) - 58880, 0L);
+        Words.put64(b, ((int) l0) - 58888, 0L);
+        Words.put64(b, ((int) l0) - 58896, 0L);
+        Words.put64(b, ((int) l0) - 58904, 0L);
+        Words.put64(b, ((int) l0) - 58912, 0L);
+        break L1;
+       }
+       Words.put64(b, ((int) l0) - 58872, 0L);
+       Words.put64(b, ((int) l0) - 58880, 0L);
+       Words.put64(b, ((int) l0) - 58888, 0L);
+       Words.put64(b, ((int) l0) - 58896, 0L);
+       Words.put64(b, ((int) l0) - 58904, 0L);
+       Words.put64(b, ((int) l0) - 58912, 0L);
+       break L1;
+      }
+      Words.put64(b, ((int) l0) - 58872, 0L);
+      Words.put64(b, ((int) l0) - 58880, 0L);
+      Words.put64(b, ((int) l0) - 58888, 0L);
+      Words.put64(b, ((int) l0) - 58896, 0L);
+      Words.put64(b, ((int) l0) - 58904, 0L);
+      Words.put64(b, ((int) l0) - 58912, 0L);
+      break L1;
+     }
+     l6 = 0L;
+     L8: {
+      L9: {
+       if (l10 > 35999) { break L9; }
+       if (l10 == 45) { break L8; }
+       l7 = 0L;
+       l8 = 0L;
+       l9 = 0L;
+       if (l10 == 8722) { break L8; }
+       break L2;
+      }
+      if (l10 == 36000) { break L8; }
+      if (l10 == 36127) { break L8; }
+      l7 = 0L;
+      l8 = 0L;
+      l9 = 0L;
+      if (l10 != 65293) { break L2; }
+     }
+     l9 = 0L;
+     l6 = 0L;
+     L10: {
+      if ((l2 = l2 - l5) + Long.MIN_VALUE < -9223372036854775776L) { break L10; }
+      Core1.f25(m, l3, l1, l2, l2);
+      l9 = l2 - Words.get64(b, ((int) l3) - 58904);
+      l6 = Words.get64(b, ((int) l3) - 58912);
+     }
+     if ((l2 - l6) + Long.MIN_VALUE < -9223372036854775800L) { break L3; }
+     L11: while (true) {
+      L12: {
+       L13: {
+        if (((l7 = Words.get64(b, ((int) (l1 + l6)) - 58912)) & 67553998437089520L) != 63050398541283552L) { break L13; }
+        l9 = l9 + 3L;
+        l6 = l6 + 9L;
+        break L12;
+       }
+       if ((l7 & -9187201950435737472L) != 0L) { break L3; }
+       l9 = l9 + 8L;
+       l6 = l6 + 8L;
+      }
+      if ((l2 - l6) + Long.MIN_VALUE <= -9223372036854775801L) { break L3; }
+      continue L11;
+     }
+    }
+    throw State.trap();
+   }
+   l7 = l3 + 72L;
+   L14: {
+    if (l6 + Long.MIN_VALUE >= l2 + Long.MIN_VALUE) { break L14; }
+    L15: while (true) {
+     l9 = l9 + 1L;
+     if ((l6 = Words.get64(b, ((int) (((((b[((int) (l1 + l6)) - 58912] & 0xff) >>> 1) & 0xffffffffL) & 120L) + 66680L)) - 58912) + l6) + Long.MIN_VALUE < l2 + Long.MIN_VALUE) { continue L15; }
+     break L15;
+    }
+   }
+   Words.put64(b, ((int) l3) - 58888, Words.get64(b, ((int) l7) - 58904));
+   Words.put64(b, ((int) l3) - 58896, Words.get64(b, ((int) l7) - 58912));
+   l8 = 1L;
+   l6 = l4;
+   l7 = l5;
+  }
+  Words.put64(b, ((int) l0) - 58912, l8);
+  Words.put64(b, ((int) (l0 + 8L)) - 58912, Words.get64(b, ((int) l3) - 58896));
+  Words.put64(b, ((int) (l0 + 16L)) - 58912, Words.get64(b, ((int) l3) - 58888));
+  Words.put64(b, ((int) (l0 + 40L)) - 58912, l7);
+  Words.put64(b, ((int) (l0 + 32L)) - 58912, l6);
+  Words.put64(b, ((int) (l0 + 24L)) - 58912, l9);
+ }
+ m.g0 = l3 + 112L;
+}
+
+static void f85(State m, long l0, int l1, long l2, long l3) {
+ final byte[] b = m.bytes;
+ long l4 = 0;
+ long l5 = 0;
+ long l6 = 0;
+ long l7 = 0;
+ long l8 = 0;
+ long l9 = 0;
+ long l10 = 0;
+ long l11 = 0;
+ long l12 = 0;
+ m.g0 = l4 = m.g0 - 144L;
+ L1: {
+  L2: {
+   if ((l4 = l4) < 16L) { break L2; }
+   l5 = Words.get64(b, ((int) l3) - 58880);
+   l6 = Words.get64(b, ((int) l3) - 58888);
+   l7 = Words.get64(b, ((int) l3) - 58896);
+   Words.put64(b, ((int) l4) - 58800, 0L);
+   Words.put64(b, ((int) l4) - 58792, 0L);
+   Words.put64(b, ((int) l4) - 58784, 0L);
+   Words.put64(b, ((int) l4) - 58776, 0L);
+   Words.put64(b, ((int) l4) - 58848, 0L);
+   Words.put64(b, ((int) l4) - 58840, 0L);
+   Words.put64(b, ((int) l4) - 58832, 0L);
+   Words.put64(b, ((int) l4) - 58824, 0L);
+   Words.put64(b, ((int) l4) - 58816, 0L);
+   Words.put64(b, ((int) l4) - 58808, 0L);
+   f89(m, l4 + 112L, l1, l2, Words.get64(b, ((int) l3) - 58912), Words.get64(b, ((int) l3) - 58904));
+   l3 = Words.get64(b, ((int) l4) - 58784);
+   L3: {
+    L4: {
+     L5: {
+      L6: {
+       L7: {
+        L8: {
+         if ((b[((int) l4) - 58800] & 0xff) != 0) { break L8; }
+         l8 = Words.get64(b, ((int) l4) - 58776);
+         f90(m, l4 + 64L, l1, l7 + l2, l6, l5);
+         l2 = Words.get64(b, ((int) l4) - 58832);
+         if ((b[((int) l4) - 58848] & 0xff) != 0) { break L3; }
+         l1 = 0;
+         l7 = 2L;
+         l9 = 1L;
+         if ((l6 = Words.get64(b, ((int) l4) - 58816)) + Long.MIN_VALUE <= -9223372036854775770L) { break L7; }
+         l10 = 0L;
+         break L6;
+        }
+        Words.put64(b, ((int) l0) - 58912, 1L);
+        Words.put64(b, ((int) (l0 + 24L)) - 58912, 0L);
+        Words.put64(b, ((int) (l0 + 16L)) - 58912, l3);
+        Words.put64(b, ((int) (l0 + 32L)) - 58912, 0L);
+        Words.put64(b, ((int) (l0 + 8L)) - 58912, b[((int) l4) - 58792] & 0xffL);
+        Words.put64(b, ((int) (l0 + 40L)) - 58912, 0L);
+        Words.put64(b, ((int) (l0 + 48L)) - 58912, 0L);
+        Words.put64(b, ((int) (l0 + 56L)) - 58912, 0L);
+        break L1;
+       }
+       l5 = Words.get64(b, ((int) l4) - 58824);
+       l10 = 0L;
+       Core1.f3(m, l4 + 16L, l11 = Words.get64(b, ((int) ((l6 = l6 << 4L) + 68336L)) - 58912), 0L, l3, 0L);
+       Core1.f3(m, l4, l6 = Words.get64(b, ((int) (l6 + 68344L)) - 58912), 0L, l3, 0L);
+       Core1.f3(m, l4 + 48L, l11, 0L, l8, 0L);
+       Core1.f3(m, l4 + 32L, l6, 0L, l8, 0L);
+       if ((((Words.get64(b, ((int) l4) - 58856) + (((l6 = (l11 = (l12 = Words.get64(b, ((int) l4) - 58888)) + Words.get64(b, ((int) l4) - 58912)) + Words.get64(b, ((int) l4) - 58864)) + Long.MIN_VALUE < l11 + Long.MIN_VALUE) ? 1L : 0L)) | (l12 = (l11 = Words.get64(b, ((int) l4) - 58904) + ((l11 + Long.MIN_VALUE < l12 + Long.MIN_VALUE) ? 1L : 0L)) + Words.get64(b, ((int) l4) - 58880))) | (Words.get64(b, ((int) l4) - 58872) + ((l12 + Long.MIN_VALUE < l11 + Long.MIN_VALUE) ? 1L : 0L))) == 0L) { break L5; }
+      }
+      l5 = 0L;
+      l3 = 0L;
+      l6 = 0L;
+      break L4;
+     }
+     l1 = (((l3 ^ 100L) | l8) == 0L) ? 2 : 3;
+     l3 = Words.get64(b, ((int) l4) - 58896);
+     l9 = 0L;
+     l7 = 0L;
+     l10 = l2;
+    }
+    Words.put64(b, ((int) l0) - 58912, l9);
+    Words.put64(b, ((int) (l0 + 40L)) - 58912, l6);
+    Words.put64(b, ((int) (l0 + 32L)) - 58912, l3);
+    Words.put64(b, ((int) (l0 + 24L)) - 58912, l5);
+    Words.put64(b, ((int) (l0 + 16L)) - 58912, l10);
+    Words.put64(b, ((int) (l0 + 49L)) - 58912, 0L);
+    b[((int) (l0 + 48L)) - 58912] = (byte) l1;
+    Words.put64(b, ((int) (l0 + 8L)) - 58912, l7);
+    Words.put64(b, ((int) (l0 + 56L)) - 58912, 0L);
+    break L1;
+   }
+   Words.put64(b, ((int) l0) - 58912, 1L);
+   Words.put64(b, ((int) (l0 + 24L)) - 58912, 0L);
+   Words.put64(b, ((int) (l0 + 16L)) - 58912, l2);
+   Words.put64(b, ((int) (l0 + 32L)) - 58912, 0L);
+   Words.put64(b, ((int) (l0 + 8L)) - 58912, b[((int) l4) - 58840] & 0xffL);
+   Words.put64(b, ((int) (l0 + 40L)) - 58912, 0L);
+   Words.put64(b, ((int) (l0 + 48L)) - 58912, 0L);
+   Words.put64(b, ((int) (l0 + 56L)) - 58912, 0L);
+   break L1;
+  }
+  throw State.trap();
+ }
+ m.g0 = l4 + 144L;
+}
+
+static void f86(State m, long l0, long l1, long l2) {
+ final byte[] b = m.bytes;
+ int l3 = 0;
+ int l4 = 0;
+ int l5 = 0;
+ int l6 = 0;
+ long l7 = 0;
+ long l8 = 0;
+ L1: {
+  L2: {
+   L3: {
+    L4: {
+     L5: {
+      L6: {
+       if (m.g0 < 16L) { break L6; }
+       L7: {
+        if (l2 == 0L) { break L7; }
+        L8: while (true) {
+         L9: {
+          L10: {
+           if ((l3 = b[((int) l1) - 58912] & 0xff) + Integer.MIN_VALUE > -2147483616) { break L10; }
+           if (((1L << (l3 & 0xffffffffL)) & 4294983168L) == 0L) { break L10; }
+           l7 = 1L;
+           break L9;
+          }
+          L11: {
+           L12: {
+            L13: {
+             if (l3 == 194) { break L13; }
+             if (l2 + Long.MIN_VALUE < -9223372036854775805L) { break L12; }
+             if (((l3 + 28) & 255) + Integer.MIN_VALUE < -2147483395) { break L12; }
+             l4 = b[((int) (l1 + 1L)) - 58912] & 0xff;
+             l6 = (int) (byte) (l5 = b[((int) (l1 + 2L)) - 58912] & 0xff);
+             if (l3 != 226) { break L11; }
+             if ((l4 & 255) != 128) { break L11; }
+             l7 = 3L;
+             if (l6 < -117) { break L9; }
+             if ((l3 = l5 + -168) + Integer.MIN_VALUE > -2147483641) { break L5; }
+             if (((1 << l3) & 131) == 0) { break L5; }
+             break L9;
+            }
+            l7 = 1L;
+            l3 = b[((int) l1) - 58911] & 0xff;
+            L14: {
+             if (l2 != 1L) { break L14; }
+             l6 = l3 & 63;
+             l3 = 194;
+             break L3;
+            }
+            l7 = 2L;
+            if (l3 == 133) { break L9; }
+            if (l3 == 160) { break L9; }
+           }
+           if (l2 + Long.MIN_VALUE >= -9223372036854775805L) { break L5; }
+           l4 = b[((int) l1) - 58912] & 0xff;
+           break L4;
+          }
+          L15: {
+           L16: {
+            L17: {
+             L18: {
+              switch (l3 + -225) {
+              case 1: break L17;
+              case 2: break L16;
+              default: break L18;
+              }
+             }
+             if ((l4 & 255) != 154) { break L5; }
+             if (l6 != -128) { break L5; }
+             break L15;
+            }
+            if ((l4 & 255) != 129) { break L5; }
+            if (l6 == -97) { break L15; }
+            break L5;
+           }
+           if ((l4 & 255) != 128) { break L5; }
+           if (l6 != -128) { break L5; }
+          }
+          l7 = 3L;
+         }
+         l1 = l1 + l7;
+         if (!((l2 = l2 - l7) == 0L)) { continue L8; }
+         break L8;
+        }
+       }
+       Words.put64(b, ((int) l0) - 58888, 0L);
+       Words.put64(b, ((int) l0) - 58896, 0L);
+       Words.put64(b, ((int) l0) - 58904, 0L);
+       Words.put64(b, ((int) l0) - 58912, 0L);
+       return;
+      }
+      throw State.trap();
+     }
+     if (((l4 = b[((int) l1) - 58912] & 0xff) & 240) != 224) { break L4; }
+     l3 = (((b[((int) l1) - 58910] & 0xff) + ((b[((int) l1) - 58911] & 0xff) << 6)) + (l4 << 12)) + -925824;
+     l7 = l2 + -3L;
+     l1 = l1 + 3L;
+     break L1;
+    }
+    l3 = l4 & 255;
+    l8 = 1L;
+    L19: {
+     if (((int) (byte) l4) > -1) { break L19; }
+     l6 = (b[((int) l1) - 58911] & 0xff) & 63;
+     L20: {
+      if ((l4 & 255) + Integer.MIN_VALUE > -2147483425) { break L20; }
+      l7 = l2;
+      break L3;
+     }
+     l5 = (b[((int) l1) - 58910] & 0xff) & 63;
+     L21: {
+      if ((l4 & 255) + Integer.MIN_VALUE > -2147483409) { break L21; }
+      l3 = ((l6 << 6) | ((l3 << 12) & 61440)) | l5;
+      l8 = 3L;
+      break L19;
+     }
+     l3 = ((l5 << 6) | ((l6 << 12) | ((l3 << 18) & 1835008))) | ((b[((int) l1) - 58909] & 0xff) & 63);
+     l8 = 4L;
+    }
+    l7 = l2;
+    break L2;
+   }
+   l3 = ((l3 << 6) & 1984) | l6;
+   l8 = 2L;
+  }
+  l7 = l7 - l8;
+  l1 = l1 + l8;
+ }
+ Words.put64(b, ((int) l0) - 58912, 1L);
+ Words.put64(b, ((int) (l0 + 24L)) - 58912, l7);
+ Words.put64(b, ((int) (l0 + 16L)) - 58912, l1);
+ Words.put32(b, ((int) (l0 + 12L)) - 58912, 0);
+ Words.put32(b, ((int) (l0 + 8L)) - 58912, l3);
+}
+
+static void f87(State m, long l0, long l1, long l2) {
+ final byte[] b = m.bytes;
+ long l3 = 0;
+ long l4 = 0;
+ long l5 = 0;
+ long l6 = 0;
+ long l7 = 0;
+ long l8 = 0;
+ long l9 = 0;
+ long l10 = 0;
+ int l11 = 0;
+ m.g0 = l3 = m.g0 - 112L;
+ L1: {
+  L2: {
+   L3: {
+    if ((l3 = l3) < 16L) { break L3; }
+    Words.put64(b, ((int) l3) - 58872, 0L);
+    Words.put64(b, ((int) l3) - 58880, 0L);
+    Words.put64(b, ((int) l3) - 58888, 0L);
+    Words.put64(b, ((int) l3) - 58896, 0L);
+    Words.put64(b, ((int) l3) - 58840, 0L);
+    Words.put64(b, ((int) l3) - 58848, 0L);
+    Words.put64(b, ((int) l3) - 58856, 0L);
+    Words.put64(b, ((int) l3) - 58864, 0L);
+    f86(m, l3 + 48L, l1, l2);
+    l4 = l2;
+    L4: {
+     L5: {
+      if ((b[((int) l3) - 58864] & 0xff) != 1) { break L5; }
+      L6: while (true) {
+       l5 = Words.get64(b, ((int) l3) - 58840);
+       l6 = Words.get64(b, ((int) l3) - 58848);
+       l11 = Words.get32(b, ((int) l3) - 58856);
+       Words.put64(b, ((int) l3) - 58808, 0L);
+       Words.put64(b, ((int) l3) - 58816, 0L);
+       Words.put64(b, ((int) l3) - 58824, 0L);
+       Words.put64(b, ((int) l3) - 58832, 0L);
+       L7: {
+        if (l11 != 20998) { break L7; }
+        f86(m, l3 + 80L, l6, l5);
+        if ((b[((int) l3) - 58832] & 0xff) != 1) { break L7; }
+        if (Words.get32(b, ((int) l3) - 58824) == 20043) { break L4; }
+       }
+       f86(m, l3 + 48L, l6, l5);
+       l4 = l5;
+       if ((b[((int) l3) - 58864] & 0xff) == 1) { continue L6; }
+       break L6;
+      }
+     }
+     Words.put64(b, ((int) l0) - 58872, 0L);
+     Words.put64(b, ((int) l0) - 58880, 0L);
+     Words.put64(b, ((int) l0) - 58888, 0L);
+     Words.put64(b, ((int) l0) - 58896, 0L);
+     Words.put64(b, ((int) l0) - 58904, 0L);
+     Words.put64(b, ((int) l0) - 58912, 0L);
+     break L1;
+    }
+    l7 = Words.get64(b, ((int) l3) - 58816);
+    l6 = 0L;
+    l5 = 0L;
+    L8: {
+     if ((l9 = l2 - (l8 = Words.get64(b, ((int) l3) - 58808))) + Long.MIN_VALUE < -9223372036854775776L) { break L8; }
+     Core1.f25(m, l3, l1, l9, l9);
+     l6 = l9 - Words.get64(b, ((int) l3) - 58904);
+     l5 = Words.get64(b, ((int) l3) - 58912);
+    }
+    if ((l9 - l5) + Long.MIN_VALUE < -9223372036854775800L) { break L2; }
+    L9: while (true) {
+     L10: {
+      L11: {
+       if (((l10 = Words.get64(b, ((int) (l1 + l5)) - 58912)) & 67553998437089520L) != 63050398541283552L) { break L11; }
+       l6 = l6 + 3L;
+       l5 = l5 + 9L;
+       break L10;
+      }
+      if ((l10 & -9187201950435737472L) != 0L) { break L2; }
+      l6 = l6 + 8L;
+      l5 = l5 + 8L;
+     }
+     if ((l9 - l5) + Long.MIN_VALUE <= -9223372036854775801L) { break L2; }
+     continue L9;
+    }
+   }
+   throw State.trap();
+  }
+  l4 = l2 - l4;
+  L12: {
+   if (l5 + Long.MIN_VALUE >= l9 + Long.MIN_VALUE) { break L12; }
+   L13: while (true) {
+    l6 = l6 + 1L;
+    if ((l5 = Words.get64(b, ((int) (((((b[((int) (l1 + l5)) - 58912] & 0xff) >>> 1) & 0xffffffffL) & 120L) + 66680L)) - 58912) + l5) + Long.MIN_VALUE < l9 + Long.MIN_VALUE) { continue L13; }
+    break L13;
+   }
+  }
+  f86(m, l3 + 16L, l1, l4);
+  L14: {
+   L15: {
+    if ((b[((int) l3) - 58896] & 0xff) != 1) { break L15; }
+    f86(m, l3 + 16L, l7, l8);
+    if ((b[((int) l3) - 58896] & 0xff) != 1) { break L14; }
+    Words.put64(b, ((int) l0) - 58912, 1L);
+    Words.put64(b, ((int) (l0 + 40L)) - 58912, l8);
+    Words.put64(b, ((int) (l0 + 32L)) - 58912, l7);
+    Words.put64(b, ((int) (l0 + 24L)) - 58912, l6);
+    Words.put64(b, ((int) (l0 + 16L)) - 58912, l4);
+    Words.put64(b, ((int) (l0 + 8L)) - 58912, l1);
+    break L1;
+   }
+   Words.put64(b, ((int) l0) - 58872, 0L);
+   Words.put64(b, ((int) l0) - 58880, 0L);
+   Words.put64(b, ((int) l0) - 58888, 0L);
+   Words.put64(b, ((int) l0) - 58896, 0L);
+   Words.put64(b, ((int) l0) - 58904, 0L);
+   Words.put64(b, ((int) l0) - 58912, 0L);
+   break L1;
+  }
+  Words.put64(b, ((int) l0) - 58872, 0L);
+  Words.put64(b, ((int) l0) - 58880, 0L);
+  Words.put64(b, ((int) l0) - 58888, 0L);
+  Words.put64(b, ((int) l0) - 58896, 0L);
+  Words.put64(b, ((int) l0) - 58904, 0L);
+  Words.put64(b, ((int) l0) - 58912, 0L);
+ }
+ m.g0 = l3 + 112L;
+}
+
+static void f88(State m, long l0, int l1, long l2, long l3, long l4) {
  final byte[] b = m.bytes;
  long l5 = 0;
  long l6 = 0;
@@ -14,144 +1263,144 @@ static void f82(State m, long l0, int l1, long l2, long l3, long l4) {
  m.g0 = l5 = m.g0 - 304L;
  L1: {
   if ((l5 = l5) < 16L) { break L1; }
-  Words.put64(b, ((int) l5) - 60584, 0L);
-  Words.put64(b, ((int) l5) - 60592, 0L);
-  Words.put64(b, ((int) l5) - 60600, 0L);
-  Words.put64(b, ((int) l5) - 60608, 0L);
-  Words.put64(b, ((int) l5) - 60616, 0L);
-  Words.put64(b, ((int) l5) - 60624, 0L);
-  Words.put64(b, ((int) l5) - 60656, 0L);
-  Words.put64(b, ((int) l5) - 60648, 0L);
-  Words.put64(b, ((int) l5) - 60640, 0L);
-  Words.put64(b, ((int) l5) - 60632, 0L);
-  f93(m, l5 + 96L, l3, l4);
+  Words.put64(b, ((int) l5) - 58776, 0L);
+  Words.put64(b, ((int) l5) - 58784, 0L);
+  Words.put64(b, ((int) l5) - 58792, 0L);
+  Words.put64(b, ((int) l5) - 58800, 0L);
+  Words.put64(b, ((int) l5) - 58808, 0L);
+  Words.put64(b, ((int) l5) - 58816, 0L);
+  Words.put64(b, ((int) l5) - 58848, 0L);
+  Words.put64(b, ((int) l5) - 58840, 0L);
+  Words.put64(b, ((int) l5) - 58832, 0L);
+  Words.put64(b, ((int) l5) - 58824, 0L);
+  f99(m, l5 + 96L, l3, l4);
   L2: {
    L3: {
-    if ((b[((int) l5) - 60624] & 0xff) != 0) { break L3; }
-    f94(m, l5 + 64L, l1, l2, l3, l4);
-    l1 = b[((int) l5) - 60648] & 0xff;
-    l10 = b[((int) l5) - 60656] & 0xff;
+    if ((b[((int) l5) - 58816] & 0xff) != 0) { break L3; }
+    f100(m, l5 + 64L, l1, l2, l3, l4);
+    l1 = b[((int) l5) - 58840] & 0xff;
+    l10 = b[((int) l5) - 58848] & 0xff;
     break L2;
    }
-   l10 = b[((int) l5) - 60583] & 0xff;
-   l6 = Words.get64(b, ((int) l5) - 60592);
-   l7 = Words.get64(b, ((int) l5) - 60600);
-   l11 = b[((int) l5) - 60584] & 0xff;
-   Words.put64(b, ((int) l5) - 60544, 0L);
-   Words.put64(b, ((int) l5) - 60536, 0L);
-   Words.put64(b, ((int) l5) - 60528, 0L);
-   Words.put64(b, ((int) l5) - 60520, 0L);
-   Words.put64(b, ((int) l5) - 60512, 0L);
-   Words.put64(b, ((int) l5) - 60504, 0L);
-   Words.put64(b, ((int) l5) - 60576, 0L);
-   Words.put64(b, ((int) l5) - 60568, 0L);
-   Words.put64(b, ((int) l5) - 60560, 0L);
-   Words.put64(b, ((int) l5) - 60552, 0L);
+   l10 = b[((int) l5) - 58775] & 0xff;
+   l6 = Words.get64(b, ((int) l5) - 58784);
+   l7 = Words.get64(b, ((int) l5) - 58792);
+   l11 = b[((int) l5) - 58776] & 0xff;
+   Words.put64(b, ((int) l5) - 58736, 0L);
+   Words.put64(b, ((int) l5) - 58728, 0L);
+   Words.put64(b, ((int) l5) - 58720, 0L);
+   Words.put64(b, ((int) l5) - 58712, 0L);
+   Words.put64(b, ((int) l5) - 58704, 0L);
+   Words.put64(b, ((int) l5) - 58696, 0L);
+   Words.put64(b, ((int) l5) - 58768, 0L);
+   Words.put64(b, ((int) l5) - 58760, 0L);
+   Words.put64(b, ((int) l5) - 58752, 0L);
+   Words.put64(b, ((int) l5) - 58744, 0L);
    l8 = l5 + 138L;
    l9 = l5 + 104L;
    L4: {
     L5: {
      L6: {
       if (l11 != 1) { break L6; }
-      f93(m, l5 + 176L, l7, l6);
-      if ((b[((int) l5) - 60544] & 0xff) != 0) { break L5; }
-      b[((int) l5) - 60423] = (byte) l10;
-      b[((int) l5) - 60424] = (byte) 1;
-      Words.put64(b, ((int) l5) - 60432, l6);
-      Words.put64(b, ((int) l5) - 60440, l7);
-      Words.put64(b, ((int) l5) - 60448, Words.get64(b, ((int) l9) - 60712));
-      Words.put64(b, ((int) l5) - 60456, Words.get64(b, ((int) l9) - 60720));
-      Words.put32(b, ((int) l5) - 60422, Words.get32(b, ((int) l8) - 60720));
-      Words.put16(b, ((int) l5) - 60418, (short) (Words.get16(b, ((int) l8) - 60716) & 0xffff));
-      f95(m, l5 + 144L, l1, l2, l10, l5 + 264L);
-      l4 = Words.get64(b, ((int) l5) - 60552);
-      l3 = Words.get64(b, ((int) l5) - 60560);
-      l1 = b[((int) l5) - 60568] & 0xff;
-      l10 = b[((int) l5) - 60576] & 0xff;
+      f99(m, l5 + 176L, l7, l6);
+      if ((b[((int) l5) - 58736] & 0xff) != 0) { break L5; }
+      b[((int) l5) - 58615] = (byte) l10;
+      b[((int) l5) - 58616] = (byte) 1;
+      Words.put64(b, ((int) l5) - 58624, l6);
+      Words.put64(b, ((int) l5) - 58632, l7);
+      Words.put64(b, ((int) l5) - 58640, Words.get64(b, ((int) l9) - 58904));
+      Words.put64(b, ((int) l5) - 58648, Words.get64(b, ((int) l9) - 58912));
+      Words.put32(b, ((int) l5) - 58614, Words.get32(b, ((int) l8) - 58912));
+      Words.put16(b, ((int) l5) - 58610, (short) (Words.get16(b, ((int) l8) - 58908) & 0xffff));
+      f101(m, l5 + 144L, l1, l2, l10, l5 + 264L);
+      l4 = Words.get64(b, ((int) l5) - 58744);
+      l3 = Words.get64(b, ((int) l5) - 58752);
+      l1 = b[((int) l5) - 58760] & 0xff;
+      l10 = b[((int) l5) - 58768] & 0xff;
       break L4;
      }
-     b[((int) l5) - 60423] = (byte) l10;
-     b[((int) l5) - 60424] = (byte) 0;
-     Words.put64(b, ((int) l5) - 60432, l6);
-     Words.put64(b, ((int) l5) - 60440, l7);
-     Words.put64(b, ((int) l5) - 60496, 0L);
-     Words.put64(b, ((int) l5) - 60488, 0L);
-     Words.put64(b, ((int) l5) - 60480, 0L);
-     Words.put64(b, ((int) l5) - 60472, 0L);
-     Words.put64(b, ((int) l5) - 60456, Words.get64(b, ((int) l9) - 60720));
-     Words.put64(b, ((int) l5) - 60448, Words.get64(b, ((int) l9) - 60712));
-     Words.put32(b, ((int) l5) - 60422, Words.get32(b, ((int) l8) - 60720));
-     Words.put16(b, ((int) l5) - 60418, (short) (Words.get16(b, ((int) l8) - 60716) & 0xffff));
-     f94(m, l5 + 224L, l1, l2, l3, l4);
+     b[((int) l5) - 58615] = (byte) l10;
+     b[((int) l5) - 58616] = (byte) 0;
+     Words.put64(b, ((int) l5) - 58624, l6);
+     Words.put64(b, ((int) l5) - 58632, l7);
+     Words.put64(b, ((int) l5) - 58688, 0L);
+     Words.put64(b, ((int) l5) - 58680, 0L);
+     Words.put64(b, ((int) l5) - 58672, 0L);
+     Words.put64(b, ((int) l5) - 58664, 0L);
+     Words.put64(b, ((int) l5) - 58648, Words.get64(b, ((int) l9) - 58912));
+     Words.put64(b, ((int) l5) - 58640, Words.get64(b, ((int) l9) - 58904));
+     Words.put32(b, ((int) l5) - 58614, Words.get32(b, ((int) l8) - 58912));
+     Words.put16(b, ((int) l5) - 58610, (short) (Words.get16(b, ((int) l8) - 58908) & 0xffff));
+     f100(m, l5 + 224L, l1, l2, l3, l4);
      L7: {
       L8: {
-       if ((b[((int) l5) - 60496] & 0xff) != 0) { break L8; }
-       f96(m, l5 + 32L, l2, l5 + 264L);
-       l4 = Words.get64(b, ((int) l5) - 60680);
-       l1 = b[((int) l5) - 60688] & 0xff;
+       if ((b[((int) l5) - 58688] & 0xff) != 0) { break L8; }
+       f102(m, l5 + 32L, l2, l5 + 264L);
+       l4 = Words.get64(b, ((int) l5) - 58872);
+       l1 = b[((int) l5) - 58880] & 0xff;
        break L7;
       }
-      l1 = b[((int) l5) - 60488] & 0xff;
-      l4 = Words.get64(b, ((int) l5) - 60480);
-      f96(m, l5 + 48L, l2, l5 + 264L);
+      l1 = b[((int) l5) - 58680] & 0xff;
+      l4 = Words.get64(b, ((int) l5) - 58672);
+      f102(m, l5 + 48L, l2, l5 + 264L);
       final long t9 = l4;
-      final long t10 = l3 = Words.get64(b, ((int) l5) - 60664);
-      final int t11 = l10 = (((l1 != 1) | ((b[((int) l5) - 60672] & 0xff) == 0)) | (l4 + Long.MIN_VALUE > l3 + Long.MIN_VALUE)) ? 1 : 0;
+      final long t10 = l3 = Words.get64(b, ((int) l5) - 58856);
+      final int t11 = l10 = (((l1 != 1) | ((b[((int) l5) - 58864] & 0xff) == 0)) | (l4 + Long.MIN_VALUE > l3 + Long.MIN_VALUE)) ? 1 : 0;
       l4 = t11 != 0 ? t9 : t10;
       l1 = l10 != 0 ? l1 : 1;
      }
-     Words.put64(b, ((int) l5) - 60632, 0L);
-     Words.put64(b, ((int) l5) - 60640, l4);
+     Words.put64(b, ((int) l5) - 58824, 0L);
+     Words.put64(b, ((int) l5) - 58832, l4);
      l10 = 1;
      break L2;
     }
-    b[((int) l5) - 60423] = (byte) l10;
-    b[((int) l5) - 60424] = (byte) 1;
-    Words.put64(b, ((int) l5) - 60432, l6);
-    Words.put64(b, ((int) l5) - 60440, l7);
-    Words.put64(b, ((int) l5) - 60496, 0L);
-    Words.put64(b, ((int) l5) - 60488, 0L);
-    Words.put64(b, ((int) l5) - 60480, 0L);
-    Words.put64(b, ((int) l5) - 60472, 0L);
-    Words.put64(b, ((int) l5) - 60456, Words.get64(b, ((int) l9) - 60720));
-    Words.put64(b, ((int) l5) - 60448, Words.get64(b, ((int) l9) - 60712));
-    Words.put32(b, ((int) l5) - 60422, Words.get32(b, ((int) l8) - 60720));
-    Words.put16(b, ((int) l5) - 60418, (short) (Words.get16(b, ((int) l8) - 60716) & 0xffff));
-    f94(m, l5 + 224L, l1, l2, l3, l4);
+    b[((int) l5) - 58615] = (byte) l10;
+    b[((int) l5) - 58616] = (byte) 1;
+    Words.put64(b, ((int) l5) - 58624, l6);
+    Words.put64(b, ((int) l5) - 58632, l7);
+    Words.put64(b, ((int) l5) - 58688, 0L);
+    Words.put64(b, ((int) l5) - 58680, 0L);
+    Words.put64(b, ((int) l5) - 58672, 0L);
+    Words.put64(b, ((int) l5) - 58664, 0L);
+    Words.put64(b, ((int) l5) - 58648, Words.get64(b, ((int) l9) - 58912));
+    Words.put64(b, ((int) l5) - 58640, Words.get64(b, ((int) l9) - 58904));
+    Words.put32(b, ((int) l5) - 58614, Words.get32(b, ((int) l8) - 58912));
+    Words.put16(b, ((int) l5) - 58610, (short) (Words.get16(b, ((int) l8) - 58908) & 0xffff));
+    f100(m, l5 + 224L, l1, l2, l3, l4);
     L12: {
      L13: {
-      if ((b[((int) l5) - 60496] & 0xff) != 0) { break L13; }
-      f96(m, l5, l2, l5 + 264L);
-      l3 = Words.get64(b, ((int) l5) - 60712);
-      l1 = b[((int) l5) - 60720] & 0xff;
+      if ((b[((int) l5) - 58688] & 0xff) != 0) { break L13; }
+      f102(m, l5, l2, l5 + 264L);
+      l3 = Words.get64(b, ((int) l5) - 58904);
+      l1 = b[((int) l5) - 58912] & 0xff;
       break L12;
      }
-     l1 = b[((int) l5) - 60488] & 0xff;
-     l4 = Words.get64(b, ((int) l5) - 60480);
-     f96(m, l5 + 16L, l2, l5 + 264L);
+     l1 = b[((int) l5) - 58680] & 0xff;
+     l4 = Words.get64(b, ((int) l5) - 58672);
+     f102(m, l5 + 16L, l2, l5 + 264L);
      final long t14 = l4;
-     final long t15 = l3 = Words.get64(b, ((int) l5) - 60696);
-     final int t16 = l10 = (((l1 != 1) | ((b[((int) l5) - 60704] & 0xff) == 0)) | (l4 + Long.MIN_VALUE > l3 + Long.MIN_VALUE)) ? 1 : 0;
+     final long t15 = l3 = Words.get64(b, ((int) l5) - 58888);
+     final int t16 = l10 = (((l1 != 1) | ((b[((int) l5) - 58896] & 0xff) == 0)) | (l4 + Long.MIN_VALUE > l3 + Long.MIN_VALUE)) ? 1 : 0;
      l3 = t16 != 0 ? t14 : t15;
      l1 = l10 != 0 ? l1 : 1;
     }
     l10 = 1;
     l4 = 0L;
    }
-   Words.put64(b, ((int) l5) - 60632, l4);
-   Words.put64(b, ((int) l5) - 60640, l3);
+   Words.put64(b, ((int) l5) - 58824, l4);
+   Words.put64(b, ((int) l5) - 58832, l3);
   }
-  Words.put64(b, ((int) (l0 + 16L)) - 60720, Words.get64(b, ((int) l5) - 60640));
-  Words.put64(b, ((int) (l0 + 24L)) - 60720, Words.get64(b, ((int) l5) - 60632));
-  Words.put64(b, ((int) (l0 + 8L)) - 60720, (l1 & 0xffffffffL) & 255L);
-  Words.put64(b, ((int) l0) - 60720, (l10 & 0xffffffffL) & 255L);
+  Words.put64(b, ((int) (l0 + 16L)) - 58912, Words.get64(b, ((int) l5) - 58832));
+  Words.put64(b, ((int) (l0 + 24L)) - 58912, Words.get64(b, ((int) l5) - 58824));
+  Words.put64(b, ((int) (l0 + 8L)) - 58912, (l1 & 0xffffffffL) & 255L);
+  Words.put64(b, ((int) l0) - 58912, (l10 & 0xffffffffL) & 255L);
   m.g0 = l5 + 304L;
   return;
  }
  throw State.trap();
 }
 
-static void f83(State m, long l0, int l1, long l2, long l3, long l4) {
+static void f89(State m, long l0, int l1, long l2, long l3, long l4) {
  final byte[] b = m.bytes;
  long l5 = 0;
  long l6 = 0;
@@ -167,12 +1416,12 @@ static void f83(State m, long l0, int l1, long l2, long l3, long l4) {
   L2: {
    L3: {
     if ((l6 = l5) < 16L) { break L3; }
-    Words.put64(b, ((int) l6) - 60680, 0L);
-    Words.put64(b, ((int) l6) - 60688, 0L);
-    Words.put64(b, ((int) l6) - 60696, 0L);
-    Words.put64(b, ((int) l6) - 60704, 0L);
-    Words.put64(b, ((int) l6) - 60712, 0L);
-    Words.put64(b, ((int) l6) - 60720, 0L);
+    Words.put64(b, ((int) l6) - 58872, 0L);
+    Words.put64(b, ((int) l6) - 58880, 0L);
+    Words.put64(b, ((int) l6) - 58888, 0L);
+    Words.put64(b, ((int) l6) - 58896, 0L);
+    Words.put64(b, ((int) l6) - 58904, 0L);
+    Words.put64(b, ((int) l6) - 58912, 0L);
     L4: {
      if (l4 == 0L) { break L4; }
      l7 = l2;
@@ -181,7 +1430,7 @@ static void f83(State m, long l0, int l1, long l2, long l3, long l4) {
      L5: while (true) {
       L6: {
        L7: {
-        if ((l10 = b[((int) l5) - 60720] & 0xff) + Integer.MIN_VALUE > -2147483616) { break L7; }
+        if ((l10 = b[((int) l5) - 58912] & 0xff) + Integer.MIN_VALUE > -2147483616) { break L7; }
         if (((1L << (l10 & 0xffffffffL)) & 4294983168L) == 0L) { break L7; }
         l9 = 1L;
         break L6;
@@ -190,14 +1439,14 @@ static void f83(State m, long l0, int l1, long l2, long l3, long l4) {
         if (l10 != 194) { break L8; }
         if (l8 == 1L) { break L2; }
         l9 = 2L;
-        if ((l10 = b[((int) l5) - 60719] & 0xff) == 133) { break L6; }
+        if ((l10 = b[((int) l5) - 58911] & 0xff) == 133) { break L6; }
         if (l10 == 160) { break L6; }
         break L2;
        }
        if (l8 + Long.MIN_VALUE < -9223372036854775805L) { break L2; }
        if (((l10 + 28) & 255) + Integer.MIN_VALUE < -2147483395) { break L2; }
-       l11 = b[((int) (l5 + 1L)) - 60720] & 0xff;
-       l13 = (int) (byte) (l12 = b[((int) (l5 + 2L)) - 60720] & 0xff);
+       l11 = b[((int) (l5 + 1L)) - 58912] & 0xff;
+       l13 = (int) (byte) (l12 = b[((int) (l5 + 2L)) - 58912] & 0xff);
        L9: {
         if (l10 != 226) { break L9; }
         if ((l11 & 255) != 128) { break L9; }
@@ -236,36 +1485,36 @@ static void f83(State m, long l0, int l1, long l2, long l3, long l4) {
       break L5;
      }
     }
-    Words.put64(b, ((int) l0) - 60720, 1L);
-    Words.put64(b, ((int) (l0 + 8L)) - 60720, 0L);
-    Words.put64(b, ((int) (l0 + 16L)) - 60720, 0L);
-    Words.put64(b, ((int) (l0 + 24L)) - 60720, 0L);
+    Words.put64(b, ((int) l0) - 58912, 1L);
+    Words.put64(b, ((int) (l0 + 8L)) - 58912, 0L);
+    Words.put64(b, ((int) (l0 + 16L)) - 58912, 0L);
+    Words.put64(b, ((int) (l0 + 24L)) - 58912, 0L);
     break L1;
    }
    throw State.trap();
   }
-  f84(m, l6, l1, l2, l3, l4);
-  l5 = Words.get64(b, ((int) l6) - 60704);
+  f90(m, l6, l1, l2, l3, l4);
+  l5 = Words.get64(b, ((int) l6) - 58896);
   L14: {
-   if ((b[((int) l6) - 60720] & 0xff) != 0) { break L14; }
+   if ((b[((int) l6) - 58912] & 0xff) != 0) { break L14; }
    final int t15 = (int) (l0 + 24L);
-   final long t16 = l9 = Words.get64(b, ((int) l6) - 60696);
-   final int t17 = l10 = (((l5 | l9) == 0L) | (Words.get64(b, ((int) l6) - 60688) != 0L)) ? 1 : 0;
-   Words.put64(b, t15 - 60720, t17 != 0 ? 0L : t16);
-   Words.put64(b, ((int) (l0 + 16L)) - 60720, l10 != 0 ? l7 : l5);
-   Words.put64(b, ((int) (l0 + 8L)) - 60720, l5 = l10 & 0xffffffffL);
-   Words.put64(b, ((int) l0) - 60720, l5);
+   final long t16 = l9 = Words.get64(b, ((int) l6) - 58888);
+   final int t17 = l10 = (((l5 | l9) == 0L) | (Words.get64(b, ((int) l6) - 58880) != 0L)) ? 1 : 0;
+   Words.put64(b, t15 - 58912, t17 != 0 ? 0L : t16);
+   Words.put64(b, ((int) (l0 + 16L)) - 58912, l10 != 0 ? l7 : l5);
+   Words.put64(b, ((int) (l0 + 8L)) - 58912, l5 = l10 & 0xffffffffL);
+   Words.put64(b, ((int) l0) - 58912, l5);
    break L1;
   }
-  Words.put64(b, ((int) l0) - 60720, 1L);
-  Words.put64(b, ((int) (l0 + 24L)) - 60720, 0L);
-  Words.put64(b, ((int) (l0 + 16L)) - 60720, l5);
-  Words.put64(b, ((int) (l0 + 8L)) - 60720, b[((int) l6) - 60712] & 0xffL);
+  Words.put64(b, ((int) l0) - 58912, 1L);
+  Words.put64(b, ((int) (l0 + 24L)) - 58912, 0L);
+  Words.put64(b, ((int) (l0 + 16L)) - 58912, l5);
+  Words.put64(b, ((int) (l0 + 8L)) - 58912, b[((int) l6) - 58904] & 0xffL);
  }
  m.g0 = l6 + 48L;
 }
 
-static void f84(State m, long l0, int l1, long l2, long l3, long l4) {
+static void f90(State m, long l0, int l1, long l2, long l3, long l4) {
  final byte[] b = m.bytes;
  long l5 = 0;
  long l6 = 0;
@@ -276,80 +1525,80 @@ static void f84(State m, long l0, int l1, long l2, long l3, long l4) {
  m.g0 = l5 = m.g0 - 160L;
  L1: {
   if ((l5 = l5) < 16L) { break L1; }
-  Words.put64(b, ((int) l5) - 60600, 0L);
-  Words.put64(b, ((int) l5) - 60608, 0L);
-  Words.put64(b, ((int) l5) - 60616, 0L);
-  Words.put64(b, ((int) l5) - 60624, 0L);
-  Words.put64(b, ((int) l5) - 60632, 0L);
-  Words.put64(b, ((int) l5) - 60640, 0L);
-  Words.put64(b, ((int) l5) - 60672, 0L);
-  Words.put64(b, ((int) l5) - 60664, 0L);
-  Words.put64(b, ((int) l5) - 60656, 0L);
-  Words.put64(b, ((int) l5) - 60648, 0L);
-  Words.put64(b, ((int) l5) - 60704, 0L);
-  Words.put64(b, ((int) l5) - 60696, 0L);
-  Words.put64(b, ((int) l5) - 60688, 0L);
-  Words.put64(b, ((int) l5) - 60680, 0L);
-  Core2.f80(m, l5 + 48L, l3, l4);
+  Words.put64(b, ((int) l5) - 58792, 0L);
+  Words.put64(b, ((int) l5) - 58800, 0L);
+  Words.put64(b, ((int) l5) - 58808, 0L);
+  Words.put64(b, ((int) l5) - 58816, 0L);
+  Words.put64(b, ((int) l5) - 58824, 0L);
+  Words.put64(b, ((int) l5) - 58832, 0L);
+  Words.put64(b, ((int) l5) - 58864, 0L);
+  Words.put64(b, ((int) l5) - 58856, 0L);
+  Words.put64(b, ((int) l5) - 58848, 0L);
+  Words.put64(b, ((int) l5) - 58840, 0L);
+  Words.put64(b, ((int) l5) - 58896, 0L);
+  Words.put64(b, ((int) l5) - 58888, 0L);
+  Words.put64(b, ((int) l5) - 58880, 0L);
+  Words.put64(b, ((int) l5) - 58872, 0L);
+  f86(m, l5 + 48L, l3, l4);
   l8 = 1;
   L2: {
    L3: {
     L4: {
-     if ((b[((int) l5) - 60672] & 0xff) != 1) { break L4; }
-     Words.put64(b, ((int) l5) - 60568, 0L);
-     Words.put64(b, ((int) l5) - 60576, 0L);
-     Words.put64(b, ((int) l5) - 60584, 0L);
-     Words.put64(b, ((int) l5) - 60592, 0L);
+     if ((b[((int) l5) - 58864] & 0xff) != 1) { break L4; }
+     Words.put64(b, ((int) l5) - 58760, 0L);
+     Words.put64(b, ((int) l5) - 58768, 0L);
+     Words.put64(b, ((int) l5) - 58776, 0L);
+     Words.put64(b, ((int) l5) - 58784, 0L);
      l6 = l3;
      l7 = l4;
      L5: while (true) {
-      Core2.f80(m, l5 + 128L, l6, l7);
+      f86(m, l5 + 128L, l6, l7);
       l9 = 1;
-      if ((b[((int) l5) - 60592] & 0xff) != 1) { break L3; }
-      l7 = Words.get64(b, ((int) l5) - 60568);
-      l6 = Words.get64(b, ((int) l5) - 60576);
-      Core2.f61(m, l5 + 8L, Words.get32(b, ((int) l5) - 60584));
-      if ((b[((int) l5) - 60712] & 0xff) != 1) { break L4; }
+      if ((b[((int) l5) - 58784] & 0xff) != 1) { break L3; }
+      l7 = Words.get64(b, ((int) l5) - 58760);
+      l6 = Words.get64(b, ((int) l5) - 58768);
+      Core2.f61(m, l5 + 8L, Words.get32(b, ((int) l5) - 58776));
+      if ((b[((int) l5) - 58904] & 0xff) != 1) { break L4; }
       l9 = l8 & 255;
-      l8 = l10 = b[((int) l5) - 60711] & 0xff;
+      l8 = l10 = b[((int) l5) - 58903] & 0xff;
       if (l9 + Integer.MIN_VALUE < (l10 & 255) + Integer.MIN_VALUE) { continue L5; }
       break L5;
      }
     }
-    f86(m, l5 + 80L, l1, l2, l3, l4);
-    l8 = b[((int) l5) - 60632] & 0xff;
-    l9 = b[((int) l5) - 60640] & 0xff;
+    f92(m, l5 + 80L, l1, l2, l3, l4);
+    l8 = b[((int) l5) - 58824] & 0xff;
+    l9 = b[((int) l5) - 58832] & 0xff;
     break L2;
    }
-   f87(m, l5 + 16L, l1, 1L, 0L, l3, l4);
+   f93(m, l5 + 16L, l1, 1L, 0L, l3, l4);
    l8 = 2;
    l6 = 0L;
    l7 = 0L;
    L6: {
-    if ((b[((int) l5) - 60704] & 0xff) != 1) { break L6; }
+    if ((b[((int) l5) - 58896] & 0xff) != 1) { break L6; }
     l9 = 0;
-    l7 = Words.get64(b, ((int) l5) - 60680);
-    l6 = Words.get64(b, ((int) l5) - 60688);
+    l7 = Words.get64(b, ((int) l5) - 58872);
+    l6 = Words.get64(b, ((int) l5) - 58880);
     l8 = 0;
    }
-   Words.put64(b, ((int) l5) - 60616, l7);
-   Words.put64(b, ((int) l5) - 60624, l6);
-   Words.put64(b, ((int) l5) - 60608, 0L);
-   Words.put64(b, ((int) l5) - 60600, 0L);
+   Words.put64(b, ((int) l5) - 58808, l7);
+   Words.put64(b, ((int) l5) - 58816, l6);
+   Words.put64(b, ((int) l5) - 58800, 0L);
+   Words.put64(b, ((int) l5) - 58792, 0L);
   }
-  Words.put64(b, ((int) (l0 + 16L)) - 60720, Words.get64(b, ((int) l5) - 60624));
-  Words.put64(b, ((int) (l0 + 24L)) - 60720, Words.get64(b, ((int) l5) - 60616));
-  Words.put64(b, ((int) (l0 + 32L)) - 60720, Words.get64(b, ((int) l5) - 60608));
-  Words.put64(b, ((int) (l0 + 40L)) - 60720, Words.get64(b, ((int) l5) - 60600));
-  Words.put64(b, ((int) (l0 + 8L)) - 60720, (l8 & 0xffffffffL) & 255L);
-  Words.put64(b, ((int) l0) - 60720, (l9 & 0xffffffffL) & 255L);
+  Words.put64(b, ((int) (l0 + 16L)) - 58912, Words.get64(b, ((int) l5) - 58816));
+  Words.put64(b, ((int) (l0 + 24L)) - 58912, Words.get64(b, ((int) l5) - 58808));
+  Words.put64(b, ((int) (l0 + 32L)) - 58912, Words.get64(b, ((int) l5) - 58800));
+  Words.put64(b, ((int) (l0 + 40L)) - 58912, Words.get64(b, ((int) l5) - 58792));
+  Words.put64(b, ((int) (l0 + 8L)) - 58912, (l8 & 0xffffffffL) & 255L);
+  Words.put64(b, ((int) l0) - 58912, (l9 & 0xffffffffL) & 255L);
   m.g0 = l5 + 160L;
   return;
  }
  throw State.trap();
 }
 
-static void f85(State m, long l0, long l1, long l2) {
+static void f91(State m, long l0, long l1, long l2) {
  final byte[] b = m.bytes;
  long l3 = 0;
  long l4 = 0;
@@ -366,7 +1615,7 @@ static void f85(State m, long l0, long l1, long l2) {
      L5: while (true) {
       l3 = -1L;
       L6: {
-       if (((l5 = b[((int) ((l4 = l1 + l2) + -1L)) - 60720] & 0xff) + -9) + Integer.MIN_VALUE < -2147483643) { break L6; }
+       if (((l5 = b[((int) ((l4 = l1 + l2) + -1L)) - 58912] & 0xff) + -9) + Integer.MIN_VALUE < -2147483643) { break L6; }
        if (l5 == 32) { break L6; }
        l3 = 1L;
        if (l2 == 1L) { break L1; }
@@ -374,10 +1623,10 @@ static void f85(State m, long l0, long l1, long l2) {
        L7: {
         if (l2 + Long.MIN_VALUE > -9223372036854775806L) { break L7; }
         L8: {
-         if ((l5 = b[((int) l1) - 60719] & 0xff) == 160) { break L8; }
+         if ((l5 = b[((int) l1) - 58911] & 0xff) == 160) { break L8; }
          if (l5 != 133) { break L1; }
         }
-        if ((b[((int) l1) - 60720] & 0xff) != 194) { break L1; }
+        if ((b[((int) l1) - 58912] & 0xff) != 194) { break L1; }
         l3 = -2L;
         break L6;
        }
@@ -388,13 +1637,13 @@ static void f85(State m, long l0, long l1, long l2) {
           if (l5 != 133) { break L10; }
          }
          l3 = -2L;
-         if ((l6 = b[((int) (l4 + -2L)) - 60720] & 0xff) != 194) { break L9; }
+         if ((l6 = b[((int) (l4 + -2L)) - 58912] & 0xff) != 194) { break L9; }
          break L6;
         }
         if (((int) (byte) l5) > -1) { break L2; }
-        l6 = b[((int) (l4 + -2L)) - 60720] & 0xff;
+        l6 = b[((int) (l4 + -2L)) - 58912] & 0xff;
        }
-       l7 = b[((int) (l4 + -3L)) - 60720] & 0xff;
+       l7 = b[((int) (l4 + -3L)) - 58912] & 0xff;
        L12: {
         if ((l6 & 255) != 128) { break L12; }
         if (l7 != 226) { break L12; }
@@ -433,10 +1682,10 @@ static void f85(State m, long l0, long l1, long l2) {
       break L5;
      }
     }
-    Words.put64(b, ((int) l0) - 60696, 0L);
-    Words.put64(b, ((int) l0) - 60704, 0L);
-    Words.put64(b, ((int) l0) - 60712, 0L);
-    Words.put64(b, ((int) l0) - 60720, 0L);
+    Words.put64(b, ((int) l0) - 58888, 0L);
+    Words.put64(b, ((int) l0) - 58896, 0L);
+    Words.put64(b, ((int) l0) - 58904, 0L);
+    Words.put64(b, ((int) l0) - 58912, 0L);
     return;
    }
    throw State.trap();
@@ -444,136 +1693,136 @@ static void f85(State m, long l0, long l1, long l2) {
   l3 = l2;
  }
  L17: {
-  if ((l5 = (int) b[((int) (l1 + (l2 = l3 + -1L))) - 60720]) >= 0) { break L17; }
+  if ((l5 = (int) b[((int) (l1 + (l2 = l3 + -1L))) - 58912]) >= 0) { break L17; }
   l2 = -2L;
   L18: {
-   if ((b[((int) ((l4 = l1 + l3) + -2L)) - 60720] & 0xff) + Integer.MIN_VALUE > -2147483457) { break L18; }
-   l2 = ((b[((int) (l4 + -3L)) - 60720] & 0xff) + Integer.MIN_VALUE > -2147483457) ? -3L : -4L;
+   if ((b[((int) ((l4 = l1 + l3) + -2L)) - 58912] & 0xff) + Integer.MIN_VALUE > -2147483457) { break L18; }
+   l2 = ((b[((int) (l4 + -3L)) - 58912] & 0xff) + Integer.MIN_VALUE > -2147483457) ? -3L : -4L;
   }
-  l5 = (l6 = (int) b[((int) (l3 = l1 + (l2 = l2 + l3))) - 60720]) & 255;
+  l5 = (l6 = (int) b[((int) (l3 = l1 + (l2 = l2 + l3))) - 58912]) & 255;
   if (l6 > -1) { break L17; }
-  l7 = (b[((int) l3) - 60719] & 0xff) & 63;
+  l7 = (b[((int) l3) - 58911] & 0xff) & 63;
   L19: {
    if (l6 + Integer.MIN_VALUE > 2147483615) { break L19; }
    l5 = ((l5 << 6) & 1984) | l7;
    break L17;
   }
-  l8 = (b[((int) l3) - 60718] & 0xff) & 63;
+  l8 = (b[((int) l3) - 58910] & 0xff) & 63;
   L20: {
    if (l6 + Integer.MIN_VALUE > 2147483631) { break L20; }
    l5 = ((l7 << 6) | ((l5 << 12) & 61440)) | l8;
    break L17;
   }
-  l5 = ((l8 << 6) | ((l7 << 12) | ((l5 << 18) & 1835008))) | ((b[((int) l3) - 60717] & 0xff) & 63);
+  l5 = ((l8 << 6) | ((l7 << 12) | ((l5 << 18) & 1835008))) | ((b[((int) l3) - 58909] & 0xff) & 63);
  }
- Words.put64(b, ((int) l0) - 60720, 1L);
- Words.put64(b, ((int) (l0 + 24L)) - 60720, l2);
- Words.put64(b, ((int) (l0 + 16L)) - 60720, l1);
- Words.put32(b, ((int) (l0 + 12L)) - 60720, 0);
- Words.put32(b, ((int) (l0 + 8L)) - 60720, l5);
+ Words.put64(b, ((int) l0) - 58912, 1L);
+ Words.put64(b, ((int) (l0 + 24L)) - 58912, l2);
+ Words.put64(b, ((int) (l0 + 16L)) - 58912, l1);
+ Words.put32(b, ((int) (l0 + 12L)) - 58912, 0);
+ Words.put32(b, ((int) (l0 + 8L)) - 58912, l5);
 }
 
-static int f86_1(State m, int l1, long l5, long l6, long l7, long l8, long l9, long l10, long l11, long l12, long l13, long l14, long l15, long l16, long l17, long l18, long l19, long l20, long l21, long l22, long l23, int l24, int l25, int l26) {
+static int f92_1(State m, int l1, long l5, long l6, long l7, long l8, long l9, long l10, long l11, long l12, long l13, long l14, long l15, long l16, long l17, long l18, long l19, long l20, long l21, long l22, long l23, int l24, int l25, int l26) {
  final byte[] b = m.bytes;
  int exit = 0;
  PART: {
   L24: {
-   if ((b[((int) l5) - 60256] & 0xff) != 1) { break L24; }
-   if (Words.get64(b, ((int) l5) - 60240) == 0L) { break L24; }
-   if (((b[((int) l5) - 60208] & 0xff) & 1) != 0) { break L24; }
-   l6 = Words.get64(b, ((int) l5) - 60216);
-   l8 = Words.get64(b, ((int) l5) - 60224);
-   Core2.f80(m, l5 + 624L, l7 = Words.get64(b, ((int) l5) - 60200), l9 = Words.get64(b, ((int) l5) - 60192));
-   if ((b[((int) l5) - 60096] & 0xff) != 1) { break L24; }
-   f91(m, l5 + 560L, l1, 0L, 0L, l8, l6, l7, l9);
-   if ((b[((int) l5) - 60160] & 0xff) != 1) { break L24; }
-   l10 = Words.get64(b, ((int) l5) - 60120);
-   l12 = Words.get64(b, ((int) l5) - 60128);
-   l7 = Words.get64(b, ((int) l5) - 60136);
-   l8 = Words.get64(b, ((int) l5) - 60144);
-   l25 = b[((int) l5) - 60112] & 0xff;
-   Core2.f80(m, l5 + 400L, l6 = Words.get64(b, ((int) l5) - 60184), l9 = Words.get64(b, ((int) l5) - 60176));
+   if ((b[((int) l5) - 58448] & 0xff) != 1) { break L24; }
+   if (Words.get64(b, ((int) l5) - 58432) == 0L) { break L24; }
+   if (((b[((int) l5) - 58400] & 0xff) & 1) != 0) { break L24; }
+   l6 = Words.get64(b, ((int) l5) - 58408);
+   l8 = Words.get64(b, ((int) l5) - 58416);
+   f86(m, l5 + 624L, l7 = Words.get64(b, ((int) l5) - 58392), l9 = Words.get64(b, ((int) l5) - 58384));
+   if ((b[((int) l5) - 58288] & 0xff) != 1) { break L24; }
+   f97(m, l5 + 560L, l1, 0L, 0L, l8, l6, l7, l9);
+   if ((b[((int) l5) - 58352] & 0xff) != 1) { break L24; }
+   l10 = Words.get64(b, ((int) l5) - 58312);
+   l12 = Words.get64(b, ((int) l5) - 58320);
+   l7 = Words.get64(b, ((int) l5) - 58328);
+   l8 = Words.get64(b, ((int) l5) - 58336);
+   l25 = b[((int) l5) - 58304] & 0xff;
+   f86(m, l5 + 400L, l6 = Words.get64(b, ((int) l5) - 58376), l9 = Words.get64(b, ((int) l5) - 58368));
    L25: {
-    if ((b[((int) l5) - 60320] & 0xff) != 1) { break L25; }
+    if ((b[((int) l5) - 58512] & 0xff) != 1) { break L25; }
     L26: while (true) {
-     Words.put64(b, ((int) l5) - 60232, 0L);
-     Words.put64(b, ((int) l5) - 60240, 0L);
-     Words.put64(b, ((int) l5) - 60248, 0L);
-     Words.put64(b, ((int) l5) - 60256, 0L);
-     Core2.f80(m, l5 + 464L, l6, l9);
+     Words.put64(b, ((int) l5) - 58424, 0L);
+     Words.put64(b, ((int) l5) - 58432, 0L);
+     Words.put64(b, ((int) l5) - 58440, 0L);
+     Words.put64(b, ((int) l5) - 58448, 0L);
+     f86(m, l5 + 464L, l6, l9);
      L27: {
       L28: {
-       if ((b[((int) l5) - 60256] & 0xff) == 1) { break L28; }
+       if ((b[((int) l5) - 58448] & 0xff) == 1) { break L28; }
        l24 = 0;
        break L27;
       }
       L29: {
-       if ((l26 = Words.get32(b, ((int) l5) - 60248)) == 38646) { break L29; }
+       if ((l26 = Words.get32(b, ((int) l5) - 58440)) == 38646) { break L29; }
        l24 = 0;
        if (l26 != 12295) { break L27; }
       }
       l24 = 1;
-      l6 = Words.get64(b, ((int) l5) - 60240);
-      l9 = Words.get64(b, ((int) l5) - 60232);
+      l6 = Words.get64(b, ((int) l5) - 58432);
+      l9 = Words.get64(b, ((int) l5) - 58424);
      }
      m.fill((int) (l5 + 464L), 0, (int) 96L);
-     Words.put64(b, ((int) l5) - 60264, 0L);
-     Words.put64(b, ((int) l5) - 60272, 0L);
-     Words.put64(b, ((int) l5) - 60280, 0L);
-     Words.put64(b, ((int) l5) - 60288, 0L);
-     f90(m, l5 + 464L, l6, l9);
-     if ((b[((int) l5) - 60256] & 0xff) != 1) { break L24; }
-     if ((l13 = Words.get64(b, ((int) l5) - 60240)) == 0L) { break L24; }
-     l14 = Words.get64(b, ((int) l5) - 60216);
-     l11 = Words.get64(b, ((int) l5) - 60224);
-     l9 = Words.get64(b, ((int) l5) - 60176);
-     l6 = Words.get64(b, ((int) l5) - 60184);
-     l26 = b[((int) l5) - 60208] & 0xff;
-     Core2.f80(m, l5 + 432L, l15 = Words.get64(b, ((int) l5) - 60200), l16 = Words.get64(b, ((int) l5) - 60192));
+     Words.put64(b, ((int) l5) - 58456, 0L);
+     Words.put64(b, ((int) l5) - 58464, 0L);
+     Words.put64(b, ((int) l5) - 58472, 0L);
+     Words.put64(b, ((int) l5) - 58480, 0L);
+     f96(m, l5 + 464L, l6, l9);
+     if ((b[((int) l5) - 58448] & 0xff) != 1) { break L24; }
+     if ((l13 = Words.get64(b, ((int) l5) - 58432)) == 0L) { break L24; }
+     l14 = Words.get64(b, ((int) l5) - 58408);
+     l11 = Words.get64(b, ((int) l5) - 58416);
+     l9 = Words.get64(b, ((int) l5) - 58368);
+     l6 = Words.get64(b, ((int) l5) - 58376);
+     l26 = b[((int) l5) - 58400] & 0xff;
+     f86(m, l5 + 432L, l15 = Words.get64(b, ((int) l5) - 58392), l16 = Words.get64(b, ((int) l5) - 58384));
      L30: {
       L31: {
-       if ((b[((int) l5) - 60288] & 0xff) != 1) { break L31; }
+       if ((b[((int) l5) - 58480] & 0xff) != 1) { break L31; }
        L32: {
         final int t33 = l24;
         final int t34 = (l12 + Long.MIN_VALUE < -9223372036754775808L) ? 1 : 0;
         final int t35 = (l10 == 0L) ? 1 : 0;
         if ((t33 | (t35 != 0 ? t34 : 0)) != 0) { break L32; }
-        Words.put64(b, ((int) l5) - 60136, 0L);
-        Words.put64(b, ((int) l5) - 60144, 0L);
-        Words.put64(b, ((int) l5) - 60152, 0L);
-        Words.put64(b, ((int) l5) - 60160, 0L);
-        f87(m, l5 + 560L, l1, 1L, 0L, l15, l16);
-        if ((b[((int) l5) - 60160] & 0xff) != 1) { break L32; }
-        final int t36 = (Words.get64(b, ((int) l5) - 60144) + Long.MIN_VALUE < -9223372036854765808L) ? 1 : 0;
-        final int t37 = (Words.get64(b, ((int) l5) - 60136) == 0L) ? 1 : 0;
+        Words.put64(b, ((int) l5) - 58328, 0L);
+        Words.put64(b, ((int) l5) - 58336, 0L);
+        Words.put64(b, ((int) l5) - 58344, 0L);
+        Words.put64(b, ((int) l5) - 58352, 0L);
+        f93(m, l5 + 560L, l1, 1L, 0L, l15, l16);
+        if ((b[((int) l5) - 58352] & 0xff) != 1) { break L32; }
+        final int t36 = (Words.get64(b, ((int) l5) - 58336) + Long.MIN_VALUE < -9223372036854765808L) ? 1 : 0;
+        final int t37 = (Words.get64(b, ((int) l5) - 58328) == 0L) ? 1 : 0;
         if ((t37 != 0 ? t36 : 0) != 0) { break L24; }
        }
-       Words.put64(b, ((int) l5) - 60104, 0L);
-       Words.put64(b, ((int) l5) - 60112, 0L);
-       Words.put64(b, ((int) l5) - 60120, 0L);
-       Words.put64(b, ((int) l5) - 60128, 0L);
-       Words.put64(b, ((int) l5) - 60136, 0L);
-       Words.put64(b, ((int) l5) - 60144, 0L);
-       Words.put64(b, ((int) l5) - 60152, 0L);
-       Words.put64(b, ((int) l5) - 60160, 0L);
+       Words.put64(b, ((int) l5) - 58296, 0L);
+       Words.put64(b, ((int) l5) - 58304, 0L);
+       Words.put64(b, ((int) l5) - 58312, 0L);
+       Words.put64(b, ((int) l5) - 58320, 0L);
+       Words.put64(b, ((int) l5) - 58328, 0L);
+       Words.put64(b, ((int) l5) - 58336, 0L);
+       Words.put64(b, ((int) l5) - 58344, 0L);
+       Words.put64(b, ((int) l5) - 58352, 0L);
        if ((l26 & 1) != 0) { break L24; }
-       Words.put64(b, ((int) l5) - 60072, 0L);
-       Words.put64(b, ((int) l5) - 60080, 0L);
-       Words.put64(b, ((int) l5) - 60088, 0L);
-       Words.put64(b, ((int) l5) - 60096, 0L);
-       f87(m, l5 + 624L, l1, l11, l14, l15, l16);
-       if ((b[((int) l5) - 60096] & 0xff) != 1) { break L24; }
-       final int t38 = (Words.get64(b, ((int) l5) - 60080) + Long.MIN_VALUE >= l12 + Long.MIN_VALUE) ? 1 : 0;
-       final int t39 = ((l12 = Words.get64(b, ((int) l5) - 60072)) + Long.MIN_VALUE >= l10 + Long.MIN_VALUE) ? 1 : 0;
+       Words.put64(b, ((int) l5) - 58264, 0L);
+       Words.put64(b, ((int) l5) - 58272, 0L);
+       Words.put64(b, ((int) l5) - 58280, 0L);
+       Words.put64(b, ((int) l5) - 58288, 0L);
+       f93(m, l5 + 624L, l1, l11, l14, l15, l16);
+       if ((b[((int) l5) - 58288] & 0xff) != 1) { break L24; }
+       final int t38 = (Words.get64(b, ((int) l5) - 58272) + Long.MIN_VALUE >= l12 + Long.MIN_VALUE) ? 1 : 0;
+       final int t39 = ((l12 = Words.get64(b, ((int) l5) - 58264)) + Long.MIN_VALUE >= l10 + Long.MIN_VALUE) ? 1 : 0;
        final int t40 = (l12 == l10) ? 1 : 0;
        if ((t40 != 0 ? t38 : t39) != 0) { break L24; }
-       f91(m, l5 + 560L, l1, l8, l7, l11, l14, l15, l16);
-       if ((b[((int) l5) - 60160] & 0xff) != 1) { break L24; }
-       l10 = Words.get64(b, ((int) l5) - 60120);
-       l12 = Words.get64(b, ((int) l5) - 60128);
-       l7 = Words.get64(b, ((int) l5) - 60136);
-       l8 = Words.get64(b, ((int) l5) - 60144);
-       l25 = b[((int) l5) - 60112] & 0xff;
+       f97(m, l5 + 560L, l1, l8, l7, l11, l14, l15, l16);
+       if ((b[((int) l5) - 58352] & 0xff) != 1) { break L24; }
+       l10 = Words.get64(b, ((int) l5) - 58312);
+       l12 = Words.get64(b, ((int) l5) - 58320);
+       l7 = Words.get64(b, ((int) l5) - 58328);
+       l8 = Words.get64(b, ((int) l5) - 58336);
+       l25 = b[((int) l5) - 58304] & 0xff;
        break L30;
       }
       L41: {
@@ -593,7 +1842,7 @@ static int f86_1(State m, int l1, long l5, long l6, long l7, long l8, long l9, l
        }
        if (l13 + Long.MIN_VALUE > -9223372036854775770L) { break L24; }
        L49: {
-        if (((l12 ^ Words.get64(b, ((int) ((l15 = l13 << 4L) + 68336L)) - 60720)) | (l10 ^ Words.get64(b, ((int) (l15 + 68344L)) - 60720))) != 0L) { break L49; }
+        if (((l12 ^ Words.get64(b, ((int) ((l15 = l13 << 4L) + 68336L)) - 58912)) | (l10 ^ Words.get64(b, ((int) (l15 + 68344L)) - 58912))) != 0L) { break L49; }
         final int t50 = (l8 + Long.MIN_VALUE > (l11 ^ -1L) + Long.MIN_VALUE) ? 1 : 0;
         final int t51 = (l7 + Long.MIN_VALUE > (l10 = l14 ^ -1L) + Long.MIN_VALUE) ? 1 : 0;
         final int t52 = (l7 == l10) ? 1 : 0;
@@ -617,16 +1866,16 @@ static int f86_1(State m, int l1, long l5, long l6, long l7, long l8, long l9, l
         if (l24 != 0) { break L61; }
         if (((l17 ^ 127L) | l18) == 0L) { break L61; }
         Core1.f4(m, l5 + 96L, l12, l10, 127 - ((int) l17));
-        l13 = Words.get64(b, ((int) l5) - 60616);
-        l15 = Words.get64(b, ((int) l5) - 60624);
+        l13 = Words.get64(b, ((int) l5) - 58808);
+        l15 = Words.get64(b, ((int) l5) - 58816);
         L62: {
          L63: {
           if (((l16 = l17 + 1L) | (l17 = l18 + ((l16 == 0L) ? 1L : 0L))) == 0L) { break L63; }
           Core1.f5(m, l5 + 80L, l12, l10, (int) l16);
           l19 = 10L + -1L;
           l20 = 0L - ((10L == 0L) ? 1L : 0L);
-          l12 = Words.get64(b, ((int) l5) - 60632);
-          l10 = Words.get64(b, ((int) l5) - 60640);
+          l12 = Words.get64(b, ((int) l5) - 58824);
+          l10 = Words.get64(b, ((int) l5) - 58832);
           l18 = 0L;
           L64: while (true) {
            l21 = l18;
@@ -650,8 +1899,8 @@ static int f86_1(State m, int l1, long l5, long l6, long l7, long l8, long l9, l
        Core1.f3(m, l5 + 64L, l11, 0L, l16, 0L);
        Core1.f3(m, l5 + 16L, l14, 0L, l15, 0L);
        Core1.f3(m, l5 + 48L, l14, 0L, l16, 0L);
-       if ((((Words.get64(b, ((int) l5) - 60696) + (((l11 = (l10 = (l14 = Words.get64(b, ((int) l5) - 60680)) + Words.get64(b, ((int) l5) - 60656)) + Words.get64(b, ((int) l5) - 60704)) + Long.MIN_VALUE < l10 + Long.MIN_VALUE) ? 1L : 0L)) | (l14 = (l10 = Words.get64(b, ((int) l5) - 60648) + ((l10 + Long.MIN_VALUE < l14 + Long.MIN_VALUE) ? 1L : 0L)) + Words.get64(b, ((int) l5) - 60672))) | (Words.get64(b, ((int) l5) - 60664) + ((l14 + Long.MIN_VALUE < l10 + Long.MIN_VALUE) ? 1L : 0L))) != 0L) { break L24; }
-       final int t65 = (l8 + Long.MIN_VALUE > ((l10 = Words.get64(b, ((int) l5) - 60688)) ^ -1L) + Long.MIN_VALUE) ? 1 : 0;
+       if ((((Words.get64(b, ((int) l5) - 58888) + (((l11 = (l10 = (l14 = Words.get64(b, ((int) l5) - 58872)) + Words.get64(b, ((int) l5) - 58848)) + Words.get64(b, ((int) l5) - 58896)) + Long.MIN_VALUE < l10 + Long.MIN_VALUE) ? 1L : 0L)) | (l14 = (l10 = Words.get64(b, ((int) l5) - 58840) + ((l10 + Long.MIN_VALUE < l14 + Long.MIN_VALUE) ? 1L : 0L)) + Words.get64(b, ((int) l5) - 58864))) | (Words.get64(b, ((int) l5) - 58856) + ((l14 + Long.MIN_VALUE < l10 + Long.MIN_VALUE) ? 1L : 0L))) != 0L) { break L24; }
+       final int t65 = (l8 + Long.MIN_VALUE > ((l10 = Words.get64(b, ((int) l5) - 58880)) ^ -1L) + Long.MIN_VALUE) ? 1 : 0;
        final int t66 = (l7 + Long.MIN_VALUE > (l14 = l11 ^ -1L) + Long.MIN_VALUE) ? 1 : 0;
        final int t67 = (l7 == l14) ? 1 : 0;
        if ((t67 != 0 ? t65 : t66) != 0) { break L24; }
@@ -661,8 +1910,8 @@ static int f86_1(State m, int l1, long l5, long l6, long l7, long l8, long l9, l
       l25 = 0;
       l10 = 0L;
      }
-     Core2.f80(m, l5 + 400L, l6, l9);
-     if ((b[((int) l5) - 60320] & 0xff) == 1) { continue L26; }
+     f86(m, l5 + 400L, l6, l9);
+     if ((b[((int) l5) - 58512] & 0xff) == 1) { continue L26; }
      break L26;
     }
    }
@@ -695,7 +1944,7 @@ static int f86_1(State m, int l1, long l5, long l6, long l7, long l8, long l9, l
  return exit;
 }
 
-static void f86(State m, long l0, int l1, long l2, long l3, long l4) {
+static void f92(State m, long l0, int l1, long l2, long l3, long l4) {
  final byte[] b = m.bytes;
  long l5 = 0;
  long l6 = 0;
@@ -728,66 +1977,66 @@ static void f86(State m, long l0, int l1, long l2, long l3, long l4) {
       L6: {
        if ((l5 = l5) < 16L) { break L6; }
        l6 = 0L;
-       Words.put64(b, ((int) l5) - 60504, 0L);
-       Words.put64(b, ((int) l5) - 60512, 0L);
-       Words.put64(b, ((int) l5) - 60520, 0L);
-       Words.put64(b, ((int) l5) - 60528, 0L);
-       f82(m, l5 + 192L, l1, l2, l3, l4);
+       Words.put64(b, ((int) l5) - 58696, 0L);
+       Words.put64(b, ((int) l5) - 58704, 0L);
+       Words.put64(b, ((int) l5) - 58712, 0L);
+       Words.put64(b, ((int) l5) - 58720, 0L);
+       f88(m, l5 + 192L, l1, l2, l3, l4);
        L7: {
-        if ((b[((int) l5) - 60528] & 0xff) != 0) { break L7; }
-        l7 = Words.get64(b, ((int) l5) - 60504);
-        l8 = Words.get64(b, ((int) l5) - 60512);
+        if ((b[((int) l5) - 58720] & 0xff) != 0) { break L7; }
+        l7 = Words.get64(b, ((int) l5) - 58696);
+        l8 = Words.get64(b, ((int) l5) - 58704);
         l9 = 0L;
         l10 = 0L;
         break L1;
        }
-       Words.put64(b, ((int) l5) - 60352, 0L);
-       Words.put64(b, ((int) l5) - 60344, 0L);
-       Words.put64(b, ((int) l5) - 60336, 0L);
-       Words.put64(b, ((int) l5) - 60328, 0L);
-       Words.put64(b, ((int) l5) - 60400, 0L);
-       Words.put64(b, ((int) l5) - 60392, 0L);
-       Words.put64(b, ((int) l5) - 60384, 0L);
-       Words.put64(b, ((int) l5) - 60376, 0L);
-       Words.put64(b, ((int) l5) - 60368, 0L);
-       Words.put64(b, ((int) l5) - 60360, 0L);
-       Words.put64(b, ((int) l5) - 60432, 0L);
-       Words.put64(b, ((int) l5) - 60424, 0L);
-       Words.put64(b, ((int) l5) - 60416, 0L);
-       Words.put64(b, ((int) l5) - 60408, 0L);
-       Words.put64(b, ((int) l5) - 60464, 0L);
-       Words.put64(b, ((int) l5) - 60456, 0L);
-       Words.put64(b, ((int) l5) - 60448, 0L);
-       Words.put64(b, ((int) l5) - 60440, 0L);
-       Words.put64(b, ((int) l5) - 60472, 0L);
-       Words.put64(b, ((int) l5) - 60480, 0L);
-       Words.put64(b, ((int) l5) - 60488, 0L);
-       Words.put64(b, ((int) l5) - 60496, 0L);
-       Words.put64(b, ((int) l5) - 60136, 0L);
-       Words.put64(b, ((int) l5) - 60144, 0L);
-       Words.put64(b, ((int) l5) - 60152, 0L);
-       Words.put64(b, ((int) l5) - 60160, 0L);
-       Words.put64(b, ((int) l5) - 60232, 0L);
-       Words.put64(b, ((int) l5) - 60240, 0L);
-       Words.put64(b, ((int) l5) - 60248, 0L);
-       Words.put64(b, ((int) l5) - 60256, 0L);
-       Core2.f80(m, l5 + 464L, l3, l4);
-       if ((b[((int) l5) - 60256] & 0xff) != 1) { break L5; }
-       l6 = Words.get64(b, ((int) l5) - 60232);
-       l8 = Words.get64(b, ((int) l5) - 60240);
-       Core1.f24(m, l5 + 184L, Words.get32(b, ((int) l5) - 60248));
-       if ((b[((int) l5) - 60536] & 0xff) != 1) { break L5; }
+       Words.put64(b, ((int) l5) - 58544, 0L);
+       Words.put64(b, ((int) l5) - 58536, 0L);
+       Words.put64(b, ((int) l5) - 58528, 0L);
+       Words.put64(b, ((int) l5) - 58520, 0L);
+       Words.put64(b, ((int) l5) - 58592, 0L);
+       Words.put64(b, ((int) l5) - 58584, 0L);
+       Words.put64(b, ((int) l5) - 58576, 0L);
+       Words.put64(b, ((int) l5) - 58568, 0L);
+       Words.put64(b, ((int) l5) - 58560, 0L);
+       Words.put64(b, ((int) l5) - 58552, 0L);
+       Words.put64(b, ((int) l5) - 58624, 0L);
+       Words.put64(b, ((int) l5) - 58616, 0L);
+       Words.put64(b, ((int) l5) - 58608, 0L);
+       Words.put64(b, ((int) l5) - 58600, 0L);
+       Words.put64(b, ((int) l5) - 58656, 0L);
+       Words.put64(b, ((int) l5) - 58648, 0L);
+       Words.put64(b, ((int) l5) - 58640, 0L);
+       Words.put64(b, ((int) l5) - 58632, 0L);
+       Words.put64(b, ((int) l5) - 58664, 0L);
+       Words.put64(b, ((int) l5) - 58672, 0L);
+       Words.put64(b, ((int) l5) - 58680, 0L);
+       Words.put64(b, ((int) l5) - 58688, 0L);
+       Words.put64(b, ((int) l5) - 58328, 0L);
+       Words.put64(b, ((int) l5) - 58336, 0L);
+       Words.put64(b, ((int) l5) - 58344, 0L);
+       Words.put64(b, ((int) l5) - 58352, 0L);
+       Words.put64(b, ((int) l5) - 58424, 0L);
+       Words.put64(b, ((int) l5) - 58432, 0L);
+       Words.put64(b, ((int) l5) - 58440, 0L);
+       Words.put64(b, ((int) l5) - 58448, 0L);
+       f86(m, l5 + 464L, l3, l4);
+       if ((b[((int) l5) - 58448] & 0xff) != 1) { break L5; }
+       l6 = Words.get64(b, ((int) l5) - 58424);
+       l8 = Words.get64(b, ((int) l5) - 58432);
+       Core1.f24(m, l5 + 184L, Words.get32(b, ((int) l5) - 58440));
+       if ((b[((int) l5) - 58728] & 0xff) != 1) { break L5; }
        l11 = 1L;
        L8: {
         L9: while (true) {
          l10 = l11;
-         Core2.f80(m, l5 + 464L, l7 = l8, l9 = l6);
-         if ((b[((int) l5) - 60256] & 0xff) != 1) { break L8; }
-         l6 = Words.get64(b, ((int) l5) - 60232);
-         l8 = Words.get64(b, ((int) l5) - 60240);
-         Core1.f24(m, l5 + 176L, Words.get32(b, ((int) l5) - 60248));
+         f86(m, l5 + 464L, l7 = l8, l9 = l6);
+         if ((b[((int) l5) - 58448] & 0xff) != 1) { break L8; }
+         l6 = Words.get64(b, ((int) l5) - 58424);
+         l8 = Words.get64(b, ((int) l5) - 58432);
+         Core1.f24(m, l5 + 176L, Words.get32(b, ((int) l5) - 58440));
          l11 = l10 + 1L;
-         if ((b[((int) l5) - 60544] & 0xff) == 1) { continue L9; }
+         if ((b[((int) l5) - 58736] & 0xff) == 1) { continue L9; }
          break L9;
         }
        }
@@ -796,65 +2045,65 @@ static void f86(State m, long l0, int l1, long l2, long l3, long l4) {
         L11: {
          L12: {
           if (l10 + Long.MIN_VALUE >= -9223372036854775804L) { break L12; }
-          Words.put64(b, ((int) l5) - 60232, 0L);
-          Words.put64(b, ((int) l5) - 60240, 0L);
-          Words.put64(b, ((int) l5) - 60248, 0L);
-          Words.put64(b, ((int) l5) - 60256, 0L);
-          Core2.f80(m, l5 + 464L, l3, l4);
-          if ((b[((int) l5) - 60256] & 0xff) != 1) { break L11; }
-          Core1.f24(m, l5 + 168L, Words.get32(b, ((int) l5) - 60248));
-          if (((((b[((int) l5) - 60552] & 0xff) != 1) | (((b[((int) l5) - 60551] & 0xff) & 255) != 0)) ? 1 : 0) == 1) { break L11; }
+          Words.put64(b, ((int) l5) - 58424, 0L);
+          Words.put64(b, ((int) l5) - 58432, 0L);
+          Words.put64(b, ((int) l5) - 58440, 0L);
+          Words.put64(b, ((int) l5) - 58448, 0L);
+          f86(m, l5 + 464L, l3, l4);
+          if ((b[((int) l5) - 58448] & 0xff) != 1) { break L11; }
+          Core1.f24(m, l5 + 168L, Words.get32(b, ((int) l5) - 58440));
+          if (((((b[((int) l5) - 58744] & 0xff) != 1) | (((b[((int) l5) - 58743] & 0xff) & 255) != 0)) ? 1 : 0) == 1) { break L11; }
          }
-         Core2.f80(m, l5 + 560L, l7, l9);
-         if ((b[((int) l5) - 60160] & 0xff) != 1) { break L10; }
+         f86(m, l5 + 560L, l7, l9);
+         if ((b[((int) l5) - 58352] & 0xff) != 1) { break L10; }
          L13: {
-          if ((l24 = Words.get32(b, ((int) l5) - 60152)) == 65292) { break L13; }
+          if ((l24 = Words.get32(b, ((int) l5) - 58344)) == 65292) { break L13; }
           if (l24 != 44) { break L10; }
          }
-         l6 = Words.get64(b, ((int) l5) - 60144);
-         l8 = Words.get64(b, ((int) l5) - 60136);
-         Words.put64(b, ((int) l5) - 60232, 0L);
-         Words.put64(b, ((int) l5) - 60240, 0L);
-         Words.put64(b, ((int) l5) - 60248, 0L);
-         Words.put64(b, ((int) l5) - 60256, 0L);
-         Core2.f80(m, l5 + 464L, l6, l8);
-         if ((b[((int) l5) - 60256] & 0xff) != 1) { break L5; }
-         Core1.f24(m, l5 + 160L, Words.get32(b, ((int) l5) - 60248));
-         if ((b[((int) l5) - 60560] & 0xff) != 1) { break L5; }
+         l6 = Words.get64(b, ((int) l5) - 58336);
+         l8 = Words.get64(b, ((int) l5) - 58328);
+         Words.put64(b, ((int) l5) - 58424, 0L);
+         Words.put64(b, ((int) l5) - 58432, 0L);
+         Words.put64(b, ((int) l5) - 58440, 0L);
+         Words.put64(b, ((int) l5) - 58448, 0L);
+         f86(m, l5 + 464L, l6, l8);
+         if ((b[((int) l5) - 58448] & 0xff) != 1) { break L5; }
+         Core1.f24(m, l5 + 160L, Words.get32(b, ((int) l5) - 58440));
+         if ((b[((int) l5) - 58752] & 0xff) != 1) { break L5; }
          L14: while (true) {
-          Core2.f80(m, l5 + 464L, Words.get64(b, ((int) l5) - 60240), Words.get64(b, ((int) l5) - 60232));
-          if ((b[((int) l5) - 60256] & 0xff) != 1) { break L5; }
-          Core1.f24(m, l5 + 152L, Words.get32(b, ((int) l5) - 60248));
-          if ((b[((int) l5) - 60568] & 0xff) == 1) { continue L14; }
+          f86(m, l5 + 464L, Words.get64(b, ((int) l5) - 58432), Words.get64(b, ((int) l5) - 58424));
+          if ((b[((int) l5) - 58448] & 0xff) != 1) { break L5; }
+          Core1.f24(m, l5 + 152L, Words.get32(b, ((int) l5) - 58440));
+          if ((b[((int) l5) - 58760] & 0xff) == 1) { continue L14; }
           break L5;
          }
         }
         L15: while (true) {
-         Core2.f80(m, l5 + 560L, l7, l9);
-         if ((b[((int) l5) - 60160] & 0xff) != 1) { break L10; }
+         f86(m, l5 + 560L, l7, l9);
+         if ((b[((int) l5) - 58352] & 0xff) != 1) { break L10; }
          L16: {
-          if ((l24 = Words.get32(b, ((int) l5) - 60152)) == 65292) { break L16; }
+          if ((l24 = Words.get32(b, ((int) l5) - 58344)) == 65292) { break L16; }
           if (l24 != 44) { break L10; }
          }
-         l6 = Words.get64(b, ((int) l5) - 60144);
-         l8 = Words.get64(b, ((int) l5) - 60136);
-         Words.put64(b, ((int) l5) - 60232, 0L);
-         Words.put64(b, ((int) l5) - 60240, 0L);
-         Words.put64(b, ((int) l5) - 60248, 0L);
-         Words.put64(b, ((int) l5) - 60256, 0L);
-         Core2.f80(m, l5 + 464L, l6, l8);
-         if ((b[((int) l5) - 60256] & 0xff) != 1) { break L5; }
-         Core1.f24(m, l5 + 144L, Words.get32(b, ((int) l5) - 60248));
-         if ((b[((int) l5) - 60576] & 0xff) != 1) { break L5; }
+         l6 = Words.get64(b, ((int) l5) - 58336);
+         l8 = Words.get64(b, ((int) l5) - 58328);
+         Words.put64(b, ((int) l5) - 58424, 0L);
+         Words.put64(b, ((int) l5) - 58432, 0L);
+         Words.put64(b, ((int) l5) - 58440, 0L);
+         Words.put64(b, ((int) l5) - 58448, 0L);
+         f86(m, l5 + 464L, l6, l8);
+         if ((b[((int) l5) - 58448] & 0xff) != 1) { break L5; }
+         Core1.f24(m, l5 + 144L, Words.get32(b, ((int) l5) - 58440));
+         if ((b[((int) l5) - 58768] & 0xff) != 1) { break L5; }
          l6 = 2L;
          L17: {
           L18: while (true) {
            l8 = l6;
-           Core2.f80(m, l5 + 464L, l7 = Words.get64(b, ((int) l5) - 60240), l9 = Words.get64(b, ((int) l5) - 60232));
-           if ((b[((int) l5) - 60256] & 0xff) != 1) { break L17; }
-           Core1.f24(m, l5 + 136L, Words.get32(b, ((int) l5) - 60248));
+           f86(m, l5 + 464L, l7 = Words.get64(b, ((int) l5) - 58432), l9 = Words.get64(b, ((int) l5) - 58424));
+           if ((b[((int) l5) - 58448] & 0xff) != 1) { break L17; }
+           Core1.f24(m, l5 + 136L, Words.get32(b, ((int) l5) - 58440));
            l6 = l8 + -1L;
-           if ((b[((int) l5) - 60584] & 0xff) == 1) { continue L18; }
+           if ((b[((int) l5) - 58776] & 0xff) == 1) { continue L18; }
            break L18;
           }
          }
@@ -863,81 +2112,81 @@ static void f86(State m, long l0, int l1, long l2, long l3, long l4) {
         }
        }
        l10 = 0L;
-       Words.put64(b, ((int) l5) - 60136, 0L);
-       Words.put64(b, ((int) l5) - 60144, 0L);
-       Words.put64(b, ((int) l5) - 60152, 0L);
-       Words.put64(b, ((int) l5) - 60160, 0L);
-       Core2.f80(m, l5 + 560L, l7, l9);
+       Words.put64(b, ((int) l5) - 58328, 0L);
+       Words.put64(b, ((int) l5) - 58336, 0L);
+       Words.put64(b, ((int) l5) - 58344, 0L);
+       Words.put64(b, ((int) l5) - 58352, 0L);
+       f86(m, l5 + 560L, l7, l9);
        L19: {
-        if ((b[((int) l5) - 60160] & 0xff) != 1) { break L19; }
+        if ((b[((int) l5) - 58352] & 0xff) != 1) { break L19; }
         L20: {
          L21: {
-          if ((l24 = Words.get32(b, ((int) l5) - 60152)) == 65294) { break L21; }
+          if ((l24 = Words.get32(b, ((int) l5) - 58344)) == 65294) { break L21; }
           if (l24 != 46) { break L20; }
          }
-         l6 = Words.get64(b, ((int) l5) - 60144);
-         l8 = Words.get64(b, ((int) l5) - 60136);
-         Words.put64(b, ((int) l5) - 60232, 0L);
-         Words.put64(b, ((int) l5) - 60240, 0L);
-         Words.put64(b, ((int) l5) - 60248, 0L);
-         Words.put64(b, ((int) l5) - 60256, 0L);
-         Core2.f80(m, l5 + 464L, l6, l8);
-         if ((b[((int) l5) - 60256] & 0xff) != 1) { break L5; }
-         l6 = Words.get64(b, ((int) l5) - 60232);
-         l8 = Words.get64(b, ((int) l5) - 60240);
-         Core1.f24(m, l5 + 128L, Words.get32(b, ((int) l5) - 60248));
-         if ((b[((int) l5) - 60592] & 0xff) != 1) { break L5; }
+         l6 = Words.get64(b, ((int) l5) - 58336);
+         l8 = Words.get64(b, ((int) l5) - 58328);
+         Words.put64(b, ((int) l5) - 58424, 0L);
+         Words.put64(b, ((int) l5) - 58432, 0L);
+         Words.put64(b, ((int) l5) - 58440, 0L);
+         Words.put64(b, ((int) l5) - 58448, 0L);
+         f86(m, l5 + 464L, l6, l8);
+         if ((b[((int) l5) - 58448] & 0xff) != 1) { break L5; }
+         l6 = Words.get64(b, ((int) l5) - 58424);
+         l8 = Words.get64(b, ((int) l5) - 58432);
+         Core1.f24(m, l5 + 128L, Words.get32(b, ((int) l5) - 58440));
+         if ((b[((int) l5) - 58784] & 0xff) != 1) { break L5; }
          l7 = 1L;
          L22: {
           L23: while (true) {
            l10 = l7;
-           Core2.f80(m, l5 + 464L, l11 = l8, l9 = l6);
-           if ((b[((int) l5) - 60256] & 0xff) != 1) { break L22; }
-           l6 = Words.get64(b, ((int) l5) - 60232);
-           l8 = Words.get64(b, ((int) l5) - 60240);
-           Core1.f24(m, l5 + 120L, Words.get32(b, ((int) l5) - 60248));
+           f86(m, l5 + 464L, l11 = l8, l9 = l6);
+           if ((b[((int) l5) - 58448] & 0xff) != 1) { break L22; }
+           l6 = Words.get64(b, ((int) l5) - 58424);
+           l8 = Words.get64(b, ((int) l5) - 58432);
+           Core1.f24(m, l5 + 120L, Words.get32(b, ((int) l5) - 58440));
            l7 = l10 + 1L;
-           if ((b[((int) l5) - 60600] & 0xff) == 1) { continue L23; }
+           if ((b[((int) l5) - 58792] & 0xff) == 1) { continue L23; }
            break L23;
           }
          }
          if (l10 == 0L) { break L5; }
-         if (f88(m, l11, l9) != 0) { break L19; }
+         if (f94(m, l11, l9) != 0) { break L19; }
          break L5;
         }
         l10 = 0L;
-        if (f88(m, l7, l9) == 0) { break L5; }
+        if (f94(m, l7, l9) == 0) { break L5; }
        }
        l8 = 0L;
        l24 = 0;
-       f89(m, l5 + 368L, l1, 0, 0L, 0L, l3, l4);
-       if ((b[((int) l5) - 60352] & 0xff) != 1) { break L4; }
+       f95(m, l5 + 368L, l1, 0, 0L, 0L, l3, l4);
+       if ((b[((int) l5) - 58544] & 0xff) != 1) { break L4; }
        l6 = 0L;
-       l7 = Words.get64(b, ((int) l5) - 60328);
-       l8 = Words.get64(b, ((int) l5) - 60336);
+       l7 = Words.get64(b, ((int) l5) - 58520);
+       l8 = Words.get64(b, ((int) l5) - 58528);
        break L2;
       }
       throw State.trap();
      }
-     Words.put64(b, ((int) l5) - 60296, 0L);
-     Words.put64(b, ((int) l5) - 60304, 0L);
-     Words.put64(b, ((int) l5) - 60312, 0L);
-     Words.put64(b, ((int) l5) - 60320, 0L);
+     Words.put64(b, ((int) l5) - 58488, 0L);
+     Words.put64(b, ((int) l5) - 58496, 0L);
+     Words.put64(b, ((int) l5) - 58504, 0L);
+     Words.put64(b, ((int) l5) - 58512, 0L);
      m.fill((int) (l5 + 464L), 0, (int) 96L);
-     Words.put64(b, ((int) l5) - 60072, 0L);
-     Words.put64(b, ((int) l5) - 60080, 0L);
-     Words.put64(b, ((int) l5) - 60088, 0L);
-     Words.put64(b, ((int) l5) - 60096, 0L);
-     Words.put64(b, ((int) l5) - 60160, 0L);
-     Words.put64(b, ((int) l5) - 60152, 0L);
-     Words.put64(b, ((int) l5) - 60144, 0L);
-     Words.put64(b, ((int) l5) - 60136, 0L);
-     Words.put64(b, ((int) l5) - 60128, 0L);
-     Words.put64(b, ((int) l5) - 60120, 0L);
-     Words.put64(b, ((int) l5) - 60112, 0L);
-     Words.put64(b, ((int) l5) - 60104, 0L);
-     f90(m, l5 + 464L, l3, l4);
-     final int x68 = f86_1(m, l1, l5, l6, l7, l8, l9, l10, l11, l12, l13, l14, l15, l16, l17, l18, l19, l20, l21, l22, l23, l24, l25, l26);
+     Words.put64(b, ((int) l5) - 58264, 0L);
+     Words.put64(b, ((int) l5) - 58272, 0L);
+     Words.put64(b, ((int) l5) - 58280, 0L);
+     Words.put64(b, ((int) l5) - 58288, 0L);
+     Words.put64(b, ((int) l5) - 58352, 0L);
+     Words.put64(b, ((int) l5) - 58344, 0L);
+     Words.put64(b, ((int) l5) - 58336, 0L);
+     Words.put64(b, ((int) l5) - 58328, 0L);
+     Words.put64(b, ((int) l5) - 58320, 0L);
+     Words.put64(b, ((int) l5) - 58312, 0L);
+     Words.put64(b, ((int) l5) - 58304, 0L);
+     Words.put64(b, ((int) l5) - 58296, 0L);
+     f96(m, l5 + 464L, l3, l4);
+     final int x68 = f92_1(m, l1, l5, l6, l7, l8, l9, l10, l11, l12, l13, l14, l15, l16, l17, l18, l19, l20, l21, l22, l23, l24, l25, l26);
      l6 = m.kept[0];
      l7 = m.kept[1];
      l8 = m.kept[2];
@@ -962,83 +2211,83 @@ static void f86(State m, long l0, int l1, long l2, long l3, long l4) {
      switch (x68) {
      case 1: break L3;
      }
-     f92(m, l5 + 320L, l3, l4);
+     f98(m, l5 + 320L, l3, l4);
      L69: {
-      if ((b[((int) l5) - 60400] & 0xff) != 1) { break L69; }
-      l10 = Words.get64(b, ((int) l5) - 60360);
-      l6 = Words.get64(b, ((int) l5) - 60368);
-      l7 = Words.get64(b, ((int) l5) - 60376);
-      f82(m, l5 + 288L, l1, l2, Words.get64(b, ((int) l5) - 60392), Words.get64(b, ((int) l5) - 60384));
-      l8 = Words.get64(b, ((int) l5) - 60416);
+      if ((b[((int) l5) - 58592] & 0xff) != 1) { break L69; }
+      l10 = Words.get64(b, ((int) l5) - 58552);
+      l6 = Words.get64(b, ((int) l5) - 58560);
+      l7 = Words.get64(b, ((int) l5) - 58568);
+      f88(m, l5 + 288L, l1, l2, Words.get64(b, ((int) l5) - 58584), Words.get64(b, ((int) l5) - 58576));
+      l8 = Words.get64(b, ((int) l5) - 58608);
       L70: {
-       if ((b[((int) l5) - 60432] & 0xff) != 0) { break L70; }
-       f89(m, l5 + 256L, l1, 1, l8, Words.get64(b, ((int) l5) - 60408), l7, l6);
+       if ((b[((int) l5) - 58624] & 0xff) != 0) { break L70; }
+       f95(m, l5 + 256L, l1, 1, l8, Words.get64(b, ((int) l5) - 58600), l7, l6);
        L71: {
-        if ((b[((int) l5) - 60464] & 0xff) == 1) { break L71; }
+        if ((b[((int) l5) - 58656] & 0xff) == 1) { break L71; }
         l8 = 0L;
         break L4;
        }
        l24 = 0;
        l6 = 0L;
-       l7 = Words.get64(b, ((int) l5) - 60440);
-       l8 = Words.get64(b, ((int) l5) - 60448);
+       l7 = Words.get64(b, ((int) l5) - 58632);
+       l8 = Words.get64(b, ((int) l5) - 58640);
        break L2;
       }
       l7 = 0L;
       l6 = 1L;
-      l24 = b[((int) l5) - 60424] & 0xff;
+      l24 = b[((int) l5) - 58616] & 0xff;
       break L3;
      }
      l6 = 0L;
-     Words.put64(b, ((int) l5) - 60256, 0L);
-     Words.put64(b, ((int) l5) - 60248, 0L);
-     Words.put64(b, ((int) l5) - 60240, 0L);
-     Words.put64(b, ((int) l5) - 60232, 0L);
-     Words.put64(b, ((int) l5) - 60160, 0L);
-     Words.put64(b, ((int) l5) - 60152, 0L);
-     Words.put64(b, ((int) l5) - 60144, 0L);
-     Words.put64(b, ((int) l5) - 60136, 0L);
-     Core2.f80(m, l5 + 464L, l3, l4);
+     Words.put64(b, ((int) l5) - 58448, 0L);
+     Words.put64(b, ((int) l5) - 58440, 0L);
+     Words.put64(b, ((int) l5) - 58432, 0L);
+     Words.put64(b, ((int) l5) - 58424, 0L);
+     Words.put64(b, ((int) l5) - 58352, 0L);
+     Words.put64(b, ((int) l5) - 58344, 0L);
+     Words.put64(b, ((int) l5) - 58336, 0L);
+     Words.put64(b, ((int) l5) - 58328, 0L);
+     f86(m, l5 + 464L, l3, l4);
      L72: {
-      if ((b[((int) l5) - 60256] & 0xff) != 1) { break L72; }
-      l7 = Words.get64(b, ((int) l5) - 60232);
-      l9 = Words.get64(b, ((int) l5) - 60240);
+      if ((b[((int) l5) - 58448] & 0xff) != 1) { break L72; }
+      l7 = Words.get64(b, ((int) l5) - 58424);
+      l9 = Words.get64(b, ((int) l5) - 58432);
       L73: {
        L74: {
-        if ((l24 = Words.get32(b, ((int) l5) - 60248)) != 24319) { break L74; }
+        if ((l24 = Words.get32(b, ((int) l5) - 58440)) != 24319) { break L74; }
         l8 = 20L;
         break L73;
        }
        if (l24 != 21317) { break L72; }
        l8 = 30L;
       }
-      Core2.f80(m, l5 + 560L, l9, l7);
+      f86(m, l5 + 560L, l9, l7);
       L75: {
-       if ((b[((int) l5) - 60160] & 0xff) != 1) { break L75; }
-       l24 = Words.get32(b, ((int) l5) - 60152);
-       Core2.f80(m, l5 + 464L, Words.get64(b, ((int) l5) - 60144), Words.get64(b, ((int) l5) - 60136));
+       if ((b[((int) l5) - 58352] & 0xff) != 1) { break L75; }
+       l24 = Words.get32(b, ((int) l5) - 58344);
+       f86(m, l5 + 464L, Words.get64(b, ((int) l5) - 58336), Words.get64(b, ((int) l5) - 58328));
        if ((l24 + -48) + Integer.MIN_VALUE < -2147483638) { break L72; }
-       if (((b[((int) l5) - 60256] & 0xff) & 255) == 1) { break L72; }
+       if (((b[((int) l5) - 58448] & 0xff) & 255) == 1) { break L72; }
        Core2.f63(m, l5 + 8L, l24);
-       if (((b[((int) l5) - 60712] & 0xff) & 1) == 0) { break L72; }
-       l8 = l8 + (((b[((int) l5) - 60711] & 0xff) & 0xffffffffL) & 255L);
+       if (((b[((int) l5) - 58904] & 0xff) & 1) == 0) { break L72; }
+       l8 = l8 + (((b[((int) l5) - 58903] & 0xff) & 0xffffffffL) & 255L);
       }
       l6 = 0L;
       l24 = 0;
       l7 = 0L;
       break L3;
      }
-     f82(m, l5 + 224L, l1, l2, l3, l4);
-     l8 = Words.get64(b, ((int) l5) - 60480);
+     f88(m, l5 + 224L, l1, l2, l3, l4);
+     l8 = Words.get64(b, ((int) l5) - 58672);
      L76: {
-      if ((b[((int) l5) - 60496] & 0xff) != 0) { break L76; }
+      if ((b[((int) l5) - 58688] & 0xff) != 0) { break L76; }
       l24 = 0;
-      l7 = Words.get64(b, ((int) l5) - 60472);
+      l7 = Words.get64(b, ((int) l5) - 58664);
       break L3;
      }
      l7 = 0L;
      l6 = 1L;
-     l24 = b[((int) l5) - 60488] & 0xff;
+     l24 = b[((int) l5) - 58680] & 0xff;
      break L3;
     }
     l24 = 2;
@@ -1049,16 +2298,16 @@ static void f86(State m, long l0, int l1, long l2, long l3, long l4) {
   }
   l9 = (l24 & 0xffffffffL) & 255L;
  }
- Words.put64(b, ((int) l0) - 60720, l6);
- Words.put64(b, ((int) (l0 + 24L)) - 60720, l7);
- Words.put64(b, ((int) (l0 + 16L)) - 60720, l8);
- Words.put64(b, ((int) (l0 + 40L)) - 60720, 0L);
- Words.put64(b, ((int) (l0 + 32L)) - 60720, l10);
- Words.put64(b, ((int) (l0 + 8L)) - 60720, l9);
+ Words.put64(b, ((int) l0) - 58912, l6);
+ Words.put64(b, ((int) (l0 + 24L)) - 58912, l7);
+ Words.put64(b, ((int) (l0 + 16L)) - 58912, l8);
+ Words.put64(b, ((int) (l0 + 40L)) - 58912, 0L);
+ Words.put64(b, ((int) (l0 + 32L)) - 58912, l10);
+ Words.put64(b, ((int) (l0 + 8L)) - 58912, l9);
  m.g0 = l5 + 656L;
 }
 
-static void f87(State m, long l0, int l1, long l2, long l3, long l4, long l5) {
+static void f93(State m, long l0, int l1, long l2, long l3, long l4, long l5) {
  final byte[] b = m.bytes;
  long l6 = 0;
  long l7 = 0;
@@ -1067,45 +2316,45 @@ static void f87(State m, long l0, int l1, long l2, long l3, long l4, long l5) {
  m.g0 = l6 = m.g0 - 112L;
  L1: {
   if ((l6 = l6) < 16L) { break L1; }
-  Words.put64(b, ((int) l6) - 60616, 0L);
-  Words.put64(b, ((int) l6) - 60624, 0L);
-  Words.put64(b, ((int) l6) - 60632, 0L);
-  Words.put64(b, ((int) l6) - 60640, 0L);
-  Core2.f80(m, l6 + 80L, l4, l5);
+  Words.put64(b, ((int) l6) - 58808, 0L);
+  Words.put64(b, ((int) l6) - 58816, 0L);
+  Words.put64(b, ((int) l6) - 58824, 0L);
+  Words.put64(b, ((int) l6) - 58832, 0L);
+  f86(m, l6 + 80L, l4, l5);
   L2: {
    L3: {
     L4: {
-     if ((b[((int) l6) - 60640] & 0xff) != 1) { break L4; }
+     if ((b[((int) l6) - 58832] & 0xff) != 1) { break L4; }
      l7 = (((l1 & 0xffffffffL) & 255L) << 5L) + 68960L;
      L5: while (true) {
-      l5 = Words.get64(b, ((int) l6) - 60616);
-      l4 = Words.get64(b, ((int) l6) - 60624);
-      Core2.f61(m, l6 + 72L, Words.get32(b, ((int) l6) - 60632));
+      l5 = Words.get64(b, ((int) l6) - 58808);
+      l4 = Words.get64(b, ((int) l6) - 58816);
+      Core2.f61(m, l6 + 72L, Words.get32(b, ((int) l6) - 58824));
       L6: {
-       if ((b[((int) l6) - 60648] & 0xff) != 1) { break L6; }
-       if ((l8 = Words.get16(b, ((int) (l7 + ((((b[((int) l6) - 60647] & 0xff) << 1) & 0xffffffffL) & 254L))) - 60720) & 0xffffL) + Long.MIN_VALUE > -9223372036854775770L) { break L3; }
-       Core1.f3(m, l6 + 16L, l9 = Words.get64(b, ((int) ((l8 = l8 << 4L) + 68336L)) - 60720), 0L, l2, 0L);
-       Core1.f3(m, l6, l8 = Words.get64(b, ((int) (l8 + 68344L)) - 60720), 0L, l2, 0L);
+       if ((b[((int) l6) - 58840] & 0xff) != 1) { break L6; }
+       if ((l8 = Words.get16(b, ((int) (l7 + ((((b[((int) l6) - 58839] & 0xff) << 1) & 0xffffffffL) & 254L))) - 58912) & 0xffffL) + Long.MIN_VALUE > -9223372036854775770L) { break L3; }
+       Core1.f3(m, l6 + 16L, l9 = Words.get64(b, ((int) ((l8 = l8 << 4L) + 68336L)) - 58912), 0L, l2, 0L);
+       Core1.f3(m, l6, l8 = Words.get64(b, ((int) (l8 + 68344L)) - 58912), 0L, l2, 0L);
        Core1.f3(m, l6 + 48L, l9, 0L, l3, 0L);
        Core1.f3(m, l6 + 32L, l8, 0L, l3, 0L);
-       if (!((((Words.get64(b, ((int) l6) - 60664) + (((l3 = (l2 = (l8 = Words.get64(b, ((int) l6) - 60696)) + Words.get64(b, ((int) l6) - 60720)) + Words.get64(b, ((int) l6) - 60672)) + Long.MIN_VALUE < l2 + Long.MIN_VALUE) ? 1L : 0L)) | (l8 = (l2 = Words.get64(b, ((int) l6) - 60712) + ((l2 + Long.MIN_VALUE < l8 + Long.MIN_VALUE) ? 1L : 0L)) + Words.get64(b, ((int) l6) - 60688))) | (Words.get64(b, ((int) l6) - 60680) + ((l8 + Long.MIN_VALUE < l2 + Long.MIN_VALUE) ? 1L : 0L))) == 0L)) { break L3; }
-       l2 = Words.get64(b, ((int) l6) - 60704);
+       if (!((((Words.get64(b, ((int) l6) - 58856) + (((l3 = (l2 = (l8 = Words.get64(b, ((int) l6) - 58888)) + Words.get64(b, ((int) l6) - 58912)) + Words.get64(b, ((int) l6) - 58864)) + Long.MIN_VALUE < l2 + Long.MIN_VALUE) ? 1L : 0L)) | (l8 = (l2 = Words.get64(b, ((int) l6) - 58904) + ((l2 + Long.MIN_VALUE < l8 + Long.MIN_VALUE) ? 1L : 0L)) + Words.get64(b, ((int) l6) - 58880))) | (Words.get64(b, ((int) l6) - 58872) + ((l8 + Long.MIN_VALUE < l2 + Long.MIN_VALUE) ? 1L : 0L))) == 0L)) { break L3; }
+       l2 = Words.get64(b, ((int) l6) - 58896);
       }
-      Core2.f80(m, l6 + 80L, l4, l5);
-      if ((b[((int) l6) - 60640] & 0xff) == 1) { continue L5; }
+      f86(m, l6 + 80L, l4, l5);
+      if ((b[((int) l6) - 58832] & 0xff) == 1) { continue L5; }
       break L5;
      }
     }
-    Words.put64(b, ((int) l0) - 60712, 0L);
-    Words.put64(b, ((int) l0) - 60720, 1L);
-    Words.put64(b, ((int) (l0 + 24L)) - 60720, l3);
-    Words.put64(b, ((int) (l0 + 16L)) - 60720, l2);
+    Words.put64(b, ((int) l0) - 58904, 0L);
+    Words.put64(b, ((int) l0) - 58912, 1L);
+    Words.put64(b, ((int) (l0 + 24L)) - 58912, l3);
+    Words.put64(b, ((int) (l0 + 16L)) - 58912, l2);
     break L2;
    }
-   Words.put64(b, ((int) l0) - 60696, 0L);
-   Words.put64(b, ((int) l0) - 60704, 0L);
-   Words.put64(b, ((int) l0) - 60712, 0L);
-   Words.put64(b, ((int) l0) - 60720, 0L);
+   Words.put64(b, ((int) l0) - 58888, 0L);
+   Words.put64(b, ((int) l0) - 58896, 0L);
+   Words.put64(b, ((int) l0) - 58904, 0L);
+   Words.put64(b, ((int) l0) - 58912, 0L);
   }
   m.g0 = l6 + 112L;
   return;
@@ -1113,7 +2362,7 @@ static void f87(State m, long l0, int l1, long l2, long l3, long l4, long l5) {
  throw State.trap();
 }
 
-static int f88(State m, long l0, long l1) {
+static int f94(State m, long l0, long l1) {
  final byte[] b = m.bytes;
  long l2 = 0;
  long l3 = 0;
@@ -1125,66 +2374,66 @@ static int f88(State m, long l0, long l1) {
  m.g0 = l2 = m.g0 - 96L;
  L1: {
   if ((l2 = l2) < 16L) { break L1; }
-  Words.put64(b, ((int) l2) - 60664, 0L);
-  Words.put64(b, ((int) l2) - 60672, 0L);
-  Words.put64(b, ((int) l2) - 60680, 0L);
-  Words.put64(b, ((int) l2) - 60688, 0L);
-  Core2.f80(m, l2 + 32L, l0, l1);
+  Words.put64(b, ((int) l2) - 58856, 0L);
+  Words.put64(b, ((int) l2) - 58864, 0L);
+  Words.put64(b, ((int) l2) - 58872, 0L);
+  Words.put64(b, ((int) l2) - 58880, 0L);
+  f86(m, l2 + 32L, l0, l1);
   l5 = 1;
   L2: {
-   if ((b[((int) l2) - 60688] & 0xff) != 1) { break L2; }
-   l3 = Words.get64(b, ((int) l2) - 60664);
-   l4 = Words.get64(b, ((int) l2) - 60672);
-   Core2.f61(m, l2 + 24L, Words.get32(b, ((int) l2) - 60680));
+   if ((b[((int) l2) - 58880] & 0xff) != 1) { break L2; }
+   l3 = Words.get64(b, ((int) l2) - 58856);
+   l4 = Words.get64(b, ((int) l2) - 58864);
+   Core2.f61(m, l2 + 24L, Words.get32(b, ((int) l2) - 58872));
    l6 = 1;
    L3: {
-    if ((b[((int) l2) - 60696] & 0xff) != 1) { break L3; }
-    if (((b[((int) l2) - 60695] & 0xff) & 255) != 0) { break L3; }
-    Words.put64(b, ((int) l2) - 60632, 0L);
-    Words.put64(b, ((int) l2) - 60640, 0L);
-    Words.put64(b, ((int) l2) - 60648, 0L);
-    Words.put64(b, ((int) l2) - 60656, 0L);
-    Core2.f80(m, l2 + 64L, l4, l3);
+    if ((b[((int) l2) - 58888] & 0xff) != 1) { break L3; }
+    if (((b[((int) l2) - 58887] & 0xff) & 255) != 0) { break L3; }
+    Words.put64(b, ((int) l2) - 58824, 0L);
+    Words.put64(b, ((int) l2) - 58832, 0L);
+    Words.put64(b, ((int) l2) - 58840, 0L);
+    Words.put64(b, ((int) l2) - 58848, 0L);
+    f86(m, l2 + 64L, l4, l3);
     L4: {
-     if ((b[((int) l2) - 60656] & 0xff) == 1) { break L4; }
+     if ((b[((int) l2) - 58848] & 0xff) == 1) { break L4; }
      l5 = 0;
      break L2;
     }
-    Core2.f61(m, l2 + 8L, Words.get32(b, ((int) l2) - 60648));
+    Core2.f61(m, l2 + 8L, Words.get32(b, ((int) l2) - 58840));
     l5 = 0;
-    if ((b[((int) l2) - 60712] & 0xff) != 1) { break L2; }
-    if (((b[((int) l2) - 60711] & 0xff) & 255) + Integer.MIN_VALUE < -2147483644) { break L2; }
-    Words.put64(b, ((int) l2) - 60632, 0L);
-    Words.put64(b, ((int) l2) - 60640, 0L);
-    Words.put64(b, ((int) l2) - 60648, 0L);
-    Words.put64(b, ((int) l2) - 60656, 0L);
+    if ((b[((int) l2) - 58904] & 0xff) != 1) { break L2; }
+    if (((b[((int) l2) - 58903] & 0xff) & 255) + Integer.MIN_VALUE < -2147483644) { break L2; }
+    Words.put64(b, ((int) l2) - 58824, 0L);
+    Words.put64(b, ((int) l2) - 58832, 0L);
+    Words.put64(b, ((int) l2) - 58840, 0L);
+    Words.put64(b, ((int) l2) - 58848, 0L);
     l6 = 1;
     L5: while (true) {
-     Core2.f80(m, l2 + 64L, l4, l3);
-     if ((l5 = ((b[((int) l2) - 60656] & 0xff) != 1) ? 1 : 0) != 0) { break L2; }
-     l3 = Words.get64(b, ((int) l2) - 60632);
-     l4 = Words.get64(b, ((int) l2) - 60640);
-     Core2.f61(m, l2, Words.get32(b, ((int) l2) - 60648));
-     if ((b[((int) l2) - 60720] & 0xff) != 1) { break L2; }
+     f86(m, l2 + 64L, l4, l3);
+     if ((l5 = ((b[((int) l2) - 58848] & 0xff) != 1) ? 1 : 0) != 0) { break L2; }
+     l3 = Words.get64(b, ((int) l2) - 58824);
+     l4 = Words.get64(b, ((int) l2) - 58832);
+     Core2.f61(m, l2, Words.get32(b, ((int) l2) - 58840));
+     if ((b[((int) l2) - 58912] & 0xff) != 1) { break L2; }
      l7 = l6 & 255;
-     l6 = l8 = b[((int) l2) - 60719] & 0xff;
+     l6 = l8 = b[((int) l2) - 58911] & 0xff;
      if (l7 + Integer.MIN_VALUE < (l8 & 255) + Integer.MIN_VALUE) { continue L5; }
      break L2;
     }
    }
-   Words.put64(b, ((int) l2) - 60632, 0L);
-   Words.put64(b, ((int) l2) - 60640, 0L);
-   Words.put64(b, ((int) l2) - 60648, 0L);
-   Words.put64(b, ((int) l2) - 60656, 0L);
+   Words.put64(b, ((int) l2) - 58824, 0L);
+   Words.put64(b, ((int) l2) - 58832, 0L);
+   Words.put64(b, ((int) l2) - 58840, 0L);
+   Words.put64(b, ((int) l2) - 58848, 0L);
    L6: while (true) {
-    Core2.f80(m, l2 + 64L, l0, l1);
-    if ((l5 = ((b[((int) l2) - 60656] & 0xff) != 1) ? 1 : 0) != 0) { break L2; }
-    l1 = Words.get64(b, ((int) l2) - 60632);
-    l0 = Words.get64(b, ((int) l2) - 60640);
-    Core2.f61(m, l2 + 16L, Words.get32(b, ((int) l2) - 60648));
-    if ((b[((int) l2) - 60704] & 0xff) != 1) { break L2; }
+    f86(m, l2 + 64L, l0, l1);
+    if ((l5 = ((b[((int) l2) - 58848] & 0xff) != 1) ? 1 : 0) != 0) { break L2; }
+    l1 = Words.get64(b, ((int) l2) - 58824);
+    l0 = Words.get64(b, ((int) l2) - 58832);
+    Core2.f61(m, l2 + 16L, Words.get32(b, ((int) l2) - 58840));
+    if ((b[((int) l2) - 58896] & 0xff) != 1) { break L2; }
     l7 = l6 & 255;
-    l6 = l8 = b[((int) l2) - 60703] & 0xff;
+    l6 = l8 = b[((int) l2) - 58895] & 0xff;
     if (l7 + Integer.MIN_VALUE < (l8 & 255) + Integer.MIN_VALUE) { continue L6; }
     break L6;
    }
@@ -1196,7 +2445,7 @@ static int f88(State m, long l0, long l1) {
  throw State.trap();
 }
 
-static void f89(State m, long l0, int l1, int l2, long l3, long l4, long l5, long l6) {
+static void f95(State m, long l0, int l1, int l2, long l3, long l4, long l5, long l6) {
  final byte[] b = m.bytes;
  long l7 = 0;
  long l8 = 0;
@@ -1206,72 +2455,72 @@ static void f89(State m, long l0, int l1, int l2, long l3, long l4, long l5, lon
  L1: {
   L2: {
    if ((l7 = l7) < 16L) { break L2; }
-   Words.put64(b, ((int) l7) - 60600, 0L);
-   Words.put64(b, ((int) l7) - 60608, 0L);
-   Words.put64(b, ((int) l7) - 60616, 0L);
-   Words.put64(b, ((int) l7) - 60624, 0L);
-   Words.put64(b, ((int) l7) - 60568, 0L);
-   Words.put64(b, ((int) l7) - 60576, 0L);
-   Words.put64(b, ((int) l7) - 60584, 0L);
-   Words.put64(b, ((int) l7) - 60592, 0L);
-   Core2.f80(m, l7 + 128L, l5, l6);
+   Words.put64(b, ((int) l7) - 58792, 0L);
+   Words.put64(b, ((int) l7) - 58800, 0L);
+   Words.put64(b, ((int) l7) - 58808, 0L);
+   Words.put64(b, ((int) l7) - 58816, 0L);
+   Words.put64(b, ((int) l7) - 58760, 0L);
+   Words.put64(b, ((int) l7) - 58768, 0L);
+   Words.put64(b, ((int) l7) - 58776, 0L);
+   Words.put64(b, ((int) l7) - 58784, 0L);
+   f86(m, l7 + 128L, l5, l6);
    L3: {
     L4: {
-     if ((b[((int) l7) - 60592] & 0xff) != 1) { break L4; }
+     if ((b[((int) l7) - 58784] & 0xff) != 1) { break L4; }
      L5: {
       if ((l2 & 1) == 0) { break L5; }
       L6: while (true) {
-       l8 = Words.get64(b, ((int) l7) - 60568);
-       l9 = Words.get64(b, ((int) l7) - 60576);
+       l8 = Words.get64(b, ((int) l7) - 58760);
+       l9 = Words.get64(b, ((int) l7) - 58768);
        L7: {
-        if (((l2 = Words.get32(b, ((int) l7) - 60584)) + -48) + Integer.MIN_VALUE < -2147483638) { break L7; }
+        if (((l2 = Words.get32(b, ((int) l7) - 58776)) + -48) + Integer.MIN_VALUE < -2147483638) { break L7; }
         Core2.f63(m, l7 + 40L, l2);
-        if ((b[((int) l7) - 60680] & 0xff) != 1) { break L7; }
-        l2 = b[((int) l7) - 60679] & 0xff;
+        if ((b[((int) l7) - 58872] & 0xff) != 1) { break L7; }
+        l2 = b[((int) l7) - 58871] & 0xff;
         Core1.f3(m, l7, l3, 0L, 10L, 0L);
         Core1.f3(m, l7 + 16L, l4, 0L, 10L, 0L);
-        if ((Words.get64(b, ((int) l7) - 60696) + (((l4 = (l3 = Words.get64(b, ((int) l7) - 60712)) + Words.get64(b, ((int) l7) - 60704)) + Long.MIN_VALUE < l3 + Long.MIN_VALUE) ? 1L : 0L)) != 0L) { break L3; }
-        final int t8 = ((l10 = Words.get64(b, ((int) l7) - 60720) & -2L) + Long.MIN_VALUE > ((l3 = (l2 & 0xffffffffL) & 255L) ^ -1L) + Long.MIN_VALUE) ? 1 : 0;
+        if ((Words.get64(b, ((int) l7) - 58888) + (((l4 = (l3 = Words.get64(b, ((int) l7) - 58904)) + Words.get64(b, ((int) l7) - 58896)) + Long.MIN_VALUE < l3 + Long.MIN_VALUE) ? 1L : 0L)) != 0L) { break L3; }
+        final int t8 = ((l10 = Words.get64(b, ((int) l7) - 58912) & -2L) + Long.MIN_VALUE > ((l3 = (l2 & 0xffffffffL) & 255L) ^ -1L) + Long.MIN_VALUE) ? 1 : 0;
         final int t9 = (l4 == -1L) ? 1 : 0;
         if ((t9 != 0 ? t8 : 0) != 0) { break L3; }
         l4 = l4 + (((l3 = l10 + l3) + Long.MIN_VALUE < l10 + Long.MIN_VALUE) ? 1L : 0L);
        }
-       Core2.f80(m, l7 + 128L, l9, l8);
-       if ((b[((int) l7) - 60592] & 0xff) == 1) { continue L6; }
+       f86(m, l7 + 128L, l9, l8);
+       if ((b[((int) l7) - 58784] & 0xff) == 1) { continue L6; }
        break L4;
       }
      }
      L10: while (true) {
-      l8 = Words.get64(b, ((int) l7) - 60568);
-      l9 = Words.get64(b, ((int) l7) - 60576);
-      Core1.f24(m, l7 + 88L, Words.get32(b, ((int) l7) - 60584));
+      l8 = Words.get64(b, ((int) l7) - 58760);
+      l9 = Words.get64(b, ((int) l7) - 58768);
+      Core1.f24(m, l7 + 88L, Words.get32(b, ((int) l7) - 58776));
       L11: {
-       if ((b[((int) l7) - 60632] & 0xff) != 1) { break L11; }
-       l2 = b[((int) l7) - 60631] & 0xff;
+       if ((b[((int) l7) - 58824] & 0xff) != 1) { break L11; }
+       l2 = b[((int) l7) - 58823] & 0xff;
        Core1.f3(m, l7 + 48L, l3, 0L, 10L, 0L);
        Core1.f3(m, l7 + 64L, l4, 0L, 10L, 0L);
-       if ((Words.get64(b, ((int) l7) - 60648) + (((l4 = (l3 = Words.get64(b, ((int) l7) - 60664)) + Words.get64(b, ((int) l7) - 60656)) + Long.MIN_VALUE < l3 + Long.MIN_VALUE) ? 1L : 0L)) != 0L) { break L3; }
-       final int t12 = ((l10 = Words.get64(b, ((int) l7) - 60672) & -2L) + Long.MIN_VALUE > ((l3 = (l2 & 0xffffffffL) & 255L) ^ -1L) + Long.MIN_VALUE) ? 1 : 0;
+       if ((Words.get64(b, ((int) l7) - 58840) + (((l4 = (l3 = Words.get64(b, ((int) l7) - 58856)) + Words.get64(b, ((int) l7) - 58848)) + Long.MIN_VALUE < l3 + Long.MIN_VALUE) ? 1L : 0L)) != 0L) { break L3; }
+       final int t12 = ((l10 = Words.get64(b, ((int) l7) - 58864) & -2L) + Long.MIN_VALUE > ((l3 = (l2 & 0xffffffffL) & 255L) ^ -1L) + Long.MIN_VALUE) ? 1 : 0;
        final int t13 = (l4 == -1L) ? 1 : 0;
        if ((t13 != 0 ? t12 : 0) != 0) { break L3; }
        l4 = l4 + (((l3 = l10 + l3) + Long.MIN_VALUE < l10 + Long.MIN_VALUE) ? 1L : 0L);
       }
-      Core2.f80(m, l7 + 128L, l9, l8);
-      if ((b[((int) l7) - 60592] & 0xff) == 1) { continue L10; }
+      f86(m, l7 + 128L, l9, l8);
+      if ((b[((int) l7) - 58784] & 0xff) == 1) { continue L10; }
       break L10;
      }
     }
-    f87(m, l7 + 96L, l1, l3, l4, l5, l6);
-    Words.put64(b, ((int) l0) - 60712, 0L);
-    Words.put64(b, ((int) l0) - 60720, b[((int) l7) - 60624] & 0xffL);
-    Words.put64(b, ((int) (l0 + 16L)) - 60720, Words.get64(b, ((int) l7) - 60608));
-    Words.put64(b, ((int) (l0 + 24L)) - 60720, Words.get64(b, ((int) l7) - 60600));
+    f93(m, l7 + 96L, l1, l3, l4, l5, l6);
+    Words.put64(b, ((int) l0) - 58904, 0L);
+    Words.put64(b, ((int) l0) - 58912, b[((int) l7) - 58816] & 0xffL);
+    Words.put64(b, ((int) (l0 + 16L)) - 58912, Words.get64(b, ((int) l7) - 58800));
+    Words.put64(b, ((int) (l0 + 24L)) - 58912, Words.get64(b, ((int) l7) - 58792));
     break L1;
    }
-   Words.put64(b, ((int) l0) - 60696, 0L);
-   Words.put64(b, ((int) l0) - 60704, 0L);
-   Words.put64(b, ((int) l0) - 60712, 0L);
-   Words.put64(b, ((int) l0) - 60720, 0L);
+   Words.put64(b, ((int) l0) - 58888, 0L);
+   Words.put64(b, ((int) l0) - 58896, 0L);
+   Words.put64(b, ((int) l0) - 58904, 0L);
+   Words.put64(b, ((int) l0) - 58912, 0L);
    break L1;
   }
   throw State.trap();
@@ -1279,7 +2528,7 @@ static void f89(State m, long l0, int l1, int l2, long l3, long l4, long l5, lon
  m.g0 = l7 + 160L;
 }
 
-static void f90(State m, long l0, long l1, long l2) {
+static void f96(State m, long l0, long l1, long l2) {
  final byte[] b = m.bytes;
  long l3 = 0;
  long l4 = 0;
@@ -1297,31 +2546,31 @@ static void f90(State m, long l0, long l1, long l2) {
  m.g0 = l3 = m.g0 - 112L;
  L1: {
   if ((l3 = l3) < 16L) { break L1; }
-  Words.put32(b, ((int) l3) - 60645, 0);
-  Words.put32(b, ((int) l3) - 60648, 0);
+  Words.put32(b, ((int) l3) - 58837, 0);
+  Words.put32(b, ((int) l3) - 58840, 0);
   l4 = 0L;
-  Words.put64(b, ((int) l3) - 60616, 0L);
-  Words.put64(b, ((int) l3) - 60624, 0L);
-  Words.put64(b, ((int) l3) - 60632, 0L);
-  Words.put64(b, ((int) l3) - 60640, 0L);
+  Words.put64(b, ((int) l3) - 58808, 0L);
+  Words.put64(b, ((int) l3) - 58816, 0L);
+  Words.put64(b, ((int) l3) - 58824, 0L);
+  Words.put64(b, ((int) l3) - 58832, 0L);
   l5 = l1;
   l6 = l2;
   l7 = 0L;
   L2: {
    L3: {
     L4: while (true) {
-     Core2.f80(m, l3 + 80L, l5, l6);
-     if ((b[((int) l3) - 60640] & 0xff) != 1) { break L3; }
-     l6 = Words.get64(b, ((int) l3) - 60616);
-     l5 = Words.get64(b, ((int) l3) - 60624);
-     Core1.f24(m, l3 + 64L, Words.get32(b, ((int) l3) - 60632));
-     if ((b[((int) l3) - 60656] & 0xff) != 1) { break L3; }
-     l13 = b[((int) l3) - 60655] & 0xff;
+     f86(m, l3 + 80L, l5, l6);
+     if ((b[((int) l3) - 58832] & 0xff) != 1) { break L3; }
+     l6 = Words.get64(b, ((int) l3) - 58808);
+     l5 = Words.get64(b, ((int) l3) - 58816);
+     Core1.f24(m, l3 + 64L, Words.get32(b, ((int) l3) - 58824));
+     if ((b[((int) l3) - 58848] & 0xff) != 1) { break L3; }
+     l13 = b[((int) l3) - 58847] & 0xff;
      Core1.f3(m, l3, l7, 0L, 10L, 0L);
      Core1.f3(m, l3 + 16L, l4, 0L, 10L, 0L);
      L5: {
-      if ((Words.get64(b, ((int) l3) - 60696) + (((l9 = (l8 = Words.get64(b, ((int) l3) - 60712)) + Words.get64(b, ((int) l3) - 60704)) + Long.MIN_VALUE < l8 + Long.MIN_VALUE) ? 1L : 0L)) != 0L) { break L5; }
-      l4 = l9 + (((l7 = (l8 = Words.get64(b, ((int) l3) - 60720) & -2L) + (l10 = (l13 & 0xffffffffL) & 255L)) + Long.MIN_VALUE < l8 + Long.MIN_VALUE) ? 1L : 0L);
+      if ((Words.get64(b, ((int) l3) - 58888) + (((l9 = (l8 = Words.get64(b, ((int) l3) - 58904)) + Words.get64(b, ((int) l3) - 58896)) + Long.MIN_VALUE < l8 + Long.MIN_VALUE) ? 1L : 0L)) != 0L) { break L5; }
+      l4 = l9 + (((l7 = (l8 = Words.get64(b, ((int) l3) - 58912) & -2L) + (l10 = (l13 & 0xffffffffL) & 255L)) + Long.MIN_VALUE < l8 + Long.MIN_VALUE) ? 1L : 0L);
       final int t6 = (l8 + Long.MIN_VALUE > (l10 ^ -1L) + Long.MIN_VALUE) ? 1 : 0;
       final int t7 = (l9 == -1L) ? 1 : 0;
       if ((t7 != 0 ? t6 : 0) == 0) { continue L4; }
@@ -1331,82 +2580,82 @@ static void f90(State m, long l0, long l1, long l2) {
     m.fill((int) l0, 0, (int) 96L);
     break L2;
    }
-   Words.put64(b, ((int) l3) - 60616, 0L);
-   Words.put64(b, ((int) l3) - 60624, 0L);
-   Words.put64(b, ((int) l3) - 60632, 0L);
-   Words.put64(b, ((int) l3) - 60640, 0L);
-   Core2.f80(m, l3 + 80L, l1, l2);
+   Words.put64(b, ((int) l3) - 58808, 0L);
+   Words.put64(b, ((int) l3) - 58816, 0L);
+   Words.put64(b, ((int) l3) - 58824, 0L);
+   Words.put64(b, ((int) l3) - 58832, 0L);
+   f86(m, l3 + 80L, l1, l2);
    l10 = 0L;
    l11 = l1;
    l12 = l2;
    L8: {
-    if ((b[((int) l3) - 60640] & 0xff) != 1) { break L8; }
-    l9 = Words.get64(b, ((int) l3) - 60616);
-    l8 = Words.get64(b, ((int) l3) - 60624);
-    Core1.f24(m, l3 + 56L, Words.get32(b, ((int) l3) - 60632));
+    if ((b[((int) l3) - 58832] & 0xff) != 1) { break L8; }
+    l9 = Words.get64(b, ((int) l3) - 58808);
+    l8 = Words.get64(b, ((int) l3) - 58816);
+    Core1.f24(m, l3 + 56L, Words.get32(b, ((int) l3) - 58824));
     l10 = 0L;
     l11 = l1;
     l12 = l2;
-    if ((b[((int) l3) - 60664] & 0xff) != 1) { break L8; }
+    if ((b[((int) l3) - 58856] & 0xff) != 1) { break L8; }
     l5 = 1L;
     L9: while (true) {
      l10 = l5;
-     Core2.f80(m, l3 + 80L, l11 = l8, l12 = l9);
-     if ((b[((int) l3) - 60640] & 0xff) != 1) { break L8; }
-     l9 = Words.get64(b, ((int) l3) - 60616);
-     l8 = Words.get64(b, ((int) l3) - 60624);
-     Core1.f24(m, l3 + 48L, Words.get32(b, ((int) l3) - 60632));
+     f86(m, l3 + 80L, l11 = l8, l12 = l9);
+     if ((b[((int) l3) - 58832] & 0xff) != 1) { break L8; }
+     l9 = Words.get64(b, ((int) l3) - 58808);
+     l8 = Words.get64(b, ((int) l3) - 58816);
+     Core1.f24(m, l3 + 48L, Words.get32(b, ((int) l3) - 58824));
      l5 = l10 + 1L;
-     if ((b[((int) l3) - 60672] & 0xff) == 1) { continue L9; }
+     if ((b[((int) l3) - 58864] & 0xff) == 1) { continue L9; }
      break L9;
     }
    }
-   Words.put64(b, ((int) l3) - 60616, 0L);
-   Words.put64(b, ((int) l3) - 60624, 0L);
-   Words.put64(b, ((int) l3) - 60632, 0L);
-   Words.put64(b, ((int) l3) - 60640, 0L);
+   Words.put64(b, ((int) l3) - 58808, 0L);
+   Words.put64(b, ((int) l3) - 58816, 0L);
+   Words.put64(b, ((int) l3) - 58824, 0L);
+   Words.put64(b, ((int) l3) - 58832, 0L);
    l13 = 1;
    l9 = l11;
    l8 = l12;
    L10: {
     L11: while (true) {
-     Core2.f80(m, l3 + 80L, l6 = l9, l5 = l8);
-     if ((b[((int) l3) - 60640] & 0xff) != 1) { break L10; }
-     l8 = Words.get64(b, ((int) l3) - 60616);
-     l9 = Words.get64(b, ((int) l3) - 60624);
-     Core2.f61(m, l3 + 40L, Words.get32(b, ((int) l3) - 60632));
-     if ((b[((int) l3) - 60680] & 0xff) != 1) { break L10; }
+     f86(m, l3 + 80L, l6 = l9, l5 = l8);
+     if ((b[((int) l3) - 58832] & 0xff) != 1) { break L10; }
+     l8 = Words.get64(b, ((int) l3) - 58808);
+     l9 = Words.get64(b, ((int) l3) - 58816);
+     Core2.f61(m, l3 + 40L, Words.get32(b, ((int) l3) - 58824));
+     if ((b[((int) l3) - 58872] & 0xff) != 1) { break L10; }
      l14 = l13 & 255;
-     l13 = l15 = b[((int) l3) - 60679] & 0xff;
+     l13 = l15 = b[((int) l3) - 58871] & 0xff;
      if (l14 + Integer.MIN_VALUE < (l15 & 255) + Integer.MIN_VALUE) { continue L11; }
      break L11;
     }
    }
-   Words.put64(b, ((int) l3) - 60616, 0L);
-   Words.put64(b, ((int) l3) - 60624, 0L);
-   Words.put64(b, ((int) l3) - 60632, 0L);
-   Words.put64(b, ((int) l3) - 60640, 0L);
-   Core2.f80(m, l3 + 80L, l1, l2);
+   Words.put64(b, ((int) l3) - 58808, 0L);
+   Words.put64(b, ((int) l3) - 58816, 0L);
+   Words.put64(b, ((int) l3) - 58824, 0L);
+   Words.put64(b, ((int) l3) - 58832, 0L);
+   f86(m, l3 + 80L, l1, l2);
    l13 = 0;
    L12: {
-    if ((b[((int) l3) - 60640] & 0xff) != 1) { break L12; }
-    Core1.f24(m, l3 + 32L, Words.get32(b, ((int) l3) - 60632));
-    l13 = (((b[((int) l3) - 60688] & 0xff) == 1) & (((b[((int) l3) - 60687] & 0xff) & 255) == 0)) ? 1 : 0;
+    if ((b[((int) l3) - 58832] & 0xff) != 1) { break L12; }
+    Core1.f24(m, l3 + 32L, Words.get32(b, ((int) l3) - 58824));
+    l13 = (((b[((int) l3) - 58880] & 0xff) == 1) & (((b[((int) l3) - 58879] & 0xff) & 255) == 0)) ? 1 : 0;
    }
-   Words.put64(b, ((int) l0) - 60712, 0L);
-   Words.put64(b, ((int) l0) - 60720, 1L);
-   Words.put64(b, ((int) (l0 + 40L)) - 60720, l4);
-   Words.put64(b, ((int) (l0 + 32L)) - 60720, l7);
-   b[((int) (l0 + 48L)) - 60720] = (byte) l13;
-   Words.put64(b, ((int) (l0 + 24L)) - 60720, 0L);
-   Words.put64(b, ((int) (l0 + 16L)) - 60720, l10);
-   Words.put32(b, ((int) (l0 + 49L)) - 60720, Words.get32(b, ((int) l3) - 60648));
-   Words.put32(b, ((int) (l0 + 52L)) - 60720, Words.get32(b, ((int) l3) - 60645));
-   Words.put64(b, ((int) (l0 + 88L)) - 60720, 0L);
-   Words.put64(b, ((int) (l0 + 80L)) - 60720, l5);
-   Words.put64(b, ((int) (l0 + 72L)) - 60720, l6);
-   Words.put64(b, ((int) (l0 + 64L)) - 60720, l12 - l5);
-   Words.put64(b, ((int) (l0 + 56L)) - 60720, l11);
+   Words.put64(b, ((int) l0) - 58904, 0L);
+   Words.put64(b, ((int) l0) - 58912, 1L);
+   Words.put64(b, ((int) (l0 + 40L)) - 58912, l4);
+   Words.put64(b, ((int) (l0 + 32L)) - 58912, l7);
+   b[((int) (l0 + 48L)) - 58912] = (byte) l13;
+   Words.put64(b, ((int) (l0 + 24L)) - 58912, 0L);
+   Words.put64(b, ((int) (l0 + 16L)) - 58912, l10);
+   Words.put32(b, ((int) (l0 + 49L)) - 58912, Words.get32(b, ((int) l3) - 58840));
+   Words.put32(b, ((int) (l0 + 52L)) - 58912, Words.get32(b, ((int) l3) - 58837));
+   Words.put64(b, ((int) (l0 + 88L)) - 58912, 0L);
+   Words.put64(b, ((int) (l0 + 80L)) - 58912, l5);
+   Words.put64(b, ((int) (l0 + 72L)) - 58912, l6);
+   Words.put64(b, ((int) (l0 + 64L)) - 58912, l12 - l5);
+   Words.put64(b, ((int) (l0 + 56L)) - 58912, l11);
   }
   m.g0 = l3 + 112L;
   return;
@@ -1414,7 +2663,7 @@ static void f90(State m, long l0, long l1, long l2) {
  throw State.trap();
 }
 
-static void f91(State m, long l0, int l1, long l2, long l3, long l4, long l5, long l6, long l7) {
+static void f97(State m, long l0, int l1, long l2, long l3, long l4, long l5, long l6, long l7) {
  final byte[] b = m.bytes;
  long l8 = 0;
  long l9 = 0;
@@ -1423,80 +2672,80 @@ static void f91(State m, long l0, int l1, long l2, long l3, long l4, long l5, lo
  L1: {
   L2: {
    if ((l8 = l8) < 16L) { break L2; }
-   Words.put64(b, ((int) l8) - 60696, 0L);
-   Words.put64(b, ((int) l8) - 60704, 0L);
-   Words.put64(b, ((int) l8) - 60712, 0L);
-   Words.put64(b, ((int) l8) - 60720, 0L);
-   f87(m, l8, l1, l4, l5, l6, l7);
+   Words.put64(b, ((int) l8) - 58888, 0L);
+   Words.put64(b, ((int) l8) - 58896, 0L);
+   Words.put64(b, ((int) l8) - 58904, 0L);
+   Words.put64(b, ((int) l8) - 58912, 0L);
+   f93(m, l8, l1, l4, l5, l6, l7);
    L3: {
     L4: {
      L5: {
-      if ((b[((int) l8) - 60720] & 0xff) != 1) { break L5; }
-      l4 = Words.get64(b, ((int) l8) - 60696);
-      l5 = Words.get64(b, ((int) l8) - 60704);
-      f87(m, l8, l1, 1L, 0L, l6, l7);
-      if ((b[((int) l8) - 60720] & 0xff) != 1) { break L4; }
+      if ((b[((int) l8) - 58912] & 0xff) != 1) { break L5; }
+      l4 = Words.get64(b, ((int) l8) - 58888);
+      l5 = Words.get64(b, ((int) l8) - 58896);
+      f93(m, l8, l1, 1L, 0L, l6, l7);
+      if ((b[((int) l8) - 58912] & 0xff) != 1) { break L4; }
       final int t6 = (l2 + Long.MIN_VALUE > (l5 ^ -1L) + Long.MIN_VALUE) ? 1 : 0;
       final int t7 = (l3 + Long.MIN_VALUE > (l9 = l4 ^ -1L) + Long.MIN_VALUE) ? 1 : 0;
       final int t8 = (l3 == l9) ? 1 : 0;
       if ((t8 != 0 ? t6 : t7) != 0) { break L3; }
-      l9 = Words.get64(b, ((int) l8) - 60696);
-      l10 = Words.get64(b, ((int) l8) - 60704);
+      l9 = Words.get64(b, ((int) l8) - 58888);
+      l10 = Words.get64(b, ((int) l8) - 58896);
       l5 = (l4 + l3) + (((l4 = l5 + l2) + Long.MIN_VALUE < l5 + Long.MIN_VALUE) ? 1L : 0L);
-      Words.put64(b, ((int) l8) - 60656, 0L);
-      Words.put64(b, ((int) l8) - 60648, 0L);
-      Words.put64(b, ((int) l8) - 60640, 0L);
-      Words.put64(b, ((int) l8) - 60632, 0L);
-      Words.put64(b, ((int) l8) - 60688, 0L);
-      Words.put64(b, ((int) l8) - 60680, 0L);
-      Words.put64(b, ((int) l8) - 60672, 0L);
-      Words.put64(b, ((int) l8) - 60664, 0L);
-      Core2.f80(m, l8 + 64L, l6, l7);
+      Words.put64(b, ((int) l8) - 58848, 0L);
+      Words.put64(b, ((int) l8) - 58840, 0L);
+      Words.put64(b, ((int) l8) - 58832, 0L);
+      Words.put64(b, ((int) l8) - 58824, 0L);
+      Words.put64(b, ((int) l8) - 58880, 0L);
+      Words.put64(b, ((int) l8) - 58872, 0L);
+      Words.put64(b, ((int) l8) - 58864, 0L);
+      Words.put64(b, ((int) l8) - 58856, 0L);
+      f86(m, l8 + 64L, l6, l7);
       l1 = 0;
       L9: {
-       if ((b[((int) l8) - 60656] & 0xff) != 1) { break L9; }
-       Core2.f80(m, l8 + 32L, Words.get64(b, ((int) l8) - 60640), Words.get64(b, ((int) l8) - 60632));
-       l1 = ((b[((int) l8) - 60688] & 0xff) != 1) ? 1 : 0;
+       if ((b[((int) l8) - 58848] & 0xff) != 1) { break L9; }
+       f86(m, l8 + 32L, Words.get64(b, ((int) l8) - 58832), Words.get64(b, ((int) l8) - 58824));
+       l1 = ((b[((int) l8) - 58880] & 0xff) != 1) ? 1 : 0;
       }
-      Words.put64(b, ((int) (l0 + 40L)) - 60720, l9);
-      Words.put64(b, ((int) (l0 + 32L)) - 60720, l10);
-      Words.put64(b, ((int) (l0 + 24L)) - 60720, l5);
-      Words.put64(b, ((int) (l0 + 16L)) - 60720, l4);
-      Words.put64(b, ((int) l0) - 60712, 0L);
-      Words.put64(b, ((int) l0) - 60720, 1L);
-      Words.put64(b, ((int) (l0 + 49L)) - 60720, 0L);
-      b[((int) (l0 + 48L)) - 60720] = (byte) l1;
-      Words.put64(b, ((int) (l0 + 56L)) - 60720, 0L);
+      Words.put64(b, ((int) (l0 + 40L)) - 58912, l9);
+      Words.put64(b, ((int) (l0 + 32L)) - 58912, l10);
+      Words.put64(b, ((int) (l0 + 24L)) - 58912, l5);
+      Words.put64(b, ((int) (l0 + 16L)) - 58912, l4);
+      Words.put64(b, ((int) l0) - 58904, 0L);
+      Words.put64(b, ((int) l0) - 58912, 1L);
+      Words.put64(b, ((int) (l0 + 49L)) - 58912, 0L);
+      b[((int) (l0 + 48L)) - 58912] = (byte) l1;
+      Words.put64(b, ((int) (l0 + 56L)) - 58912, 0L);
       break L1;
      }
-     Words.put64(b, ((int) l0) - 60664, 0L);
-     Words.put64(b, ((int) l0) - 60672, 0L);
-     Words.put64(b, ((int) l0) - 60680, 0L);
-     Words.put64(b, ((int) l0) - 60688, 0L);
-     Words.put64(b, ((int) l0) - 60696, 0L);
-     Words.put64(b, ((int) l0) - 60704, 0L);
-     Words.put64(b, ((int) l0) - 60712, 0L);
-     Words.put64(b, ((int) l0) - 60720, 0L);
+     Words.put64(b, ((int) l0) - 58856, 0L);
+     Words.put64(b, ((int) l0) - 58864, 0L);
+     Words.put64(b, ((int) l0) - 58872, 0L);
+     Words.put64(b, ((int) l0) - 58880, 0L);
+     Words.put64(b, ((int) l0) - 58888, 0L);
+     Words.put64(b, ((int) l0) - 58896, 0L);
+     Words.put64(b, ((int) l0) - 58904, 0L);
+     Words.put64(b, ((int) l0) - 58912, 0L);
      break L1;
     }
-    Words.put64(b, ((int) l0) - 60664, 0L);
-    Words.put64(b, ((int) l0) - 60672, 0L);
-    Words.put64(b, ((int) l0) - 60680, 0L);
-    Words.put64(b, ((int) l0) - 60688, 0L);
-    Words.put64(b, ((int) l0) - 60696, 0L);
-    Words.put64(b, ((int) l0) - 60704, 0L);
-    Words.put64(b, ((int) l0) - 60712, 0L);
-    Words.put64(b, ((int) l0) - 60720, 0L);
+    Words.put64(b, ((int) l0) - 58856, 0L);
+    Words.put64(b, ((int) l0) - 58864, 0L);
+    Words.put64(b, ((int) l0) - 58872, 0L);
+    Words.put64(b, ((int) l0) - 58880, 0L);
+    Words.put64(b, ((int) l0) - 58888, 0L);
+    Words.put64(b, ((int) l0) - 58896, 0L);
+    Words.put64(b, ((int) l0) - 58904, 0L);
+    Words.put64(b, ((int) l0) - 58912, 0L);
     break L1;
    }
-   Words.put64(b, ((int) l0) - 60664, 0L);
-   Words.put64(b, ((int) l0) - 60672, 0L);
-   Words.put64(b, ((int) l0) - 60680, 0L);
-   Words.put64(b, ((int) l0) - 60688, 0L);
-   Words.put64(b, ((int) l0) - 60696, 0L);
-   Words.put64(b, ((int) l0) - 60704, 0L);
-   Words.put64(b, ((int) l0) - 60712, 0L);
-   Words.put64(b, ((int) l0) - 60720, 0L);
+   Words.put64(b, ((int) l0) - 58856, 0L);
+   Words.put64(b, ((int) l0) - 58864, 0L);
+   Words.put64(b, ((int) l0) - 58872, 0L);
+   Words.put64(b, ((int) l0) - 58880, 0L);
+   Words.put64(b, ((int) l0) - 58888, 0L);
+   Words.put64(b, ((int) l0) - 58896, 0L);
+   Words.put64(b, ((int) l0) - 58904, 0L);
+   Words.put64(b, ((int) l0) - 58912, 0L);
    break L1;
   }
   throw State.trap();
@@ -1504,7 +2753,7 @@ static void f91(State m, long l0, int l1, long l2, long l3, long l4, long l5, lo
  m.g0 = l8 + 96L;
 }
 
-static void f92(State m, long l0, long l1, long l2) {
+static void f98(State m, long l0, long l1, long l2) {
  final byte[] b = m.bytes;
  long l3 = 0;
  long l4 = 0;
@@ -1526,135 +2775,135 @@ static void f92(State m, long l0, long l1, long l2) {
    L3: {
     L4: {
      if ((l3 = l3) < 16L) { break L4; }
-     Words.put64(b, ((int) l3) - 60616, 0L);
-     Words.put64(b, ((int) l3) - 60624, 0L);
-     Words.put64(b, ((int) l3) - 60632, 0L);
-     Words.put64(b, ((int) l3) - 60640, 0L);
-     Words.put64(b, ((int) l3) - 60552, 0L);
-     Words.put64(b, ((int) l3) - 60560, 0L);
-     Words.put64(b, ((int) l3) - 60568, 0L);
-     Words.put64(b, ((int) l3) - 60576, 0L);
+     Words.put64(b, ((int) l3) - 58808, 0L);
+     Words.put64(b, ((int) l3) - 58816, 0L);
+     Words.put64(b, ((int) l3) - 58824, 0L);
+     Words.put64(b, ((int) l3) - 58832, 0L);
+     Words.put64(b, ((int) l3) - 58744, 0L);
+     Words.put64(b, ((int) l3) - 58752, 0L);
+     Words.put64(b, ((int) l3) - 58760, 0L);
+     Words.put64(b, ((int) l3) - 58768, 0L);
      l4 = l1;
      l5 = l2;
      L5: {
       L6: {
        L7: while (true) {
-        Core2.f80(m, l3 + 144L, l4, l6 = l5);
-        if ((b[((int) l3) - 60576] & 0xff) != 1) { break L6; }
-        l5 = Words.get64(b, ((int) l3) - 60552);
-        l4 = Words.get64(b, ((int) l3) - 60560);
+        f86(m, l3 + 144L, l4, l6 = l5);
+        if ((b[((int) l3) - 58768] & 0xff) != 1) { break L6; }
+        l5 = Words.get64(b, ((int) l3) - 58744);
+        l4 = Words.get64(b, ((int) l3) - 58752);
         L8: {
-         if ((l15 = Words.get32(b, ((int) l3) - 60568)) == 40670) { break L8; }
+         if ((l15 = Words.get32(b, ((int) l3) - 58760)) == 40670) { break L8; }
          if (l15 != 28857) { continue L7; }
         }
         break L7;
        }
-       Core2.f80(m, l3 + 80L, l1, l7 = l2 - l6);
-       if ((b[((int) l3) - 60640] & 0xff) == 1) { break L5; }
-       Words.put64(b, ((int) l0) - 60680, 0L);
-       Words.put64(b, ((int) l0) - 60688, 0L);
-       Words.put64(b, ((int) l0) - 60696, 0L);
-       Words.put64(b, ((int) l0) - 60704, 0L);
-       Words.put64(b, ((int) l0) - 60712, 0L);
-       Words.put64(b, ((int) l0) - 60720, 0L);
+       f86(m, l3 + 80L, l1, l7 = l2 - l6);
+       if ((b[((int) l3) - 58832] & 0xff) == 1) { break L5; }
+       Words.put64(b, ((int) l0) - 58872, 0L);
+       Words.put64(b, ((int) l0) - 58880, 0L);
+       Words.put64(b, ((int) l0) - 58888, 0L);
+       Words.put64(b, ((int) l0) - 58896, 0L);
+       Words.put64(b, ((int) l0) - 58904, 0L);
+       Words.put64(b, ((int) l0) - 58912, 0L);
        break L1;
       }
-      Words.put64(b, ((int) l0) - 60680, 0L);
-      Words.put64(b, ((int) l0) - 60688, 0L);
-      Words.put64(b, ((int) l0) - 60696, 0L);
-      Words.put64(b, ((int) l0) - 60704, 0L);
-      Words.put64(b, ((int) l0) - 60712, 0L);
-      Words.put64(b, ((int) l0) - 60720, 0L);
+      Words.put64(b, ((int) l0) - 58872, 0L);
+      Words.put64(b, ((int) l0) - 58880, 0L);
+      Words.put64(b, ((int) l0) - 58888, 0L);
+      Words.put64(b, ((int) l0) - 58896, 0L);
+      Words.put64(b, ((int) l0) - 58904, 0L);
+      Words.put64(b, ((int) l0) - 58912, 0L);
       break L1;
      }
-     Words.put64(b, ((int) l3) - 60552, 0L);
-     Words.put64(b, ((int) l3) - 60560, 0L);
-     Words.put64(b, ((int) l3) - 60568, 0L);
-     Words.put64(b, ((int) l3) - 60576, 0L);
-     Core2.f80(m, l3 + 144L, l4, l5);
+     Words.put64(b, ((int) l3) - 58744, 0L);
+     Words.put64(b, ((int) l3) - 58752, 0L);
+     Words.put64(b, ((int) l3) - 58760, 0L);
+     Words.put64(b, ((int) l3) - 58768, 0L);
+     f86(m, l3 + 144L, l4, l5);
      L9: {
       L10: {
-       if ((b[((int) l3) - 60576] & 0xff) != 1) { break L10; }
-       if (((l15 = Words.get32(b, ((int) l3) - 60568)) + -48) + Integer.MIN_VALUE <= -2147483639) { break L10; }
-       l2 = Words.get64(b, ((int) l3) - 60560);
-       l8 = Words.get64(b, ((int) l3) - 60552);
+       if ((b[((int) l3) - 58768] & 0xff) != 1) { break L10; }
+       if (((l15 = Words.get32(b, ((int) l3) - 58760)) + -48) + Integer.MIN_VALUE <= -2147483639) { break L10; }
+       l2 = Words.get64(b, ((int) l3) - 58752);
+       l8 = Words.get64(b, ((int) l3) - 58744);
        Core2.f63(m, l3 + 72L, l15);
        l6 = 0L;
        l9 = l4;
        l10 = l5;
        L11: {
-        if ((b[((int) l3) - 60648] & 0xff) != 1) { break L11; }
+        if ((b[((int) l3) - 58840] & 0xff) != 1) { break L11; }
         l11 = 1L;
         L12: while (true) {
          l6 = l11;
-         Core2.f80(m, l3 + 144L, l9 = l2, l10 = l8);
-         if ((b[((int) l3) - 60576] & 0xff) != 1) { break L11; }
-         if (((l15 = Words.get32(b, ((int) l3) - 60568)) + -48) + Integer.MIN_VALUE < -2147483638) { break L11; }
-         l8 = Words.get64(b, ((int) l3) - 60552);
-         l2 = Words.get64(b, ((int) l3) - 60560);
+         f86(m, l3 + 144L, l9 = l2, l10 = l8);
+         if ((b[((int) l3) - 58768] & 0xff) != 1) { break L11; }
+         if (((l15 = Words.get32(b, ((int) l3) - 58760)) + -48) + Integer.MIN_VALUE < -2147483638) { break L11; }
+         l8 = Words.get64(b, ((int) l3) - 58744);
+         l2 = Words.get64(b, ((int) l3) - 58752);
          Core2.f63(m, l3 + 64L, l15);
          l11 = l6 + 1L;
-         if ((b[((int) l3) - 60656] & 0xff) == 1) { continue L12; }
+         if ((b[((int) l3) - 58848] & 0xff) == 1) { continue L12; }
          break L12;
         }
        }
        if (l6 == 0L) { break L10; }
-       if (f88(m, l9, l10) != 0) { break L9; }
+       if (f94(m, l9, l10) != 0) { break L9; }
       }
-      Words.put64(b, ((int) l0) - 60680, 0L);
-      Words.put64(b, ((int) l0) - 60688, 0L);
-      Words.put64(b, ((int) l0) - 60696, 0L);
-      Words.put64(b, ((int) l0) - 60704, 0L);
-      Words.put64(b, ((int) l0) - 60712, 0L);
-      Words.put64(b, ((int) l0) - 60720, 0L);
+      Words.put64(b, ((int) l0) - 58872, 0L);
+      Words.put64(b, ((int) l0) - 58880, 0L);
+      Words.put64(b, ((int) l0) - 58888, 0L);
+      Words.put64(b, ((int) l0) - 58896, 0L);
+      Words.put64(b, ((int) l0) - 58904, 0L);
+      Words.put64(b, ((int) l0) - 58912, 0L);
       break L1;
      }
-     Words.put64(b, ((int) l3) - 60552, 0L);
-     Words.put64(b, ((int) l3) - 60560, 0L);
-     Words.put64(b, ((int) l3) - 60568, 0L);
-     Words.put64(b, ((int) l3) - 60576, 0L);
-     Core2.f80(m, l3 + 144L, l4, l5);
+     Words.put64(b, ((int) l3) - 58744, 0L);
+     Words.put64(b, ((int) l3) - 58752, 0L);
+     Words.put64(b, ((int) l3) - 58760, 0L);
+     Words.put64(b, ((int) l3) - 58768, 0L);
+     f86(m, l3 + 144L, l4, l5);
      l2 = l4;
      l8 = l5;
      L13: {
-      if ((b[((int) l3) - 60576] & 0xff) != 1) { break L13; }
+      if ((b[((int) l3) - 58768] & 0xff) != 1) { break L13; }
       l2 = l4;
       l8 = l5;
-      if (((l15 = Words.get32(b, ((int) l3) - 60568)) + -48) + Integer.MIN_VALUE < -2147483638) { break L13; }
-      l11 = Words.get64(b, ((int) l3) - 60560);
-      l9 = Words.get64(b, ((int) l3) - 60552);
+      if (((l15 = Words.get32(b, ((int) l3) - 58760)) + -48) + Integer.MIN_VALUE < -2147483638) { break L13; }
+      l11 = Words.get64(b, ((int) l3) - 58752);
+      l9 = Words.get64(b, ((int) l3) - 58744);
       Core2.f63(m, l3 + 56L, l15);
       l2 = l4;
       l8 = l5;
-      if ((b[((int) l3) - 60664] & 0xff) != 1) { break L13; }
+      if ((b[((int) l3) - 58856] & 0xff) != 1) { break L13; }
       L14: while (true) {
-       Core2.f80(m, l3 + 144L, l2 = l11, l8 = l9);
-       if ((b[((int) l3) - 60576] & 0xff) != 1) { break L13; }
-       if (((l15 = Words.get32(b, ((int) l3) - 60568)) + -48) + Integer.MIN_VALUE < -2147483638) { break L13; }
-       l9 = Words.get64(b, ((int) l3) - 60552);
-       l11 = Words.get64(b, ((int) l3) - 60560);
+       f86(m, l3 + 144L, l2 = l11, l8 = l9);
+       if ((b[((int) l3) - 58768] & 0xff) != 1) { break L13; }
+       if (((l15 = Words.get32(b, ((int) l3) - 58760)) + -48) + Integer.MIN_VALUE < -2147483638) { break L13; }
+       l9 = Words.get64(b, ((int) l3) - 58744);
+       l11 = Words.get64(b, ((int) l3) - 58752);
        Core2.f63(m, l3 + 48L, l15);
-       if ((b[((int) l3) - 60672] & 0xff) == 1) { continue L14; }
+       if ((b[((int) l3) - 58864] & 0xff) == 1) { continue L14; }
        break L14;
       }
      }
-     Words.put64(b, ((int) l3) - 60576, 0L);
-     Words.put64(b, ((int) l3) - 60568, 0L);
-     Words.put64(b, ((int) l3) - 60560, 0L);
-     Words.put64(b, ((int) l3) - 60552, 0L);
-     Words.put64(b, ((int) l3) - 60608, 0L);
-     Words.put64(b, ((int) l3) - 60600, 0L);
-     Words.put64(b, ((int) l3) - 60592, 0L);
-     Words.put64(b, ((int) l3) - 60584, 0L);
-     f85(m, l3 + 144L, l1, l7);
+     Words.put64(b, ((int) l3) - 58768, 0L);
+     Words.put64(b, ((int) l3) - 58760, 0L);
+     Words.put64(b, ((int) l3) - 58752, 0L);
+     Words.put64(b, ((int) l3) - 58744, 0L);
+     Words.put64(b, ((int) l3) - 58800, 0L);
+     Words.put64(b, ((int) l3) - 58792, 0L);
+     Words.put64(b, ((int) l3) - 58784, 0L);
+     Words.put64(b, ((int) l3) - 58776, 0L);
+     f91(m, l3 + 144L, l1, l7);
      L15: {
-      if ((b[((int) l3) - 60576] & 0xff) != 1) { break L15; }
-      l15 = Words.get32(b, ((int) l3) - 60568);
-      f85(m, l3 + 112L, Words.get64(b, ((int) l3) - 60560), Words.get64(b, ((int) l3) - 60552));
-      if ((b[((int) l3) - 60608] & 0xff) != 1) { break L15; }
-      Core2.f61(m, l3 + 40L, Words.get32(b, ((int) l3) - 60600));
-      if ((b[((int) l3) - 60680] & 0xff) != 1) { break L15; }
-      if (((b[((int) l3) - 60679] & 0xff) & 255) + Integer.MIN_VALUE <= -2147483647) { break L15; }
+      if ((b[((int) l3) - 58768] & 0xff) != 1) { break L15; }
+      l15 = Words.get32(b, ((int) l3) - 58760);
+      f91(m, l3 + 112L, Words.get64(b, ((int) l3) - 58752), Words.get64(b, ((int) l3) - 58744));
+      if ((b[((int) l3) - 58800] & 0xff) != 1) { break L15; }
+      Core2.f61(m, l3 + 40L, Words.get32(b, ((int) l3) - 58792));
+      if ((b[((int) l3) - 58872] & 0xff) != 1) { break L15; }
+      if (((b[((int) l3) - 58871] & 0xff) & 255) + Integer.MIN_VALUE <= -2147483647) { break L15; }
       Core2.f63(m, l3 + 32L, l15);
       l11 = 0L;
       l9 = 0L;
@@ -1662,54 +2911,54 @@ static void f92(State m, long l0, long l1, long l2) {
       l12 = 0L;
       l13 = 0L;
       l14 = 0L;
-      if ((b[((int) l3) - 60688] & 0xff) == 1) { break L2; }
+      if ((b[((int) l3) - 58880] & 0xff) == 1) { break L2; }
      }
-     Words.put64(b, ((int) l3) - 60584, 0L);
-     Words.put64(b, ((int) l3) - 60592, 0L);
-     Words.put64(b, ((int) l3) - 60600, 0L);
-     Words.put64(b, ((int) l3) - 60608, 0L);
-     Core2.f80(m, l3 + 112L, l2, l8);
-     if ((b[((int) l3) - 60608] & 0xff) != 1) { break L3; }
-     l2 = Words.get64(b, ((int) l3) - 60584);
-     l8 = Words.get64(b, ((int) l3) - 60592);
-     Core2.f61(m, l3 + 24L, Words.get32(b, ((int) l3) - 60600));
-     l15 = b[((int) l3) - 60695] & 0xff;
+     Words.put64(b, ((int) l3) - 58776, 0L);
+     Words.put64(b, ((int) l3) - 58784, 0L);
+     Words.put64(b, ((int) l3) - 58792, 0L);
+     Words.put64(b, ((int) l3) - 58800, 0L);
+     f86(m, l3 + 112L, l2, l8);
+     if ((b[((int) l3) - 58800] & 0xff) != 1) { break L3; }
+     l2 = Words.get64(b, ((int) l3) - 58776);
+     l8 = Words.get64(b, ((int) l3) - 58784);
+     Core2.f61(m, l3 + 24L, Words.get32(b, ((int) l3) - 58792));
+     l15 = b[((int) l3) - 58887] & 0xff;
      L16: {
       L17: {
-       if ((l16 = b[((int) l3) - 60696] & 0xff) != 1) { break L17; }
+       if ((l16 = b[((int) l3) - 58888] & 0xff) != 1) { break L17; }
        if ((l15 & 255) != 0) { break L17; }
-       Words.put64(b, ((int) l3) - 60552, 0L);
-       Words.put64(b, ((int) l3) - 60560, 0L);
-       Words.put64(b, ((int) l3) - 60568, 0L);
-       Words.put64(b, ((int) l3) - 60576, 0L);
-       Core2.f80(m, l3 + 144L, l8, l2);
-       if ((b[((int) l3) - 60576] & 0xff) != 1) { break L3; }
-       Core2.f61(m, l3 + 16L, Words.get32(b, ((int) l3) - 60568));
-       l15 = b[((int) l3) - 60703] & 0xff;
-       l16 = b[((int) l3) - 60704] & 0xff;
-       Words.put64(b, ((int) l3) - 60552, 0L);
-       Words.put64(b, ((int) l3) - 60560, 0L);
-       Words.put64(b, ((int) l3) - 60568, 0L);
-       Words.put64(b, ((int) l3) - 60576, 0L);
+       Words.put64(b, ((int) l3) - 58744, 0L);
+       Words.put64(b, ((int) l3) - 58752, 0L);
+       Words.put64(b, ((int) l3) - 58760, 0L);
+       Words.put64(b, ((int) l3) - 58768, 0L);
+       f86(m, l3 + 144L, l8, l2);
+       if ((b[((int) l3) - 58768] & 0xff) != 1) { break L3; }
+       Core2.f61(m, l3 + 16L, Words.get32(b, ((int) l3) - 58760));
+       l15 = b[((int) l3) - 58895] & 0xff;
+       l16 = b[((int) l3) - 58896] & 0xff;
+       Words.put64(b, ((int) l3) - 58744, 0L);
+       Words.put64(b, ((int) l3) - 58752, 0L);
+       Words.put64(b, ((int) l3) - 58760, 0L);
+       Words.put64(b, ((int) l3) - 58768, 0L);
        if ((l16 & 1) != 0) { break L16; }
        break L3;
       }
-      Words.put64(b, ((int) l3) - 60552, 0L);
-      Words.put64(b, ((int) l3) - 60560, 0L);
-      Words.put64(b, ((int) l3) - 60568, 0L);
-      Words.put64(b, ((int) l3) - 60576, 0L);
+      Words.put64(b, ((int) l3) - 58744, 0L);
+      Words.put64(b, ((int) l3) - 58752, 0L);
+      Words.put64(b, ((int) l3) - 58760, 0L);
+      Words.put64(b, ((int) l3) - 58768, 0L);
       if ((l16 & 1) == 0) { break L3; }
      }
      l2 = l1;
      l8 = l7;
      L18: while (true) {
-      Core2.f80(m, l3 + 144L, l2, l8);
-      if ((b[((int) l3) - 60576] & 0xff) != 1) { break L3; }
-      l8 = Words.get64(b, ((int) l3) - 60552);
-      l2 = Words.get64(b, ((int) l3) - 60560);
-      Core2.f61(m, l3 + 8L, Words.get32(b, ((int) l3) - 60568));
-      if ((b[((int) l3) - 60712] & 0xff) != 1) { continue L18; }
-      if (((b[((int) l3) - 60711] & 0xff) & 255) + Integer.MIN_VALUE < (l15 & 255) + Integer.MIN_VALUE) { continue L18; }
+      f86(m, l3 + 144L, l2, l8);
+      if ((b[((int) l3) - 58768] & 0xff) != 1) { break L3; }
+      l8 = Words.get64(b, ((int) l3) - 58744);
+      l2 = Words.get64(b, ((int) l3) - 58752);
+      Core2.f61(m, l3 + 8L, Words.get32(b, ((int) l3) - 58760));
+      if ((b[((int) l3) - 58904] & 0xff) != 1) { continue L18; }
+      if (((b[((int) l3) - 58903] & 0xff) & 255) + Integer.MIN_VALUE < (l15 & 255) + Integer.MIN_VALUE) { continue L18; }
       break L18;
      }
      l11 = 0L;
@@ -1729,17 +2978,17 @@ static void f92(State m, long l0, long l1, long l2) {
    l12 = l5;
    l14 = l6;
   }
-  Words.put64(b, ((int) l0) - 60720, l13);
-  Words.put64(b, ((int) (l0 + 40L)) - 60720, l14);
-  Words.put64(b, ((int) (l0 + 32L)) - 60720, l12);
-  Words.put64(b, ((int) (l0 + 24L)) - 60720, l10);
-  Words.put64(b, ((int) (l0 + 16L)) - 60720, l9);
-  Words.put64(b, ((int) (l0 + 8L)) - 60720, l11);
+  Words.put64(b, ((int) l0) - 58912, l13);
+  Words.put64(b, ((int) (l0 + 40L)) - 58912, l14);
+  Words.put64(b, ((int) (l0 + 32L)) - 58912, l12);
+  Words.put64(b, ((int) (l0 + 24L)) - 58912, l10);
+  Words.put64(b, ((int) (l0 + 16L)) - 58912, l9);
+  Words.put64(b, ((int) (l0 + 8L)) - 58912, l11);
  }
  m.g0 = l3 + 176L;
 }
 
-static void f93(State m, long l0, long l1, long l2) {
+static void f99(State m, long l0, long l1, long l2) {
  final byte[] b = m.bytes;
  long l3 = 0;
  long l4 = 0;
@@ -1768,13 +3017,13 @@ static void f93(State m, long l0, long l1, long l2) {
     L4: {
      L5: {
       if ((l3 = l3) < 16L) { break L5; }
-      Words.put64(b, ((int) l3) - 60688, 0L);
-      Words.put64(b, ((int) l3) - 60696, 0L);
-      Words.put64(b, ((int) l3) - 60704, 0L);
-      Words.put64(b, ((int) l3) - 60712, 0L);
-      Core2.f80(m, l3 + 8L, l1, l2);
+      Words.put64(b, ((int) l3) - 58880, 0L);
+      Words.put64(b, ((int) l3) - 58888, 0L);
+      Words.put64(b, ((int) l3) - 58896, 0L);
+      Words.put64(b, ((int) l3) - 58904, 0L);
+      f86(m, l3 + 8L, l1, l2);
       L6: {
-       if ((b[((int) l3) - 60712] & 0xff) != 1) { break L6; }
+       if ((b[((int) l3) - 58904] & 0xff) != 1) { break L6; }
        l9 = 2;
        l10 = 0;
        l4 = l2;
@@ -1784,15 +3033,15 @@ static void f93(State m, long l0, long l1, long l2) {
        l13 = 0;
        l14 = 2;
        L7: while (true) {
-        l6 = Words.get64(b, ((int) l3) - 60688);
-        l7 = Words.get64(b, ((int) l3) - 60696);
-        l15 = Words.get32(b, ((int) l3) - 60704);
-        b[((int) l3) - 60673] = (byte) l10;
-        b[((int) l3) - 60674] = (byte) l9;
-        b[((int) l3) - 60675] = (byte) l11;
-        b[((int) l3) - 60676] = (byte) l12;
-        b[((int) l3) - 60677] = (byte) l13;
-        b[((int) l3) - 60678] = (byte) l14;
+        l6 = Words.get64(b, ((int) l3) - 58880);
+        l7 = Words.get64(b, ((int) l3) - 58888);
+        l15 = Words.get32(b, ((int) l3) - 58896);
+        b[((int) l3) - 58865] = (byte) l10;
+        b[((int) l3) - 58866] = (byte) l9;
+        b[((int) l3) - 58867] = (byte) l11;
+        b[((int) l3) - 58868] = (byte) l12;
+        b[((int) l3) - 58869] = (byte) l13;
+        b[((int) l3) - 58870] = (byte) l14;
         L8: {
          L9: {
           L10: {
@@ -1805,13 +3054,13 @@ static void f93(State m, long l0, long l1, long l2) {
              l18 = l18 != 0 ? 0 : 2;
              break L11;
             }
-            final int t15 = b[((int) ((l8 = ((((l18 = (((l15 >>> 12) | ((l15 << 2) & 16128)) | ((l15 << 16) & 4128768)) | 8421600) & 0xffffffffL) * 953497L) >>> 22L) & 1016L) + 66857L)) - 60720] & 0xff;
+            final int t15 = b[((int) ((l8 = ((((l18 = (((l15 >>> 12) | ((l15 << 2) & 16128)) | ((l15 << 16) & 4128768)) | 8421600) & 0xffffffffL) * 953497L) >>> 22L) & 1016L) + 66857L)) - 58912] & 0xff;
             final int t16 = l18 = (Words.get32(b, State.far((int) l8, 66852)) == l18) ? 1 : 0;
             l20 = (l19 = t16 != 0 ? t15 : 0) & 255;
             L17: {
              L18: {
               L19: {
-               final int t20 = b[((int) (l8 + 66856L)) - 60720] & 0xff;
+               final int t20 = b[((int) (l8 + 66856L)) - 58912] & 0xff;
                final int t21 = l18;
                if (((l18 = t21 != 0 ? t20 : 2) & 255) != 1) { break L19; }
                if (l20 != 1) { break L19; }
@@ -1900,18 +3149,18 @@ static void f93(State m, long l0, long l1, long l2) {
              }
              if (l20 == 0) { break L10; }
              l18 = 1;
-             if (f97(m, 1, l7, l6) != 0) { break L26; }
+             if (f103(m, 1, l7, l6) != 0) { break L26; }
              break L10;
             }
             if ((l19 & 255) == 0) { break L10; }
-            if (f97(m, 0, l7, l6) == 0) { break L10; }
+            if (f103(m, 0, l7, l6) == 0) { break L10; }
             l18 = 1;
            }
            l19 = l17;
            l21 = l13;
            break L9;
           }
-          if (f98(m, l3 + 42L, l15, l7, l6) == 0) { break L8; }
+          if (f104(m, l3 + 42L, l15, l7, l6) == 0) { break L8; }
           l19 = l17;
           l21 = l13;
           l18 = l14;
@@ -1921,8 +3170,8 @@ static void f93(State m, long l0, long l1, long l2) {
           L30: {
            if (l19 == 0) { break L30; }
            if (Words.get32(b, State.far((int) (l8 = ((((l14 = (((l15 >>> 12) | ((l15 << 2) & 16128)) | ((l15 << 16) & 4128768)) | 8421600) & 0xffffffffL) * 953497L) >>> 22L) & 1016L), 66852)) != l14) { break L30; }
-           if (((b[((int) (l8 + 66856L)) - 60720] & 0xff) & 255) != 1) { break L30; }
-           if (((b[((int) (l8 + 66857L)) - 60720] & 0xff) & 255) != 1) { break L30; }
+           if (((b[((int) (l8 + 66856L)) - 58912] & 0xff) & 255) != 1) { break L30; }
+           if (((b[((int) (l8 + 66857L)) - 58912] & 0xff) & 255) != 1) { break L30; }
            L31: {
             L32: {
              switch ((int) ((l18 & 0xffffffffL) & 255L)) {
@@ -1946,12 +3195,12 @@ static void f93(State m, long l0, long l1, long l2) {
           l20 = 0;
          }
          l8 = l2 - l4;
-         b[((int) l3) - 60673] = (byte) l10;
-         b[((int) l3) - 60674] = (byte) l9;
-         b[((int) l3) - 60675] = (byte) l11;
-         b[((int) l3) - 60676] = (byte) l12;
-         b[((int) l3) - 60677] = (byte) l21;
-         b[((int) l3) - 60678] = (byte) l18;
+         b[((int) l3) - 58865] = (byte) l10;
+         b[((int) l3) - 58866] = (byte) l9;
+         b[((int) l3) - 58867] = (byte) l11;
+         b[((int) l3) - 58868] = (byte) l12;
+         b[((int) l3) - 58869] = (byte) l21;
+         b[((int) l3) - 58870] = (byte) l18;
          L33: {
           if (l19 != 0) { break L33; }
           final int t34 = l14 = l15 + -48;
@@ -1963,12 +3212,12 @@ static void f93(State m, long l0, long l1, long l2) {
           l22 = (l14 == 0) ? 1 : 0;
           break L3;
          }
-         final int t36 = b[((int) ((l2 = ((((l14 = (((l15 >>> 12) | ((l15 << 2) & 16128)) | ((l15 << 16) & 4128768)) | 8421600) & 0xffffffffL) * 953497L) >>> 22L) & 1016L) + 66857L)) - 60720] & 0xff;
+         final int t36 = b[((int) ((l2 = ((((l14 = (((l15 >>> 12) | ((l15 << 2) & 16128)) | ((l15 << 16) & 4128768)) | 8421600) & 0xffffffffL) * 953497L) >>> 22L) & 1016L) + 66857L)) - 58912] & 0xff;
          final int t37 = l14 = (Words.get32(b, State.far((int) l2, 66852)) == l14) ? 1 : 0;
          l13 = t37 != 0 ? t36 : 0;
          L38: {
           L39: {
-           final int t40 = b[((int) (l2 + 66856L)) - 60720] & 0xff;
+           final int t40 = b[((int) (l2 + 66856L)) - 58912] & 0xff;
            final int t41 = l14;
            if (((l19 = t41 != 0 ? t40 : 2) & 255) != 1) { break L39; }
            if ((l13 & 255) != 1) { break L39; }
@@ -2014,10 +3263,10 @@ static void f93(State m, long l0, long l1, long l2) {
         L44: {
          L45: {
           if (l16 + Integer.MIN_VALUE > -2147420161) { break L45; }
-          final int t46 = b[((int) ((l8 = ((((l15 = (((l15 >>> 12) | ((l15 << 2) & 16128)) | ((l15 << 16) & 4128768)) | 8421600) & 0xffffffffL) * 953497L) >>> 22L) & 1016L) + 66857L)) - 60720] & 0xff;
+          final int t46 = b[((int) ((l8 = ((((l15 = (((l15 >>> 12) | ((l15 << 2) & 16128)) | ((l15 << 16) & 4128768)) | 8421600) & 0xffffffffL) * 953497L) >>> 22L) & 1016L) + 66857L)) - 58912] & 0xff;
           final int t47 = l18 = (Words.get32(b, State.far((int) l8, 66852)) == l15) ? 1 : 0;
           l15 = t47 != 0 ? t46 : 0;
-          final int t48 = b[((int) (l8 + 66856L)) - 60720] & 0xff;
+          final int t48 = b[((int) (l8 + 66856L)) - 58912] & 0xff;
           final int t49 = l18;
           l18 = t49 != 0 ? t48 : 2;
           break L44;
@@ -2027,7 +3276,7 @@ static void f93(State m, long l0, long l1, long l2) {
          l15 = t51 != 0 ? t50 : 0;
          l18 = l18 != 0 ? 0 : 2;
         }
-        Core2.f80(m, l3 + 8L, l7, l6);
+        f86(m, l3 + 8L, l7, l6);
         l4 = l6;
         l5 = l7;
         l10 = l11;
@@ -2036,16 +3285,16 @@ static void f93(State m, long l0, long l1, long l2) {
         l12 = l14;
         l13 = l15;
         l14 = l18;
-        if ((b[((int) l3) - 60712] & 0xff) == 1) { continue L7; }
+        if ((b[((int) l3) - 58904] & 0xff) == 1) { continue L7; }
         break L7;
        }
       }
-      Words.put64(b, ((int) l0) - 60680, 0L);
-      Words.put64(b, ((int) l0) - 60688, 0L);
-      Words.put64(b, ((int) l0) - 60696, 0L);
-      Words.put64(b, ((int) l0) - 60704, 0L);
-      Words.put64(b, ((int) l0) - 60712, 0L);
-      Words.put64(b, ((int) l0) - 60720, 0L);
+      Words.put64(b, ((int) l0) - 58872, 0L);
+      Words.put64(b, ((int) l0) - 58880, 0L);
+      Words.put64(b, ((int) l0) - 58888, 0L);
+      Words.put64(b, ((int) l0) - 58896, 0L);
+      Words.put64(b, ((int) l0) - 58904, 0L);
+      Words.put64(b, ((int) l0) - 58912, 0L);
       break L1;
      }
      throw State.trap();
@@ -2068,7 +3317,7 @@ static void f93(State m, long l0, long l1, long l2) {
     break L2;
    }
    L54: {
-    if (f98(m, l3 + 42L, l15, l7, l6) == 0) { break L54; }
+    if (f104(m, l3 + 42L, l15, l7, l6) == 0) { break L54; }
     l14 = 3;
     break L2;
    }
@@ -2085,21 +3334,21 @@ static void f93(State m, long l0, long l1, long l2) {
    }
    l14 = 4;
   }
-  Words.put64(b, ((int) l0) - 60720, 1L);
-  Words.put32(b, ((int) (l0 + 43L)) - 60720, 0);
-  b[((int) (l0 + 42L)) - 60720] = (byte) l14;
-  b[((int) (l0 + 41L)) - 60720] = (byte) l20;
-  b[((int) (l0 + 40L)) - 60720] = (byte) l16;
-  Words.put64(b, ((int) (l0 + 32L)) - 60720, l4);
-  Words.put64(b, ((int) (l0 + 24L)) - 60720, l5);
-  Words.put64(b, ((int) (l0 + 16L)) - 60720, l8);
-  Words.put64(b, ((int) (l0 + 8L)) - 60720, l1);
-  b[((int) (l0 + 47L)) - 60720] = (byte) 0;
+  Words.put64(b, ((int) l0) - 58912, 1L);
+  Words.put32(b, ((int) (l0 + 43L)) - 58912, 0);
+  b[((int) (l0 + 42L)) - 58912] = (byte) l14;
+  b[((int) (l0 + 41L)) - 58912] = (byte) l20;
+  b[((int) (l0 + 40L)) - 58912] = (byte) l16;
+  Words.put64(b, ((int) (l0 + 32L)) - 58912, l4);
+  Words.put64(b, ((int) (l0 + 24L)) - 58912, l5);
+  Words.put64(b, ((int) (l0 + 16L)) - 58912, l8);
+  Words.put64(b, ((int) (l0 + 8L)) - 58912, l1);
+  b[((int) (l0 + 47L)) - 58912] = (byte) 0;
  }
  m.g0 = l3 + 48L;
 }
 
-static void f94(State m, long l0, int l1, long l2, long l3, long l4) {
+static void f100(State m, long l0, int l1, long l2, long l3, long l4) {
  final byte[] b = m.bytes;
  long l5 = 0;
  long l6 = 0;
@@ -2121,50 +3370,50 @@ static void f94(State m, long l0, int l1, long l2, long l3, long l4) {
        L7: {
         L8: {
          if ((l5 = l5) < 16L) { break L8; }
-         Words.put64(b, ((int) l5) - 60680, 0L);
-         Words.put64(b, ((int) l5) - 60688, 0L);
-         Words.put64(b, ((int) l5) - 60696, 0L);
-         Words.put64(b, ((int) l5) - 60704, 0L);
-         Words.put64(b, ((int) l5) - 60552, 0L);
-         Words.put64(b, ((int) l5) - 60560, 0L);
-         Words.put64(b, ((int) l5) - 60568, 0L);
-         Words.put64(b, ((int) l5) - 60576, 0L);
+         Words.put64(b, ((int) l5) - 58872, 0L);
+         Words.put64(b, ((int) l5) - 58880, 0L);
+         Words.put64(b, ((int) l5) - 58888, 0L);
+         Words.put64(b, ((int) l5) - 58896, 0L);
+         Words.put64(b, ((int) l5) - 58744, 0L);
+         Words.put64(b, ((int) l5) - 58752, 0L);
+         Words.put64(b, ((int) l5) - 58760, 0L);
+         Words.put64(b, ((int) l5) - 58768, 0L);
          l6 = l3;
          l7 = l4;
          L9: {
           L10: while (true) {
-           Core2.f80(m, l5 + 144L, l6, l7);
-           if ((b[((int) l5) - 60576] & 0xff) != 1) { break L9; }
-           l7 = Words.get64(b, ((int) l5) - 60552);
-           l6 = Words.get64(b, ((int) l5) - 60560);
-           Core2.f63(m, l5 + 8L, Words.get32(b, ((int) l5) - 60568));
-           if ((b[((int) l5) - 60712] & 0xff) == 1) { continue L10; }
+           f86(m, l5 + 144L, l6, l7);
+           if ((b[((int) l5) - 58768] & 0xff) != 1) { break L9; }
+           l7 = Words.get64(b, ((int) l5) - 58744);
+           l6 = Words.get64(b, ((int) l5) - 58752);
+           Core2.f63(m, l5 + 8L, Words.get32(b, ((int) l5) - 58760));
+           if ((b[((int) l5) - 58904] & 0xff) == 1) { continue L10; }
            break L10;
           }
-          Words.put64(b, ((int) l5) - 60608, 0L);
-          Words.put64(b, ((int) l5) - 60600, 0L);
-          Words.put64(b, ((int) l5) - 60592, 0L);
-          Words.put64(b, ((int) l5) - 60584, 0L);
-          Words.put64(b, ((int) l5) - 60640, 0L);
-          Words.put64(b, ((int) l5) - 60632, 0L);
-          Words.put64(b, ((int) l5) - 60624, 0L);
-          Words.put64(b, ((int) l5) - 60616, 0L);
-          Words.put64(b, ((int) l5) - 60672, 0L);
-          Words.put64(b, ((int) l5) - 60664, 0L);
-          Words.put64(b, ((int) l5) - 60656, 0L);
-          Words.put64(b, ((int) l5) - 60648, 0L);
+          Words.put64(b, ((int) l5) - 58800, 0L);
+          Words.put64(b, ((int) l5) - 58792, 0L);
+          Words.put64(b, ((int) l5) - 58784, 0L);
+          Words.put64(b, ((int) l5) - 58776, 0L);
+          Words.put64(b, ((int) l5) - 58832, 0L);
+          Words.put64(b, ((int) l5) - 58824, 0L);
+          Words.put64(b, ((int) l5) - 58816, 0L);
+          Words.put64(b, ((int) l5) - 58808, 0L);
+          Words.put64(b, ((int) l5) - 58864, 0L);
+          Words.put64(b, ((int) l5) - 58856, 0L);
+          Words.put64(b, ((int) l5) - 58848, 0L);
+          Words.put64(b, ((int) l5) - 58840, 0L);
           L11: {
            if (!(l4 == 0L)) { break L11; }
-           Words.put64(b, ((int) l5) - 60600, 0L);
-           Words.put64(b, ((int) l5) - 60592, 0L);
-           Words.put64(b, ((int) l5) - 60688, 0L);
-           Words.put64(b, ((int) l5) - 60680, Words.get64(b, ((int) l5) - 60584));
+           Words.put64(b, ((int) l5) - 58792, 0L);
+           Words.put64(b, ((int) l5) - 58784, 0L);
+           Words.put64(b, ((int) l5) - 58880, 0L);
+           Words.put64(b, ((int) l5) - 58872, Words.get64(b, ((int) l5) - 58776));
            break L2;
           }
           L12: while (true) {
            L13: {
             L14: {
-             if ((l9 = b[((int) l3) - 60720] & 0xff) + Integer.MIN_VALUE > -2147483616) { break L14; }
+             if ((l9 = b[((int) l3) - 58912] & 0xff) + Integer.MIN_VALUE > -2147483616) { break L14; }
              if (((1L << (l9 & 0xffffffffL)) & 4294983168L) == 0L) { break L14; }
              l6 = 1L;
              break L13;
@@ -2175,8 +3424,8 @@ static void f94(State m, long l0, int l1, long l2, long l3, long l4) {
                if (l9 == 194) { break L17; }
                if (l4 + Long.MIN_VALUE < -9223372036854775805L) { break L16; }
                if (((l9 + 28) & 255) + Integer.MIN_VALUE < -2147483395) { break L16; }
-               l10 = b[((int) (l3 + 1L)) - 60720] & 0xff;
-               l12 = (int) (byte) (l11 = b[((int) (l3 + 2L)) - 60720] & 0xff);
+               l10 = b[((int) (l3 + 1L)) - 58912] & 0xff;
+               l12 = (int) (byte) (l11 = b[((int) (l3 + 2L)) - 58912] & 0xff);
                if (l9 != 226) { break L15; }
                if ((l10 & 255) != 128) { break L15; }
                l6 = 3L;
@@ -2186,7 +3435,7 @@ static void f94(State m, long l0, int l1, long l2, long l3, long l4) {
                break L13;
               }
               l6 = 1L;
-              l9 = b[((int) l3) - 60719] & 0xff;
+              l9 = b[((int) l3) - 58911] & 0xff;
               L18: {
                if (l4 != 1L) { break L18; }
                l12 = l9 & 63;
@@ -2198,7 +3447,7 @@ static void f94(State m, long l0, int l1, long l2, long l3, long l4) {
               if (l9 == 160) { break L13; }
              }
              if (l4 + Long.MIN_VALUE >= -9223372036854775805L) { break L7; }
-             l10 = b[((int) l3) - 60720] & 0xff;
+             l10 = b[((int) l3) - 58912] & 0xff;
              break L6;
             }
             L19: {
@@ -2229,21 +3478,21 @@ static void f94(State m, long l0, int l1, long l2, long l3, long l4) {
            if (!((l4 = l4 - l6) == 0L)) { continue L12; }
            break L12;
           }
-          Words.put64(b, ((int) l5) - 60600, 0L);
-          Words.put64(b, ((int) l5) - 60592, 0L);
-          Words.put64(b, ((int) l5) - 60688, 0L);
-          Words.put64(b, ((int) l5) - 60680, Words.get64(b, ((int) l5) - 60584));
+          Words.put64(b, ((int) l5) - 58792, 0L);
+          Words.put64(b, ((int) l5) - 58784, 0L);
+          Words.put64(b, ((int) l5) - 58880, 0L);
+          Words.put64(b, ((int) l5) - 58872, Words.get64(b, ((int) l5) - 58776));
           break L2;
          }
          Core2.f39(m, l5 + 16L, l2, l3, l4);
-         l10 = b[((int) l5) - 60696] & 0xff;
-         l9 = b[((int) l5) - 60704] & 0xff;
+         l10 = b[((int) l5) - 58888] & 0xff;
+         l9 = b[((int) l5) - 58896] & 0xff;
          break L1;
         }
         throw State.trap();
        }
-       if (((l10 = b[((int) l3) - 60720] & 0xff) & 240) != 224) { break L6; }
-       l9 = (((b[((int) l3) - 60718] & 0xff) + ((b[((int) l3) - 60719] & 0xff) << 6)) + (l10 << 12)) + -925824;
+       if (((l10 = b[((int) l3) - 58912] & 0xff) & 240) != 224) { break L6; }
+       l9 = (((b[((int) l3) - 58910] & 0xff) + ((b[((int) l3) - 58911] & 0xff) << 6)) + (l10 << 12)) + -925824;
        l6 = l4 + -3L;
        l3 = l3 + 3L;
        break L3;
@@ -2252,20 +3501,20 @@ static void f94(State m, long l0, int l1, long l2, long l3, long l4) {
       l7 = 1L;
       L23: {
        if (((int) (byte) l10) > -1) { break L23; }
-       l12 = (b[((int) l3) - 60719] & 0xff) & 63;
+       l12 = (b[((int) l3) - 58911] & 0xff) & 63;
        L24: {
         if ((l10 & 255) + Integer.MIN_VALUE > -2147483425) { break L24; }
         l6 = l4;
         break L5;
        }
-       l11 = (b[((int) l3) - 60718] & 0xff) & 63;
+       l11 = (b[((int) l3) - 58910] & 0xff) & 63;
        L25: {
         if ((l10 & 255) + Integer.MIN_VALUE > -2147483409) { break L25; }
         l9 = ((l12 << 6) | ((l9 << 12) & 61440)) | l11;
         l7 = 3L;
         break L23;
        }
-       l9 = ((l11 << 6) | ((l12 << 12) | ((l9 << 18) & 1835008))) | ((b[((int) l3) - 60717] & 0xff) & 63);
+       l9 = ((l11 << 6) | ((l12 << 12) | ((l9 << 18) & 1835008))) | ((b[((int) l3) - 58909] & 0xff) & 63);
        l7 = 4L;
       }
       l6 = l4;
@@ -2277,10 +3526,10 @@ static void f94(State m, long l0, int l1, long l2, long l3, long l4) {
     l6 = l6 - l7;
     l3 = l3 + l7;
    }
-   Words.put64(b, ((int) l5) - 60552, 0L);
-   Words.put64(b, ((int) l5) - 60560, 0L);
-   Words.put64(b, ((int) l5) - 60568, 0L);
-   Words.put64(b, ((int) l5) - 60576, 0L);
+   Words.put64(b, ((int) l5) - 58744, 0L);
+   Words.put64(b, ((int) l5) - 58752, 0L);
+   Words.put64(b, ((int) l5) - 58760, 0L);
+   Words.put64(b, ((int) l5) - 58768, 0L);
    L26: {
     L27: {
      L28: {
@@ -2288,110 +3537,110 @@ static void f94(State m, long l0, int l1, long l2, long l3, long l4) {
        L30: {
         L31: {
          if (l6 + Long.MIN_VALUE < -9223372036854775804L) { break L31; }
-         if (Words.get32(b, ((int) ((l8 = ((((l10 = Words.get32(b, ((int) ((l3 + l6) + -4L)) - 60720) >>> 8) & 0xffffffffL) * 953497L) >>> 22L) & 1016L) + 66852L)) - 60720) != l10) { break L29; }
+         if (Words.get32(b, ((int) ((l8 = ((((l10 = Words.get32(b, ((int) ((l3 + l6) + -4L)) - 58912) >>> 8) & 0xffffffffL) * 953497L) >>> 22L) & 1016L) + 66852L)) - 58912) != l10) { break L29; }
          l7 = l6 + -3L;
          l4 = l3;
          break L30;
         }
         if (l6 != 3L) { break L29; }
-        if (Words.get32(b, ((int) ((l8 = ((((l10 = (Words.get16(b, ((int) l3) - 60720) & 0xffff) | ((b[((int) l3) - 60718] & 0xff) << 16)) & 0xffffffffL) * 953497L) >>> 22L) & 1016L) + 66852L)) - 60720) != l10) { break L29; }
+        if (Words.get32(b, ((int) ((l8 = ((((l10 = (Words.get16(b, ((int) l3) - 58912) & 0xffff) | ((b[((int) l3) - 58910] & 0xff) << 16)) & 0xffffffffL) * 953497L) >>> 22L) & 1016L) + 66852L)) - 58912) != l10) { break L29; }
         l4 = l3 + 3L;
         l7 = 0L;
        }
-       l11 = b[((int) (l8 + 66856L)) - 60720] & 0xff;
-       l13 = b[((int) (l8 + 66857L)) - 60720] & 0xff;
+       l11 = b[((int) (l8 + 66856L)) - 58912] & 0xff;
+       l13 = b[((int) (l8 + 66857L)) - 58912] & 0xff;
        break L28;
       }
       Core2.f41(m, l5 + 144L, l3, l6);
-      if ((b[((int) l5) - 60576] & 0xff) != 1) { break L27; }
-      l7 = Words.get64(b, ((int) l5) - 60552);
-      l4 = Words.get64(b, ((int) l5) - 60560);
-      l13 = b[((int) l5) - 60567] & 0xff;
-      l11 = b[((int) l5) - 60568] & 0xff;
+      if ((b[((int) l5) - 58768] & 0xff) != 1) { break L27; }
+      l7 = Words.get64(b, ((int) l5) - 58744);
+      l4 = Words.get64(b, ((int) l5) - 58752);
+      l13 = b[((int) l5) - 58759] & 0xff;
+      l11 = b[((int) l5) - 58760] & 0xff;
      }
-     Words.put64(b, ((int) l5) - 60552, 0L);
-     Words.put64(b, ((int) l5) - 60560, 0L);
-     Words.put64(b, ((int) l5) - 60568, 0L);
-     Words.put64(b, ((int) l5) - 60576, 0L);
+     Words.put64(b, ((int) l5) - 58744, 0L);
+     Words.put64(b, ((int) l5) - 58752, 0L);
+     Words.put64(b, ((int) l5) - 58760, 0L);
+     Words.put64(b, ((int) l5) - 58768, 0L);
      L32: {
       L33: {
        L34: {
         if (l7 + Long.MIN_VALUE < -9223372036854775804L) { break L34; }
-        if (Words.get32(b, ((int) ((l8 = ((((l10 = Words.get32(b, ((int) ((l4 + l7) + -4L)) - 60720) >>> 8) & 0xffffffffL) * 953497L) >>> 22L) & 1016L) + 66852L)) - 60720) != l10) { break L33; }
-        l12 = b[((int) (l8 + 66856L)) - 60720] & 0xff;
-        l14 = b[((int) (l8 + 66857L)) - 60720] & 0xff;
+        if (Words.get32(b, ((int) ((l8 = ((((l10 = Words.get32(b, ((int) ((l4 + l7) + -4L)) - 58912) >>> 8) & 0xffffffffL) * 953497L) >>> 22L) & 1016L) + 66852L)) - 58912) != l10) { break L33; }
+        l12 = b[((int) (l8 + 66856L)) - 58912] & 0xff;
+        l14 = b[((int) (l8 + 66857L)) - 58912] & 0xff;
         l10 = 1;
         break L32;
        }
        if (l7 != 3L) { break L33; }
-       if (Words.get32(b, ((int) ((l8 = ((((l10 = (Words.get16(b, ((int) l4) - 60720) & 0xffff) | ((b[((int) l4) - 60718] & 0xff) << 16)) & 0xffffffffL) * 953497L) >>> 22L) & 1016L) + 66852L)) - 60720) != l10) { break L33; }
-       l12 = b[((int) (l8 + 66856L)) - 60720] & 0xff;
-       l14 = b[((int) (l8 + 66857L)) - 60720] & 0xff;
+       if (Words.get32(b, ((int) ((l8 = ((((l10 = (Words.get16(b, ((int) l4) - 58912) & 0xffff) | ((b[((int) l4) - 58910] & 0xff) << 16)) & 0xffffffffL) * 953497L) >>> 22L) & 1016L) + 66852L)) - 58912) != l10) { break L33; }
+       l12 = b[((int) (l8 + 66856L)) - 58912] & 0xff;
+       l14 = b[((int) (l8 + 66857L)) - 58912] & 0xff;
        l10 = 1;
        break L32;
       }
       Core2.f41(m, l5 + 144L, l4, l7);
-      l10 = ((b[((int) l5) - 60576] & 0xff) == 1) ? 1 : 0;
-      l14 = b[((int) l5) - 60567] & 0xff;
-      l12 = b[((int) l5) - 60568] & 0xff;
+      l10 = ((b[((int) l5) - 58768] & 0xff) == 1) ? 1 : 0;
+      l14 = b[((int) l5) - 58759] & 0xff;
+      l12 = b[((int) l5) - 58760] & 0xff;
      }
      if (l10 == 0) { break L27; }
      if ((l12 & 255) != 1) { break L27; }
      if (((((l11 & 255) != 1) | ((l13 & 255) == 0)) ? 1 : 0) != 1) { break L27; }
      if ((l14 & 255) + Integer.MIN_VALUE <= -2147483647) { break L27; }
      Core2.f42(m, l5 + 80L, l1, l2, l9, l4, l7);
-     l3 = Words.get64(b, ((int) l5) - 60624);
-     if ((b[((int) l5) - 60640] & 0xff) != 0) { break L26; }
+     l3 = Words.get64(b, ((int) l5) - 58816);
+     if ((b[((int) l5) - 58832] & 0xff) != 0) { break L26; }
      L35: {
       if ((l11 & 255) != 0) { break L35; }
-      Core2.f43(m, l5 + 48L, l1, l3, Words.get64(b, ((int) l5) - 60616), l14, l13);
+      Core2.f43(m, l5 + 48L, l1, l3, Words.get64(b, ((int) l5) - 58808), l14, l13);
       final int t36 = (int) l5;
-      final long t37 = Words.get64(b, ((int) l5) - 60656);
-      final int t38 = l9 = ((b[((int) l5) - 60672] & 0xff) != 1) ? 1 : 0;
-      Words.put64(b, t36 - 60592, l3 = t38 != 0 ? 0L : t37);
+      final long t37 = Words.get64(b, ((int) l5) - 58848);
+      final int t38 = l9 = ((b[((int) l5) - 58864] & 0xff) != 1) ? 1 : 0;
+      Words.put64(b, t36 - 58784, l3 = t38 != 0 ? 0L : t37);
       final int t39 = (int) l5;
-      final long t40 = Words.get64(b, ((int) l5) - 60648);
+      final long t40 = Words.get64(b, ((int) l5) - 58840);
       final int t41 = l9;
-      Words.put64(b, t39 - 60584, l6 = t41 != 0 ? 0L : t40);
-      Words.put64(b, ((int) l5) - 60688, l3);
-      Words.put64(b, ((int) l5) - 60680, l6);
+      Words.put64(b, t39 - 58776, l6 = t41 != 0 ? 0L : t40);
+      Words.put64(b, ((int) l5) - 58880, l3);
+      Words.put64(b, ((int) l5) - 58872, l6);
       l10 = l9 != 0 ? 2 : 0;
       break L1;
      }
      l3 = Core2.f44(m, l4, l7);
-     Words.put64(b, ((int) l5) - 60680, Words.get64(b, ((int) l5) - 60584));
-     Words.put64(b, ((int) l5) - 60688, l3 = (l3 + l2) + 1L);
-     Words.put64(b, ((int) l5) - 60592, l3);
+     Words.put64(b, ((int) l5) - 58872, Words.get64(b, ((int) l5) - 58776));
+     Words.put64(b, ((int) l5) - 58880, l3 = (l3 + l2) + 1L);
+     Words.put64(b, ((int) l5) - 58784, l3);
      l10 = 1;
      l9 = 1;
      break L1;
     }
     Core2.f42(m, l5 + 112L, l1, l2, l9, l3, l6);
-    Words.put64(b, ((int) l5) - 60688, Words.get64(b, ((int) l5) - 60592));
-    Words.put64(b, ((int) l5) - 60680, Words.get64(b, ((int) l5) - 60584));
-    l10 = b[((int) l5) - 60600] & 0xff;
-    l9 = b[((int) l5) - 60608] & 0xff;
+    Words.put64(b, ((int) l5) - 58880, Words.get64(b, ((int) l5) - 58784));
+    Words.put64(b, ((int) l5) - 58872, Words.get64(b, ((int) l5) - 58776));
+    l10 = b[((int) l5) - 58792] & 0xff;
+    l9 = b[((int) l5) - 58800] & 0xff;
     break L1;
    }
-   Words.put64(b, ((int) l5) - 60584, 0L);
-   Words.put64(b, ((int) l5) - 60592, l3);
-   Words.put64(b, ((int) l5) - 60688, l3);
-   Words.put64(b, ((int) l5) - 60680, 0L);
+   Words.put64(b, ((int) l5) - 58776, 0L);
+   Words.put64(b, ((int) l5) - 58784, l3);
+   Words.put64(b, ((int) l5) - 58880, l3);
+   Words.put64(b, ((int) l5) - 58872, 0L);
    l9 = 1;
-   l10 = b[((int) l5) - 60632] & 0xff;
+   l10 = b[((int) l5) - 58824] & 0xff;
    break L1;
   }
   l9 = 1;
   l10 = 0;
  }
- Words.put64(b, ((int) (l0 + 16L)) - 60720, Words.get64(b, ((int) l5) - 60688));
- Words.put64(b, ((int) (l0 + 24L)) - 60720, Words.get64(b, ((int) l5) - 60680));
- Words.put64(b, ((int) (l0 + 8L)) - 60720, (l10 & 0xffffffffL) & 255L);
- Words.put64(b, ((int) l0) - 60720, (l9 & 0xffffffffL) & 255L);
+ Words.put64(b, ((int) (l0 + 16L)) - 58912, Words.get64(b, ((int) l5) - 58880));
+ Words.put64(b, ((int) (l0 + 24L)) - 58912, Words.get64(b, ((int) l5) - 58872));
+ Words.put64(b, ((int) (l0 + 8L)) - 58912, (l10 & 0xffffffffL) & 255L);
+ Words.put64(b, ((int) l0) - 58912, (l9 & 0xffffffffL) & 255L);
  m.g0 = l5 + 176L;
 }
 
-static int f95_1(State m, long l0, int l1, long l2, long l4, long l6, long l8, long l9, long l12, long l13, long l14, long l16, long l17, int l18, int l19, int l20, int l21, int l22, int l23) {
+static int f101_1(State m, long l0, int l1, long l2, long l4, long l6, long l8, long l9, long l12, long l13, long l14, long l16, long l17, int l18, int l19, int l20, int l21, int l22, int l23) {
  final byte[] b = m.bytes;
  int exit = 0;
  PART: {
@@ -2410,7 +3659,7 @@ static int f95_1(State m, long l0, int l1, long l2, long l4, long l6, long l8, l
           L56: while (true) {
            L57: {
             L58: {
-             if ((l18 = b[((int) l4) - 60720] & 0xff) + Integer.MIN_VALUE > -2147483616) { break L58; }
+             if ((l18 = b[((int) l4) - 58912] & 0xff) + Integer.MIN_VALUE > -2147483616) { break L58; }
              if (((1L << (l18 & 0xffffffffL)) & 4294983168L) == 0L) { break L58; }
              l13 = 1L;
              break L57;
@@ -2421,8 +3670,8 @@ static int f95_1(State m, long l0, int l1, long l2, long l4, long l6, long l8, l
                if (l18 == 194) { break L61; }
                if (l12 + Long.MIN_VALUE < -9223372036854775805L) { break L60; }
                if (((l18 + 28) & 255) + Integer.MIN_VALUE < -2147483395) { break L60; }
-               l19 = b[((int) (l4 + 1L)) - 60720] & 0xff;
-               l21 = (int) (byte) (l20 = b[((int) (l4 + 2L)) - 60720] & 0xff);
+               l19 = b[((int) (l4 + 1L)) - 58912] & 0xff;
+               l21 = (int) (byte) (l20 = b[((int) (l4 + 2L)) - 58912] & 0xff);
                if (l18 != 226) { break L59; }
                if ((l19 & 255) != 128) { break L59; }
                l13 = 3L;
@@ -2432,7 +3681,7 @@ static int f95_1(State m, long l0, int l1, long l2, long l4, long l6, long l8, l
                break L57;
               }
               l13 = 1L;
-              l18 = b[((int) l4) - 60719] & 0xff;
+              l18 = b[((int) l4) - 58911] & 0xff;
               L62: {
                if (l12 != 1L) { break L62; }
                l21 = l18 & 63;
@@ -2444,7 +3693,7 @@ static int f95_1(State m, long l0, int l1, long l2, long l4, long l6, long l8, l
               if (l18 == 160) { break L57; }
              }
              if (l12 + Long.MIN_VALUE >= -9223372036854775805L) { break L54; }
-             l19 = b[((int) l4) - 60720] & 0xff;
+             l19 = b[((int) l4) - 58912] & 0xff;
              break L53;
             }
             L63: {
@@ -2477,13 +3726,13 @@ static int f95_1(State m, long l0, int l1, long l2, long l4, long l6, long l8, l
           }
           l4 = 0L;
          }
-         Words.put64(b, ((int) l6) - 60560, l4);
-         Words.put64(b, ((int) l6) - 60568, l4);
+         Words.put64(b, ((int) l6) - 58752, l4);
+         Words.put64(b, ((int) l6) - 58760, l4);
          l18 = 0;
          break L49;
         }
-        if (((l19 = b[((int) l4) - 60720] & 0xff) & 240) != 224) { break L53; }
-        l18 = (((b[((int) l4) - 60718] & 0xff) + ((b[((int) l4) - 60719] & 0xff) << 6)) + (l19 << 12)) + -925824;
+        if (((l19 = b[((int) l4) - 58912] & 0xff) & 240) != 224) { break L53; }
+        l18 = (((b[((int) l4) - 58910] & 0xff) + ((b[((int) l4) - 58911] & 0xff) << 6)) + (l19 << 12)) + -925824;
         l13 = l12 + -3L;
         l4 = l4 + 3L;
         break L50;
@@ -2492,20 +3741,20 @@ static int f95_1(State m, long l0, int l1, long l2, long l4, long l6, long l8, l
        l16 = 1L;
        L67: {
         if (((int) (byte) l19) > -1) { break L67; }
-        l21 = (b[((int) l4) - 60719] & 0xff) & 63;
+        l21 = (b[((int) l4) - 58911] & 0xff) & 63;
         L68: {
          if ((l19 & 255) + Integer.MIN_VALUE > -2147483425) { break L68; }
          l13 = l12;
          break L52;
         }
-        l20 = (b[((int) l4) - 60718] & 0xff) & 63;
+        l20 = (b[((int) l4) - 58910] & 0xff) & 63;
         L69: {
          if ((l19 & 255) + Integer.MIN_VALUE > -2147483409) { break L69; }
          l18 = ((l21 << 6) | ((l18 << 12) & 61440)) | l20;
          l16 = 3L;
          break L67;
         }
-        l18 = ((l20 << 6) | ((l21 << 12) | ((l18 << 18) & 1835008))) | ((b[((int) l4) - 60717] & 0xff) & 63);
+        l18 = ((l20 << 6) | ((l21 << 12) | ((l18 << 18) & 1835008))) | ((b[((int) l4) - 58909] & 0xff) & 63);
         l16 = 4L;
        }
        l13 = l12;
@@ -2517,10 +3766,10 @@ static int f95_1(State m, long l0, int l1, long l2, long l4, long l6, long l8, l
      l13 = l13 - l16;
      l4 = l4 + l16;
     }
-    Words.put64(b, ((int) l6) - 60520, 0L);
-    Words.put64(b, ((int) l6) - 60528, 0L);
-    Words.put64(b, ((int) l6) - 60536, 0L);
-    Words.put64(b, ((int) l6) - 60544, 0L);
+    Words.put64(b, ((int) l6) - 58712, 0L);
+    Words.put64(b, ((int) l6) - 58720, 0L);
+    Words.put64(b, ((int) l6) - 58728, 0L);
+    Words.put64(b, ((int) l6) - 58736, 0L);
     L70: {
      L71: {
       L72: {
@@ -2530,83 +3779,83 @@ static int f95_1(State m, long l0, int l1, long l2, long l4, long l6, long l8, l
           L76: {
            L77: {
             if (l13 + Long.MIN_VALUE < -9223372036854775804L) { break L77; }
-            if (Words.get32(b, ((int) ((l17 = ((((l19 = Words.get32(b, ((int) ((l4 + l13) + -4L)) - 60720) >>> 8) & 0xffffffffL) * 953497L) >>> 22L) & 1016L) + 66852L)) - 60720) != l19) { break L75; }
+            if (Words.get32(b, ((int) ((l17 = ((((l19 = Words.get32(b, ((int) ((l4 + l13) + -4L)) - 58912) >>> 8) & 0xffffffffL) * 953497L) >>> 22L) & 1016L) + 66852L)) - 58912) != l19) { break L75; }
             l12 = l13 + -3L;
             l16 = l4;
             break L76;
            }
            if (l13 != 3L) { break L75; }
-           if (Words.get32(b, ((int) ((l17 = ((((l19 = (Words.get16(b, ((int) l4) - 60720) & 0xffff) | ((b[((int) l4) - 60718] & 0xff) << 16)) & 0xffffffffL) * 953497L) >>> 22L) & 1016L) + 66852L)) - 60720) != l19) { break L75; }
+           if (Words.get32(b, ((int) ((l17 = ((((l19 = (Words.get16(b, ((int) l4) - 58912) & 0xffff) | ((b[((int) l4) - 58910] & 0xff) << 16)) & 0xffffffffL) * 953497L) >>> 22L) & 1016L) + 66852L)) - 58912) != l19) { break L75; }
            l16 = l4 + 3L;
            l12 = 0L;
           }
-          l20 = b[((int) (l17 + 66856L)) - 60720] & 0xff;
-          l22 = b[((int) (l17 + 66857L)) - 60720] & 0xff;
+          l20 = b[((int) (l17 + 66856L)) - 58912] & 0xff;
+          l22 = b[((int) (l17 + 66857L)) - 58912] & 0xff;
           break L74;
          }
          Core2.f41(m, l6 + 176L, l4, l13);
-         if ((b[((int) l6) - 60544] & 0xff) != 1) { break L73; }
-         l12 = Words.get64(b, ((int) l6) - 60520);
-         l16 = Words.get64(b, ((int) l6) - 60528);
-         l22 = b[((int) l6) - 60535] & 0xff;
-         l20 = b[((int) l6) - 60536] & 0xff;
+         if ((b[((int) l6) - 58736] & 0xff) != 1) { break L73; }
+         l12 = Words.get64(b, ((int) l6) - 58712);
+         l16 = Words.get64(b, ((int) l6) - 58720);
+         l22 = b[((int) l6) - 58727] & 0xff;
+         l20 = b[((int) l6) - 58728] & 0xff;
         }
-        Words.put64(b, ((int) l6) - 60520, 0L);
-        Words.put64(b, ((int) l6) - 60528, 0L);
-        Words.put64(b, ((int) l6) - 60536, 0L);
-        Words.put64(b, ((int) l6) - 60544, 0L);
+        Words.put64(b, ((int) l6) - 58712, 0L);
+        Words.put64(b, ((int) l6) - 58720, 0L);
+        Words.put64(b, ((int) l6) - 58728, 0L);
+        Words.put64(b, ((int) l6) - 58736, 0L);
         L78: {
          L79: {
           L80: {
            if (l12 + Long.MIN_VALUE < -9223372036854775804L) { break L80; }
-           if (Words.get32(b, ((int) ((l17 = ((((l19 = Words.get32(b, ((int) ((l16 + l12) + -4L)) - 60720) >>> 8) & 0xffffffffL) * 953497L) >>> 22L) & 1016L) + 66852L)) - 60720) != l19) { break L79; }
-           l21 = b[((int) (l17 + 66856L)) - 60720] & 0xff;
-           l23 = b[((int) (l17 + 66857L)) - 60720] & 0xff;
+           if (Words.get32(b, ((int) ((l17 = ((((l19 = Words.get32(b, ((int) ((l16 + l12) + -4L)) - 58912) >>> 8) & 0xffffffffL) * 953497L) >>> 22L) & 1016L) + 66852L)) - 58912) != l19) { break L79; }
+           l21 = b[((int) (l17 + 66856L)) - 58912] & 0xff;
+           l23 = b[((int) (l17 + 66857L)) - 58912] & 0xff;
            l19 = 1;
            break L78;
           }
           if (l12 != 3L) { break L79; }
-          if (Words.get32(b, ((int) ((l17 = ((((l19 = (Words.get16(b, ((int) l16) - 60720) & 0xffff) | ((b[((int) l16) - 60718] & 0xff) << 16)) & 0xffffffffL) * 953497L) >>> 22L) & 1016L) + 66852L)) - 60720) != l19) { break L79; }
-          l21 = b[((int) (l17 + 66856L)) - 60720] & 0xff;
-          l23 = b[((int) (l17 + 66857L)) - 60720] & 0xff;
+          if (Words.get32(b, ((int) ((l17 = ((((l19 = (Words.get16(b, ((int) l16) - 58912) & 0xffff) | ((b[((int) l16) - 58910] & 0xff) << 16)) & 0xffffffffL) * 953497L) >>> 22L) & 1016L) + 66852L)) - 58912) != l19) { break L79; }
+          l21 = b[((int) (l17 + 66856L)) - 58912] & 0xff;
+          l23 = b[((int) (l17 + 66857L)) - 58912] & 0xff;
           l19 = 1;
           break L78;
          }
          Core2.f41(m, l6 + 176L, l16, l12);
-         l19 = ((b[((int) l6) - 60544] & 0xff) == 1) ? 1 : 0;
-         l23 = b[((int) l6) - 60535] & 0xff;
-         l21 = b[((int) l6) - 60536] & 0xff;
+         l19 = ((b[((int) l6) - 58736] & 0xff) == 1) ? 1 : 0;
+         l23 = b[((int) l6) - 58727] & 0xff;
+         l21 = b[((int) l6) - 58728] & 0xff;
         }
         if (l19 == 0) { break L73; }
         if ((l21 & 255) != 1) { break L73; }
         if (((((l20 & 255) != 1) | ((l22 & 255) == 0)) ? 1 : 0) != 1) { break L73; }
         if ((l23 & 255) + Integer.MIN_VALUE <= -2147483647) { break L73; }
         Core2.f42(m, l6 + 112L, l1, l14, l18, l16, l12);
-        l4 = Words.get64(b, ((int) l6) - 60592);
-        if ((b[((int) l6) - 60608] & 0xff) != 0) { break L72; }
+        l4 = Words.get64(b, ((int) l6) - 58784);
+        if ((b[((int) l6) - 58800] & 0xff) != 0) { break L72; }
         if ((l20 & 255) == 0) { break L71; }
-        Words.put64(b, ((int) l6) - 60560, l4 = (Core2.f44(m, l16, l12) + l14) + 1L);
+        Words.put64(b, ((int) l6) - 58752, l4 = (Core2.f44(m, l16, l12) + l14) + 1L);
         l18 = 1;
         break L49;
        }
        Core2.f42(m, l6 + 144L, l1, l14, l18, l4, l13);
-       l4 = Words.get64(b, ((int) l6) - 60560);
-       if ((b[((int) l6) - 60576] & 0xff) != 0) { break L70; }
-       l13 = Words.get64(b, ((int) l6) - 60552);
+       l4 = Words.get64(b, ((int) l6) - 58752);
+       if ((b[((int) l6) - 58768] & 0xff) != 0) { break L70; }
+       l13 = Words.get64(b, ((int) l6) - 58744);
        break L48;
       }
-      Words.put64(b, ((int) l6) - 60552, 0L);
-      Words.put64(b, ((int) l6) - 60560, l4);
-      l18 = b[((int) l6) - 60600] & 0xff;
+      Words.put64(b, ((int) l6) - 58744, 0L);
+      Words.put64(b, ((int) l6) - 58752, l4);
+      l18 = b[((int) l6) - 58792] & 0xff;
       break L49;
      }
-     Core2.f43(m, l6 + 80L, l1, l4, Words.get64(b, ((int) l6) - 60584), l23, l22);
-     final long t81 = Words.get64(b, ((int) l6) - 60624);
-     final int t82 = l18 = ((b[((int) l6) - 60640] & 0xff) == 1) ? 1 : 0;
+     Core2.f43(m, l6 + 80L, l1, l4, Words.get64(b, ((int) l6) - 58776), l23, l22);
+     final long t81 = Words.get64(b, ((int) l6) - 58816);
+     final int t82 = l18 = ((b[((int) l6) - 58832] & 0xff) == 1) ? 1 : 0;
      l4 = t82 != 0 ? t81 : 0L;
      L83: {
       if (l18 == 0) { break L83; }
-      final long t84 = Words.get64(b, ((int) l6) - 60616);
+      final long t84 = Words.get64(b, ((int) l6) - 58808);
       final int t85 = l18;
       l13 = t85 != 0 ? t84 : 0L;
       break L48;
@@ -2614,12 +3863,12 @@ static int f95_1(State m, long l0, int l1, long l2, long l4, long l6, long l8, l
      l18 = l18 != 0 ? 0 : 2;
      break L49;
     }
-    l18 = b[((int) l6) - 60568] & 0xff;
+    l18 = b[((int) l6) - 58760] & 0xff;
    }
-   Words.put64(b, ((int) l0) - 60720, 1L);
-   Words.put64(b, ((int) (l0 + 24L)) - 60720, 0L);
-   Words.put64(b, ((int) (l0 + 16L)) - 60720, l4);
-   Words.put64(b, ((int) (l0 + 8L)) - 60720, (l18 & 0xffffffffL) & 255L);
+   Words.put64(b, ((int) l0) - 58912, 1L);
+   Words.put64(b, ((int) (l0 + 24L)) - 58912, 0L);
+   Words.put64(b, ((int) (l0 + 16L)) - 58912, l4);
+   Words.put64(b, ((int) (l0 + 8L)) - 58912, (l18 & 0xffffffffL) & 255L);
    exit = 1; break PART;
   }
  }
@@ -2638,7 +3887,7 @@ static int f95_1(State m, long l0, int l1, long l2, long l4, long l6, long l8, l
  return exit;
 }
 
-static void f95(State m, long l0, int l1, long l2, int l3, long l4) {
+static void f101(State m, long l0, int l1, long l2, int l3, long l4) {
  final byte[] b = m.bytes;
  long l5 = 0;
  long l6 = 0;
@@ -2670,29 +3919,29 @@ static void f95(State m, long l0, int l1, long l2, int l3, long l4) {
         L8: {
          L9: {
           if ((l6 = l5) < 16L) { break L9; }
-          l7 = Words.get64(b, ((int) l4) - 60688);
-          l8 = Words.get64(b, ((int) l4) - 60696);
-          l9 = Words.get64(b, ((int) l4) - 60704);
-          l10 = Words.get64(b, ((int) l4) - 60712);
-          l11 = Words.get64(b, ((int) l4) - 60720);
+          l7 = Words.get64(b, ((int) l4) - 58880);
+          l8 = Words.get64(b, ((int) l4) - 58888);
+          l9 = Words.get64(b, ((int) l4) - 58896);
+          l10 = Words.get64(b, ((int) l4) - 58904);
+          l11 = Words.get64(b, ((int) l4) - 58912);
           l5 = 0L;
-          Words.put64(b, ((int) l6) - 60648, 0L);
-          Words.put64(b, ((int) l6) - 60656, 0L);
-          Words.put64(b, ((int) l6) - 60664, 0L);
-          Words.put64(b, ((int) l6) - 60672, 0L);
-          Words.put64(b, ((int) l6) - 60680, 0L);
-          Words.put64(b, ((int) l6) - 60576, 0L);
-          Words.put64(b, ((int) l6) - 60568, 0L);
-          Words.put64(b, ((int) l6) - 60560, 0L);
-          Words.put64(b, ((int) l6) - 60552, 0L);
-          Words.put64(b, ((int) l6) - 60608, 0L);
-          Words.put64(b, ((int) l6) - 60600, 0L);
-          Words.put64(b, ((int) l6) - 60592, 0L);
-          Words.put64(b, ((int) l6) - 60584, 0L);
-          Words.put64(b, ((int) l6) - 60640, 0L);
-          Words.put64(b, ((int) l6) - 60632, 0L);
-          Words.put64(b, ((int) l6) - 60624, 0L);
-          Words.put64(b, ((int) l6) - 60616, 0L);
+          Words.put64(b, ((int) l6) - 58840, 0L);
+          Words.put64(b, ((int) l6) - 58848, 0L);
+          Words.put64(b, ((int) l6) - 58856, 0L);
+          Words.put64(b, ((int) l6) - 58864, 0L);
+          Words.put64(b, ((int) l6) - 58872, 0L);
+          Words.put64(b, ((int) l6) - 58768, 0L);
+          Words.put64(b, ((int) l6) - 58760, 0L);
+          Words.put64(b, ((int) l6) - 58752, 0L);
+          Words.put64(b, ((int) l6) - 58744, 0L);
+          Words.put64(b, ((int) l6) - 58800, 0L);
+          Words.put64(b, ((int) l6) - 58792, 0L);
+          Words.put64(b, ((int) l6) - 58784, 0L);
+          Words.put64(b, ((int) l6) - 58776, 0L);
+          Words.put64(b, ((int) l6) - 58832, 0L);
+          Words.put64(b, ((int) l6) - 58824, 0L);
+          Words.put64(b, ((int) l6) - 58816, 0L);
+          Words.put64(b, ((int) l6) - 58808, 0L);
           l12 = l2;
           l13 = l10;
           l4 = l11;
@@ -2700,7 +3949,7 @@ static void f95(State m, long l0, int l1, long l2, int l3, long l4) {
           L10: while (true) {
            L11: {
             L12: {
-             if ((l18 = b[((int) l4) - 60720] & 0xff) + Integer.MIN_VALUE > -2147483616) { break L12; }
+             if ((l18 = b[((int) l4) - 58912] & 0xff) + Integer.MIN_VALUE > -2147483616) { break L12; }
              if (((1L << (l18 & 0xffffffffL)) & 4294983168L) == 0L) { break L12; }
              l5 = 1L;
              break L11;
@@ -2711,8 +3960,8 @@ static void f95(State m, long l0, int l1, long l2, int l3, long l4) {
                if (l18 == 194) { break L15; }
                if (l13 + Long.MIN_VALUE < -9223372036854775805L) { break L14; }
                if (((l18 + 28) & 255) + Integer.MIN_VALUE < -2147483395) { break L14; }
-               l19 = b[((int) (l4 + 1L)) - 60720] & 0xff;
-               l21 = (int) (byte) (l20 = b[((int) (l4 + 2L)) - 60720] & 0xff);
+               l19 = b[((int) (l4 + 1L)) - 58912] & 0xff;
+               l21 = (int) (byte) (l20 = b[((int) (l4 + 2L)) - 58912] & 0xff);
                if (l18 != 226) { break L13; }
                if ((l19 & 255) != 128) { break L13; }
                l5 = 3L;
@@ -2722,7 +3971,7 @@ static void f95(State m, long l0, int l1, long l2, int l3, long l4) {
                break L11;
               }
               l5 = 1L;
-              l18 = b[((int) l4) - 60719] & 0xff;
+              l18 = b[((int) l4) - 58911] & 0xff;
               L16: {
                if (l13 != 1L) { break L16; }
                l21 = l18 & 63;
@@ -2734,7 +3983,7 @@ static void f95(State m, long l0, int l1, long l2, int l3, long l4) {
               if (l18 == 160) { break L11; }
              }
              if (l13 + Long.MIN_VALUE >= -9223372036854775805L) { break L8; }
-             l19 = b[((int) l4) - 60720] & 0xff;
+             l19 = b[((int) l4) - 58912] & 0xff;
              break L7;
             }
             L17: {
@@ -2770,8 +4019,8 @@ static void f95(State m, long l0, int l1, long l2, int l3, long l4) {
          }
          throw State.trap();
         }
-        if (((l19 = b[((int) l4) - 60720] & 0xff) & 240) != 224) { break L7; }
-        l18 = (((b[((int) l4) - 60718] & 0xff) + ((b[((int) l4) - 60719] & 0xff) << 6)) + (l19 << 12)) + -925824;
+        if (((l19 = b[((int) l4) - 58912] & 0xff) & 240) != 224) { break L7; }
+        l18 = (((b[((int) l4) - 58910] & 0xff) + ((b[((int) l4) - 58911] & 0xff) << 6)) + (l19 << 12)) + -925824;
         l5 = l13 + -3L;
         l4 = l4 + 3L;
         break L4;
@@ -2780,20 +4029,20 @@ static void f95(State m, long l0, int l1, long l2, int l3, long l4) {
        l14 = 1L;
        L21: {
         if (((int) (byte) l19) > -1) { break L21; }
-        l21 = (b[((int) l4) - 60719] & 0xff) & 63;
+        l21 = (b[((int) l4) - 58911] & 0xff) & 63;
         L22: {
          if ((l19 & 255) + Integer.MIN_VALUE > -2147483425) { break L22; }
          l5 = l13;
          break L6;
         }
-        l20 = (b[((int) l4) - 60718] & 0xff) & 63;
+        l20 = (b[((int) l4) - 58910] & 0xff) & 63;
         L23: {
          if ((l19 & 255) + Integer.MIN_VALUE > -2147483409) { break L23; }
          l18 = ((l21 << 6) | ((l18 << 12) & 61440)) | l20;
          l14 = 3L;
          break L21;
         }
-        l18 = ((l20 << 6) | ((l21 << 12) | ((l18 << 18) & 1835008))) | ((b[((int) l4) - 60717] & 0xff) & 63);
+        l18 = ((l20 << 6) | ((l21 << 12) | ((l18 << 18) & 1835008))) | ((b[((int) l4) - 58909] & 0xff) & 63);
         l14 = 4L;
        }
        l5 = l13;
@@ -2805,10 +4054,10 @@ static void f95(State m, long l0, int l1, long l2, int l3, long l4) {
      l5 = l5 - l14;
      l4 = l4 + l14;
     }
-    Words.put64(b, ((int) l6) - 60520, 0L);
-    Words.put64(b, ((int) l6) - 60528, 0L);
-    Words.put64(b, ((int) l6) - 60536, 0L);
-    Words.put64(b, ((int) l6) - 60544, 0L);
+    Words.put64(b, ((int) l6) - 58712, 0L);
+    Words.put64(b, ((int) l6) - 58720, 0L);
+    Words.put64(b, ((int) l6) - 58728, 0L);
+    Words.put64(b, ((int) l6) - 58736, 0L);
     L24: {
      L25: {
       L26: {
@@ -2821,82 +4070,82 @@ static void f95(State m, long l0, int l1, long l2, int l3, long l4) {
              L33: {
               L34: {
                if (l5 + Long.MIN_VALUE < -9223372036854775804L) { break L34; }
-               if (Words.get32(b, ((int) ((l15 = ((((l19 = Words.get32(b, ((int) ((l4 + l5) + -4L)) - 60720) >>> 8) & 0xffffffffL) * 953497L) >>> 22L) & 1016L) + 66852L)) - 60720) != l19) { break L32; }
+               if (Words.get32(b, ((int) ((l15 = ((((l19 = Words.get32(b, ((int) ((l4 + l5) + -4L)) - 58912) >>> 8) & 0xffffffffL) * 953497L) >>> 22L) & 1016L) + 66852L)) - 58912) != l19) { break L32; }
                l13 = l5 + -3L;
                l14 = l4;
                break L33;
               }
               if (l5 != 3L) { break L32; }
-              if (Words.get32(b, ((int) ((l15 = ((((l19 = (Words.get16(b, ((int) l4) - 60720) & 0xffff) | ((b[((int) l4) - 60718] & 0xff) << 16)) & 0xffffffffL) * 953497L) >>> 22L) & 1016L) + 66852L)) - 60720) != l19) { break L32; }
+              if (Words.get32(b, ((int) ((l15 = ((((l19 = (Words.get16(b, ((int) l4) - 58912) & 0xffff) | ((b[((int) l4) - 58910] & 0xff) << 16)) & 0xffffffffL) * 953497L) >>> 22L) & 1016L) + 66852L)) - 58912) != l19) { break L32; }
               l14 = l4 + 3L;
               l13 = 0L;
              }
-             l20 = b[((int) (l15 + 66856L)) - 60720] & 0xff;
-             l22 = b[((int) (l15 + 66857L)) - 60720] & 0xff;
+             l20 = b[((int) (l15 + 66856L)) - 58912] & 0xff;
+             l22 = b[((int) (l15 + 66857L)) - 58912] & 0xff;
              break L31;
             }
             Core2.f41(m, l6 + 176L, l4, l5);
-            if ((b[((int) l6) - 60544] & 0xff) != 1) { break L30; }
-            l13 = Words.get64(b, ((int) l6) - 60520);
-            l14 = Words.get64(b, ((int) l6) - 60528);
-            l22 = b[((int) l6) - 60535] & 0xff;
-            l20 = b[((int) l6) - 60536] & 0xff;
+            if ((b[((int) l6) - 58736] & 0xff) != 1) { break L30; }
+            l13 = Words.get64(b, ((int) l6) - 58712);
+            l14 = Words.get64(b, ((int) l6) - 58720);
+            l22 = b[((int) l6) - 58727] & 0xff;
+            l20 = b[((int) l6) - 58728] & 0xff;
            }
-           Words.put64(b, ((int) l6) - 60520, 0L);
-           Words.put64(b, ((int) l6) - 60528, 0L);
-           Words.put64(b, ((int) l6) - 60536, 0L);
-           Words.put64(b, ((int) l6) - 60544, 0L);
+           Words.put64(b, ((int) l6) - 58712, 0L);
+           Words.put64(b, ((int) l6) - 58720, 0L);
+           Words.put64(b, ((int) l6) - 58728, 0L);
+           Words.put64(b, ((int) l6) - 58736, 0L);
            L35: {
             L36: {
              L37: {
               if (l13 + Long.MIN_VALUE < -9223372036854775804L) { break L37; }
-              if (Words.get32(b, ((int) ((l15 = ((((l19 = Words.get32(b, ((int) ((l14 + l13) + -4L)) - 60720) >>> 8) & 0xffffffffL) * 953497L) >>> 22L) & 1016L) + 66852L)) - 60720) != l19) { break L36; }
-              l21 = b[((int) (l15 + 66856L)) - 60720] & 0xff;
-              l23 = b[((int) (l15 + 66857L)) - 60720] & 0xff;
+              if (Words.get32(b, ((int) ((l15 = ((((l19 = Words.get32(b, ((int) ((l14 + l13) + -4L)) - 58912) >>> 8) & 0xffffffffL) * 953497L) >>> 22L) & 1016L) + 66852L)) - 58912) != l19) { break L36; }
+              l21 = b[((int) (l15 + 66856L)) - 58912] & 0xff;
+              l23 = b[((int) (l15 + 66857L)) - 58912] & 0xff;
               l19 = 1;
               break L35;
              }
              if (l13 != 3L) { break L36; }
-             if (Words.get32(b, ((int) ((l15 = ((((l19 = (Words.get16(b, ((int) l14) - 60720) & 0xffff) | ((b[((int) l14) - 60718] & 0xff) << 16)) & 0xffffffffL) * 953497L) >>> 22L) & 1016L) + 66852L)) - 60720) != l19) { break L36; }
-             l21 = b[((int) (l15 + 66856L)) - 60720] & 0xff;
-             l23 = b[((int) (l15 + 66857L)) - 60720] & 0xff;
+             if (Words.get32(b, ((int) ((l15 = ((((l19 = (Words.get16(b, ((int) l14) - 58912) & 0xffff) | ((b[((int) l14) - 58910] & 0xff) << 16)) & 0xffffffffL) * 953497L) >>> 22L) & 1016L) + 66852L)) - 58912) != l19) { break L36; }
+             l21 = b[((int) (l15 + 66856L)) - 58912] & 0xff;
+             l23 = b[((int) (l15 + 66857L)) - 58912] & 0xff;
              l19 = 1;
              break L35;
             }
             Core2.f41(m, l6 + 176L, l14, l13);
-            l19 = ((b[((int) l6) - 60544] & 0xff) == 1) ? 1 : 0;
-            l23 = b[((int) l6) - 60535] & 0xff;
-            l21 = b[((int) l6) - 60536] & 0xff;
+            l19 = ((b[((int) l6) - 58736] & 0xff) == 1) ? 1 : 0;
+            l23 = b[((int) l6) - 58727] & 0xff;
+            l21 = b[((int) l6) - 58728] & 0xff;
            }
            if (l19 == 0) { break L30; }
            if ((l21 & 255) != 1) { break L30; }
            if (((((l20 & 255) != 1) | ((l22 & 255) == 0)) ? 1 : 0) != 1) { break L30; }
            if ((l23 & 255) + Integer.MIN_VALUE <= -2147483647) { break L30; }
            Core2.f42(m, l6 + 112L, l1, l12, l18, l14, l13);
-           l5 = Words.get64(b, ((int) l6) - 60592);
-           if ((b[((int) l6) - 60608] & 0xff) != 0) { break L29; }
+           l5 = Words.get64(b, ((int) l6) - 58784);
+           if ((b[((int) l6) - 58800] & 0xff) != 0) { break L29; }
            if ((l20 & 255) == 0) { break L28; }
-           Words.put64(b, ((int) l6) - 60560, l5 = (Core2.f44(m, l14, l13) + l12) + 1L);
+           Words.put64(b, ((int) l6) - 58752, l5 = (Core2.f44(m, l14, l13) + l12) + 1L);
            l18 = 1;
            break L2;
           }
           Core2.f42(m, l6 + 144L, l1, l12, l18, l4, l5);
-          l5 = Words.get64(b, ((int) l6) - 60560);
-          if ((b[((int) l6) - 60576] & 0xff) != 0) { break L26; }
-          l15 = Words.get64(b, ((int) l6) - 60552);
+          l5 = Words.get64(b, ((int) l6) - 58752);
+          if ((b[((int) l6) - 58768] & 0xff) != 0) { break L26; }
+          l15 = Words.get64(b, ((int) l6) - 58744);
           break L27;
          }
-         Words.put64(b, ((int) l6) - 60552, 0L);
-         Words.put64(b, ((int) l6) - 60560, l5);
-         l18 = b[((int) l6) - 60600] & 0xff;
+         Words.put64(b, ((int) l6) - 58744, 0L);
+         Words.put64(b, ((int) l6) - 58752, l5);
+         l18 = b[((int) l6) - 58792] & 0xff;
          break L2;
         }
-        Core2.f43(m, l6 + 80L, l1, l5, Words.get64(b, ((int) l6) - 60584), l23, l22);
-        final long t38 = Words.get64(b, ((int) l6) - 60624);
-        final int t39 = l19 = ((l18 = b[((int) l6) - 60640] & 0xff) == 1) ? 1 : 0;
+        Core2.f43(m, l6 + 80L, l1, l5, Words.get64(b, ((int) l6) - 58776), l23, l22);
+        final long t38 = Words.get64(b, ((int) l6) - 58816);
+        final int t39 = l19 = ((l18 = b[((int) l6) - 58832] & 0xff) == 1) ? 1 : 0;
         l5 = t39 != 0 ? t38 : 0L;
         if (l18 != 1) { break L25; }
-        final long t40 = Words.get64(b, ((int) l6) - 60616);
+        final long t40 = Words.get64(b, ((int) l6) - 58808);
         final int t41 = l19;
         l15 = t41 != 0 ? t40 : 0L;
        }
@@ -2905,14 +4154,14 @@ static void f95(State m, long l0, int l1, long l2, int l3, long l4) {
        L42: {
         if (l10 + Long.MIN_VALUE < -9223372036854775776L) { break L42; }
         Core1.f25(m, l6 + 24L, l11, l10, l10);
-        l13 = l10 - Words.get64(b, ((int) l6) - 60688);
-        l4 = Words.get64(b, ((int) l6) - 60696);
+        l13 = l10 - Words.get64(b, ((int) l6) - 58880);
+        l4 = Words.get64(b, ((int) l6) - 58888);
        }
        if ((l10 - l4) + Long.MIN_VALUE < -9223372036854775800L) { break L24; }
        L43: while (true) {
         L44: {
          L45: {
-          if (((l12 = Words.get64(b, ((int) (l11 + l4)) - 60720)) & 67553998437089520L) != 63050398541283552L) { break L45; }
+          if (((l12 = Words.get64(b, ((int) (l11 + l4)) - 58912)) & 67553998437089520L) != 63050398541283552L) { break L45; }
           l13 = l13 + 3L;
           l4 = l4 + 9L;
           break L44;
@@ -2925,7 +4174,7 @@ static void f95(State m, long l0, int l1, long l2, int l3, long l4) {
         continue L43;
        }
       }
-      l18 = b[((int) l6) - 60568] & 0xff;
+      l18 = b[((int) l6) - 58760] & 0xff;
       break L2;
      }
      l18 = l19 != 0 ? 0 : 2;
@@ -2935,24 +4184,24 @@ static void f95(State m, long l0, int l1, long l2, int l3, long l4) {
      if (l4 + Long.MIN_VALUE >= l10 + Long.MIN_VALUE) { break L46; }
      L47: while (true) {
       l13 = l13 + 1L;
-      if ((l4 = Words.get64(b, ((int) (((((b[((int) (l11 + l4)) - 60720] & 0xff) >>> 1) & 0xffffffffL) & 120L) + 66680L)) - 60720) + l4) + Long.MIN_VALUE < l10 + Long.MIN_VALUE) { continue L47; }
+      if ((l4 = Words.get64(b, ((int) (((((b[((int) (l11 + l4)) - 58912] & 0xff) >>> 1) & 0xffffffffL) & 120L) + 66680L)) - 58912) + l4) + Long.MIN_VALUE < l10 + Long.MIN_VALUE) { continue L47; }
       break L47;
      }
     }
     l4 = 0L;
-    Words.put64(b, ((int) l6) - 60576, 0L);
-    Words.put64(b, ((int) l6) - 60568, 0L);
-    Words.put64(b, ((int) l6) - 60560, 0L);
-    Words.put64(b, ((int) l6) - 60552, 0L);
-    Words.put64(b, ((int) l6) - 60608, 0L);
-    Words.put64(b, ((int) l6) - 60600, 0L);
-    Words.put64(b, ((int) l6) - 60592, 0L);
-    Words.put64(b, ((int) l6) - 60584, 0L);
-    Words.put64(b, ((int) l6) - 60640, 0L);
-    Words.put64(b, ((int) l6) - 60632, 0L);
-    Words.put64(b, ((int) l6) - 60624, 0L);
-    Words.put64(b, ((int) l6) - 60616, 0L);
-    final int x86 = f95_1(m, l0, l1, l2, l4, l6, l8, l9, l12, l13, l14, l16, l17, l18, l19, l20, l21, l22, l23);
+    Words.put64(b, ((int) l6) - 58768, 0L);
+    Words.put64(b, ((int) l6) - 58760, 0L);
+    Words.put64(b, ((int) l6) - 58752, 0L);
+    Words.put64(b, ((int) l6) - 58744, 0L);
+    Words.put64(b, ((int) l6) - 58800, 0L);
+    Words.put64(b, ((int) l6) - 58792, 0L);
+    Words.put64(b, ((int) l6) - 58784, 0L);
+    Words.put64(b, ((int) l6) - 58776, 0L);
+    Words.put64(b, ((int) l6) - 58832, 0L);
+    Words.put64(b, ((int) l6) - 58824, 0L);
+    Words.put64(b, ((int) l6) - 58816, 0L);
+    Words.put64(b, ((int) l6) - 58808, 0L);
+    final int x86 = f101_1(m, l0, l1, l2, l4, l6, l8, l9, l12, l13, l14, l16, l17, l18, l19, l20, l21, l22, l23);
     l4 = m.kept[0];
     l12 = m.kept[1];
     l13 = m.kept[2];
@@ -2971,9 +4220,9 @@ static void f95(State m, long l0, int l1, long l2, int l3, long l4) {
     L87: {
      L88: {
       L89: {
-       if ((l12 = Words.get16(b, ((int) (((((l1 & 0xffffffffL) & 255L) << 5L) + (((l3 & 0xffffffffL) & 255L) << 1L)) + 68960L)) - 60720) & 0xffffL) + Long.MIN_VALUE > -9223372036854775770L) { break L89; }
-       final int t90 = (l4 + Long.MIN_VALUE < Words.get64(b, ((int) ((l12 = l12 << 4L) + 68336L)) - 60720) + Long.MIN_VALUE) ? 1 : 0;
-       final int t91 = (l13 + Long.MIN_VALUE < (l12 = Words.get64(b, ((int) (l12 + 68344L)) - 60720)) + Long.MIN_VALUE) ? 1 : 0;
+       if ((l12 = Words.get16(b, ((int) (((((l1 & 0xffffffffL) & 255L) << 5L) + (((l3 & 0xffffffffL) & 255L) << 1L)) + 68960L)) - 58912) & 0xffffL) + Long.MIN_VALUE > -9223372036854775770L) { break L89; }
+       final int t90 = (l4 + Long.MIN_VALUE < Words.get64(b, ((int) ((l12 = l12 << 4L) + 68336L)) - 58912) + Long.MIN_VALUE) ? 1 : 0;
+       final int t91 = (l13 + Long.MIN_VALUE < (l12 = Words.get64(b, ((int) (l12 + 68344L)) - 58912)) + Long.MIN_VALUE) ? 1 : 0;
        final int t92 = (l13 == l12) ? 1 : 0;
        if ((t92 != 0 ? t90 : t91) == 0) { break L88; }
       }
@@ -2987,36 +4236,36 @@ static void f95(State m, long l0, int l1, long l2, int l3, long l4) {
       l13 = l18 & 0xffffffffL;
       break L87;
      }
-     Words.put64(b, ((int) l6) - 60648, l7);
-     Words.put64(b, ((int) l6) - 60656, l8);
-     Words.put64(b, ((int) l6) - 60664, l9);
-     Words.put64(b, ((int) l6) - 60672, l10);
-     Words.put64(b, ((int) l6) - 60680, l11);
-     f96(m, l6 + 8L, l2, l6 + 40L);
+     Words.put64(b, ((int) l6) - 58840, l7);
+     Words.put64(b, ((int) l6) - 58848, l8);
+     Words.put64(b, ((int) l6) - 58856, l9);
+     Words.put64(b, ((int) l6) - 58864, l10);
+     Words.put64(b, ((int) l6) - 58872, l11);
+     f102(m, l6 + 8L, l2, l6 + 40L);
      l4 = 0L;
      l13 = 1L;
-     l5 = Words.get64(b, ((int) l6) - 60704);
-     l19 = b[((int) l6) - 60712] & 0xff;
+     l5 = Words.get64(b, ((int) l6) - 58896);
+     l19 = b[((int) l6) - 58904] & 0xff;
     }
-    Words.put64(b, ((int) l0) - 60720, l13);
-    Words.put64(b, ((int) (l0 + 24L)) - 60720, l4);
-    Words.put64(b, ((int) (l0 + 16L)) - 60720, l5);
-    Words.put64(b, ((int) (l0 + 8L)) - 60720, (l19 & 0xffffffffL) & 255L);
+    Words.put64(b, ((int) l0) - 58912, l13);
+    Words.put64(b, ((int) (l0 + 24L)) - 58912, l4);
+    Words.put64(b, ((int) (l0 + 16L)) - 58912, l5);
+    Words.put64(b, ((int) (l0 + 8L)) - 58912, (l19 & 0xffffffffL) & 255L);
     break L1;
    }
-   Words.put64(b, ((int) l6) - 60560, l5);
-   Words.put64(b, ((int) l6) - 60568, l5);
+   Words.put64(b, ((int) l6) - 58752, l5);
+   Words.put64(b, ((int) l6) - 58760, l5);
    l18 = 0;
   }
-  Words.put64(b, ((int) l0) - 60720, 1L);
-  Words.put64(b, ((int) (l0 + 24L)) - 60720, 0L);
-  Words.put64(b, ((int) (l0 + 16L)) - 60720, l5);
-  Words.put64(b, ((int) (l0 + 8L)) - 60720, (l18 & 0xffffffffL) & 255L);
+  Words.put64(b, ((int) l0) - 58912, 1L);
+  Words.put64(b, ((int) (l0 + 24L)) - 58912, 0L);
+  Words.put64(b, ((int) (l0 + 16L)) - 58912, l5);
+  Words.put64(b, ((int) (l0 + 8L)) - 58912, (l18 & 0xffffffffL) & 255L);
  }
  m.g0 = l6 + 208L;
 }
 
-static void f96(State m, long l0, long l1, long l2) {
+static void f102(State m, long l0, long l1, long l2) {
  final byte[] b = m.bytes;
  long l3 = 0;
  long l4 = 0;
@@ -3036,14 +4285,14 @@ static void f96(State m, long l0, long l1, long l2) {
     if ((l4 = l3) < 16L) { break L3; }
     l5 = 0L;
     l9 = 0;
-    if ((l6 = Words.get64(b, ((int) l2) - 60696)) == 0L) { break L1; }
-    l7 = Words.get64(b, ((int) l2) - 60712);
-    l8 = Words.get64(b, ((int) l2) - 60720);
-    l2 = Words.get64(b, ((int) l2) - 60704);
+    if ((l6 = Words.get64(b, ((int) l2) - 58888)) == 0L) { break L1; }
+    l7 = Words.get64(b, ((int) l2) - 58904);
+    l8 = Words.get64(b, ((int) l2) - 58912);
+    l2 = Words.get64(b, ((int) l2) - 58896);
     L4: while (true) {
      L5: {
       L6: {
-       if ((l10 = b[((int) l2) - 60720] & 0xff) + Integer.MIN_VALUE > -2147483616) { break L6; }
+       if ((l10 = b[((int) l2) - 58912] & 0xff) + Integer.MIN_VALUE > -2147483616) { break L6; }
        if (((1L << (l10 & 0xffffffffL)) & 4294983168L) == 0L) { break L6; }
        l3 = 1L;
        break L5;
@@ -3052,14 +4301,14 @@ static void f96(State m, long l0, long l1, long l2) {
        if (l10 != 194) { break L7; }
        if (l6 == 1L) { break L2; }
        l3 = 2L;
-       if ((l10 = b[((int) l2) - 60719] & 0xff) == 133) { break L5; }
+       if ((l10 = b[((int) l2) - 58911] & 0xff) == 133) { break L5; }
        if (l10 == 160) { break L5; }
        break L2;
       }
       if (l6 + Long.MIN_VALUE < -9223372036854775805L) { break L2; }
       if (((l10 + 28) & 255) + Integer.MIN_VALUE < -2147483395) { break L2; }
-      l11 = b[((int) (l2 + 1L)) - 60720] & 0xff;
-      l13 = (int) (byte) (l12 = b[((int) (l2 + 2L)) - 60720] & 0xff);
+      l11 = b[((int) (l2 + 1L)) - 58912] & 0xff;
+      l13 = (int) (byte) (l12 = b[((int) (l2 + 2L)) - 58912] & 0xff);
       L8: {
        if (l10 != 226) { break L8; }
        if ((l11 & 255) != 128) { break L8; }
@@ -3105,15 +4354,15 @@ static void f96(State m, long l0, long l1, long l2) {
   L13: {
    if (l7 + Long.MIN_VALUE < -9223372036854775776L) { break L13; }
    Core1.f25(m, l4, l8, l7, l7);
-   l3 = l7 - Words.get64(b, ((int) l4) - 60712);
-   l2 = Words.get64(b, ((int) l4) - 60720);
+   l3 = l7 - Words.get64(b, ((int) l4) - 58904);
+   l2 = Words.get64(b, ((int) l4) - 58912);
   }
   L14: {
    if ((l7 - l2) + Long.MIN_VALUE < -9223372036854775800L) { break L14; }
    L15: while (true) {
     L16: {
      L17: {
-      if (((l6 = Words.get64(b, ((int) (l8 + l2)) - 60720)) & 67553998437089520L) != 63050398541283552L) { break L17; }
+      if (((l6 = Words.get64(b, ((int) (l8 + l2)) - 58912)) & 67553998437089520L) != 63050398541283552L) { break L17; }
       l3 = l3 + 3L;
       l2 = l2 + 9L;
       break L16;
@@ -3130,19 +4379,19 @@ static void f96(State m, long l0, long l1, long l2) {
    if (l2 + Long.MIN_VALUE >= l7 + Long.MIN_VALUE) { break L18; }
    L19: while (true) {
     l3 = l3 + 1L;
-    if ((l2 = Words.get64(b, ((int) (((((b[((int) (l8 + l2)) - 60720] & 0xff) >>> 1) & 0xffffffffL) & 120L) + 66680L)) - 60720) + l2) + Long.MIN_VALUE < l7 + Long.MIN_VALUE) { continue L19; }
+    if ((l2 = Words.get64(b, ((int) (((((b[((int) (l8 + l2)) - 58912] & 0xff) >>> 1) & 0xffffffffL) & 120L) + 66680L)) - 58912) + l2) + Long.MIN_VALUE < l7 + Long.MIN_VALUE) { continue L19; }
     break L19;
    }
   }
   l5 = l3 + l1;
   l9 = 1;
  }
- Words.put64(b, ((int) l0) - 60712, l5);
- b[((int) l0) - 60720] = (byte) l9;
+ Words.put64(b, ((int) l0) - 58904, l5);
+ b[((int) l0) - 58912] = (byte) l9;
  m.g0 = l4 + 16L;
 }
 
-static int f97(State m, int l0, long l1, long l2) {
+static int f103(State m, int l0, long l1, long l2) {
  final byte[] b = m.bytes;
  long l3 = 0;
  long l4 = 0;
@@ -3152,21 +4401,21 @@ static int f97(State m, int l0, long l1, long l2) {
  L1: {
   L2: {
    if ((l3 = l3) < 16L) { break L2; }
-   Words.put64(b, ((int) l3) - 60696, 0L);
-   Words.put64(b, ((int) l3) - 60704, 0L);
-   Words.put64(b, ((int) l3) - 60712, 0L);
-   Words.put64(b, ((int) l3) - 60720, 0L);
-   Core2.f80(m, l3, l1, l2);
-   if ((b[((int) l3) - 60720] & 0xff) != 1) { break L1; }
+   Words.put64(b, ((int) l3) - 58888, 0L);
+   Words.put64(b, ((int) l3) - 58896, 0L);
+   Words.put64(b, ((int) l3) - 58904, 0L);
+   Words.put64(b, ((int) l3) - 58912, 0L);
+   f86(m, l3, l1, l2);
+   if ((b[((int) l3) - 58912] & 0xff) != 1) { break L1; }
    L3: while (true) {
-    l2 = Words.get64(b, ((int) l3) - 60696);
-    l1 = Words.get64(b, ((int) l3) - 60704);
+    l2 = Words.get64(b, ((int) l3) - 58888);
+    l1 = Words.get64(b, ((int) l3) - 58896);
     L4: {
-     if (((l5 = Words.get32(b, ((int) l3) - 60712)) + -2048) + Integer.MIN_VALUE > -2147420161) { break L4; }
+     if (((l5 = Words.get32(b, ((int) l3) - 58904)) + -2048) + Integer.MIN_VALUE > -2147420161) { break L4; }
      if ((l6 = Words.get32(b, State.far((int) (l4 = ((((l5 = (((l5 >>> 12) | ((l5 << 2) & 16128)) | ((l5 << 16) & 4128768)) | 8421600) & 0xffffffffL) * 953497L) >>> 22L) & 1016L), 66852))) != l5) { break L4; }
-     if (((b[((int) (l4 + 66856L)) - 60720] & 0xff) & 255) != 1) { break L4; }
+     if (((b[((int) (l4 + 66856L)) - 58912] & 0xff) & 255) != 1) { break L4; }
      L5: {
-      final int t6 = b[((int) (l4 + 66857L)) - 60720] & 0xff;
+      final int t6 = b[((int) (l4 + 66857L)) - 58912] & 0xff;
       final int t7 = (l6 == l5) ? 1 : 0;
       if (((l5 = t7 != 0 ? t6 : 0) & 255) + Integer.MIN_VALUE < -2147483644) { break L5; }
       l0 = 0;
@@ -3174,8 +4423,8 @@ static int f97(State m, int l0, long l1, long l2) {
      }
      l0 = (((l5 & 255) != 0) ? 1 : 0) | l0;
     }
-    Core2.f80(m, l3, l1, l2);
-    if ((b[((int) l3) - 60720] & 0xff) == 1) { continue L3; }
+    f86(m, l3, l1, l2);
+    if ((b[((int) l3) - 58912] & 0xff) == 1) { continue L3; }
     break L1;
    }
   }
@@ -3185,7 +4434,7 @@ static int f97(State m, int l0, long l1, long l2) {
  return l0 & 1;
 }
 
-static int f98(State m, long l0, int l1, long l2, long l3) {
+static int f104(State m, long l0, int l1, long l2, long l3) {
  final byte[] b = m.bytes;
  long l4 = 0;
  int l5 = 0;
@@ -3197,28 +4446,28 @@ static int f98(State m, long l0, int l1, long l2, long l3) {
   L2: {
    L3: {
     if ((l4 = l4) < 16L) { break L3; }
-    l5 = b[((int) l0) - 60719] & 0xff;
-    l6 = b[((int) l0) - 60720] & 0xff;
-    Words.put64(b, ((int) l4) - 60696, 0L);
-    Words.put64(b, ((int) l4) - 60704, 0L);
-    Words.put64(b, ((int) l4) - 60712, 0L);
-    Words.put64(b, ((int) l4) - 60720, 0L);
+    l5 = b[((int) l0) - 58911] & 0xff;
+    l6 = b[((int) l0) - 58912] & 0xff;
+    Words.put64(b, ((int) l4) - 58888, 0L);
+    Words.put64(b, ((int) l4) - 58896, 0L);
+    Words.put64(b, ((int) l4) - 58904, 0L);
+    Words.put64(b, ((int) l4) - 58912, 0L);
     l7 = 0;
     L4: {
      if (l1 == 20004) { break L4; }
      if (l1 != 20841) { break L1; }
     }
-    Core2.f80(m, l4, l2, l3);
+    f86(m, l4, l2, l3);
     l7 = 1;
     L5: {
-     if ((b[((int) l4) - 60720] & 0xff) != 1) { break L5; }
+     if ((b[((int) l4) - 58912] & 0xff) != 1) { break L5; }
      L6: {
       L7: {
-       if (((l7 = Words.get32(b, ((int) l4) - 60712)) + -2048) + Integer.MIN_VALUE > -2147420161) { break L7; }
-       final int t8 = b[((int) ((l0 = ((((l7 = (((l7 >>> 12) | ((l7 << 2) & 16128)) | ((l7 << 16) & 4128768)) | 8421600) & 0xffffffffL) * 953497L) >>> 22L) & 1016L) + 66857L)) - 60720] & 0xff;
+       if (((l7 = Words.get32(b, ((int) l4) - 58904)) + -2048) + Integer.MIN_VALUE > -2147420161) { break L7; }
+       final int t8 = b[((int) ((l0 = ((((l7 = (((l7 >>> 12) | ((l7 << 2) & 16128)) | ((l7 << 16) & 4128768)) | 8421600) & 0xffffffffL) * 953497L) >>> 22L) & 1016L) + 66857L)) - 58912] & 0xff;
        final int t9 = l7 = (Words.get32(b, State.far((int) l0, 66852)) != l7) ? 1 : 0;
        l1 = t9 != 0 ? 0 : t8;
-       l8 = l7 | ((((b[((int) (l0 + 66856L)) - 60720] & 0xff) & 255) != 1) ? 1 : 0);
+       l8 = l7 | ((((b[((int) (l0 + 66856L)) - 58912] & 0xff) & 255) != 1) ? 1 : 0);
        break L6;
       }
       final int t10 = l7 = l7 + -48;
@@ -3262,7 +4511,141 @@ static int f98(State m, long l0, int l1, long l2, long l3) {
  return l7;
 }
 
-static int f99(State m, long l0, long l1, long l2, int l3, int l4, long l5, long l6, long l7) {
+static void f105(State m, long l0, long l1, long l2) {
+ final byte[] b = m.bytes;
+ long l3 = 0;
+ long l4 = 0;
+ long l5 = 0;
+ long l6 = 0;
+ long l7 = 0;
+ int l8 = 0;
+ int l9 = 0;
+ int l10 = 0;
+ int l11 = 0;
+ L1: {
+  L2: {
+   L3: {
+    if (m.g0 < 16L) { break L3; }
+    if (l2 == 0L) { break L2; }
+    L4: while (true) {
+     l3 = l2;
+     L5: {
+      L6: {
+       if ((l8 = (int) b[((int) (l4 = l1)) - 58912]) <= -1) { break L6; }
+       l5 = 1L;
+       break L5;
+      }
+      L7: {
+       if (l8 + Integer.MIN_VALUE >= 2147483616) { break L7; }
+       l5 = 2L;
+       break L5;
+      }
+      l5 = (l8 + Integer.MIN_VALUE < 2147483632) ? 3L : 4L;
+     }
+     l2 = l3 - l5;
+     l1 = l4 + l5;
+     l6 = l3;
+     l5 = l4;
+     L8: while (true) {
+      l8 = (l9 = (int) b[((int) l5) - 58912]) & 255;
+      l7 = 1L;
+      L9: {
+       if (l9 > -1) { break L9; }
+       l10 = (b[((int) l5) - 58911] & 0xff) & 63;
+       L10: {
+        if (l9 + Integer.MIN_VALUE > 2147483615) { break L10; }
+        l8 = ((l8 << 6) & 1984) | l10;
+        l7 = 2L;
+        break L9;
+       }
+       l11 = (b[((int) l5) - 58910] & 0xff) & 63;
+       L11: {
+        if (l9 + Integer.MIN_VALUE > 2147483631) { break L11; }
+        l8 = ((l10 << 6) | ((l8 << 12) & 61440)) | l11;
+        l7 = 3L;
+        break L9;
+       }
+       l8 = ((l11 << 6) | ((l10 << 12) | ((l8 << 18) & 1835008))) | ((b[((int) l5) - 58909] & 0xff) & 63);
+       l7 = 4L;
+      }
+      L12: {
+       L13: {
+        L14: {
+         if (l8 > 27490) { break L14; }
+         L15: {
+          if (l8 > 20805) { break L15; }
+          L16: {
+           if (l8 > 20190) { break L16; }
+           L17: {
+            switch (l8 + -20140) {
+            case 0: case 19: break L13;
+            case 1: case 2: case 3: case 4: case 5: case 6: case 7: case 8: case 9: case 10: case 11: case 12: case 13: case 14: case 15: case 16: case 17: case 18: break L12;
+            default: break L17;
+            }
+           }
+           if (l8 == 19975) { break L13; }
+           break L12;
+          }
+          if (l8 == 20191) { break L13; }
+          if (l8 == 20336) { break L13; }
+          if (l8 != 20740) { break L12; }
+          break L13;
+         }
+         L18: {
+          if (l8 > 22418) { break L18; }
+          if (l8 == 20806) { break L13; }
+          if (l8 != 21315) { break L12; }
+          break L13;
+         }
+         if (l8 == 22419) { break L13; }
+         if (l8 == 26497) { break L13; }
+         if (l8 != 26997) { break L12; }
+         break L13;
+        }
+        L19: {
+         if (l8 > 30333) { break L19; }
+         L20: {
+          if (l8 > 28070) { break L20; }
+          if (l8 == 27491) { break L13; }
+          if (l8 != 27807) { break L12; }
+          break L13;
+         }
+         if (l8 == 28071) { break L13; }
+         if (l8 == 28317) { break L13; }
+         if (l8 != 28567) { break L12; }
+         break L13;
+        }
+        L21: {
+         if (l8 > 33835) { break L21; }
+         if (l8 == 30334) { break L13; }
+         if (l8 == 31213) { break L13; }
+         if (l8 != 31344) { break L12; }
+         break L13;
+        }
+        if (l8 == 33836) { break L13; }
+        if (l8 == 36733) { break L13; }
+        if (l8 != 36617) { break L12; }
+       }
+       l5 = l5 + l7;
+       if ((l6 = l6 - l7) != 0L) { continue L8; }
+       break L1;
+      }
+      break L8;
+     }
+     if (l2 == 0L) { break L2; }
+     continue L4;
+    }
+   }
+   throw State.trap();
+  }
+  l4 = l1;
+  l3 = 0L;
+ }
+ Words.put64(b, ((int) l0) - 58904, l3);
+ Words.put64(b, ((int) l0) - 58912, l4);
+}
+
+static int f106(State m, long l0, long l1, long l2, int l3, int l4, long l5, long l6, long l7) {
  final byte[] b = m.bytes;
  long l8 = 0;
  long l9 = 0;
@@ -3285,7 +4668,7 @@ static int f99(State m, long l0, long l1, long l2, int l3, int l4, long l5, long
       l10 = l0;
       l9 = l1;
       L6: while (true) {
-       if (((Words.get32(b, ((int) l10) - 60720) + 16776990) & 12632312) != 8421376) { break L4; }
+       if (((Words.get32(b, ((int) l10) - 58912) + 16776990) & 12632312) != 8421376) { break L4; }
        l10 = l10 + 3L;
        if ((l9 = l9 + -3L) + Long.MIN_VALUE > -9223372036854775805L) { continue L6; }
        break L6;
@@ -3299,7 +4682,7 @@ static int f99(State m, long l0, long l1, long l2, int l3, int l4, long l5, long
       default: break L2;
       }
      }
-     if (((((Words.get16(b, ((int) l10) - 60720) & 0xffff) | ((b[((int) (l10 + 2L)) - 60720] & 0xff) << 16)) + 16776990) & 12632312) == 8421376) { break L2; }
+     if (((((Words.get16(b, ((int) l10) - 58912) & 0xffff) | ((b[((int) (l10 + 2L)) - 58912] & 0xff) << 16)) + 16776990) & 12632312) == 8421376) { break L2; }
      if (!(l1 == 0L)) { break L3; }
      break L2;
     }
@@ -3311,7 +4694,7 @@ static int f99(State m, long l0, long l1, long l2, int l3, int l4, long l5, long
     L9: {
      L10: {
       if (l10 + Long.MIN_VALUE < -9223372036854775804L) { break L10; }
-      l15 = Words.get32(b, ((int) l11) - 60720);
+      l15 = Words.get32(b, ((int) l11) - 58912);
       break L9;
      }
      L11: {
@@ -3324,13 +4707,13 @@ static int f99(State m, long l0, long l1, long l2, int l3, int l4, long l5, long
         default: break L13;
         }
        }
-       l15 = b[((int) l11) - 60720] & 0xff;
+       l15 = b[((int) l11) - 58912] & 0xff;
        break L9;
       }
-      l15 = Words.get16(b, ((int) l11) - 60720) & 0xffff;
+      l15 = Words.get16(b, ((int) l11) - 58912) & 0xffff;
       break L9;
      }
-     l15 = (Words.get16(b, ((int) l11) - 60720) & 0xffff) | ((b[((int) (l11 + 2L)) - 60720] & 0xff) << 16);
+     l15 = (Words.get16(b, ((int) l11) - 58912) & 0xffff) | ((b[((int) (l11 + 2L)) - 58912] & 0xff) << 16);
     }
     l9 = 3L;
     L14: {
@@ -3347,7 +4730,7 @@ static int f99(State m, long l0, long l1, long l2, int l3, int l4, long l5, long
        }
        l12 = 4L;
        if (l10 + Long.MIN_VALUE < -9223372036854775800L) { break L15; }
-       if ((Words.get64(b, ((int) l11) - 60720) & -9187201950435737472L) != 0L) { break L15; }
+       if ((Words.get64(b, ((int) l11) - 58912) & -9187201950435737472L) != 0L) { break L15; }
        L20: {
         if (l10 + Long.MIN_VALUE >= -9223372036854775784L) { break L20; }
         l9 = 8L;
@@ -3358,7 +4741,7 @@ static int f99(State m, long l0, long l1, long l2, int l3, int l4, long l5, long
        L21: {
         L22: while (true) {
          if (l13 + Long.MIN_VALUE < -9223372036854775800L) { break L21; }
-         if (((Words.get64(b, ((int) ((l14 = l11 + l9) + 8L)) - 60720) | Words.get64(b, ((int) l14) - 60720)) & -9187201950435737472L) != 0L) { break L21; }
+         if (((Words.get64(b, ((int) ((l14 = l11 + l9) + 8L)) - 58912) | Words.get64(b, ((int) l14) - 58912)) & -9187201950435737472L) != 0L) { break L21; }
          l9 = l9 + 16L;
          l14 = l13 + -8L;
          l13 = l13 + -16L;
@@ -3387,7 +4770,7 @@ static int f99(State m, long l0, long l1, long l2, int l3, int l4, long l5, long
        l9 = 4L;
        break L14;
       }
-      Words.put64(b, ((int) l7) - 60720, 0L);
+      Words.put64(b, ((int) l7) - 58912, 0L);
       m.g0 = l8;
       return 5;
      }
@@ -3398,7 +4781,7 @@ static int f99(State m, long l0, long l1, long l2, int l3, int l4, long l5, long
     break L8;
    }
   }
-  l15 = f100(m, l0, l1, l2, l3, l4, l5, l6, l7);
+  l15 = f107(m, l0, l1, l2, l3, l4, l5, l6, l7);
   m.g0 = l8;
   final int t26 = l15;
   return t26;
@@ -3406,7 +4789,7 @@ static int f99(State m, long l0, long l1, long l2, int l3, int l4, long l5, long
  throw State.trap();
 }
 
-static int f100_1(State m, long l0, long l1, long l8, long l9, long l11, long l12, long l13, long l15, long l17, int l19, int l20, int l22, int l23, int l24) {
+static int f107_1(State m, long l0, long l1, long l8, long l9, long l11, long l12, long l13, long l15, long l17, int l19, int l20, int l22, int l23, int l24) {
  final byte[] b = m.bytes;
  int exit = 0;
  PART: {
@@ -3423,10 +4806,10 @@ static int f100_1(State m, long l0, long l1, long l8, long l9, long l11, long l1
             L73: {
              L74: {
               if (l15 + Long.MIN_VALUE < -9223372036854775805L) { break L74; }
-              if (((l22 = b[((int) ((l11 = l0 + l15) + -3L)) - 60720] & 0xff) & 240) != 224) { break L73; }
-              l19 = (((l22 << 12) | (l23 = b[((int) (l11 + -1L)) - 60720] & 0xff)) + ((l20 = b[((int) (l11 + -2L)) - 60720] & 0xff) << 6)) + -925824;
+              if (((l22 = b[((int) ((l11 = l0 + l15) + -3L)) - 58912] & 0xff) & 240) != 224) { break L73; }
+              l19 = (((l22 << 12) | (l23 = b[((int) (l11 + -1L)) - 58912] & 0xff)) + ((l20 = b[((int) (l11 + -2L)) - 58912] & 0xff) << 6)) + -925824;
               l11 = l15 + -3L;
-              if (Words.get32(b, ((int) ((l12 = ((((l22 = ((l20 << 8) | (l23 << 16)) | l22) & 0xffffffffL) * 953497L) >>> 22L) & 1016L) + 66852L)) - 60720) == l22) { break L72; }
+              if (Words.get32(b, ((int) ((l12 = ((((l22 = ((l20 << 8) | (l23 << 16)) | l22) & 0xffffffffL) * 953497L) >>> 22L) & 1016L) + 66852L)) - 58912) == l22) { break L72; }
               break L70;
              }
              if (l1 != l8) { break L73; }
@@ -3436,33 +4819,33 @@ static int f100_1(State m, long l0, long l1, long l8, long l9, long l11, long l1
              break L63;
             }
             l23 = 0;
-            if ((l19 = (int) b[((int) (l0 + (l11 = l15 + -1L))) - 60720]) >= 0) { break L71; }
+            if ((l19 = (int) b[((int) (l0 + (l11 = l15 + -1L))) - 58912]) >= 0) { break L71; }
             l11 = -2L;
             L75: {
-             if ((b[((int) ((l12 = l0 + l15) + -2L)) - 60720] & 0xff) + Integer.MIN_VALUE > -2147483457) { break L75; }
-             l11 = ((b[((int) (l12 + -3L)) - 60720] & 0xff) + Integer.MIN_VALUE > -2147483457) ? -3L : -4L;
+             if ((b[((int) ((l12 = l0 + l15) + -2L)) - 58912] & 0xff) + Integer.MIN_VALUE > -2147483457) { break L75; }
+             l11 = ((b[((int) (l12 + -3L)) - 58912] & 0xff) + Integer.MIN_VALUE > -2147483457) ? -3L : -4L;
             }
-            l19 = (l22 = (int) b[((int) (l12 = l0 + (l11 = l11 + l15))) - 60720]) & 255;
+            l19 = (l22 = (int) b[((int) (l12 = l0 + (l11 = l11 + l15))) - 58912]) & 255;
             if (l22 > -1) { break L71; }
-            l20 = (b[((int) l12) - 60719] & 0xff) & 63;
+            l20 = (b[((int) l12) - 58911] & 0xff) & 63;
             L76: {
              if (l22 + Integer.MIN_VALUE > 2147483615) { break L76; }
              l19 = ((l19 << 6) & 1984) | l20;
              break L71;
             }
-            l24 = (b[((int) l12) - 60718] & 0xff) & 63;
+            l24 = (b[((int) l12) - 58910] & 0xff) & 63;
             L77: {
              L78: {
               if (l22 + Integer.MIN_VALUE > 2147483631) { break L78; }
               l19 = ((l20 << 6) | ((l19 << 12) & 61440)) | l24;
               break L77;
              }
-             l19 = ((l24 << 6) | ((l20 << 12) | ((l19 << 18) & 1835008))) | ((b[((int) l12) - 60717] & 0xff) & 63);
+             l19 = ((l24 << 6) | ((l20 << 12) | ((l19 << 18) & 1835008))) | ((b[((int) l12) - 58909] & 0xff) & 63);
             }
             if ((l19 + -2048) + Integer.MIN_VALUE > -2147420161) { break L71; }
-            if (Words.get32(b, ((int) ((l12 = ((((l22 = (((l19 >>> 12) | ((l19 << 2) & 16128)) | ((l19 << 16) & 4128768)) | 8421600) & 0xffffffffL) * 953497L) >>> 22L) & 1016L) + 66852L)) - 60720) != l22) { break L69; }
+            if (Words.get32(b, ((int) ((l12 = ((((l22 = (((l19 >>> 12) | ((l19 << 2) & 16128)) | ((l19 << 16) & 4128768)) | 8421600) & 0xffffffffL) * 953497L) >>> 22L) & 1016L) + 66852L)) - 58912) != l22) { break L69; }
            }
-           if ((b[((int) (l12 + 66856L)) - 60720] & 0xff) != 0) { break L70; }
+           if ((b[((int) (l12 + 66856L)) - 58912] & 0xff) != 0) { break L70; }
            break L66;
           }
           if ((l19 + -48) + Integer.MIN_VALUE >= -2147483638) { break L70; }
@@ -3546,10 +4929,10 @@ static int f100_1(State m, long l0, long l1, long l8, long l9, long l11, long l1
        l22 = 0;
        break L63;
       }
-      Words.put64(b, ((int) l9) - 60680, 0L);
-      Words.put64(b, ((int) l9) - 60688, 0L);
-      Words.put64(b, ((int) l9) - 60696, 0L);
-      Words.put64(b, ((int) l9) - 60704, 0L);
+      Words.put64(b, ((int) l9) - 58872, 0L);
+      Words.put64(b, ((int) l9) - 58880, 0L);
+      Words.put64(b, ((int) l9) - 58888, 0L);
+      Words.put64(b, ((int) l9) - 58896, 0L);
       L88: {
        L89: {
         L90: {
@@ -3557,59 +4940,59 @@ static int f100_1(State m, long l0, long l1, long l8, long l9, long l11, long l1
           L92: {
            L93: {
             if (l11 + Long.MIN_VALUE < -9223372036854775805L) { break L93; }
-            if (((l19 = b[((int) ((l12 = l0 + l11) + -3L)) - 60720] & 0xff) & 240) != 224) { break L92; }
-            Words.put64(b, ((int) l9) - 60688, l0);
-            Words.put64(b, ((int) l9) - 60704, 1L);
-            Words.put64(b, ((int) l9) - 60680, l11 + -3L);
-            Words.put32(b, ((int) l9) - 60696, (((l19 << 12) | (l22 = b[((int) (l12 + -1L)) - 60720] & 0xff)) + ((l23 = b[((int) (l12 + -2L)) - 60720] & 0xff) << 6)) + -925824);
+            if (((l19 = b[((int) ((l12 = l0 + l11) + -3L)) - 58912] & 0xff) & 240) != 224) { break L92; }
+            Words.put64(b, ((int) l9) - 58880, l0);
+            Words.put64(b, ((int) l9) - 58896, 1L);
+            Words.put64(b, ((int) l9) - 58872, l11 + -3L);
+            Words.put32(b, ((int) l9) - 58888, (((l19 << 12) | (l22 = b[((int) (l12 + -1L)) - 58912] & 0xff)) + ((l23 = b[((int) (l12 + -2L)) - 58912] & 0xff) << 6)) + -925824);
             final int t94 = (int) l9;
-            final int t95 = b[((int) ((l11 = ((((l19 = ((l23 << 8) | (l22 << 16)) | l19) & 0xffffffffL) * 953497L) >>> 22L) & 1016L) + 66857L)) - 60720] & 0xff;
+            final int t95 = b[((int) ((l11 = ((((l19 = ((l23 << 8) | (l22 << 16)) | l19) & 0xffffffffL) * 953497L) >>> 22L) & 1016L) + 66857L)) - 58912] & 0xff;
             final int t96 = l19 = (Words.get32(b, State.far((int) l11, 66852)) == l19) ? 1 : 0;
-            b[t94 - 60691] = (byte) (t96 != 0 ? t95 : 0);
+            b[t94 - 58883] = (byte) (t96 != 0 ? t95 : 0);
             final int t97 = (int) l9;
-            final int t98 = b[((int) (l11 + 66856L)) - 60720] & 0xff;
+            final int t98 = b[((int) (l11 + 66856L)) - 58912] & 0xff;
             final int t99 = l19;
-            b[t97 - 60692] = (byte) (t99 != 0 ? t98 : 2);
+            b[t97 - 58884] = (byte) (t99 != 0 ? t98 : 2);
             break L88;
            }
            if (l11 == 0L) { break L91; }
           }
-          if ((l19 = (int) b[((int) (l0 + (l12 = l11 + -1L))) - 60720]) >= 0) { break L90; }
+          if ((l19 = (int) b[((int) (l0 + (l12 = l11 + -1L))) - 58912]) >= 0) { break L90; }
           l12 = -2L;
           L100: {
-           if ((b[((int) ((l17 = l0 + l11) + -2L)) - 60720] & 0xff) + Integer.MIN_VALUE > -2147483457) { break L100; }
-           l12 = ((b[((int) (l17 + -3L)) - 60720] & 0xff) + Integer.MIN_VALUE > -2147483457) ? -3L : -4L;
+           if ((b[((int) ((l17 = l0 + l11) + -2L)) - 58912] & 0xff) + Integer.MIN_VALUE > -2147483457) { break L100; }
+           l12 = ((b[((int) (l17 + -3L)) - 58912] & 0xff) + Integer.MIN_VALUE > -2147483457) ? -3L : -4L;
           }
-          l19 = (l22 = (int) b[((int) (l11 = l0 + (l12 = l12 + l11))) - 60720]) & 255;
+          l19 = (l22 = (int) b[((int) (l11 = l0 + (l12 = l12 + l11))) - 58912]) & 255;
           if (l22 > -1) { break L90; }
-          l23 = (b[((int) l11) - 60719] & 0xff) & 63;
+          l23 = (b[((int) l11) - 58911] & 0xff) & 63;
           L101: {
            if (l22 + Integer.MIN_VALUE > 2147483615) { break L101; }
            l19 = ((l19 << 6) & 1984) | l23;
            break L90;
           }
-          l20 = (b[((int) l11) - 60718] & 0xff) & 63;
+          l20 = (b[((int) l11) - 58910] & 0xff) & 63;
           L102: {
            L103: {
             if (l22 + Integer.MIN_VALUE > 2147483631) { break L103; }
             l19 = ((l23 << 6) | ((l19 << 12) & 61440)) | l20;
             break L102;
            }
-           l19 = ((l20 << 6) | ((l23 << 12) | ((l19 << 18) & 1835008))) | ((b[((int) l11) - 60717] & 0xff) & 63);
+           l19 = ((l20 << 6) | ((l23 << 12) | ((l19 << 18) & 1835008))) | ((b[((int) l11) - 58909] & 0xff) & 63);
           }
           if ((l19 + -2048) + Integer.MIN_VALUE > -2147420161) { break L90; }
-          final int t104 = b[((int) ((l11 = ((((l22 = (((l19 >>> 12) | ((l19 << 2) & 16128)) | ((l19 << 16) & 4128768)) | 8421600) & 0xffffffffL) * 953497L) >>> 22L) & 1016L) + 66857L)) - 60720] & 0xff;
+          final int t104 = b[((int) ((l11 = ((((l22 = (((l19 >>> 12) | ((l19 << 2) & 16128)) | ((l19 << 16) & 4128768)) | 8421600) & 0xffffffffL) * 953497L) >>> 22L) & 1016L) + 66857L)) - 58912] & 0xff;
           final int t105 = l23 = (Words.get32(b, State.far((int) l11, 66852)) == l22) ? 1 : 0;
           l22 = t105 != 0 ? t104 : 0;
-          final int t106 = b[((int) (l11 + 66856L)) - 60720] & 0xff;
+          final int t106 = b[((int) (l11 + 66856L)) - 58912] & 0xff;
           final int t107 = l23;
           l23 = t107 != 0 ? t106 : 2;
           break L89;
          }
-         Words.put64(b, ((int) l13) - 60720, 0L);
-         Words.put64(b, ((int) l13) - 60712, 0L);
-         Words.put64(b, ((int) l9) - 60698, 0L);
-         Words.put64(b, ((int) l9) - 60704, 0L);
+         Words.put64(b, ((int) l13) - 58912, 0L);
+         Words.put64(b, ((int) l13) - 58904, 0L);
+         Words.put64(b, ((int) l9) - 58890, 0L);
+         Words.put64(b, ((int) l9) - 58896, 0L);
          break L88;
         }
         final int t108 = l22 = l19 + -48;
@@ -3617,14 +5000,14 @@ static int f100_1(State m, long l0, long l1, long l8, long l9, long l11, long l1
         l22 = t109 != 0 ? t108 : 0;
         l23 = l23 != 0 ? 0 : 2;
        }
-       Words.put64(b, ((int) l9) - 60680, l12);
-       Words.put64(b, ((int) l9) - 60688, l0);
-       b[((int) l9) - 60691] = (byte) l22;
-       b[((int) l9) - 60692] = (byte) l23;
-       Words.put32(b, ((int) l9) - 60696, l19);
-       Words.put64(b, ((int) l9) - 60704, 1L);
+       Words.put64(b, ((int) l9) - 58872, l12);
+       Words.put64(b, ((int) l9) - 58880, l0);
+       b[((int) l9) - 58883] = (byte) l22;
+       b[((int) l9) - 58884] = (byte) l23;
+       Words.put32(b, ((int) l9) - 58888, l19);
+       Words.put64(b, ((int) l9) - 58896, 1L);
       }
-      l22 = f103(m, l9 + 16L);
+      l22 = f110(m, l9 + 16L);
       break L65;
      }
      l22 = 1;
@@ -3645,7 +5028,7 @@ static int f100_1(State m, long l0, long l1, long l8, long l9, long l11, long l1
  return exit;
 }
 
-static int f100_2(State m, long l9, long l11, long l13, long l14, long l16, long l17, long l18, int l19, int l20, int l21, int l24) {
+static int f107_2(State m, long l9, long l11, long l13, long l14, long l16, long l17, long l18, int l19, int l20, int l21, int l24) {
  final byte[] b = m.bytes;
  int exit = 0;
  PART: {
@@ -3660,48 +5043,48 @@ static int f100_2(State m, long l9, long l11, long l13, long l14, long l16, long
           L119: {
            L120: {
             if (l21 != 0) { break L120; }
-            if (((l19 = b[((int) l14) - 60720] & 0xff) & 240) != 224) { break L119; }
-            l20 = (((l21 = b[((int) l14) - 60719] & 0xff) << 8) | ((l24 = b[((int) l14) - 60718] & 0xff) << 16)) | l19;
+            if (((l19 = b[((int) l14) - 58912] & 0xff) & 240) != 224) { break L119; }
+            l20 = (((l21 = b[((int) l14) - 58911] & 0xff) << 8) | ((l24 = b[((int) l14) - 58910] & 0xff) << 16)) | l19;
             l19 = (((l19 << 12) | l24) + (l21 << 6)) + -925824;
             l17 = l16 + -3L;
             l11 = l14 + 3L;
-            if (l20 != Words.get32(b, ((int) ((l18 = (((l20 & 0xffffffffL) * 953497L) >>> 22L) & 1016L) + 66852L)) - 60720)) { break L117; }
+            if (l20 != Words.get32(b, ((int) ((l18 = (((l20 & 0xffffffffL) * 953497L) >>> 22L) & 1016L) + 66852L)) - 58912)) { break L117; }
             break L118;
            }
            if (l16 == 0L) { break L112; }
-           l19 = b[((int) l14) - 60720] & 0xff;
+           l19 = b[((int) l14) - 58912] & 0xff;
           }
           l11 = 1L;
           L121: {
            if (((int) (byte) l19) > -1) { break L121; }
-           l20 = (b[((int) l14) - 60719] & 0xff) & 63;
+           l20 = (b[((int) l14) - 58911] & 0xff) & 63;
            L122: {
             if (l19 + Integer.MIN_VALUE > -2147483425) { break L122; }
             l19 = ((l19 << 6) & 1984) | l20;
             l11 = 2L;
             break L121;
            }
-           l21 = (b[((int) l14) - 60718] & 0xff) & 63;
+           l21 = (b[((int) l14) - 58910] & 0xff) & 63;
            L123: {
             if (l19 + Integer.MIN_VALUE > -2147483409) { break L123; }
             l19 = ((l20 << 6) | ((l19 << 12) & 61440)) | l21;
             l11 = 3L;
             break L121;
            }
-           l19 = ((l21 << 6) | ((l20 << 12) | ((l19 << 18) & 1835008))) | ((b[((int) l14) - 60717] & 0xff) & 63);
+           l19 = ((l21 << 6) | ((l20 << 12) | ((l19 << 18) & 1835008))) | ((b[((int) l14) - 58909] & 0xff) & 63);
            l11 = 4L;
           }
           l17 = l16 - l11;
           l11 = l14 + l11;
           L124: {
            if ((l19 + -2048) + Integer.MIN_VALUE > -2147420161) { break L124; }
-           if (Words.get32(b, ((int) ((l18 = ((((l20 = (((l19 >>> 12) | ((l19 << 2) & 16128)) | ((l19 << 16) & 4128768)) | 8421600) & 0xffffffffL) * 953497L) >>> 22L) & 1016L) + 66852L)) - 60720) == l20) { break L118; }
+           if (Words.get32(b, ((int) ((l18 = ((((l20 = (((l19 >>> 12) | ((l19 << 2) & 16128)) | ((l19 << 16) & 4128768)) | 8421600) & 0xffffffffL) * 953497L) >>> 22L) & 1016L) + 66852L)) - 58912) == l20) { break L118; }
            break L116;
           }
           if ((l19 + -48) + Integer.MIN_VALUE >= -2147483638) { break L117; }
           break L114;
          }
-         if ((b[((int) (l18 + 66856L)) - 60720] & 0xff) == 0) { break L114; }
+         if ((b[((int) (l18 + 66856L)) - 58912] & 0xff) == 0) { break L114; }
         }
         if (l19 + Integer.MIN_VALUE > -2147483521) { break L116; }
         l21 = 1;
@@ -3740,7 +5123,7 @@ static int f100_2(State m, long l9, long l11, long l13, long l14, long l16, long
           if (l19 == 22810) { break L111; }
           if (l19 != 22909) { break L125; }
          }
-         l20 = f104(m, l19, l11, l17);
+         l20 = f111(m, l19, l11, l17);
          break L111;
         }
         L131: {
@@ -3775,53 +5158,53 @@ static int f100_2(State m, long l9, long l11, long l13, long l14, long l16, long
        if ((l19 + -65296) + Integer.MIN_VALUE > -2147483639) { break L112; }
        break L114;
       }
-      Words.put64(b, ((int) l9) - 60680, 0L);
-      Words.put64(b, ((int) l9) - 60688, 0L);
-      Words.put64(b, ((int) l9) - 60696, 0L);
-      Words.put64(b, ((int) l9) - 60704, 0L);
+      Words.put64(b, ((int) l9) - 58872, 0L);
+      Words.put64(b, ((int) l9) - 58880, 0L);
+      Words.put64(b, ((int) l9) - 58888, 0L);
+      Words.put64(b, ((int) l9) - 58896, 0L);
       L135: {
        L136: {
         L137: {
          L138: {
           if (l17 + Long.MIN_VALUE < -9223372036854775805L) { break L138; }
-          if (((l19 = b[((int) l11) - 60720] & 0xff) & 240) != 224) { break L137; }
-          l20 = b[((int) l11) - 60718] & 0xff;
-          l21 = b[((int) l11) - 60719] & 0xff;
-          Words.put64(b, ((int) l9) - 60680, l17 + -3L);
-          Words.put64(b, ((int) l9) - 60688, l11 + 3L);
-          Words.put64(b, ((int) l9) - 60704, 1L);
-          Words.put32(b, ((int) l9) - 60696, ((l20 | (l19 << 12)) + (l21 << 6)) + -925824);
+          if (((l19 = b[((int) l11) - 58912] & 0xff) & 240) != 224) { break L137; }
+          l20 = b[((int) l11) - 58910] & 0xff;
+          l21 = b[((int) l11) - 58911] & 0xff;
+          Words.put64(b, ((int) l9) - 58872, l17 + -3L);
+          Words.put64(b, ((int) l9) - 58880, l11 + 3L);
+          Words.put64(b, ((int) l9) - 58896, 1L);
+          Words.put32(b, ((int) l9) - 58888, ((l20 | (l19 << 12)) + (l21 << 6)) + -925824);
           final int t139 = (int) l9;
-          final int t140 = b[((int) ((l11 = ((((l19 = ((l21 << 8) | (l20 << 16)) | l19) & 0xffffffffL) * 953497L) >>> 22L) & 1016L) + 66857L)) - 60720] & 0xff;
+          final int t140 = b[((int) ((l11 = ((((l19 = ((l21 << 8) | (l20 << 16)) | l19) & 0xffffffffL) * 953497L) >>> 22L) & 1016L) + 66857L)) - 58912] & 0xff;
           final int t141 = l19 = (Words.get32(b, State.far((int) l11, 66852)) == l19) ? 1 : 0;
-          b[t139 - 60691] = (byte) (t141 != 0 ? t140 : 0);
+          b[t139 - 58883] = (byte) (t141 != 0 ? t140 : 0);
           final int t142 = (int) l9;
-          final int t143 = b[((int) (l11 + 66856L)) - 60720] & 0xff;
+          final int t143 = b[((int) (l11 + 66856L)) - 58912] & 0xff;
           final int t144 = l19;
-          b[t142 - 60692] = (byte) (t144 != 0 ? t143 : 2);
+          b[t142 - 58884] = (byte) (t144 != 0 ? t143 : 2);
           break L135;
          }
          if (l17 == 0L) { break L136; }
-         l19 = b[((int) l11) - 60720] & 0xff;
+         l19 = b[((int) l11) - 58912] & 0xff;
         }
         l18 = 1L;
         L145: {
          if (((int) (byte) l19) > -1) { break L145; }
-         l20 = (b[((int) l11) - 60719] & 0xff) & 63;
+         l20 = (b[((int) l11) - 58911] & 0xff) & 63;
          L146: {
           if (l19 + Integer.MIN_VALUE > -2147483425) { break L146; }
           l19 = ((l19 << 6) & 1984) | l20;
           l18 = 2L;
           break L145;
          }
-         l21 = (b[((int) l11) - 60718] & 0xff) & 63;
+         l21 = (b[((int) l11) - 58910] & 0xff) & 63;
          L147: {
           if (l19 + Integer.MIN_VALUE > -2147483409) { break L147; }
           l19 = ((l20 << 6) | ((l19 << 12) & 61440)) | l21;
           l18 = 3L;
           break L145;
          }
-         l19 = ((l21 << 6) | ((l20 << 12) | ((l19 << 18) & 1835008))) | ((b[((int) l11) - 60717] & 0xff) & 63);
+         l19 = ((l21 << 6) | ((l20 << 12) | ((l19 << 18) & 1835008))) | ((b[((int) l11) - 58909] & 0xff) & 63);
          l18 = 4L;
         }
         l17 = l17 - l18;
@@ -3829,10 +5212,10 @@ static int f100_2(State m, long l9, long l11, long l13, long l14, long l16, long
         L148: {
          L149: {
           if ((l19 + -2048) + Integer.MIN_VALUE > -2147420161) { break L149; }
-          final int t150 = b[((int) ((l18 = ((((l20 = (((l19 >>> 12) | ((l19 << 2) & 16128)) | ((l19 << 16) & 4128768)) | 8421600) & 0xffffffffL) * 953497L) >>> 22L) & 1016L) + 66857L)) - 60720] & 0xff;
+          final int t150 = b[((int) ((l18 = ((((l20 = (((l19 >>> 12) | ((l19 << 2) & 16128)) | ((l19 << 16) & 4128768)) | 8421600) & 0xffffffffL) * 953497L) >>> 22L) & 1016L) + 66857L)) - 58912] & 0xff;
           final int t151 = l21 = (Words.get32(b, State.far((int) l18, 66852)) == l20) ? 1 : 0;
           l20 = t151 != 0 ? t150 : 0;
-          final int t152 = b[((int) (l18 + 66856L)) - 60720] & 0xff;
+          final int t152 = b[((int) (l18 + 66856L)) - 58912] & 0xff;
           final int t153 = l21;
           l21 = t153 != 0 ? t152 : 2;
           break L148;
@@ -3842,20 +5225,20 @@ static int f100_2(State m, long l9, long l11, long l13, long l14, long l16, long
          l20 = t155 != 0 ? t154 : 0;
          l21 = l21 != 0 ? 0 : 2;
         }
-        Words.put64(b, ((int) l9) - 60680, l17);
-        Words.put64(b, ((int) l9) - 60688, l11);
-        b[((int) l9) - 60691] = (byte) l20;
-        b[((int) l9) - 60692] = (byte) l21;
-        Words.put32(b, ((int) l9) - 60696, l19);
-        Words.put64(b, ((int) l9) - 60704, 1L);
+        Words.put64(b, ((int) l9) - 58872, l17);
+        Words.put64(b, ((int) l9) - 58880, l11);
+        b[((int) l9) - 58883] = (byte) l20;
+        b[((int) l9) - 58884] = (byte) l21;
+        Words.put32(b, ((int) l9) - 58888, l19);
+        Words.put64(b, ((int) l9) - 58896, 1L);
         break L135;
        }
-       Words.put64(b, ((int) l13) - 60720, 0L);
-       Words.put64(b, ((int) l13) - 60712, 0L);
-       Words.put64(b, ((int) l9) - 60698, 0L);
-       Words.put64(b, ((int) l9) - 60704, 0L);
+       Words.put64(b, ((int) l13) - 58912, 0L);
+       Words.put64(b, ((int) l13) - 58904, 0L);
+       Words.put64(b, ((int) l9) - 58890, 0L);
+       Words.put64(b, ((int) l9) - 58896, 0L);
       }
-      l21 = f105(m, l9 + 16L);
+      l21 = f112(m, l9 + 16L);
       break L113;
      }
      l21 = 1;
@@ -3877,7 +5260,7 @@ static int f100_2(State m, long l9, long l11, long l13, long l14, long l16, long
  return exit;
 }
 
-static int f100(State m, long l0, long l1, long l2, int l3, int l4, long l5, long l6, long l7) {
+static int f107(State m, long l0, long l1, long l2, int l3, int l4, long l5, long l6, long l7) {
  final byte[] b = m.bytes;
  long l8 = 0;
  long l9 = 0;
@@ -3905,7 +5288,7 @@ static int f100(State m, long l0, long l1, long l2, int l3, int l4, long l5, lon
     l19 = 5;
     l10 = 0L;
     if (l1 + Long.MIN_VALUE < l2 + Long.MIN_VALUE) { break L2; }
-    if (((int) b[((int) (l0 + l2)) - 60720]) < -64) { break L2; }
+    if (((int) b[((int) (l0 + l2)) - 58912]) < -64) { break L2; }
    }
    l19 = 0;
    l10 = 0L;
@@ -3928,15 +5311,15 @@ static int f100(State m, long l0, long l1, long l2, int l3, int l4, long l5, lon
          L11: {
           L12: {
            if ((l8 = l11) + Long.MIN_VALUE < -9223372036854775805L) { break L12; }
-           if (((l19 = b[((int) l2) - 60720] & 0xff) & 240) != 224) { break L11; }
-           final int t13 = b[((int) ((l14 = ((((l22 = (((l20 = b[((int) l2) - 60719] & 0xff) << 8) | ((l21 = b[((int) l2) - 60718] & 0xff) << 16)) | l19) & 0xffffffffL) * 953497L) >>> 22L) & 1016L) + 66857L)) - 60720] & 0xff;
+           if (((l19 = b[((int) l2) - 58912] & 0xff) & 240) != 224) { break L11; }
+           final int t13 = b[((int) ((l14 = ((((l22 = (((l20 = b[((int) l2) - 58911] & 0xff) << 8) | ((l21 = b[((int) l2) - 58910] & 0xff) << 16)) | l19) & 0xffffffffL) * 953497L) >>> 22L) & 1016L) + 66857L)) - 58912] & 0xff;
            final int t14 = l22 = (Words.get32(b, State.far((int) l14, 66852)) == l22) ? 1 : 0;
            l23 = t14 != 0 ? t13 : 0;
            l11 = l8 + -3L;
            l12 = l2 + 3L;
            L15: {
             L16: {
-             final int t17 = b[((int) (l14 + 66856L)) - 60720] & 0xff;
+             final int t17 = b[((int) (l14 + 66856L)) - 58912] & 0xff;
              final int t18 = l22;
              switch ((int) (((l22 = t18 != 0 ? t17 : 2) & 0xffffffffL) & 255L)) {
              case 1: break L16;
@@ -3991,7 +5374,7 @@ static int f100(State m, long l0, long l1, long l2, int l3, int l4, long l5, lon
            if ((l22 & 255) != 1) { break L10; }
            if ((l22 = l23 & 255) == 0) { break L8; }
            if (l22 != 6) { break L9; }
-           if (f101(m, l12, l11) != 0) { continue L5; }
+           if (f108(m, l12, l11) != 0) { continue L5; }
            l19 = l19 + -925824;
            break L6;
           }
@@ -4000,26 +5383,26 @@ static int f100(State m, long l0, long l1, long l2, int l3, int l4, long l5, lon
            l19 = 0;
            break L2;
           }
-          l19 = b[((int) l2) - 60720] & 0xff;
+          l19 = b[((int) l2) - 58912] & 0xff;
          }
          l12 = 1L;
          L27: {
           if (((int) (byte) l19) > -1) { break L27; }
-          l22 = (b[((int) l2) - 60719] & 0xff) & 63;
+          l22 = (b[((int) l2) - 58911] & 0xff) & 63;
           L28: {
            if (l19 + Integer.MIN_VALUE > -2147483425) { break L28; }
            l19 = ((l19 << 6) & 1984) | l22;
            l12 = 2L;
            break L27;
           }
-          l23 = (b[((int) l2) - 60718] & 0xff) & 63;
+          l23 = (b[((int) l2) - 58910] & 0xff) & 63;
           L29: {
            if (l19 + Integer.MIN_VALUE > -2147483409) { break L29; }
            l19 = ((l22 << 6) | ((l19 << 12) & 61440)) | l23;
            l12 = 3L;
            break L27;
           }
-          l19 = ((l23 << 6) | ((l22 << 12) | ((l19 << 18) & 1835008))) | ((b[((int) l2) - 60717] & 0xff) & 63);
+          l19 = ((l23 << 6) | ((l22 << 12) | ((l19 << 18) & 1835008))) | ((b[((int) l2) - 58909] & 0xff) & 63);
           l12 = 4L;
          }
          l11 = l8 - l12;
@@ -4029,9 +5412,9 @@ static int f100(State m, long l0, long l1, long l2, int l3, int l4, long l5, lon
            L32: {
             if ((l19 + -2048) + Integer.MIN_VALUE > -2147420161) { break L32; }
             if (Words.get32(b, State.far((int) (l14 = ((((l22 = (((l19 >>> 12) | ((l19 << 2) & 16128)) | ((l19 << 16) & 4128768)) | 8421600) & 0xffffffffL) * 953497L) >>> 22L) & 1016L), 66852)) != l22) { continue L5; }
-            l22 = b[((int) (l14 + 66857L)) - 60720] & 0xff;
+            l22 = b[((int) (l14 + 66857L)) - 58912] & 0xff;
             l23 = 0;
-            switch ((int) (b[((int) (l14 + 66856L)) - 60720] & 0xffL)) {
+            switch ((int) (b[((int) (l14 + 66856L)) - 58912] & 0xffL)) {
             case 1: break L31;
             case 2: continue L5;
             default: break L30;
@@ -4088,7 +5471,7 @@ static int f100(State m, long l0, long l1, long l2, int l3, int l4, long l5, lon
          if (l23 == 0) { break L6; }
          if ((l22 = l22 & 255) == 0) { break L7; }
          if (l22 != 6) { break L6; }
-         if (f101(m, l12, l11) != 0) { continue L5; }
+         if (f108(m, l12, l11) != 0) { continue L5; }
          break L6;
         }
         l19 = l19 + -925824;
@@ -4097,11 +5480,11 @@ static int f100(State m, long l0, long l1, long l2, int l3, int l4, long l5, lon
        l19 = l19 + -925824;
        break L6;
       }
-      if (f102(m, l3, l4, l12, l11) == 0) { continue L5; }
+      if (f109(m, l3, l4, l12, l11) == 0) { continue L5; }
       l19 = l19 + -925824;
       break L6;
      }
-     if (f102(m, l3, l4, l12, l11) == 0) { continue L5; }
+     if (f109(m, l3, l4, l12, l11) == 0) { continue L5; }
     }
     l15 = l1 - l8;
     L40: {
@@ -4115,9 +5498,9 @@ static int f100(State m, long l0, long l1, long l2, int l3, int l4, long l5, lon
           L46: {
            L47: {
             if ((l21 = ((l16 = l11) + Long.MIN_VALUE < -9223372036854775805L) ? 1 : 0) != 0) { break L47; }
-            if (((l19 = b[((int) l14) - 60720] & 0xff) & 240) != 224) { break L46; }
+            if (((l19 = b[((int) l14) - 58912] & 0xff) & 240) != 224) { break L46; }
             L48: {
-             if (Words.get32(b, ((int) ((l17 = ((((l23 = (((l20 = b[((int) l14) - 60719] & 0xff) << 8) | ((l24 = b[((int) l14) - 60718] & 0xff) << 16)) | l19) & 0xffffffffL) * 953497L) >>> 22L) & 1016L) + 66852L)) - 60720) != l23) { break L48; }
+             if (Words.get32(b, ((int) ((l17 = ((((l23 = (((l20 = b[((int) l14) - 58911] & 0xff) << 8) | ((l24 = b[((int) l14) - 58910] & 0xff) << 16)) | l19) & 0xffffffffL) * 953497L) >>> 22L) & 1016L) + 66852L)) - 58912) != l23) { break L48; }
              l19 = (((l19 << 12) | l24) + (l20 << 6)) + -925824;
              l11 = l16 + -3L;
              l12 = l14 + 3L;
@@ -4131,36 +5514,36 @@ static int f100(State m, long l0, long l1, long l2, int l3, int l4, long l5, lon
             l21 = 1;
             break L40;
            }
-           l19 = b[((int) l14) - 60720] & 0xff;
+           l19 = b[((int) l14) - 58912] & 0xff;
           }
           l12 = 1L;
           L50: {
            if (((int) (byte) l19) > -1) { break L50; }
-           l23 = (b[((int) l14) - 60719] & 0xff) & 63;
+           l23 = (b[((int) l14) - 58911] & 0xff) & 63;
            L51: {
             if (l19 + Integer.MIN_VALUE > -2147483425) { break L51; }
             l19 = ((l19 << 6) & 1984) | l23;
             l12 = 2L;
             break L50;
            }
-           l20 = (b[((int) l14) - 60718] & 0xff) & 63;
+           l20 = (b[((int) l14) - 58910] & 0xff) & 63;
            L52: {
             if (l19 + Integer.MIN_VALUE > -2147483409) { break L52; }
             l19 = ((l23 << 6) | ((l19 << 12) & 61440)) | l20;
             l12 = 3L;
             break L50;
            }
-           l19 = ((l20 << 6) | ((l23 << 12) | ((l19 << 18) & 1835008))) | ((b[((int) l14) - 60717] & 0xff) & 63);
+           l19 = ((l20 << 6) | ((l23 << 12) | ((l19 << 18) & 1835008))) | ((b[((int) l14) - 58909] & 0xff) & 63);
            l12 = 4L;
           }
           l11 = l16 - l12;
           l12 = l14 + l12;
           if ((l19 + -2048) + Integer.MIN_VALUE > -2147420161) { break L44; }
-          if (Words.get32(b, ((int) ((l17 = ((((l23 = (((l19 >>> 12) | ((l19 << 2) & 16128)) | ((l19 << 16) & 4128768)) | 8421600) & 0xffffffffL) * 953497L) >>> 22L) & 1016L) + 66852L)) - 60720) != l23) { break L40; }
+          if (Words.get32(b, ((int) ((l17 = ((((l23 = (((l19 >>> 12) | ((l19 << 2) & 16128)) | ((l19 << 16) & 4128768)) | 8421600) & 0xffffffffL) * 953497L) >>> 22L) & 1016L) + 66852L)) - 58912) != l23) { break L40; }
          }
-         l20 = b[((int) (l17 + 66857L)) - 60720] & 0xff;
+         l20 = b[((int) (l17 + 66857L)) - 58912] & 0xff;
          l23 = 0;
-         switch ((int) (b[((int) (l17 + 66856L)) - 60720] & 0xffL)) {
+         switch ((int) (b[((int) (l17 + 66856L)) - 58912] & 0xffL)) {
          case 1: break L43;
          case 2: break L40;
          default: break L42;
@@ -4219,25 +5602,25 @@ static int f100(State m, long l0, long l1, long l2, int l3, int l4, long l5, lon
        if (((1 << (l23 = l20 & 255)) & 65470) != 0) { break L60; }
        L61: {
         if (l23 == 0) { break L61; }
-        if (f101(m, l12, l11) == 0) { break L60; }
+        if (f108(m, l12, l11) == 0) { break L60; }
         break L40;
        }
-       if (f102(m, l3, l4, l12, l11) == 0) { break L40; }
+       if (f109(m, l3, l4, l12, l11) == 0) { break L40; }
       }
       L62: {
        if ((l22 + -48) + Integer.MIN_VALUE > -2147483639) { break L62; }
        Core2.f63(m, l9 + 8L, l19);
        if ((l19 + -58) + Integer.MIN_VALUE > 2147483637) { break L62; }
-       if (((b[((int) l9) - 60712] & 0xff) & 255) == 1) { break L40; }
+       if (((b[((int) l9) - 58904] & 0xff) & 255) == 1) { break L40; }
       }
       if ((l19 + -48) + Integer.MIN_VALUE > -2147483639) { continue L41; }
       Core2.f63(m, l9, l22);
       if ((l22 + -58) + Integer.MIN_VALUE > 2147483637) { continue L41; }
-      if (((b[((int) l9) - 60720] & 0xff) & 255) != 1) { continue L41; }
+      if (((b[((int) l9) - 58912] & 0xff) & 255) != 1) { continue L41; }
       break L41;
      }
     }
-    f100_1(m, l0, l1, l8, l9, l11, l12, l13, l15, l17, l19, l20, l22, l23, l24);
+    f107_1(m, l0, l1, l8, l9, l11, l12, l13, l15, l17, l19, l20, l22, l23, l24);
     l11 = m.kept[0];
     l12 = m.kept[1];
     l17 = m.kept[2];
@@ -4246,7 +5629,7 @@ static int f100(State m, long l0, long l1, long l2, int l3, int l4, long l5, lon
     l22 = (int) m.kept[5];
     l23 = (int) m.kept[6];
     l24 = (int) m.kept[7];
-    f100_2(m, l9, l11, l13, l14, l16, l17, l18, l19, l20, l21, l24);
+    f107_2(m, l9, l11, l13, l14, l16, l17, l18, l19, l20, l21, l24);
     l11 = m.kept[0];
     l17 = m.kept[1];
     l18 = m.kept[2];
@@ -4254,7 +5637,7 @@ static int f100(State m, long l0, long l1, long l2, int l3, int l4, long l5, lon
     l20 = (int) m.kept[4];
     l21 = (int) m.kept[5];
     l24 = (int) m.kept[6];
-    Words.put32(b, ((int) l9) - 60704, 0);
+    Words.put32(b, ((int) l9) - 58896, 0);
     l19 = l22 | l21;
     L157: {
      L158: {
@@ -4272,38 +5655,38 @@ static int f100(State m, long l0, long l1, long l2, int l3, int l4, long l5, lon
              default: break L161;
              }
             }
-            if ((l22 = (Words.get32(b, State.far((int) (l11 = ((((l22 = (((b[((int) l2) - 60719] & 0xff) << 8) | (l24 = b[((int) l2) - 60720] & 0xff)) | ((b[((int) l2) - 60718] & 0xff) << 16)) & 0xffffffffL) * 953497L) >>> 22L) & 1016L), 66852)) != l22) ? 1 : 0) != 0) { break L163; }
+            if ((l22 = (Words.get32(b, State.far((int) (l11 = ((((l22 = (((b[((int) l2) - 58911] & 0xff) << 8) | (l24 = b[((int) l2) - 58912] & 0xff)) | ((b[((int) l2) - 58910] & 0xff) << 16)) & 0xffffffffL) * 953497L) >>> 22L) & 1016L), 66852)) != l22) ? 1 : 0) != 0) { break L163; }
             l21 = 1;
-            final int t166 = b[((int) (l11 + 66856L)) - 60720] & 0xff;
+            final int t166 = b[((int) (l11 + 66856L)) - 58912] & 0xff;
             final int t167 = l22;
             if (((l22 = t167 != 0 ? 0 : t166) & 255) == 2) { break L163; }
             break L160;
            }
            if (l8 + Long.MIN_VALUE > -9223372036854775804L) { break L159; }
            if (l12 == l16) { break L162; }
-           l24 = b[((int) l2) - 60720] & 0xff;
+           l24 = b[((int) l2) - 58912] & 0xff;
           }
           if (((int) (byte) l24) > -1) { break L159; }
          }
-         f106(m, l9 + 16L, l2, l8);
-         if ((b[((int) l9) - 60704] & 0xff) != 1) { break L159; }
-         l21 = b[((int) l9) - 60701] & 0xff;
-         l22 = b[((int) l9) - 60703] & 0xff;
+         f113(m, l9 + 16L, l2, l8);
+         if ((b[((int) l9) - 58896] & 0xff) != 1) { break L159; }
+         l21 = b[((int) l9) - 58893] & 0xff;
+         l22 = b[((int) l9) - 58895] & 0xff;
          break L160;
         }
-        l22 = ((l21 = ((((b[((int) l2) - 60720] & 0xff) + -58) & 255) + Integer.MIN_VALUE < -2147483402) ? 1 : 0) != 0) ? 2 : 0;
+        l22 = ((l21 = ((((b[((int) l2) - 58912] & 0xff) + -58) & 255) + Integer.MIN_VALUE < -2147483402) ? 1 : 0) != 0) ? 2 : 0;
        }
        l22 = (l19 != 0 ? 0 : 2) | (((l19 = l22 & 255) == 0) ? 1 : 0);
        l21 = ((l21 & 1) != 0) ? 8 : 0;
        if ((l20 | (l23 & ((l19 == 1) ? 1 : 0))) != 0) { break L158; }
        break L157;
       }
-      l22 = f107(m, l2, l8);
+      l22 = f114(m, l2, l8);
       L168: {
        L169: {
         L170: {
          if (l23 == 0) { break L170; }
-         if ((l20 | f108(m, l2, l8)) != 0) { break L169; }
+         if ((l20 | f115(m, l2, l8)) != 0) { break L169; }
          break L168;
         }
         if (l20 == 0) { break L168; }
@@ -4314,15 +5697,15 @@ static int f100(State m, long l0, long l1, long l2, int l3, int l4, long l5, lon
       }
       l21 = 0;
       l22 = (l19 != 0 ? 0 : 2) | l22;
-      if (f109(m, l2, l8) == 0) { break L157; }
+      if (f116(m, l2, l8) == 0) { break L157; }
      }
      l22 = l22 | 4;
     }
     l19 = 0;
-    Words.put32(b, ((int) (l2 = l5 + (l10 * 24L))) - 60700, 0);
-    Words.put32(b, ((int) l2) - 60704, l21 | l22);
-    Words.put64(b, ((int) l2) - 60712, l1 - l16);
-    Words.put64(b, ((int) l2) - 60720, l15);
+    Words.put32(b, ((int) (l2 = l5 + (l10 * 24L))) - 58892, 0);
+    Words.put32(b, ((int) l2) - 58896, l21 | l22);
+    Words.put64(b, ((int) l2) - 58904, l1 - l16);
+    Words.put64(b, ((int) l2) - 58912, l15);
     if ((l10 = l10 + 1L) + Long.MIN_VALUE >= l6 + Long.MIN_VALUE) { break L2; }
     l11 = l16;
     l12 = l14;
@@ -4330,7 +5713,7 @@ static int f100(State m, long l0, long l1, long l2, int l3, int l4, long l5, lon
     break L5;
    }
   }
-  Words.put64(b, ((int) l7) - 60720, l10);
+  Words.put64(b, ((int) l7) - 58912, l10);
   m.g0 = l9 + 48L;
   final int t171 = l19;
   return t171;
@@ -4338,7 +5721,7 @@ static int f100(State m, long l0, long l1, long l2, int l3, int l4, long l5, lon
  throw State.trap();
 }
 
-static int f101(State m, long l0, long l1) {
+static int f108(State m, long l0, long l1) {
  final byte[] b = m.bytes;
  int l2 = 0;
  int l3 = 0;
@@ -4356,45 +5739,45 @@ static int f101(State m, long l0, long l1) {
        if (!(l1 == 0L)) { break L6; }
        return 0;
       }
-      l3 = (l2 = (int) b[((int) l0) - 60720]) & 255;
+      l3 = (l2 = (int) b[((int) l0) - 58912]) & 255;
       l7 = 1L;
       L7: {
        if (l2 > -1) { break L7; }
-       l4 = (b[((int) l0) - 60719] & 0xff) & 63;
+       l4 = (b[((int) l0) - 58911] & 0xff) & 63;
        L8: {
         if (l2 + Integer.MIN_VALUE > 2147483615) { break L8; }
         l3 = ((l3 << 6) & 1984) | l4;
         l7 = 2L;
         break L7;
        }
-       l5 = (b[((int) l0) - 60718] & 0xff) & 63;
+       l5 = (b[((int) l0) - 58910] & 0xff) & 63;
        L9: {
         if (l2 + Integer.MIN_VALUE > 2147483631) { break L9; }
         l3 = ((l4 << 6) | ((l3 << 12) & 61440)) | l5;
         l7 = 3L;
         break L7;
        }
-       l3 = ((l5 << 6) | ((l4 << 12) | ((l3 << 18) & 1835008))) | ((b[((int) l0) - 60717] & 0xff) & 63);
+       l3 = ((l5 << 6) | ((l4 << 12) | ((l3 << 18) & 1835008))) | ((b[((int) l0) - 58909] & 0xff) & 63);
        l7 = 4L;
       }
       l2 = 0;
       L10: {
        if (l1 == l7) { break L10; }
-       l2 = (l4 = (int) b[((int) (l1 = l0 + l7)) - 60720]) & 255;
+       l2 = (l4 = (int) b[((int) (l1 = l0 + l7)) - 58912]) & 255;
        if (l4 > -1) { break L10; }
-       l5 = (b[((int) l1) - 60719] & 0xff) & 63;
+       l5 = (b[((int) l1) - 58911] & 0xff) & 63;
        L11: {
         if (l4 + Integer.MIN_VALUE > 2147483615) { break L11; }
         l2 = ((l2 << 6) & 1984) | l5;
         break L10;
        }
-       l6 = (b[((int) l1) - 60718] & 0xff) & 63;
+       l6 = (b[((int) l1) - 58910] & 0xff) & 63;
        L12: {
         if (l4 + Integer.MIN_VALUE > 2147483631) { break L12; }
         l2 = ((l5 << 6) | ((l2 << 12) & 61440)) | l6;
         break L10;
        }
-       l2 = ((l6 << 6) | ((l5 << 12) | ((l2 << 18) & 1835008))) | ((b[((int) l1) - 60717] & 0xff) & 63);
+       l2 = ((l6 << 6) | ((l5 << 12) | ((l2 << 18) & 1835008))) | ((b[((int) l1) - 58909] & 0xff) & 63);
       }
       L13: {
        L14: {
@@ -4486,7 +5869,7 @@ static int f101(State m, long l0, long l1) {
  return 1;
 }
 
-static int f102(State m, int l0, int l1, long l2, long l3) {
+static int f109(State m, int l0, int l1, long l2, long l3) {
  final byte[] b = m.bytes;
  long l4 = 0;
  long l5 = 0;
@@ -4502,11 +5885,11 @@ static int f102(State m, int l0, int l1, long l2, long l3) {
    L3: {
     L4: {
      if (l3 + Long.MIN_VALUE < -9223372036854775805L) { break L4; }
-     if (((l7 = b[((int) l2) - 60720] & 0xff) & 240) != 224) { break L3; }
-     final int t5 = b[((int) ((l5 = ((((l10 = (((l8 = b[((int) l2) - 60719] & 0xff) << 8) | ((l9 = b[((int) l2) - 60718] & 0xff) << 16)) | l7) & 0xffffffffL) * 953497L) >>> 22L) & 1016L) + 66857L)) - 60720] & 0xff;
+     if (((l7 = b[((int) l2) - 58912] & 0xff) & 240) != 224) { break L3; }
+     final int t5 = b[((int) ((l5 = ((((l10 = (((l8 = b[((int) l2) - 58911] & 0xff) << 8) | ((l9 = b[((int) l2) - 58910] & 0xff) << 16)) | l7) & 0xffffffffL) * 953497L) >>> 22L) & 1016L) + 66857L)) - 58912] & 0xff;
      final int t6 = l11 = (Words.get32(b, State.far((int) l5, 66852)) == l10) ? 1 : 0;
      l10 = t6 != 0 ? t5 : 0;
-     final int t7 = b[((int) (l5 + 66856L)) - 60720] & 0xff;
+     final int t7 = b[((int) (l5 + 66856L)) - 58912] & 0xff;
      final int t8 = l11;
      l11 = t8 != 0 ? t7 : 2;
      l8 = ((l9 + (l8 << 6)) + (l7 << 12)) + -925824;
@@ -4519,27 +5902,27 @@ static int f102(State m, int l0, int l1, long l2, long l3) {
      m.g0 = l4;
      return 0;
     }
-    l7 = b[((int) l2) - 60720] & 0xff;
+    l7 = b[((int) l2) - 58912] & 0xff;
    }
    l8 = l7 & 255;
    l5 = 1L;
    L10: {
     if (((int) (byte) l7) > -1) { break L10; }
-    l10 = (b[((int) l2) - 60719] & 0xff) & 63;
+    l10 = (b[((int) l2) - 58911] & 0xff) & 63;
     L11: {
      if ((l7 & 255) + Integer.MIN_VALUE > -2147483425) { break L11; }
      l8 = ((l8 << 6) & 1984) | l10;
      l5 = 2L;
      break L10;
     }
-    l11 = (b[((int) l2) - 60718] & 0xff) & 63;
+    l11 = (b[((int) l2) - 58910] & 0xff) & 63;
     L12: {
      if ((l7 & 255) + Integer.MIN_VALUE > -2147483409) { break L12; }
      l8 = ((l10 << 6) | ((l8 << 12) & 61440)) | l11;
      l5 = 3L;
      break L10;
     }
-    l8 = ((l11 << 6) | ((l10 << 12) | ((l8 << 18) & 1835008))) | ((b[((int) l2) - 60717] & 0xff) & 63);
+    l8 = ((l11 << 6) | ((l10 << 12) | ((l8 << 18) & 1835008))) | ((b[((int) l2) - 58909] & 0xff) & 63);
     l5 = 4L;
    }
    L13: {
@@ -4547,10 +5930,10 @@ static int f102(State m, int l0, int l1, long l2, long l3) {
     m.g0 = l4;
     return 0;
    }
-   final int t14 = b[((int) ((l6 = ((((l7 = (((l8 >>> 12) | ((l8 << 2) & 16128)) | ((l8 << 16) & 4128768)) | 8421600) & 0xffffffffL) * 953497L) >>> 22L) & 1016L) + 66857L)) - 60720] & 0xff;
+   final int t14 = b[((int) ((l6 = ((((l7 = (((l8 >>> 12) | ((l8 << 2) & 16128)) | ((l8 << 16) & 4128768)) | 8421600) & 0xffffffffL) * 953497L) >>> 22L) & 1016L) + 66857L)) - 58912] & 0xff;
    final int t15 = l7 = (Words.get32(b, State.far((int) l6, 66852)) == l7) ? 1 : 0;
    l10 = t15 != 0 ? t14 : 0;
-   final int t16 = b[((int) (l6 + 66856L)) - 60720] & 0xff;
+   final int t16 = b[((int) (l6 + 66856L)) - 58912] & 0xff;
    final int t17 = l7;
    l11 = t17 != 0 ? t16 : 2;
    l2 = l2 + l5;
@@ -4604,7 +5987,7 @@ static int f102(State m, int l0, int l1, long l2, long l3) {
    }
    l7 = 1;
    if ((l10 & 255) != 6) { break L18; }
-   l7 = f101(m, l2, l3) ^ 1;
+   l7 = f108(m, l2, l3) ^ 1;
   }
   m.g0 = l4;
   final int t26 = l7;
@@ -4613,7 +5996,7 @@ static int f102(State m, int l0, int l1, long l2, long l3) {
  throw State.trap();
 }
 
-static int f103(State m, long l0) {
+static int f110(State m, long l0) {
  final byte[] b = m.bytes;
  int l1 = 0;
  int l2 = 0;
@@ -4621,13 +6004,13 @@ static int f103(State m, long l0) {
   if (m.g0 < 16L) { break L1; }
   l1 = 1;
   L2: {
-   if ((b[((int) l0) - 60720] & 0xff) == 1) { break L2; }
+   if ((b[((int) l0) - 58912] & 0xff) == 1) { break L2; }
    return 0;
   }
   L3: {
-   if (((b[((int) (l0 + 12L)) - 60720] & 0xff) & 255) != 2) { break L3; }
+   if (((b[((int) (l0 + 12L)) - 58912] & 0xff) & 255) != 2) { break L3; }
    L4: {
-    if ((l2 = Words.get32(b, ((int) (l0 + 8L)) - 60720)) + Integer.MIN_VALUE > -2147483521) { break L4; }
+    if ((l2 = Words.get32(b, ((int) (l0 + 8L)) - 58912)) + Integer.MIN_VALUE > -2147483521) { break L4; }
     if (l2 == 95) { break L3; }
     l1 = 0;
     if ((l2 + -44) + Integer.MIN_VALUE < -2147483645) { break L3; }
@@ -4718,7 +6101,7 @@ static int f103(State m, long l0) {
  throw State.trap();
 }
 
-static int f104(State m, int l0, long l1, long l2) {
+static int f111(State m, int l0, long l1, long l2) {
  final byte[] b = m.bytes;
  int l3 = 0;
  int l4 = 0;
@@ -4731,43 +6114,43 @@ static int f104(State m, int l0, long l1, long l2) {
     if (l0 == 20986) { break L3; }
     if (l0 != 22909) { break L2; }
     if (l2 == 0L) { break L2; }
-    l0 = (l3 = (int) b[((int) l1) - 60720]) & 255;
+    l0 = (l3 = (int) b[((int) l1) - 58912]) & 255;
     L4: {
      if (l3 > -1) { break L4; }
-     l4 = (b[((int) l1) - 60719] & 0xff) & 63;
+     l4 = (b[((int) l1) - 58911] & 0xff) & 63;
      L5: {
       if (l3 + Integer.MIN_VALUE > 2147483615) { break L5; }
       l0 = ((l0 << 6) & 1984) | l4;
       break L4;
      }
-     l5 = (b[((int) l1) - 60718] & 0xff) & 63;
+     l5 = (b[((int) l1) - 58910] & 0xff) & 63;
      L6: {
       if (l3 + Integer.MIN_VALUE > 2147483631) { break L6; }
       l0 = ((l4 << 6) | ((l0 << 12) & 61440)) | l5;
       break L4;
      }
-     l0 = ((l5 << 6) | ((l4 << 12) | ((l0 << 18) & 1835008))) | ((b[((int) l1) - 60717] & 0xff) & 63);
+     l0 = ((l5 << 6) | ((l4 << 12) | ((l0 << 18) & 1835008))) | ((b[((int) l1) - 58909] & 0xff) & 63);
     }
     final int t7 = ((l0 == 20960) | (l0 == 24190)) ? 1 : 0;
     return t7;
    }
    if (l2 == 0L) { break L2; }
-   l0 = (l3 = (int) b[((int) l1) - 60720]) & 255;
+   l0 = (l3 = (int) b[((int) l1) - 58912]) & 255;
    L8: {
     if (l3 > -1) { break L8; }
-    l4 = (b[((int) l1) - 60719] & 0xff) & 63;
+    l4 = (b[((int) l1) - 58911] & 0xff) & 63;
     L9: {
      if (l3 + Integer.MIN_VALUE > 2147483615) { break L9; }
      l0 = ((l0 << 6) & 1984) | l4;
      break L8;
     }
-    l5 = (b[((int) l1) - 60718] & 0xff) & 63;
+    l5 = (b[((int) l1) - 58910] & 0xff) & 63;
     L10: {
      if (l3 + Integer.MIN_VALUE > 2147483631) { break L10; }
      l0 = ((l4 << 6) | ((l0 << 12) & 61440)) | l5;
      break L8;
     }
-    l0 = ((l5 << 6) | ((l4 << 12) | ((l0 << 18) & 1835008))) | ((b[((int) l1) - 60717] & 0xff) & 63);
+    l0 = ((l5 << 6) | ((l4 << 12) | ((l0 << 18) & 1835008))) | ((b[((int) l1) - 58909] & 0xff) & 63);
    }
    l3 = ((l0 == 22836) | (l0 == 38957)) ? 1 : 0;
   }
@@ -4777,7 +6160,7 @@ static int f104(State m, int l0, long l1, long l2) {
  throw State.trap();
 }
 
-static int f105(State m, long l0) {
+static int f112(State m, long l0) {
  final byte[] b = m.bytes;
  int l1 = 0;
  int l2 = 0;
@@ -4785,13 +6168,13 @@ static int f105(State m, long l0) {
   if (m.g0 < 16L) { break L1; }
   l1 = 1;
   L2: {
-   if ((b[((int) l0) - 60720] & 0xff) == 1) { break L2; }
+   if ((b[((int) l0) - 58912] & 0xff) == 1) { break L2; }
    return 0;
   }
   L3: {
-   if (((b[((int) (l0 + 12L)) - 60720] & 0xff) & 255) != 2) { break L3; }
+   if (((b[((int) (l0 + 12L)) - 58912] & 0xff) & 255) != 2) { break L3; }
    L4: {
-    if ((l2 = Words.get32(b, ((int) (l0 + 8L)) - 60720)) + Integer.MIN_VALUE > -2147483521) { break L4; }
+    if ((l2 = Words.get32(b, ((int) (l0 + 8L)) - 58912)) + Integer.MIN_VALUE > -2147483521) { break L4; }
     if (l2 == 95) { break L3; }
     l1 = 0;
     if ((l2 + -44) + Integer.MIN_VALUE < -2147483645) { break L3; }
@@ -4882,7 +6265,7 @@ static int f105(State m, long l0) {
  throw State.trap();
 }
 
-static void f106(State m, long l0, long l1, long l2) {
+static void f113(State m, long l0, long l1, long l2) {
  final byte[] b = m.bytes;
  int l3 = 0;
  int l4 = 0;
@@ -4899,11 +6282,11 @@ static void f106(State m, long l0, long l1, long l2) {
     L4: {
      L5: {
       if (l2 + Long.MIN_VALUE < -9223372036854775805L) { break L5; }
-      if (((l3 = b[((int) l1) - 60720] & 0xff) & 240) != 224) { break L4; }
-      final int t6 = b[((int) ((l1 = ((((l6 = (((l4 = b[((int) l1) - 60719] & 0xff) << 8) | ((l5 = b[((int) l1) - 60718] & 0xff) << 16)) | l3) & 0xffffffffL) * 953497L) >>> 22L) & 1016L) + 66857L)) - 60720] & 0xff;
+      if (((l3 = b[((int) l1) - 58912] & 0xff) & 240) != 224) { break L4; }
+      final int t6 = b[((int) ((l1 = ((((l6 = (((l4 = b[((int) l1) - 58911] & 0xff) << 8) | ((l5 = b[((int) l1) - 58910] & 0xff) << 16)) | l3) & 0xffffffffL) * 953497L) >>> 22L) & 1016L) + 66857L)) - 58912] & 0xff;
       final int t7 = l6 = (Words.get32(b, State.far((int) l1, 66852)) == l6) ? 1 : 0;
       l7 = t7 != 0 ? t6 : 0;
-      final int t8 = b[((int) (l1 + 66856L)) - 60720] & 0xff;
+      final int t8 = b[((int) (l1 + 66856L)) - 58912] & 0xff;
       final int t9 = l6;
       l8 = t9 != 0 ? t8 : 2;
       l4 = ((l5 + (l4 << 6)) + (l3 << 12)) + -925824;
@@ -4911,36 +6294,36 @@ static void f106(State m, long l0, long l1, long l2) {
       break L3;
      }
      if (l2 == 0L) { break L1; }
-     l3 = b[((int) l1) - 60720] & 0xff;
+     l3 = b[((int) l1) - 58912] & 0xff;
     }
     l4 = l3 & 255;
     l10 = -1L;
     L10: {
      if (((int) (byte) l3) > -1) { break L10; }
-     l5 = (b[((int) l1) - 60719] & 0xff) & 63;
+     l5 = (b[((int) l1) - 58911] & 0xff) & 63;
      L11: {
       if ((l3 & 255) + Integer.MIN_VALUE > -2147483425) { break L11; }
       l4 = ((l4 << 6) & 1984) | l5;
       l10 = -2L;
       break L10;
      }
-     l6 = (b[((int) l1) - 60718] & 0xff) & 63;
+     l6 = (b[((int) l1) - 58910] & 0xff) & 63;
      L12: {
       if ((l3 & 255) + Integer.MIN_VALUE > -2147483409) { break L12; }
       l4 = ((l5 << 6) | ((l4 << 12) & 61440)) | l6;
       l10 = -3L;
       break L10;
      }
-     l4 = ((l6 << 6) | ((l5 << 12) | ((l4 << 18) & 1835008))) | ((b[((int) l1) - 60717] & 0xff) & 63);
+     l4 = ((l6 << 6) | ((l5 << 12) | ((l4 << 18) & 1835008))) | ((b[((int) l1) - 58909] & 0xff) & 63);
      l10 = -4L;
     }
     l2 = l10 + l2;
     L13: {
      if ((l4 + -2048) + Integer.MIN_VALUE > -2147420161) { break L13; }
-     final int t14 = b[((int) ((l1 = ((((l3 = (((l4 >>> 12) | ((l4 << 2) & 16128)) | ((l4 << 16) & 4128768)) | 8421600) & 0xffffffffL) * 953497L) >>> 22L) & 1016L) + 66857L)) - 60720] & 0xff;
+     final int t14 = b[((int) ((l1 = ((((l3 = (((l4 >>> 12) | ((l4 << 2) & 16128)) | ((l4 << 16) & 4128768)) | 8421600) & 0xffffffffL) * 953497L) >>> 22L) & 1016L) + 66857L)) - 58912] & 0xff;
      final int t15 = l3 = (Words.get32(b, State.far((int) l1, 66852)) == l3) ? 1 : 0;
      l7 = t15 != 0 ? t14 : 0;
-     final int t16 = b[((int) (l1 + 66856L)) - 60720] & 0xff;
+     final int t16 = b[((int) (l1 + 66856L)) - 58912] & 0xff;
      final int t17 = l3;
      l8 = t17 != 0 ? t16 : 2;
      break L3;
@@ -4961,18 +6344,18 @@ static void f106(State m, long l0, long l1, long l2) {
     l5 = l8;
     l6 = l7;
    }
-   b[((int) l0) - 60720] = (byte) l3;
-   b[((int) (l0 + 3L)) - 60720] = (byte) l9;
-   b[((int) (l0 + 2L)) - 60720] = (byte) l6;
-   b[((int) (l0 + 1L)) - 60720] = (byte) l5;
+   b[((int) l0) - 58912] = (byte) l3;
+   b[((int) (l0 + 3L)) - 58912] = (byte) l9;
+   b[((int) (l0 + 2L)) - 58912] = (byte) l6;
+   b[((int) (l0 + 1L)) - 58912] = (byte) l5;
    return;
   }
   throw State.trap();
  }
- Words.put32(b, ((int) l0) - 60720, 0);
+ Words.put32(b, ((int) l0) - 58912, 0);
 }
 
-static int f107(State m, long l0, long l1) {
+static int f114(State m, long l0, long l1) {
  final byte[] b = m.bytes;
  int l2 = 0;
  int l3 = 0;
@@ -4988,9 +6371,9 @@ static int f107(State m, long l0, long l1) {
       L6: {
        L7: {
         if (l1 + Long.MIN_VALUE < -9223372036854775805L) { break L7; }
-        if (((l2 = b[((int) l0) - 60720] & 0xff) & 240) != 224) { break L6; }
-        if (Words.get32(b, State.far((int) (l6 = ((((l3 = (((b[((int) l0) - 60719] & 0xff) << 8) | ((b[((int) l0) - 60718] & 0xff) << 16)) | l2) & 0xffffffffL) * 953497L) >>> 22L) & 1016L), 66852)) != l3) { break L3; }
-        l2 = b[((int) (l6 + 66856L)) - 60720] & 0xff;
+        if (((l2 = b[((int) l0) - 58912] & 0xff) & 240) != 224) { break L6; }
+        if (Words.get32(b, State.far((int) (l6 = ((((l3 = (((b[((int) l0) - 58911] & 0xff) << 8) | ((b[((int) l0) - 58910] & 0xff) << 16)) | l2) & 0xffffffffL) * 953497L) >>> 22L) & 1016L), 66852)) != l3) { break L3; }
+        l2 = b[((int) (l6 + 66856L)) - 58912] & 0xff;
         l1 = l1 + -3L;
         l0 = l0 + 3L;
         break L5;
@@ -4999,27 +6382,27 @@ static int f107(State m, long l0, long l1) {
         if (!(l1 == 0L)) { break L8; }
         return 1;
        }
-       l2 = b[((int) l0) - 60720] & 0xff;
+       l2 = b[((int) l0) - 58912] & 0xff;
       }
       l3 = l2 & 255;
       l6 = 1L;
       L9: {
        if (((int) (byte) l2) > -1) { break L9; }
-       l4 = (b[((int) l0) - 60719] & 0xff) & 63;
+       l4 = (b[((int) l0) - 58911] & 0xff) & 63;
        L10: {
         if ((l2 & 255) + Integer.MIN_VALUE > -2147483425) { break L10; }
         l3 = ((l3 << 6) & 1984) | l4;
         l6 = 2L;
         break L9;
        }
-       l5 = (b[((int) l0) - 60718] & 0xff) & 63;
+       l5 = (b[((int) l0) - 58910] & 0xff) & 63;
        L11: {
         if ((l2 & 255) + Integer.MIN_VALUE > -2147483409) { break L11; }
         l3 = ((l4 << 6) | ((l3 << 12) & 61440)) | l5;
         l6 = 3L;
         break L9;
        }
-       l3 = ((l5 << 6) | ((l4 << 12) | ((l3 << 18) & 1835008))) | ((b[((int) l0) - 60717] & 0xff) & 63);
+       l3 = ((l5 << 6) | ((l4 << 12) | ((l3 << 18) & 1835008))) | ((b[((int) l0) - 58909] & 0xff) & 63);
        l6 = 4L;
       }
       l1 = l1 - l6;
@@ -5027,7 +6410,7 @@ static int f107(State m, long l0, long l1) {
       L12: {
        if ((l3 + -2048) + Integer.MIN_VALUE > -2147420161) { break L12; }
        if (Words.get32(b, State.far((int) (l6 = ((((l3 = (((l3 >>> 12) | ((l3 << 2) & 16128)) | ((l3 << 16) & 4128768)) | 8421600) & 0xffffffffL) * 953497L) >>> 22L) & 1016L), 66852)) != l3) { break L3; }
-       l2 = b[((int) (l6 + 66856L)) - 60720] & 0xff;
+       l2 = b[((int) (l6 + 66856L)) - 58912] & 0xff;
        break L5;
       }
       l2 = 0;
@@ -5045,7 +6428,7 @@ static int f107(State m, long l0, long l1) {
  throw State.trap();
 }
 
-static int f108(State m, long l0, long l1) {
+static int f115(State m, long l0, long l1) {
  final byte[] b = m.bytes;
  int l2 = 0;
  int l3 = 0;
@@ -5058,8 +6441,8 @@ static int f108(State m, long l0, long l1) {
     L4: {
      L5: {
       if (l1 + Long.MIN_VALUE < -9223372036854775805L) { break L5; }
-      if (((l2 = b[((int) l0) - 60720] & 0xff) & 240) != 224) { break L4; }
-      final int t6 = b[((int) ((l0 = ((((l3 = (((b[((int) l0) - 60719] & 0xff) << 8) | ((b[((int) l0) - 60718] & 0xff) << 16)) | l2) & 0xffffffffL) * 953497L) >>> 22L) & 1016L) + 66856L)) - 60720] & 0xff;
+      if (((l2 = b[((int) l0) - 58912] & 0xff) & 240) != 224) { break L4; }
+      final int t6 = b[((int) ((l0 = ((((l3 = (((b[((int) l0) - 58911] & 0xff) << 8) | ((b[((int) l0) - 58910] & 0xff) << 16)) | l2) & 0xffffffffL) * 953497L) >>> 22L) & 1016L) + 66856L)) - 58912] & 0xff;
       final int t7 = (Words.get32(b, State.far((int) l0, 66852)) == l3) ? 1 : 0;
       l3 = t7 != 0 ? t6 : 2;
       break L3;
@@ -5070,28 +6453,28 @@ static int f108(State m, long l0, long l1) {
       l3 = 0;
       break L2;
      }
-     l2 = b[((int) l0) - 60720] & 0xff;
+     l2 = b[((int) l0) - 58912] & 0xff;
     }
     l3 = l2 & 255;
     L9: {
      if (((int) (byte) l2) > -1) { break L9; }
-     l4 = (b[((int) l0) - 60719] & 0xff) & 63;
+     l4 = (b[((int) l0) - 58911] & 0xff) & 63;
      L10: {
       if ((l2 & 255) + Integer.MIN_VALUE > -2147483425) { break L10; }
       l3 = ((l3 << 6) & 1984) | l4;
       break L9;
      }
-     l5 = (b[((int) l0) - 60718] & 0xff) & 63;
+     l5 = (b[((int) l0) - 58910] & 0xff) & 63;
      L11: {
       if ((l2 & 255) + Integer.MIN_VALUE > -2147483409) { break L11; }
       l3 = ((l4 << 6) | ((l3 << 12) & 61440)) | l5;
       break L9;
      }
-     l3 = ((l5 << 6) | ((l4 << 12) | ((l3 << 18) & 1835008))) | ((b[((int) l0) - 60717] & 0xff) & 63);
+     l3 = ((l5 << 6) | ((l4 << 12) | ((l3 << 18) & 1835008))) | ((b[((int) l0) - 58909] & 0xff) & 63);
     }
     L12: {
      if ((l3 + -2048) + Integer.MIN_VALUE > -2147420161) { break L12; }
-     final int t13 = b[((int) ((l0 = ((((l3 = (((l3 >>> 12) | ((l3 << 2) & 16128)) | ((l3 << 16) & 4128768)) | 8421600) & 0xffffffffL) * 953497L) >>> 22L) & 1016L) + 66856L)) - 60720] & 0xff;
+     final int t13 = b[((int) ((l0 = ((((l3 = (((l3 >>> 12) | ((l3 << 2) & 16128)) | ((l3 << 16) & 4128768)) | 8421600) & 0xffffffffL) * 953497L) >>> 22L) & 1016L) + 66856L)) - 58912] & 0xff;
      final int t14 = (Words.get32(b, State.far((int) l0, 66852)) == l3) ? 1 : 0;
      l3 = t14 != 0 ? t13 : 2;
      break L3;
@@ -5106,7 +6489,7 @@ static int f108(State m, long l0, long l1) {
  throw State.trap();
 }
 
-static int f109(State m, long l0, long l1) {
+static int f116(State m, long l0, long l1) {
  final byte[] b = m.bytes;
  long l2 = 0;
  long l3 = 0;
@@ -5125,8 +6508,8 @@ static int f109(State m, long l0, long l1) {
       L6: {
        L7: {
         if (l1 + Long.MIN_VALUE < -9223372036854775805L) { break L7; }
-        if (((l4 = b[((int) l0) - 60720] & 0xff) & 240) != 224) { break L6; }
-        final int t8 = b[((int) ((l2 = ((((l7 = (((l5 = b[((int) l0) - 60719] & 0xff) << 8) | ((l6 = b[((int) l0) - 60718] & 0xff) << 16)) | l4) & 0xffffffffL) * 953497L) >>> 22L) & 1016L) + 66856L)) - 60720] & 0xff;
+        if (((l4 = b[((int) l0) - 58912] & 0xff) & 240) != 224) { break L6; }
+        final int t8 = b[((int) ((l2 = ((((l7 = (((l5 = b[((int) l0) - 58911] & 0xff) << 8) | ((l6 = b[((int) l0) - 58910] & 0xff) << 16)) | l4) & 0xffffffffL) * 953497L) >>> 22L) & 1016L) + 66856L)) - 58912] & 0xff;
         final int t9 = (Words.get32(b, State.far((int) l2, 66852)) == l7) ? 1 : 0;
         l7 = t9 != 0 ? t8 : 2;
         l5 = ((l6 + (l5 << 6)) + (l4 << 12)) + -925824;
@@ -5135,34 +6518,34 @@ static int f109(State m, long l0, long l1) {
         break L5;
        }
        if (l1 == 0L) { break L3; }
-       l4 = b[((int) l0) - 60720] & 0xff;
+       l4 = b[((int) l0) - 58912] & 0xff;
       }
       l5 = l4 & 255;
       l2 = 1L;
       L10: {
        if (((int) (byte) l4) > -1) { break L10; }
-       l7 = (b[((int) l0) - 60719] & 0xff) & 63;
+       l7 = (b[((int) l0) - 58911] & 0xff) & 63;
        L11: {
         if ((l4 & 255) + Integer.MIN_VALUE > -2147483425) { break L11; }
         l5 = ((l5 << 6) & 1984) | l7;
         l2 = 2L;
         break L10;
        }
-       l6 = (b[((int) l0) - 60718] & 0xff) & 63;
+       l6 = (b[((int) l0) - 58910] & 0xff) & 63;
        L12: {
         if ((l4 & 255) + Integer.MIN_VALUE > -2147483409) { break L12; }
         l5 = ((l7 << 6) | ((l5 << 12) & 61440)) | l6;
         l2 = 3L;
         break L10;
        }
-       l5 = ((l6 << 6) | ((l7 << 12) | ((l5 << 18) & 1835008))) | ((b[((int) l0) - 60717] & 0xff) & 63);
+       l5 = ((l6 << 6) | ((l7 << 12) | ((l5 << 18) & 1835008))) | ((b[((int) l0) - 58909] & 0xff) & 63);
        l2 = 4L;
       }
       l1 = l1 - l2;
       l0 = l0 + l2;
       L13: {
        if ((l5 + -2048) + Integer.MIN_VALUE > -2147420161) { break L13; }
-       final int t14 = b[((int) ((l2 = ((((l4 = (((l5 >>> 12) | ((l5 << 2) & 16128)) | ((l5 << 16) & 4128768)) | 8421600) & 0xffffffffL) * 953497L) >>> 22L) & 1016L) + 66856L)) - 60720] & 0xff;
+       final int t14 = b[((int) ((l2 = ((((l4 = (((l5 >>> 12) | ((l5 << 2) & 16128)) | ((l5 << 16) & 4128768)) | 8421600) & 0xffffffffL) * 953497L) >>> 22L) & 1016L) + 66856L)) - 58912] & 0xff;
        final int t15 = (Words.get32(b, State.far((int) l2, 66852)) == l4) ? 1 : 0;
        l7 = t15 != 0 ? t14 : 2;
        break L5;
@@ -5179,36 +6562,36 @@ static int f109(State m, long l0, long l1) {
       L18: {
        L19: {
         if (l1 + Long.MIN_VALUE < -9223372036854775805L) { break L19; }
-        if (((l7 = b[((int) l0) - 60720] & 0xff) & 240) != 224) { break L18; }
-        final int t20 = b[((int) ((l2 = ((((l6 = (((l4 = b[((int) l0) - 60719] & 0xff) << 8) | ((l8 = b[((int) l0) - 60718] & 0xff) << 16)) | l7) & 0xffffffffL) * 953497L) >>> 22L) & 1016L) + 66856L)) - 60720] & 0xff;
+        if (((l7 = b[((int) l0) - 58912] & 0xff) & 240) != 224) { break L18; }
+        final int t20 = b[((int) ((l2 = ((((l6 = (((l4 = b[((int) l0) - 58911] & 0xff) << 8) | ((l8 = b[((int) l0) - 58910] & 0xff) << 16)) | l7) & 0xffffffffL) * 953497L) >>> 22L) & 1016L) + 66856L)) - 58912] & 0xff;
         final int t21 = (Words.get32(b, State.far((int) l2, 66852)) == l6) ? 1 : 0;
         l6 = t21 != 0 ? t20 : 2;
         l4 = ((l8 + (l4 << 6)) + (l7 << 12)) + -925824;
         break L17;
        }
        if (l1 == 0L) { continue L4; }
-       l7 = b[((int) l0) - 60720] & 0xff;
+       l7 = b[((int) l0) - 58912] & 0xff;
       }
       l4 = l7 & 255;
       L22: {
        if (((int) (byte) l7) > -1) { break L22; }
-       l6 = (b[((int) l0) - 60719] & 0xff) & 63;
+       l6 = (b[((int) l0) - 58911] & 0xff) & 63;
        L23: {
         if ((l7 & 255) + Integer.MIN_VALUE > -2147483425) { break L23; }
         l4 = ((l4 << 6) & 1984) | l6;
         break L22;
        }
-       l8 = (b[((int) l0) - 60718] & 0xff) & 63;
+       l8 = (b[((int) l0) - 58910] & 0xff) & 63;
        L24: {
         if ((l7 & 255) + Integer.MIN_VALUE > -2147483409) { break L24; }
         l4 = ((l6 << 6) | ((l4 << 12) & 61440)) | l8;
         break L22;
        }
-       l4 = ((l8 << 6) | ((l6 << 12) | ((l4 << 18) & 1835008))) | ((b[((int) l0) - 60717] & 0xff) & 63);
+       l4 = ((l8 << 6) | ((l6 << 12) | ((l4 << 18) & 1835008))) | ((b[((int) l0) - 58909] & 0xff) & 63);
       }
       L25: {
        if ((l4 + -2048) + Integer.MIN_VALUE > -2147420161) { break L25; }
-       final int t26 = b[((int) ((l2 = ((((l7 = (((l4 >>> 12) | ((l4 << 2) & 16128)) | ((l4 << 16) & 4128768)) | 8421600) & 0xffffffffL) * 953497L) >>> 22L) & 1016L) + 66856L)) - 60720] & 0xff;
+       final int t26 = b[((int) ((l2 = ((((l7 = (((l4 >>> 12) | ((l4 << 2) & 16128)) | ((l4 << 16) & 4128768)) | 8421600) & 0xffffffffL) * 953497L) >>> 22L) & 1016L) + 66856L)) - 58912] & 0xff;
        final int t27 = (Words.get32(b, State.far((int) l2, 66852)) == l7) ? 1 : 0;
        l6 = t27 != 0 ? t26 : 2;
        break L17;
@@ -5223,18 +6606,18 @@ static int f109(State m, long l0, long l1) {
     }
     Core2.f63(m, l3 + 24L, l5);
     if ((l5 + -58) + Integer.MIN_VALUE > 2147483637) { break L3; }
-    if (((b[((int) l3) - 60696] & 0xff) & 255) != 1) { break L3; }
+    if (((b[((int) l3) - 58888] & 0xff) & 255) != 1) { break L3; }
     Core2.f63(m, l3 + 16L, l4);
     if ((l4 + -58) + Integer.MIN_VALUE > 2147483637) { break L3; }
-    if (((b[((int) l3) - 60704] & 0xff) & 255) != 1) { break L3; }
+    if (((b[((int) l3) - 58896] & 0xff) & 255) != 1) { break L3; }
     Core2.f63(m, l3 + 8L, l5);
-    l5 = b[((int) l3) - 60711] & 0xff;
-    l7 = b[((int) l3) - 60712] & 0xff;
+    l5 = b[((int) l3) - 58903] & 0xff;
+    l7 = b[((int) l3) - 58904] & 0xff;
     Core2.f63(m, l3, l4);
-    if (((l7 & (b[((int) l3) - 60720] & 0xff)) & 255) == 0) { break L3; }
+    if (((l7 & (b[((int) l3) - 58912] & 0xff)) & 255) == 0) { break L3; }
     if ((l4 = l5 & 255) == 0) { break L3; }
     L29: {
-     if ((l7 = (b[((int) l3) - 60719] & 0xff) & 255) == ((l5 + 1) & 255)) { break L29; }
+     if ((l7 = (b[((int) l3) - 58911] & 0xff) & 255) == ((l5 + 1) & 255)) { break L29; }
      if (!((l4 == 3) & (l7 == 5))) { break L3; }
     }
     L30: while (true) {
@@ -5242,8 +6625,8 @@ static int f109(State m, long l0, long l1) {
       L32: {
        L33: {
         if (l1 + Long.MIN_VALUE < -9223372036854775805L) { break L33; }
-        if (((l4 = b[((int) l0) - 60720] & 0xff) & 240) != 224) { break L32; }
-        final int t34 = b[((int) ((l2 = ((((l7 = (((l5 = b[((int) l0) - 60719] & 0xff) << 8) | ((l6 = b[((int) l0) - 60718] & 0xff) << 16)) | l4) & 0xffffffffL) * 953497L) >>> 22L) & 1016L) + 66856L)) - 60720] & 0xff;
+        if (((l4 = b[((int) l0) - 58912] & 0xff) & 240) != 224) { break L32; }
+        final int t34 = b[((int) ((l2 = ((((l7 = (((l5 = b[((int) l0) - 58911] & 0xff) << 8) | ((l6 = b[((int) l0) - 58910] & 0xff) << 16)) | l4) & 0xffffffffL) * 953497L) >>> 22L) & 1016L) + 66856L)) - 58912] & 0xff;
         final int t35 = (Words.get32(b, State.far((int) l2, 66852)) == l7) ? 1 : 0;
         l7 = t35 != 0 ? t34 : 2;
         l4 = (((l4 << 12) | l6) + (l5 << 6)) + -925824;
@@ -5256,33 +6639,33 @@ static int f109(State m, long l0, long l1) {
         l5 = 1;
         break L2;
        }
-       l4 = b[((int) l0) - 60720] & 0xff;
+       l4 = b[((int) l0) - 58912] & 0xff;
       }
       l2 = 1L;
       L37: {
        if (((int) (byte) l4) > -1) { break L37; }
-       l5 = (b[((int) l0) - 60719] & 0xff) & 63;
+       l5 = (b[((int) l0) - 58911] & 0xff) & 63;
        L38: {
         if (l4 + Integer.MIN_VALUE > -2147483425) { break L38; }
         l4 = ((l4 << 6) & 1984) | l5;
         l2 = 2L;
         break L37;
        }
-       l7 = (b[((int) l0) - 60718] & 0xff) & 63;
+       l7 = (b[((int) l0) - 58910] & 0xff) & 63;
        L39: {
         if (l4 + Integer.MIN_VALUE > -2147483409) { break L39; }
         l4 = ((l5 << 6) | ((l4 << 12) & 61440)) | l7;
         l2 = 3L;
         break L37;
        }
-       l4 = ((l7 << 6) | ((l5 << 12) | ((l4 << 18) & 1835008))) | ((b[((int) l0) - 60717] & 0xff) & 63);
+       l4 = ((l7 << 6) | ((l5 << 12) | ((l4 << 18) & 1835008))) | ((b[((int) l0) - 58909] & 0xff) & 63);
        l2 = 4L;
       }
       l1 = l1 - l2;
       l0 = l0 + l2;
       L40: {
        if ((l4 + -2048) + Integer.MIN_VALUE > -2147420161) { break L40; }
-       final int t41 = b[((int) ((l2 = ((((l5 = (((l4 >>> 12) | ((l4 << 2) & 16128)) | ((l4 << 16) & 4128768)) | 8421600) & 0xffffffffL) * 953497L) >>> 22L) & 1016L) + 66856L)) - 60720] & 0xff;
+       final int t41 = b[((int) ((l2 = ((((l5 = (((l4 >>> 12) | ((l4 << 2) & 16128)) | ((l4 << 16) & 4128768)) | 8421600) & 0xffffffffL) * 953497L) >>> 22L) & 1016L) + 66856L)) - 58912] & 0xff;
        final int t42 = (Words.get32(b, State.far((int) l2, 66852)) == l5) ? 1 : 0;
        l7 = t42 != 0 ? t41 : 2;
        break L31;
@@ -5300,35 +6683,35 @@ static int f109(State m, long l0, long l1) {
       L45: {
        L46: {
         if (l1 + Long.MIN_VALUE < -9223372036854775805L) { break L46; }
-        if (((l5 = b[((int) l0) - 60720] & 0xff) & 240) != 224) { break L45; }
-        final int t47 = b[((int) ((l2 = ((((l4 = (((l7 = b[((int) l0) - 60719] & 0xff) << 8) | ((l6 = b[((int) l0) - 60718] & 0xff) << 16)) | l5) & 0xffffffffL) * 953497L) >>> 22L) & 1016L) + 66856L)) - 60720] & 0xff;
+        if (((l5 = b[((int) l0) - 58912] & 0xff) & 240) != 224) { break L45; }
+        final int t47 = b[((int) ((l2 = ((((l4 = (((l7 = b[((int) l0) - 58911] & 0xff) << 8) | ((l6 = b[((int) l0) - 58910] & 0xff) << 16)) | l5) & 0xffffffffL) * 953497L) >>> 22L) & 1016L) + 66856L)) - 58912] & 0xff;
         final int t48 = (Words.get32(b, State.far((int) l2, 66852)) == l4) ? 1 : 0;
         l4 = t48 != 0 ? t47 : 2;
         l5 = (((l5 << 12) | l6) + (l7 << 6)) + -925824;
         break L44;
        }
        if (l1 == 0L) { continue L30; }
-       l5 = b[((int) l0) - 60720] & 0xff;
+       l5 = b[((int) l0) - 58912] & 0xff;
       }
       L49: {
        if (((int) (byte) l5) > -1) { break L49; }
-       l4 = (b[((int) l0) - 60719] & 0xff) & 63;
+       l4 = (b[((int) l0) - 58911] & 0xff) & 63;
        L50: {
         if (l5 + Integer.MIN_VALUE > -2147483425) { break L50; }
         l5 = ((l5 << 6) & 1984) | l4;
         break L49;
        }
-       l7 = (b[((int) l0) - 60718] & 0xff) & 63;
+       l7 = (b[((int) l0) - 58910] & 0xff) & 63;
        L51: {
         if (l5 + Integer.MIN_VALUE > -2147483409) { break L51; }
         l5 = ((l4 << 6) | ((l5 << 12) & 61440)) | l7;
         break L49;
        }
-       l5 = ((l7 << 6) | ((l4 << 12) | ((l5 << 18) & 1835008))) | ((b[((int) l0) - 60717] & 0xff) & 63);
+       l5 = ((l7 << 6) | ((l4 << 12) | ((l5 << 18) & 1835008))) | ((b[((int) l0) - 58909] & 0xff) & 63);
       }
       L52: {
        if ((l5 + -2048) + Integer.MIN_VALUE > -2147420161) { break L52; }
-       final int t53 = b[((int) ((l2 = ((((l4 = (((l5 >>> 12) | ((l5 << 2) & 16128)) | ((l5 << 16) & 4128768)) | 8421600) & 0xffffffffL) * 953497L) >>> 22L) & 1016L) + 66856L)) - 60720] & 0xff;
+       final int t53 = b[((int) ((l2 = ((((l4 = (((l5 >>> 12) | ((l5 << 2) & 16128)) | ((l5 << 16) & 4128768)) | 8421600) & 0xffffffffL) * 953497L) >>> 22L) & 1016L) + 66856L)) - 58912] & 0xff;
        final int t54 = (Words.get32(b, State.far((int) l2, 66852)) == l4) ? 1 : 0;
        l4 = t54 != 0 ? t53 : 2;
        break L44;
@@ -5349,235 +6732,547 @@ static int f109(State m, long l0, long l1) {
  throw State.trap();
 }
 
-static int f110_1(State m, long l2, long l8, long l12, long l22, long l25, long l26, long l27, int l29, int l31, int l32, int l33, int l39) {
+static int f117_1(State m, long l8, long l13, long l14, long l15, long l16, long l17, long l18, long l23, long l24, long l25, long l26, long l27, long l28, long l29, long l30, long l31, long l32, long l33, long l34, long l35, long l36, long l37, long l38, long l39, long l40, long l41, int l42, int l43, int l44, int l45, int l46, int l47, int l48, int l49, int l50, int l51) {
  final byte[] b = m.bytes;
  int exit = 0;
  PART: {
-  L22: {
-   L23: {
-    L24: {
-     L25: {
-      L26: {
-       L27: {
-        L28: {
-         L29: {
-          L30: {
-           L31: {
-            L32: {
-             if (l2 + Long.MIN_VALUE < -9223372036854775805L) { break L32; }
-             if (((l32 = b[((int) ((l27 = l22 + l2) + -3L)) - 60720] & 0xff) & 240) != 224) { break L31; }
-             l29 = (((l32 << 12) | (l33 = b[((int) (l27 + -1L)) - 60720] & 0xff)) + ((l31 = b[((int) (l27 + -2L)) - 60720] & 0xff) << 6)) + -925824;
-             l27 = l2 + -3L;
-             if (Words.get32(b, ((int) ((l26 = ((((l32 = ((l31 << 8) | (l33 << 16)) | l32) & 0xffffffffL) * 953497L) >>> 22L) & 1016L) + 66852L)) - 60720) == l32) { break L30; }
-             break L28;
-            }
-            if (l2 == 0L) { break L23; }
-           }
-           l32 = 0;
-           if ((l29 = (int) b[((int) (l22 + (l27 = l2 + -1L))) - 60720]) >= 0) { break L29; }
-           l27 = -2L;
-           L33: {
-            if ((b[((int) ((l26 = l22 + l2) + -2L)) - 60720] & 0xff) + Integer.MIN_VALUE > -2147483457) { break L33; }
-            l27 = ((b[((int) (l26 + -3L)) - 60720] & 0xff) + Integer.MIN_VALUE > -2147483457) ? -3L : -4L;
-           }
-           l29 = (l33 = (int) b[((int) (l26 = l22 + (l27 = l27 + l2))) - 60720]) & 255;
-           if (l33 > -1) { break L29; }
-           l31 = (b[((int) l26) - 60719] & 0xff) & 63;
-           L34: {
-            if (l33 + Integer.MIN_VALUE > 2147483615) { break L34; }
-            l29 = ((l29 << 6) & 1984) | l31;
-            break L29;
-           }
-           l39 = (b[((int) l26) - 60718] & 0xff) & 63;
-           L35: {
-            L36: {
-             if (l33 + Integer.MIN_VALUE > 2147483631) { break L36; }
-             l29 = ((l31 << 6) | ((l29 << 12) & 61440)) | l39;
-             break L35;
-            }
-            l29 = ((l39 << 6) | ((l31 << 12) | ((l29 << 18) & 1835008))) | ((b[((int) l26) - 60717] & 0xff) & 63);
-           }
-           if ((l29 + -2048) + Integer.MIN_VALUE > -2147420161) { break L29; }
-           if (Words.get32(b, ((int) ((l26 = ((((l32 = (((l29 >>> 12) | ((l29 << 2) & 16128)) | ((l29 << 16) & 4128768)) | 8421600) & 0xffffffffL) * 953497L) >>> 22L) & 1016L) + 66852L)) - 60720) != l32) { break L27; }
-          }
-          if ((b[((int) (l26 + 66856L)) - 60720] & 0xff) != 0) { break L28; }
-          break L25;
-         }
-         if ((l29 + -48) + Integer.MIN_VALUE >= -2147483638) { break L28; }
-         l31 = 1;
-         break L22;
-        }
-        if (l29 + Integer.MIN_VALUE > -2147483521) { break L27; }
-        l31 = 1;
-        l32 = 0;
-        if (l29 == 95) { break L22; }
-        if ((l29 + -44) + Integer.MIN_VALUE < -2147483645) { break L26; }
-        if ((l29 + -48) + Integer.MIN_VALUE < -2147483638) { break L22; }
-        if (((l29 & 95) + -65) + Integer.MIN_VALUE >= -2147483622) { break L23; }
-        break L22;
-       }
-       l31 = 0;
-       l32 = 1;
-       L37: {
-        L38: {
-         if (l29 > 24185) { break L38; }
-         L39: {
-          if (l29 > 21316) { break L39; }
-          L40: {
-           if (l29 > 20959) { break L40; }
-           if (l29 == 20313) { break L23; }
-           if (l29 == 20358) { break L23; }
-           break L37;
-          }
-          if (l29 == 20960) { break L22; }
-          if (l29 == 20986) { break L23; }
-          break L37;
-         }
-         L41: {
-          switch (l29 + -21317) {
-          case 0: case 7: break L25;
-          case 1: case 2: case 3: case 4: case 5: case 6: break L37;
-          default: break L41;
-          }
-         }
-         if (l29 == 22810) { break L23; }
-         if (l29 == 22909) { break L23; }
-         break L37;
-        }
-        L42: {
-         if (l29 > 26468) { break L42; }
-         L43: {
-          switch (l29 + -24186) {
-          case 0: break L25;
-          case 1: case 2: case 3: break L37;
-          case 4: break L22;
-          default: break L43;
-          }
-         }
-         L44: {
-          switch (l29 + -25968) {
-          case 0: case 8: break L22;
-          case 1: case 2: case 3: case 4: case 5: case 6: case 7: break L37;
-          default: break L44;
-          }
-         }
-         if (l29 == 24319) { break L25; }
-         break L37;
-        }
-        L45: {
-         if (l29 > 39191) { break L45; }
-         if (l29 == 26469) { break L23; }
-         if (l29 != 28857) { break L37; }
-         break L26;
-        }
-        if (l29 == 39192) { break L23; }
-        if (l29 == 40670) { break L26; }
-       }
-       if ((l29 + -65296) + Integer.MIN_VALUE > -2147483639) { break L23; }
-       break L25;
-      }
-      Words.put64(b, ((int) l8) - 60552, 0L);
-      Words.put64(b, ((int) l8) - 60560, 0L);
-      Words.put64(b, ((int) l8) - 60568, 0L);
-      Words.put64(b, ((int) l8) - 60576, 0L);
-      L46: {
-       L47: {
-        L48: {
-         L49: {
-          L50: {
-           L51: {
-            if (l27 + Long.MIN_VALUE < -9223372036854775805L) { break L51; }
-            if (((l29 = b[((int) ((l26 = l22 + l27) + -3L)) - 60720] & 0xff) & 240) != 224) { break L50; }
-            Words.put64(b, ((int) l8) - 60560, l22);
-            Words.put64(b, ((int) l8) - 60576, 1L);
-            Words.put64(b, ((int) l8) - 60552, l27 + -3L);
-            Words.put32(b, ((int) l8) - 60568, (((l29 << 12) | (l32 = b[((int) (l26 + -1L)) - 60720] & 0xff)) + ((l33 = b[((int) (l26 + -2L)) - 60720] & 0xff) << 6)) + -925824);
-            final int t52 = (int) l8;
-            final int t53 = b[((int) ((l27 = ((((l29 = ((l33 << 8) | (l32 << 16)) | l29) & 0xffffffffL) * 953497L) >>> 22L) & 1016L) + 66857L)) - 60720] & 0xff;
-            final int t54 = l29 = (Words.get32(b, State.far((int) l27, 66852)) == l29) ? 1 : 0;
-            b[t52 - 60563] = (byte) (t54 != 0 ? t53 : 0);
-            final int t55 = (int) l8;
-            final int t56 = b[((int) (l27 + 66856L)) - 60720] & 0xff;
-            final int t57 = l29;
-            b[t55 - 60564] = (byte) (t57 != 0 ? t56 : 2);
-            break L46;
-           }
-           if (l27 == 0L) { break L49; }
-          }
-          if ((l29 = (int) b[((int) (l22 + (l26 = l27 + -1L))) - 60720]) >= 0) { break L48; }
-          l26 = -2L;
-          L58: {
-           if ((b[((int) ((l25 = l22 + l27) + -2L)) - 60720] & 0xff) + Integer.MIN_VALUE > -2147483457) { break L58; }
-           l26 = ((b[((int) (l25 + -3L)) - 60720] & 0xff) + Integer.MIN_VALUE > -2147483457) ? -3L : -4L;
-          }
-          l29 = (l32 = (int) b[((int) (l27 = l22 + (l26 = l26 + l27))) - 60720]) & 255;
-          if (l32 > -1) { break L48; }
-          l33 = (b[((int) l27) - 60719] & 0xff) & 63;
-          L59: {
-           if (l32 + Integer.MIN_VALUE > 2147483615) { break L59; }
-           l29 = ((l29 << 6) & 1984) | l33;
-           break L48;
-          }
-          l31 = (b[((int) l27) - 60718] & 0xff) & 63;
-          L60: {
-           L61: {
-            if (l32 + Integer.MIN_VALUE > 2147483631) { break L61; }
-            l29 = ((l33 << 6) | ((l29 << 12) & 61440)) | l31;
-            break L60;
-           }
-           l29 = ((l31 << 6) | ((l33 << 12) | ((l29 << 18) & 1835008))) | ((b[((int) l27) - 60717] & 0xff) & 63);
-          }
-          if ((l29 + -2048) + Integer.MIN_VALUE > -2147420161) { break L48; }
-          final int t62 = b[((int) ((l27 = ((((l32 = (((l29 >>> 12) | ((l29 << 2) & 16128)) | ((l29 << 16) & 4128768)) | 8421600) & 0xffffffffL) * 953497L) >>> 22L) & 1016L) + 66857L)) - 60720] & 0xff;
-          final int t63 = l33 = (Words.get32(b, State.far((int) l27, 66852)) == l32) ? 1 : 0;
-          l32 = t63 != 0 ? t62 : 0;
-          final int t64 = b[((int) (l27 + 66856L)) - 60720] & 0xff;
-          final int t65 = l33;
-          l33 = t65 != 0 ? t64 : 2;
-          break L47;
-         }
-         Words.put64(b, ((int) l12) - 60720, 0L);
-         Words.put64(b, ((int) l12) - 60712, 0L);
-         Words.put64(b, ((int) l8) - 60570, 0L);
-         Words.put64(b, ((int) l8) - 60576, 0L);
-         break L46;
-        }
-        final int t66 = l32 = l29 + -48;
-        final int t67 = l33 = (l32 + Integer.MIN_VALUE < -2147483638) ? 1 : 0;
-        l32 = t67 != 0 ? t66 : 0;
-        l33 = l33 != 0 ? 0 : 2;
-       }
-       Words.put64(b, ((int) l8) - 60552, l26);
-       Words.put64(b, ((int) l8) - 60560, l22);
-       b[((int) l8) - 60563] = (byte) l32;
-       b[((int) l8) - 60564] = (byte) l33;
-       Words.put32(b, ((int) l8) - 60568, l29);
-       Words.put64(b, ((int) l8) - 60576, 1L);
-      }
-      l31 = f103(m, l8 + 144L);
-      break L24;
-     }
-     l31 = 1;
-    }
-    l32 = 0;
-    break L22;
+  L6: {
+   L7: {
+    if (l42 == 1) { break L7; }
+    l47 = 0;
+    l48 = 0;
+    l49 = 0;
+    l50 = 0;
+    l51 = 0;
+    break L6;
    }
-   l32 = 0;
-   l31 = 0;
+   l31 = Words.get64(b, ((int) l8) - 58592);
+   l32 = Words.get64(b, ((int) l8) - 58600);
+   l47 = 0;
+   l48 = 0;
+   l49 = 0;
+   l50 = 0;
+   l51 = 0;
+   L8: {
+    L9: {
+     L10: {
+      L11: {
+       L12: {
+        L13: {
+         L14: {
+          L15: {
+           switch (l45) {
+           case 1: break L14;
+           case 2: break L13;
+           case 3: break L6;
+           default: break L15;
+           }
+          }
+          l30 = 0L;
+          Words.put64(b, ((int) l8) - 58560, 0L);
+          l48 = 0;
+          Words.put32(b, ((int) l8) - 58552, 0);
+          Core4.f120(m, l8 + 352L, l46, l8 + 216L);
+          l43 = Words.get32(b, State.far((int) (((l46 & 0xffffffffL) & 255L) << 2L), 101824));
+          l47 = 2;
+          l49 = 0;
+          l50 = 0;
+          l51 = 0;
+          if ((b[((int) l8) - 58560] & 0xff) != 1) { break L6; }
+          Words.put32(b, ((int) l13) - 58912, Words.get32(b, ((int) l8) - 58696));
+          Words.put16(b, ((int) l13) - 58908, (short) (Words.get16(b, ((int) l8) - 58692) & 0xffff));
+          b[((int) l8) - 58687] = (byte) l46;
+          b[((int) l8) - 58688] = (byte) l44;
+          Words.put64(b, ((int) l8) - 58672, l28);
+          Words.put64(b, ((int) l8) - 58680, l27);
+          l46 = b[((int) l8) - 58549] & 0xff;
+          l51 = b[((int) l8) - 58550] & 0xff;
+          l45 = b[((int) l8) - 58551] & 0xff;
+          l50 = b[((int) l8) - 58552] & 0xff;
+          l49 = Words.get16(b, ((int) l8) - 58554) & 0xffff;
+          l48 = Words.get16(b, ((int) l8) - 58556) & 0xffff;
+          l42 = b[((int) l8) - 58557] & 0xff;
+          l29 = b[((int) l8) - 58558] & 0xffL;
+          l47 = Core4.f121(m, l23, l24, l8 + 224L, l25, l26);
+          L16: {
+           L17: {
+            L18: {
+             L19: {
+              L20: {
+               L21: {
+                L22: {
+                 L23: {
+                  switch ((int) l29) {
+                  case 1: case 8: break L17;
+                  case 2: break L22;
+                  case 3: break L21;
+                  case 4: break L20;
+                  case 5: break L16;
+                  case 6: break L18;
+                  case 7: break L19;
+                  default: break L23;
+                  }
+                 }
+                 l51 = ((((l42 = (l50 == 1) ? 1 : 0) != 0) ? 2 : 0) | (l50 = ((l48 & 255) == 1) ? 1 : 0)) | (((l44 = ((l51 & 255) == 1) ? 1 : 0) != 0) ? 4 : 0);
+                 l48 = l50 != 0 ? l49 : 0;
+                 l49 = (l42 != 0 ? l45 : 0) & 255;
+                 l50 = (l44 != 0 ? l46 : 0) & 255;
+                 break L6;
+                }
+                l49 = l48 & 255;
+                break L8;
+               }
+               l49 = l48 & 255;
+               break L8;
+              }
+              b[((int) l8) - 58448] = (byte) l42;
+              Words.put16(b, ((int) l8) - 58447, (short) l48);
+              Core4.f122(m, l8 + 8L, l44, l25, l26, l8 + 464L);
+              l49 = l48 & 255;
+              l50 = l48 >>> 8;
+              final int t24 = b[((int) l8) - 58903] & 0xff;
+              final int t25 = ((b[((int) l8) - 58904] & 0xff) == 1) ? 1 : 0;
+              l51 = (t25 != 0 ? t24 : -1) & 255;
+              l48 = l42;
+              break L6;
+             }
+             l50 = l49 >>> 8;
+             l51 = 0;
+             l49 = l49 & 255;
+             break L6;
+            }
+            l49 = 0;
+           }
+           l50 = 0;
+          }
+          l51 = 0;
+          break L6;
+         }
+         l30 = Words.get64(b, ((int) l8) - 58568);
+         Words.put32(b, ((int) l13) - 58912, Words.get32(b, ((int) l8) - 58696));
+         Words.put16(b, ((int) l13) - 58908, (short) (Words.get16(b, ((int) l8) - 58692) & 0xffff));
+         Words.put64(b, ((int) l18) - 58912, Words.get64(b, ((int) l8) - 58736));
+         Words.put64(b, ((int) l18) - 58904, Words.get64(b, ((int) l8) - 58728));
+         Words.put64(b, ((int) l18) - 58896, Words.get64(b, ((int) l8) - 58720));
+         Words.put64(b, ((int) l18) - 58888, Words.get64(b, ((int) l8) - 58712));
+         Words.put64(b, ((int) l18) - 58880, Words.get64(b, ((int) l8) - 58704));
+         b[((int) l8) - 58687] = (byte) l46;
+         b[((int) l8) - 58688] = (byte) l44;
+         Words.put64(b, ((int) l8) - 58664, l29);
+         Words.put64(b, ((int) l8) - 58672, l28);
+         Words.put64(b, ((int) l8) - 58680, l27);
+         Words.put64(b, ((int) l17) - 58912, Words.get64(b, ((int) l8) - 58752));
+         Words.put64(b, ((int) l17) - 58904, Words.get64(b, ((int) l8) - 58744));
+         Words.put32(b, ((int) l16) - 58912, Words.get32(b, ((int) l8) - 58696));
+         Words.put16(b, ((int) l16) - 58908, (short) (Words.get16(b, ((int) l8) - 58692) & 0xffff));
+         Words.put64(b, ((int) l15) - 58880, Words.get64(b, ((int) l8) - 58704));
+         Words.put64(b, ((int) l15) - 58888, Words.get64(b, ((int) l8) - 58712));
+         Words.put64(b, ((int) l15) - 58896, Words.get64(b, ((int) l8) - 58720));
+         Words.put64(b, ((int) l15) - 58904, Words.get64(b, ((int) l8) - 58728));
+         Words.put64(b, ((int) l15) - 58912, Words.get64(b, ((int) l8) - 58736));
+         Words.put64(b, ((int) l8) - 58608, l31);
+         Words.put64(b, ((int) l8) - 58616, l32);
+         Words.put64(b, ((int) l8) - 58584, l30);
+         b[((int) l8) - 58559] = (byte) l46;
+         b[((int) l8) - 58560] = (byte) l44;
+         Words.put64(b, ((int) l8) - 58552, l27);
+         Words.put64(b, ((int) l8) - 58544, l28);
+         Words.put64(b, ((int) l8) - 58536, l29);
+         Words.put64(b, ((int) l14) - 58912, Words.get64(b, ((int) l8) - 58752));
+         Words.put64(b, ((int) l14) - 58904, Words.get64(b, ((int) l8) - 58744));
+         Words.put64(b, ((int) l8) - 58480, l31);
+         Words.put64(b, ((int) l8) - 58488, l32);
+         Words.put64(b, ((int) l8) - 58456, l30);
+         l47 = Core4.f123(m, l23, l24, l8 + 352L);
+         l30 = 0L;
+         Words.put64(b, ((int) l8) - 58392, 0L);
+         Words.put64(b, ((int) l8) - 58400, 0L);
+         Words.put64(b, ((int) l8) - 58408, 0L);
+         Words.put64(b, ((int) l8) - 58416, 0L);
+         Words.put64(b, ((int) l8) - 58424, 0L);
+         Words.put64(b, ((int) l8) - 58432, 0L);
+         Words.put64(b, ((int) l8) - 58440, 0L);
+         Words.put64(b, ((int) l8) - 58448, 0L);
+         Core4.f124(m, l8 + 464L, l8 + 224L);
+         l51 = 0;
+         l50 = 0;
+         l33 = 0L;
+         if ((b[((int) l8) - 58448] & 0xff) != 1) { break L9; }
+         l33 = 0L;
+         final long t26 = l8 + 64L;
+         final long t27 = 0L - (l29 = Words.get64(b, ((int) l8) - 58432));
+         final long t28 = l29;
+         final int t29 = l42 = ((l28 = Words.get64(b, ((int) l8) - 58424)) < 0L) ? 1 : 0;
+         Core1.f3(m, t26, t29 != 0 ? t27 : t28, 0L, 100L, 0L);
+         final long t30 = l8 + 80L;
+         final long t31 = 0L - (l28 + ((l29 != 0L) ? 1L : 0L));
+         final long t32 = l28;
+         final int t33 = l42;
+         Core1.f3(m, t30, t33 != 0 ? t31 : t32, 0L, 100L, 0L);
+         L34: {
+          if ((Words.get64(b, ((int) l8) - 58824) + (((l34 = (l29 = Words.get64(b, ((int) l8) - 58840)) + Words.get64(b, ((int) l8) - 58832)) + Long.MIN_VALUE < l29 + Long.MIN_VALUE) ? 1L : 0L)) == 0L) { break L34; }
+          l50 = 0;
+          break L9;
+         }
+         l50 = 0;
+         if ((l42 = (((l35 = Words.get64(b, ((int) l8) - 58416)) | (l36 = Words.get64(b, ((int) l8) - 58408))) == 0L) ? 1 : 0) != 0) { break L9; }
+         l33 = 0L;
+         final long t35 = l34;
+         final int t36 = l42 | ((((l37 = Words.get64(b, ((int) l8) - 58848) & -4L) | l34) == 0L) ? 1 : 0);
+         final long t37 = (long) Long.numberOfLeadingZeros(l36);
+         final long t38 = ((long) Long.numberOfLeadingZeros(l35)) + 64L;
+         final int t39 = (l36 != 0L) ? 1 : 0;
+         final long t40 = l29 = t39 != 0 ? t37 : t38;
+         final long t41 = (long) Long.numberOfLeadingZeros(l34);
+         final long t42 = ((long) Long.numberOfLeadingZeros(l37)) + 64L;
+         final int t43 = (l34 != 0L) ? 1 : 0;
+         final int t44 = ((l26 = t40 - (l28 = t43 != 0 ? t41 : t42)) + Long.MIN_VALUE > -9223372036854775681L) ? 1 : 0;
+         final int t45 = ((l25 = 0L - ((l29 + Long.MIN_VALUE < l28 + Long.MIN_VALUE) ? 1L : 0L)) != 0L) ? 1 : 0;
+         final int t46 = (l25 == 0L) ? 1 : 0;
+         l28 = ((l42 = t36 | (t46 != 0 ? t44 : t45)) != 0) ? 0L : t35;
+         l29 = l42 != 0 ? 0L : l37;
+         if (l42 != 0) { break L10; }
+         if (((l26 ^ 127L) | l25) == 0L) { break L10; }
+         Core1.f4(m, l8 + 48L, l37, l34, 127 - ((int) l26));
+         l27 = Words.get64(b, ((int) l8) - 58856);
+         l29 = Words.get64(b, ((int) l8) - 58864);
+         if (((l28 = l26 + 1L) | (l31 = l25 + ((l28 == 0L) ? 1L : 0L))) == 0L) { break L12; }
+         Core1.f5(m, l8 + 32L, l37, l34, (int) l28);
+         l38 = l35 + -1L;
+         l39 = l36 - ((l35 == 0L) ? 1L : 0L);
+         l32 = Words.get64(b, ((int) l8) - 58872);
+         l25 = Words.get64(b, ((int) l8) - 58880);
+         l26 = 0L;
+         L47: while (true) {
+          l40 = l26;
+          l32 = ((l26 = (l32 << 1L) | (l25 >>> 63L)) - ((l26 = ((l39 - l26) - ((l38 + Long.MIN_VALUE < (l25 = (l25 << 1L) | (l27 >>> 63L)) + Long.MIN_VALUE) ? 1L : 0L)) >> 63L) & l36)) - ((l25 + Long.MIN_VALUE < (l41 = l26 & l35) + Long.MIN_VALUE) ? 1L : 0L);
+          l26 = l26 & 1L;
+          l25 = l25 - l41;
+          l27 = 0L | ((l27 << 1L) | (l29 >>> 63L));
+          l42 = (l28 == 0L) ? 1 : 0;
+          l29 = l40 | (l29 << 1L);
+          l28 = l40 = l28 + -1L;
+          if (!((l40 | (l31 = l31 - (l42 & 0xffffffffL))) == 0L)) { continue L47; }
+          break L11;
+         }
+        }
+        l48 = 0;
+        m.fill((int) (l8 + 224L), 0, (int) 112L);
+        Core2.f79(m, l8 + 224L, l28, l29, l32, l31);
+        l47 = 2;
+        L48: {
+         if ((b[((int) l8) - 58688] & 0xff) != 1) { break L48; }
+         Words.put32(b, ((int) l16) - 58912, Words.get32(b, ((int) l8) - 58696));
+         Words.put16(b, ((int) l16) - 58908, (short) (Words.get16(b, ((int) l8) - 58692) & 0xffff));
+         Words.put64(b, ((int) l15) - 58912, Words.get64(b, ((int) l8) - 58736));
+         Words.put64(b, ((int) l15) - 58904, Words.get64(b, ((int) l8) - 58728));
+         Words.put64(b, ((int) l15) - 58896, Words.get64(b, ((int) l8) - 58720));
+         Words.put64(b, ((int) l15) - 58888, Words.get64(b, ((int) l8) - 58712));
+         Words.put64(b, ((int) l15) - 58880, Words.get64(b, ((int) l8) - 58704));
+         b[((int) l8) - 58559] = (byte) l46;
+         b[((int) l8) - 58560] = (byte) l44;
+         Words.put64(b, ((int) l8) - 58536, l29);
+         Words.put64(b, ((int) l8) - 58544, l28);
+         Words.put64(b, ((int) l8) - 58552, l27);
+         Words.put64(b, ((int) l14) - 58912, Words.get64(b, ((int) l8) - 58752));
+         Words.put64(b, ((int) l14) - 58904, Words.get64(b, ((int) l8) - 58744));
+         Words.put64(b, ((int) l8) - 58480, l31);
+         Words.put64(b, ((int) l8) - 58488, l32);
+         l47 = Core4.f125(m, l8 + 352L);
+        }
+        l43 = 10;
+        l49 = 0;
+        l50 = 0;
+        l51 = 0;
+        l30 = l29;
+        break L6;
+       }
+       l26 = 0L;
+      }
+      l28 = (l27 << 1L) | (l29 >>> 63L);
+      l29 = l26 | (l29 << 1L);
+     }
+     Core1.f3(m, l8 + 16L, l29, l28, l35, l36);
+     l50 = 0;
+     if (((l37 - (l27 = Words.get64(b, ((int) l8) - 58896))) | ((l34 - Words.get64(b, ((int) l8) - 58888)) - ((l37 + Long.MIN_VALUE < l27 + Long.MIN_VALUE) ? 1L : 0L))) != 0L) { break L9; }
+     final long t49 = l29;
+     final int t50 = (l29 + Long.MIN_VALUE < -8223372036854775808L) ? 1 : 0;
+     final int t51 = (l28 == 0L) ? 1 : 0;
+     l33 = ((l50 = t51 != 0 ? t50 : 0) != 0) ? t49 : 0L;
+    }
+    final int t52 = (int) l33;
+    final int t53 = l50;
+    l48 = t53 != 0 ? t52 : 0;
+    final int t54 = (int) (l33 >>> 32L);
+    final int t55 = l50;
+    l49 = t55 != 0 ? t54 : 0;
+    l43 = 11;
+    break L6;
+   }
+   l50 = 0;
+   l48 = l42;
+   l51 = 0;
   }
  }
  m.kept[0] = l25;
  m.kept[1] = l26;
  m.kept[2] = l27;
- m.kept[3] = l29;
- m.kept[4] = l31;
- m.kept[5] = l32;
- m.kept[6] = l33;
- m.kept[7] = l39;
+ m.kept[3] = l28;
+ m.kept[4] = l29;
+ m.kept[5] = l30;
+ m.kept[6] = l31;
+ m.kept[7] = l32;
+ m.kept[8] = l33;
+ m.kept[9] = l34;
+ m.kept[10] = l35;
+ m.kept[11] = l36;
+ m.kept[12] = l37;
+ m.kept[13] = l38;
+ m.kept[14] = l39;
+ m.kept[15] = l40;
+ m.kept[16] = l41;
+ m.kept[17] = l42;
+ m.kept[18] = l43;
+ m.kept[19] = l44;
+ m.kept[20] = l45;
+ m.kept[21] = l46;
+ m.kept[22] = l47;
+ m.kept[23] = l48;
+ m.kept[24] = l49;
+ m.kept[25] = l50;
+ m.kept[26] = l51;
  return exit;
 }
 
-static int f110(State m, long l0, long l1, long l2, int l3, int l4, long l5, long l6, long l7) {
+static int f117_2(State m, long l8, long l12, long l23, long l24, long l27, long l28, long l29, int l42, int l44, int l45, int l46, int l52) {
+ final byte[] b = m.bytes;
+ int exit = 0;
+ PART: {
+  L57: {
+   L58: {
+    L59: {
+     L60: {
+      L61: {
+       L62: {
+        L63: {
+         L64: {
+          L65: {
+           L66: {
+            L67: {
+             if (l24 + Long.MIN_VALUE < -9223372036854775805L) { break L67; }
+             if (((l46 = b[((int) ((l29 = l23 + l24) + -3L)) - 58912] & 0xff) & 240) != 224) { break L66; }
+             l42 = (((l46 << 12) | (l45 = b[((int) (l29 + -1L)) - 58912] & 0xff)) + ((l44 = b[((int) (l29 + -2L)) - 58912] & 0xff) << 6)) + -925824;
+             l29 = l24 + -3L;
+             if (Words.get32(b, ((int) ((l28 = ((((l46 = ((l44 << 8) | (l45 << 16)) | l46) & 0xffffffffL) * 953497L) >>> 22L) & 1016L) + 66852L)) - 58912) == l46) { break L65; }
+             break L63;
+            }
+            if (l24 == 0L) { break L58; }
+           }
+           l46 = 0;
+           if ((l42 = (int) b[((int) (l23 + (l29 = l24 + -1L))) - 58912]) >= 0) { break L64; }
+           l29 = -2L;
+           L68: {
+            if ((b[((int) ((l28 = l23 + l24) + -2L)) - 58912] & 0xff) + Integer.MIN_VALUE > -2147483457) { break L68; }
+            l29 = ((b[((int) (l28 + -3L)) - 58912] & 0xff) + Integer.MIN_VALUE > -2147483457) ? -3L : -4L;
+           }
+           l42 = (l45 = (int) b[((int) (l28 = l23 + (l29 = l29 + l24))) - 58912]) & 255;
+           if (l45 > -1) { break L64; }
+           l44 = (b[((int) l28) - 58911] & 0xff) & 63;
+           L69: {
+            if (l45 + Integer.MIN_VALUE > 2147483615) { break L69; }
+            l42 = ((l42 << 6) & 1984) | l44;
+            break L64;
+           }
+           l52 = (b[((int) l28) - 58910] & 0xff) & 63;
+           L70: {
+            L71: {
+             if (l45 + Integer.MIN_VALUE > 2147483631) { break L71; }
+             l42 = ((l44 << 6) | ((l42 << 12) & 61440)) | l52;
+             break L70;
+            }
+            l42 = ((l52 << 6) | ((l44 << 12) | ((l42 << 18) & 1835008))) | ((b[((int) l28) - 58909] & 0xff) & 63);
+           }
+           if ((l42 + -2048) + Integer.MIN_VALUE > -2147420161) { break L64; }
+           if (Words.get32(b, ((int) ((l28 = ((((l46 = (((l42 >>> 12) | ((l42 << 2) & 16128)) | ((l42 << 16) & 4128768)) | 8421600) & 0xffffffffL) * 953497L) >>> 22L) & 1016L) + 66852L)) - 58912) != l46) { break L62; }
+          }
+          if ((b[((int) (l28 + 66856L)) - 58912] & 0xff) != 0) { break L63; }
+          break L60;
+         }
+         if ((l42 + -48) + Integer.MIN_VALUE >= -2147483638) { break L63; }
+         l44 = 1;
+         break L57;
+        }
+        if (l42 + Integer.MIN_VALUE > -2147483521) { break L62; }
+        l44 = 1;
+        l46 = 0;
+        if (l42 == 95) { break L57; }
+        if ((l42 + -44) + Integer.MIN_VALUE < -2147483645) { break L61; }
+        if ((l42 + -48) + Integer.MIN_VALUE < -2147483638) { break L57; }
+        if (((l42 & 95) + -65) + Integer.MIN_VALUE >= -2147483622) { break L58; }
+        break L57;
+       }
+       l44 = 0;
+       l46 = 1;
+       L72: {
+        L73: {
+         if (l42 > 24185) { break L73; }
+         L74: {
+          if (l42 > 21316) { break L74; }
+          L75: {
+           if (l42 > 20959) { break L75; }
+           if (l42 == 20313) { break L58; }
+           if (l42 == 20358) { break L58; }
+           break L72;
+          }
+          if (l42 == 20960) { break L57; }
+          if (l42 == 20986) { break L58; }
+          break L72;
+         }
+         L76: {
+          switch (l42 + -21317) {
+          case 0: case 7: break L60;
+          case 1: case 2: case 3: case 4: case 5: case 6: break L72;
+          default: break L76;
+          }
+         }
+         if (l42 == 22810) { break L58; }
+         if (l42 == 22909) { break L58; }
+         break L72;
+        }
+        L77: {
+         if (l42 > 26468) { break L77; }
+         L78: {
+          switch (l42 + -24186) {
+          case 0: break L60;
+          case 1: case 2: case 3: break L72;
+          case 4: break L57;
+          default: break L78;
+          }
+         }
+         L79: {
+          switch (l42 + -25968) {
+          case 0: case 8: break L57;
+          case 1: case 2: case 3: case 4: case 5: case 6: case 7: break L72;
+          default: break L79;
+          }
+         }
+         if (l42 == 24319) { break L60; }
+         break L72;
+        }
+        L80: {
+         if (l42 > 39191) { break L80; }
+         if (l42 == 26469) { break L58; }
+         if (l42 != 28857) { break L72; }
+         break L61;
+        }
+        if (l42 == 39192) { break L58; }
+        if (l42 == 40670) { break L61; }
+       }
+       if ((l42 + -65296) + Integer.MIN_VALUE > -2147483639) { break L58; }
+       break L60;
+      }
+      Words.put64(b, ((int) l8) - 58664, 0L);
+      Words.put64(b, ((int) l8) - 58672, 0L);
+      Words.put64(b, ((int) l8) - 58680, 0L);
+      Words.put64(b, ((int) l8) - 58688, 0L);
+      L81: {
+       L82: {
+        L83: {
+         L84: {
+          L85: {
+           L86: {
+            if (l29 + Long.MIN_VALUE < -9223372036854775805L) { break L86; }
+            if (((l42 = b[((int) ((l28 = l23 + l29) + -3L)) - 58912] & 0xff) & 240) != 224) { break L85; }
+            Words.put64(b, ((int) l8) - 58672, l23);
+            Words.put64(b, ((int) l8) - 58688, 1L);
+            Words.put64(b, ((int) l8) - 58664, l29 + -3L);
+            Words.put32(b, ((int) l8) - 58680, (((l42 << 12) | (l46 = b[((int) (l28 + -1L)) - 58912] & 0xff)) + ((l45 = b[((int) (l28 + -2L)) - 58912] & 0xff) << 6)) + -925824);
+            final int t87 = (int) l8;
+            final int t88 = b[((int) ((l29 = ((((l42 = ((l45 << 8) | (l46 << 16)) | l42) & 0xffffffffL) * 953497L) >>> 22L) & 1016L) + 66857L)) - 58912] & 0xff;
+            final int t89 = l42 = (Words.get32(b, State.far((int) l29, 66852)) == l42) ? 1 : 0;
+            b[t87 - 58675] = (byte) (t89 != 0 ? t88 : 0);
+            final int t90 = (int) l8;
+            final int t91 = b[((int) (l29 + 66856L)) - 58912] & 0xff;
+            final int t92 = l42;
+            b[t90 - 58676] = (byte) (t92 != 0 ? t91 : 2);
+            break L81;
+           }
+           if (l29 == 0L) { break L84; }
+          }
+          if ((l42 = (int) b[((int) (l23 + (l28 = l29 + -1L))) - 58912]) >= 0) { break L83; }
+          l28 = -2L;
+          L93: {
+           if ((b[((int) ((l27 = l23 + l29) + -2L)) - 58912] & 0xff) + Integer.MIN_VALUE > -2147483457) { break L93; }
+           l28 = ((b[((int) (l27 + -3L)) - 58912] & 0xff) + Integer.MIN_VALUE > -2147483457) ? -3L : -4L;
+          }
+          l42 = (l46 = (int) b[((int) (l29 = l23 + (l28 = l28 + l29))) - 58912]) & 255;
+          if (l46 > -1) { break L83; }
+          l45 = (b[((int) l29) - 58911] & 0xff) & 63;
+          L94: {
+           if (l46 + Integer.MIN_VALUE > 2147483615) { break L94; }
+           l42 = ((l42 << 6) & 1984) | l45;
+           break L83;
+          }
+          l44 = (b[((int) l29) - 58910] & 0xff) & 63;
+          L95: {
+           L96: {
+            if (l46 + Integer.MIN_VALUE > 2147483631) { break L96; }
+            l42 = ((l45 << 6) | ((l42 << 12) & 61440)) | l44;
+            break L95;
+           }
+           l42 = ((l44 << 6) | ((l45 << 12) | ((l42 << 18) & 1835008))) | ((b[((int) l29) - 58909] & 0xff) & 63);
+          }
+          if ((l42 + -2048) + Integer.MIN_VALUE > -2147420161) { break L83; }
+          final int t97 = b[((int) ((l29 = ((((l46 = (((l42 >>> 12) | ((l42 << 2) & 16128)) | ((l42 << 16) & 4128768)) | 8421600) & 0xffffffffL) * 953497L) >>> 22L) & 1016L) + 66857L)) - 58912] & 0xff;
+          final int t98 = l45 = (Words.get32(b, State.far((int) l29, 66852)) == l46) ? 1 : 0;
+          l46 = t98 != 0 ? t97 : 0;
+          final int t99 = b[((int) (l29 + 66856L)) - 58912] & 0xff;
+          final int t100 = l45;
+          l45 = t100 != 0 ? t99 : 2;
+          break L82;
+         }
+         Words.put64(b, ((int) l12) - 58912, 0L);
+         Words.put64(b, ((int) l12) - 58904, 0L);
+         Words.put64(b, ((int) l8) - 58682, 0L);
+         Words.put64(b, ((int) l8) - 58688, 0L);
+         break L81;
+        }
+        final int t101 = l46 = l42 + -48;
+        final int t102 = l45 = (l46 + Integer.MIN_VALUE < -2147483638) ? 1 : 0;
+        l46 = t102 != 0 ? t101 : 0;
+        l45 = l45 != 0 ? 0 : 2;
+       }
+       Words.put64(b, ((int) l8) - 58664, l28);
+       Words.put64(b, ((int) l8) - 58672, l23);
+       b[((int) l8) - 58675] = (byte) l46;
+       b[((int) l8) - 58676] = (byte) l45;
+       Words.put32(b, ((int) l8) - 58680, l42);
+       Words.put64(b, ((int) l8) - 58688, 1L);
+      }
+      l44 = f110(m, l8 + 224L);
+      break L59;
+     }
+     l44 = 1;
+    }
+    l46 = 0;
+    break L57;
+   }
+   l46 = 0;
+   l44 = 0;
+  }
+ }
+ m.kept[0] = l27;
+ m.kept[1] = l28;
+ m.kept[2] = l29;
+ m.kept[3] = l42;
+ m.kept[4] = l44;
+ m.kept[5] = l45;
+ m.kept[6] = l46;
+ m.kept[7] = l52;
+ return exit;
+}
+
+static int f117(State m, long l0, long l1, long l2, int l3, int l4, long l5, long l6, long l7) {
  final byte[] b = m.bytes;
  long l8 = 0;
  long l9 = 0;
@@ -5600,560 +7295,461 @@ static int f110(State m, long l0, long l1, long l2, int l3, int l4, long l5, lon
  long l26 = 0;
  long l27 = 0;
  long l28 = 0;
- int l29 = 0;
- int l30 = 0;
- int l31 = 0;
- int l32 = 0;
- int l33 = 0;
- int l34 = 0;
- int l35 = 0;
- int l36 = 0;
- int l37 = 0;
- int l38 = 0;
- int l39 = 0;
- int l40 = 0;
- int l41 = 0;
- m.g0 = l8 = m.g0 - 384L;
+ long l29 = 0;
+ long l30 = 0;
+ long l31 = 0;
+ long l32 = 0;
+ long l33 = 0;
+ long l34 = 0;
+ long l35 = 0;
+ long l36 = 0;
+ long l37 = 0;
+ long l38 = 0;
+ long l39 = 0;
+ long l40 = 0;
+ long l41 = 0;
+ int l42 = 0;
+ int l43 = 0;
+ int l44 = 0;
+ int l45 = 0;
+ int l46 = 0;
+ int l47 = 0;
+ int l48 = 0;
+ int l49 = 0;
+ int l50 = 0;
+ int l51 = 0;
+ int l52 = 0;
+ int l53 = 0;
+ int l54 = 0;
+ m.g0 = l8 = m.g0 - 528L;
  L1: {
   if ((l8 = l8) < 16L) { break L1; }
   L2: {
    L3: {
     if (l1 == l2) { break L3; }
-    l29 = 5;
+    l42 = 5;
     l9 = 0L;
     if (l1 + Long.MIN_VALUE < l2 + Long.MIN_VALUE) { break L2; }
-    if (((int) b[((int) (l0 + l2)) - 60720]) < -64) { break L2; }
+    if (((int) b[((int) (l0 + l2)) - 58912]) < -64) { break L2; }
    }
    l9 = 0L;
-   Words.put64(b, ((int) l8) - 60648, 0L);
-   Words.put64(b, ((int) l8) - 60656, 0L);
-   Words.put64(b, ((int) l8) - 60664, 0L);
-   Words.put64(b, ((int) l8) - 60672, 0L);
-   Words.put64(b, ((int) l8) - 60680, 0L);
-   Words.put64(b, ((int) l8) - 60688, 0L);
-   Words.put64(b, ((int) l8) - 60696, 0L);
+   Words.put64(b, ((int) l8) - 58760, 0L);
+   Words.put64(b, ((int) l8) - 58768, 0L);
+   Words.put64(b, ((int) l8) - 58776, 0L);
+   Words.put64(b, ((int) l8) - 58784, 0L);
+   Words.put64(b, ((int) l8) - 58792, 0L);
+   Words.put64(b, ((int) l8) - 58800, 0L);
+   Words.put64(b, ((int) l8) - 58808, 0L);
    L4: {
     if (l6 == 0L) { break L4; }
     l10 = l0 + l2;
     l11 = l1 - l2;
-    l12 = l8 + 160L;
-    l13 = (l8 + 144L) | 2L;
-    l14 = l8 + 368L;
-    l15 = l8 + 312L;
-    l16 = (l8 + 280L) | 2L;
-    l17 = l8 + 248L;
-    l18 = l8 + 192L;
-    l19 = l8 + 162L;
+    l12 = l8 + 240L;
+    l13 = (l8 + 224L) | 2L;
+    l14 = (l8 + 352L) + 88L;
+    l15 = (l8 + 352L) + 32L;
+    l16 = (l8 + 352L) | 2L;
+    l17 = (l8 + 224L) + 88L;
+    l18 = (l8 + 224L) + 32L;
+    l19 = l8 + 328L;
+    l20 = l8 + 272L;
+    l21 = l8 + 242L;
     l9 = 0L;
     L5: while (true) {
-     f111(m, l8 + 24L, l0, l1, l10, l11, l3, l4);
-     if ((b[((int) l8) - 60696] & 0xff) != 1) { break L4; }
-     l11 = Words.get64(b, ((int) l8) - 60648);
-     l10 = Words.get64(b, ((int) l8) - 60656);
-     l20 = Words.get64(b, ((int) l8) - 60664);
-     l21 = Words.get64(b, ((int) l8) - 60672);
-     l22 = Words.get64(b, ((int) l8) - 60688);
-     l2 = Words.get64(b, ((int) l8) - 60680);
-     l30 = 0;
-     m.fill((int) (l8 + 144L), 0, (int) 120L);
-     f112(m, l8 + 144L, l0, l1, l23 = l0 + l2, l24 = l1 - l2, l3, l4);
-     Words.put32(b, ((int) l8) - 60584, Words.get32(b, ((int) l19) - 60720));
-     Words.put16(b, ((int) l8) - 60580, (short) (Words.get16(b, ((int) l19) - 60716) & 0xffff));
-     Words.put64(b, ((int) l8) - 60624, Words.get64(b, ((int) l18) - 60720));
-     Words.put64(b, ((int) l8) - 60616, Words.get64(b, ((int) l18) - 60712));
-     Words.put64(b, ((int) l8) - 60608, Words.get64(b, ((int) l18) - 60704));
-     Words.put64(b, ((int) l8) - 60600, Words.get64(b, ((int) l18) - 60696));
-     Words.put64(b, ((int) l8) - 60592, Words.get64(b, ((int) l18) - 60688));
-     l31 = b[((int) l8) - 60560] & 0xff;
-     l32 = b[((int) l8) - 60568] & 0xff;
-     l25 = Words.get64(b, ((int) l8) - 60552);
-     l26 = Words.get64(b, ((int) l8) - 60544);
-     l27 = Words.get64(b, ((int) l8) - 60536);
-     l29 = b[((int) l8) - 60576] & 0xff;
-     l33 = b[((int) l8) - 60559] & 0xff;
-     Words.put64(b, ((int) l8) - 60640, Words.get64(b, ((int) l17) - 60720));
-     Words.put64(b, ((int) l8) - 60632, Words.get64(b, ((int) l17) - 60712));
-     l28 = 0L;
-     L6: {
-      L7: {
-       if (l29 == 1) { break L7; }
-       l34 = 0;
-       l35 = 0;
-       l36 = 0;
-       l37 = 0;
-       l38 = 0;
-       break L6;
-      }
-      l34 = 0;
-      l35 = 0;
-      l36 = 0;
-      l37 = 0;
-      l38 = 0;
-      L8: {
-       L9: {
-        L10: {
-         switch (l32) {
-         case 1: break L9;
-         case 2: break L6;
-         default: break L10;
-         }
-        }
-        l28 = 0L;
-        Words.put64(b, ((int) l8) - 60440, 0L);
-        l35 = 0;
-        Words.put32(b, ((int) l8) - 60432, 0);
-        f113(m, l8 + 280L, l33, l8 + 136L);
-        l30 = Words.get32(b, State.far((int) (((l33 & 0xffffffffL) & 255L) << 2L), 87912));
-        l34 = 2;
-        l36 = 0;
-        l37 = 0;
-        l38 = 0;
-        if ((b[((int) l8) - 60440] & 0xff) != 1) { break L6; }
-        Words.put32(b, ((int) l13) - 60720, Words.get32(b, ((int) l8) - 60584));
-        Words.put16(b, ((int) l13) - 60716, (short) (Words.get16(b, ((int) l8) - 60580) & 0xffff));
-        b[((int) l8) - 60575] = (byte) l33;
-        b[((int) l8) - 60576] = (byte) l31;
-        Words.put64(b, ((int) l8) - 60560, l26);
-        Words.put64(b, ((int) l8) - 60568, l25);
-        l32 = b[((int) l8) - 60429] & 0xff;
-        l38 = b[((int) l8) - 60430] & 0xff;
-        l33 = b[((int) l8) - 60431] & 0xff;
-        l37 = b[((int) l8) - 60432] & 0xff;
-        l36 = Words.get16(b, ((int) l8) - 60434) & 0xffff;
-        l35 = Words.get16(b, ((int) l8) - 60436) & 0xffff;
-        l29 = b[((int) l8) - 60437] & 0xff;
-        l27 = b[((int) l8) - 60438] & 0xffL;
-        l34 = f114(m, l22, l2, l8 + 144L, l23, l24);
-        L11: {
-         L12: {
-          L13: {
-           L14: {
-            L15: {
-             L16: {
-              L17: {
-               L18: {
-                switch ((int) l27) {
-                case 1: case 8: break L12;
-                case 2: break L17;
-                case 3: break L16;
-                case 4: break L15;
-                case 5: break L11;
-                case 6: break L13;
-                case 7: break L14;
-                default: break L18;
-                }
-               }
-               l38 = ((((l29 = (l37 == 1) ? 1 : 0) != 0) ? 2 : 0) | (l35 = ((l35 & 255) == 1) ? 1 : 0)) | (((l37 = ((l38 & 255) == 1) ? 1 : 0) != 0) ? 4 : 0);
-               l35 = l35 != 0 ? l36 : 0;
-               l36 = (l29 != 0 ? l33 : 0) & 255;
-               l37 = (l37 != 0 ? l32 : 0) & 255;
-               break L6;
-              }
-              l36 = l35 & 255;
-              break L8;
-             }
-             l36 = l35 & 255;
-             break L8;
-            }
-            b[((int) l8) - 60443] = (byte) l29;
-            Words.put16(b, ((int) l8) - 60442, (short) l35);
-            f115(m, l8 + 16L, l31, l23, l24, l8 + 277L);
-            l36 = l35 & 255;
-            l37 = l35 >>> 8;
-            final int t19 = b[((int) l8) - 60703] & 0xff;
-            final int t20 = ((b[((int) l8) - 60704] & 0xff) == 1) ? 1 : 0;
-            l38 = (t20 != 0 ? t19 : -1) & 255;
-            l35 = l29;
-            break L6;
-           }
-           l37 = l36 >>> 8;
-           l38 = 0;
-           l36 = l36 & 255;
-           break L6;
-          }
-          l36 = 0;
-         }
-         l37 = 0;
-        }
-        l38 = 0;
-        break L6;
-       }
-       l28 = Words.get64(b, ((int) l8) - 60480);
-       l23 = Words.get64(b, ((int) l8) - 60488);
-       l35 = 0;
-       m.fill((int) (l8 + 144L), 0, (int) 112L);
-       Core2.f72(m, l8 + 144L, l26, l27, l23, l28);
-       l34 = 2;
-       L21: {
-        if ((b[((int) l8) - 60576] & 0xff) != 1) { break L21; }
-        Words.put32(b, ((int) l16) - 60720, Words.get32(b, ((int) l8) - 60584));
-        Words.put16(b, ((int) l16) - 60716, (short) (Words.get16(b, ((int) l8) - 60580) & 0xffff));
-        Words.put64(b, ((int) l15) - 60720, Words.get64(b, ((int) l8) - 60624));
-        Words.put64(b, ((int) l15) - 60712, Words.get64(b, ((int) l8) - 60616));
-        Words.put64(b, ((int) l15) - 60704, Words.get64(b, ((int) l8) - 60608));
-        Words.put64(b, ((int) l15) - 60696, Words.get64(b, ((int) l8) - 60600));
-        Words.put64(b, ((int) l15) - 60688, Words.get64(b, ((int) l8) - 60592));
-        b[((int) l8) - 60439] = (byte) l33;
-        b[((int) l8) - 60440] = (byte) l31;
-        Words.put64(b, ((int) l8) - 60416, l27);
-        Words.put64(b, ((int) l8) - 60424, l26);
-        Words.put64(b, ((int) l8) - 60432, l25);
-        Words.put64(b, ((int) l14) - 60720, Words.get64(b, ((int) l8) - 60640));
-        Words.put64(b, ((int) l14) - 60712, Words.get64(b, ((int) l8) - 60632));
-        Words.put64(b, ((int) l8) - 60360, l28);
-        Words.put64(b, ((int) l8) - 60368, l23);
-        l34 = f116(m, l8 + 280L);
-       }
-       l30 = 10;
-       l36 = 0;
-       l37 = 0;
-       l38 = 0;
-       l28 = l27;
-       break L6;
-      }
-      l37 = 0;
-      l35 = l29;
-      l38 = 0;
-     }
-     f110_1(m, l2, l8, l12, l22, l25, l26, l27, l29, l31, l32, l33, l39);
+     f118(m, l8 + 104L, l0, l1, l10, l11, l3, l4);
+     if ((b[((int) l8) - 58808] & 0xff) != 1) { break L4; }
+     l11 = Words.get64(b, ((int) l8) - 58760);
+     l10 = Words.get64(b, ((int) l8) - 58768);
+     l2 = Words.get64(b, ((int) l8) - 58776);
+     l22 = Words.get64(b, ((int) l8) - 58784);
+     l23 = Words.get64(b, ((int) l8) - 58800);
+     l24 = Words.get64(b, ((int) l8) - 58792);
+     l43 = 0;
+     m.fill((int) (l8 + 224L), 0, (int) 128L);
+     Core4.f119(m, l8 + 224L, l0, l1, l25 = l0 + l24, l26 = l1 - l24, l3, l4);
+     Words.put32(b, ((int) l8) - 58696, Words.get32(b, ((int) l21) - 58912));
+     Words.put16(b, ((int) l8) - 58692, (short) (Words.get16(b, ((int) l21) - 58908) & 0xffff));
+     Words.put64(b, ((int) l8) - 58736, Words.get64(b, ((int) l20) - 58912));
+     Words.put64(b, ((int) l8) - 58728, Words.get64(b, ((int) l20) - 58904));
+     Words.put64(b, ((int) l8) - 58720, Words.get64(b, ((int) l20) - 58896));
+     Words.put64(b, ((int) l8) - 58712, Words.get64(b, ((int) l20) - 58888));
+     Words.put64(b, ((int) l8) - 58704, Words.get64(b, ((int) l20) - 58880));
+     l44 = b[((int) l8) - 58672] & 0xff;
+     l45 = b[((int) l8) - 58680] & 0xff;
+     l27 = Words.get64(b, ((int) l8) - 58664);
+     l28 = Words.get64(b, ((int) l8) - 58656);
+     l29 = Words.get64(b, ((int) l8) - 58648);
+     l42 = b[((int) l8) - 58688] & 0xff;
+     l46 = b[((int) l8) - 58671] & 0xff;
+     Words.put64(b, ((int) l8) - 58752, Words.get64(b, ((int) l19) - 58912));
+     Words.put64(b, ((int) l8) - 58744, Words.get64(b, ((int) l19) - 58904));
+     l30 = 0L;
+     f117_1(m, l8, l13, l14, l15, l16, l17, l18, l23, l24, l25, l26, l27, l28, l29, l30, l31, l32, l33, l34, l35, l36, l37, l38, l39, l40, l41, l42, l43, l44, l45, l46, l47, l48, l49, l50, l51);
      l25 = m.kept[0];
      l26 = m.kept[1];
      l27 = m.kept[2];
-     l29 = (int) m.kept[3];
-     l31 = (int) m.kept[4];
-     l32 = (int) m.kept[5];
-     l33 = (int) m.kept[6];
-     l39 = (int) m.kept[7];
-     L69: {
-      L70: {
-       L71: {
-        L72: {
-         L73: {
-          L74: {
-           L75: {
-            L76: {
-             L77: {
-              L78: {
-               if (l11 + Long.MIN_VALUE < -9223372036854775805L) { break L78; }
-               if (((l29 = b[((int) l10) - 60720] & 0xff) & 240) != 224) { break L77; }
-               l33 = (((l39 = b[((int) l10) - 60719] & 0xff) << 8) | ((l40 = b[((int) l10) - 60718] & 0xff) << 16)) | l29;
-               l29 = (((l29 << 12) | l40) + (l39 << 6)) + -925824;
-               l26 = l11 + -3L;
-               l27 = l10 + 3L;
-               if (l33 != Words.get32(b, ((int) ((l25 = (((l33 & 0xffffffffL) * 953497L) >>> 22L) & 1016L) + 66852L)) - 60720)) { break L75; }
-               break L76;
+     l28 = m.kept[3];
+     l29 = m.kept[4];
+     l30 = m.kept[5];
+     l31 = m.kept[6];
+     l32 = m.kept[7];
+     l33 = m.kept[8];
+     l34 = m.kept[9];
+     l35 = m.kept[10];
+     l36 = m.kept[11];
+     l37 = m.kept[12];
+     l38 = m.kept[13];
+     l39 = m.kept[14];
+     l40 = m.kept[15];
+     l41 = m.kept[16];
+     l42 = (int) m.kept[17];
+     l43 = (int) m.kept[18];
+     l44 = (int) m.kept[19];
+     l45 = (int) m.kept[20];
+     l46 = (int) m.kept[21];
+     l47 = (int) m.kept[22];
+     l48 = (int) m.kept[23];
+     l49 = (int) m.kept[24];
+     l50 = (int) m.kept[25];
+     l51 = (int) m.kept[26];
+     f117_2(m, l8, l12, l23, l24, l27, l28, l29, l42, l44, l45, l46, l52);
+     l27 = m.kept[0];
+     l28 = m.kept[1];
+     l29 = m.kept[2];
+     l42 = (int) m.kept[3];
+     l44 = (int) m.kept[4];
+     l45 = (int) m.kept[5];
+     l46 = (int) m.kept[6];
+     l52 = (int) m.kept[7];
+     L104: {
+      L105: {
+       L106: {
+        L107: {
+         L108: {
+          L109: {
+           L110: {
+            L111: {
+             L112: {
+              L113: {
+               if (l11 + Long.MIN_VALUE < -9223372036854775805L) { break L113; }
+               if (((l42 = b[((int) l10) - 58912] & 0xff) & 240) != 224) { break L112; }
+               l45 = (((l52 = b[((int) l10) - 58911] & 0xff) << 8) | ((l53 = b[((int) l10) - 58910] & 0xff) << 16)) | l42;
+               l42 = (((l42 << 12) | l53) + (l52 << 6)) + -925824;
+               l28 = l11 + -3L;
+               l29 = l10 + 3L;
+               if (l45 != Words.get32(b, ((int) ((l27 = (((l45 & 0xffffffffL) * 953497L) >>> 22L) & 1016L) + 66852L)) - 58912)) { break L110; }
+               break L111;
               }
-              if (l11 == 0L) { break L70; }
-              l29 = b[((int) l10) - 60720] & 0xff;
+              if (l11 == 0L) { break L105; }
+              l42 = b[((int) l10) - 58912] & 0xff;
              }
-             l27 = 1L;
-             L79: {
-              if (((int) (byte) l29) > -1) { break L79; }
-              l33 = (b[((int) l10) - 60719] & 0xff) & 63;
-              L80: {
-               if (l29 + Integer.MIN_VALUE > -2147483425) { break L80; }
-               l29 = ((l29 << 6) & 1984) | l33;
-               l27 = 2L;
-               break L79;
+             l29 = 1L;
+             L114: {
+              if (((int) (byte) l42) > -1) { break L114; }
+              l45 = (b[((int) l10) - 58911] & 0xff) & 63;
+              L115: {
+               if (l42 + Integer.MIN_VALUE > -2147483425) { break L115; }
+               l42 = ((l42 << 6) & 1984) | l45;
+               l29 = 2L;
+               break L114;
               }
-              l39 = (b[((int) l10) - 60718] & 0xff) & 63;
-              L81: {
-               if (l29 + Integer.MIN_VALUE > -2147483409) { break L81; }
-               l29 = ((l33 << 6) | ((l29 << 12) & 61440)) | l39;
-               l27 = 3L;
-               break L79;
+              l52 = (b[((int) l10) - 58910] & 0xff) & 63;
+              L116: {
+               if (l42 + Integer.MIN_VALUE > -2147483409) { break L116; }
+               l42 = ((l45 << 6) | ((l42 << 12) & 61440)) | l52;
+               l29 = 3L;
+               break L114;
               }
-              l29 = ((l39 << 6) | ((l33 << 12) | ((l29 << 18) & 1835008))) | ((b[((int) l10) - 60717] & 0xff) & 63);
-              l27 = 4L;
+              l42 = ((l52 << 6) | ((l45 << 12) | ((l42 << 18) & 1835008))) | ((b[((int) l10) - 58909] & 0xff) & 63);
+              l29 = 4L;
              }
-             l26 = l11 - l27;
-             l27 = l10 + l27;
-             L82: {
-              if ((l29 + -2048) + Integer.MIN_VALUE > -2147420161) { break L82; }
-              if (Words.get32(b, ((int) ((l25 = ((((l33 = (((l29 >>> 12) | ((l29 << 2) & 16128)) | ((l29 << 16) & 4128768)) | 8421600) & 0xffffffffL) * 953497L) >>> 22L) & 1016L) + 66852L)) - 60720) == l33) { break L76; }
-              break L74;
+             l28 = l11 - l29;
+             l29 = l10 + l29;
+             L117: {
+              if ((l42 + -2048) + Integer.MIN_VALUE > -2147420161) { break L117; }
+              if (Words.get32(b, ((int) ((l27 = ((((l45 = (((l42 >>> 12) | ((l42 << 2) & 16128)) | ((l42 << 16) & 4128768)) | 8421600) & 0xffffffffL) * 953497L) >>> 22L) & 1016L) + 66852L)) - 58912) == l45) { break L111; }
+              break L109;
              }
-             if ((l29 + -48) + Integer.MIN_VALUE >= -2147483638) { break L75; }
-             break L72;
+             if ((l42 + -48) + Integer.MIN_VALUE >= -2147483638) { break L110; }
+             break L107;
             }
-            if ((b[((int) (l25 + 66856L)) - 60720] & 0xff) == 0) { break L72; }
+            if ((b[((int) (l27 + 66856L)) - 58912] & 0xff) == 0) { break L107; }
            }
-           if (l29 + Integer.MIN_VALUE > -2147483521) { break L74; }
-           l39 = 1;
-           l33 = 0;
-           if (l29 == 95) { break L69; }
-           if ((l29 + -44) + Integer.MIN_VALUE < -2147483645) { break L73; }
-           if ((l29 + -48) + Integer.MIN_VALUE < -2147483638) { break L69; }
-           if (((l29 & 95) + -65) + Integer.MIN_VALUE >= -2147483622) { break L70; }
-           break L69;
+           if (l42 + Integer.MIN_VALUE > -2147483521) { break L109; }
+           l52 = 1;
+           l45 = 0;
+           if (l42 == 95) { break L104; }
+           if ((l42 + -44) + Integer.MIN_VALUE < -2147483645) { break L108; }
+           if ((l42 + -48) + Integer.MIN_VALUE < -2147483638) { break L104; }
+           if (((l42 & 95) + -65) + Integer.MIN_VALUE >= -2147483622) { break L105; }
+           break L104;
           }
-          l39 = 0;
-          l33 = 1;
-          L83: {
-           L84: {
-            if (l29 > 24185) { break L84; }
-            L85: {
-             L86: {
-              if (l29 > 21316) { break L86; }
-              L87: {
-               if (l29 > 20959) { break L87; }
-               if (l29 == 20313) { break L69; }
-               if (l29 != 20358) { break L83; }
-               break L69;
+          l52 = 0;
+          l45 = 1;
+          L118: {
+           L119: {
+            if (l42 > 24185) { break L119; }
+            L120: {
+             L121: {
+              if (l42 > 21316) { break L121; }
+              L122: {
+               if (l42 > 20959) { break L122; }
+               if (l42 == 20313) { break L104; }
+               if (l42 != 20358) { break L118; }
+               break L104;
               }
-              if (l29 == 20960) { break L69; }
-              if (l29 == 20986) { break L85; }
-              break L83;
+              if (l42 == 20960) { break L104; }
+              if (l42 == 20986) { break L120; }
+              break L118;
              }
-             L88: {
-              switch (l29 + -21317) {
-              case 0: case 7: break L72;
-              case 1: case 2: case 3: case 4: case 5: case 6: break L83;
-              default: break L88;
+             L123: {
+              switch (l42 + -21317) {
+              case 0: case 7: break L107;
+              case 1: case 2: case 3: case 4: case 5: case 6: break L118;
+              default: break L123;
               }
              }
-             if (l29 == 22810) { break L69; }
-             if (l29 != 22909) { break L83; }
+             if (l42 == 22810) { break L104; }
+             if (l42 != 22909) { break L118; }
             }
-            l33 = f104(m, l29, l27, l26);
-            break L69;
+            l45 = f111(m, l42, l29, l28);
+            break L104;
            }
-           L89: {
-            if (l29 > 26468) { break L89; }
-            L90: {
-             switch (l29 + -24186) {
-             case 0: break L72;
-             case 1: case 2: case 3: break L83;
-             case 4: break L69;
-             default: break L90;
+           L124: {
+            if (l42 > 26468) { break L124; }
+            L125: {
+             switch (l42 + -24186) {
+             case 0: break L107;
+             case 1: case 2: case 3: break L118;
+             case 4: break L104;
+             default: break L125;
              }
             }
-            L91: {
-             switch (l29 + -25968) {
-             case 0: case 8: break L70;
-             case 1: case 2: case 3: case 4: case 5: case 6: case 7: break L83;
-             default: break L91;
+            L126: {
+             switch (l42 + -25968) {
+             case 0: case 8: break L105;
+             case 1: case 2: case 3: case 4: case 5: case 6: case 7: break L118;
+             default: break L126;
              }
             }
-            if (l29 == 24319) { break L72; }
-            break L83;
+            if (l42 == 24319) { break L107; }
+            break L118;
            }
-           L92: {
-            if (l29 > 39191) { break L92; }
-            if (l29 == 26469) { break L69; }
-            if (l29 != 28857) { break L83; }
-            break L73;
+           L127: {
+            if (l42 > 39191) { break L127; }
+            if (l42 == 26469) { break L104; }
+            if (l42 != 28857) { break L118; }
+            break L108;
            }
-           if (l29 == 39192) { break L69; }
-           if (l29 == 40670) { break L73; }
+           if (l42 == 39192) { break L104; }
+           if (l42 == 40670) { break L108; }
           }
-          if ((l29 + -65296) + Integer.MIN_VALUE > -2147483639) { break L70; }
-          break L72;
+          if ((l42 + -65296) + Integer.MIN_VALUE > -2147483639) { break L105; }
+          break L107;
          }
-         Words.put64(b, ((int) l8) - 60552, 0L);
-         Words.put64(b, ((int) l8) - 60560, 0L);
-         Words.put64(b, ((int) l8) - 60568, 0L);
-         Words.put64(b, ((int) l8) - 60576, 0L);
-         L93: {
-          L94: {
-           L95: {
-            L96: {
-             if (l26 + Long.MIN_VALUE < -9223372036854775805L) { break L96; }
-             if (((l29 = b[((int) l27) - 60720] & 0xff) & 240) != 224) { break L95; }
-             l33 = b[((int) l27) - 60718] & 0xff;
-             l39 = b[((int) l27) - 60719] & 0xff;
-             Words.put64(b, ((int) l8) - 60552, l26 + -3L);
-             Words.put64(b, ((int) l8) - 60560, l27 + 3L);
-             Words.put64(b, ((int) l8) - 60576, 1L);
-             Words.put32(b, ((int) l8) - 60568, ((l33 | (l29 << 12)) + (l39 << 6)) + -925824);
-             final int t97 = (int) l8;
-             final int t98 = b[((int) ((l27 = ((((l29 = ((l39 << 8) | (l33 << 16)) | l29) & 0xffffffffL) * 953497L) >>> 22L) & 1016L) + 66857L)) - 60720] & 0xff;
-             final int t99 = l29 = (Words.get32(b, State.far((int) l27, 66852)) == l29) ? 1 : 0;
-             b[t97 - 60563] = (byte) (t99 != 0 ? t98 : 0);
-             final int t100 = (int) l8;
-             final int t101 = b[((int) (l27 + 66856L)) - 60720] & 0xff;
-             final int t102 = l29;
-             b[t100 - 60564] = (byte) (t102 != 0 ? t101 : 2);
-             break L93;
+         Words.put64(b, ((int) l8) - 58664, 0L);
+         Words.put64(b, ((int) l8) - 58672, 0L);
+         Words.put64(b, ((int) l8) - 58680, 0L);
+         Words.put64(b, ((int) l8) - 58688, 0L);
+         L128: {
+          L129: {
+           L130: {
+            L131: {
+             if (l28 + Long.MIN_VALUE < -9223372036854775805L) { break L131; }
+             if (((l42 = b[((int) l29) - 58912] & 0xff) & 240) != 224) { break L130; }
+             l45 = b[((int) l29) - 58910] & 0xff;
+             l52 = b[((int) l29) - 58911] & 0xff;
+             Words.put64(b, ((int) l8) - 58664, l28 + -3L);
+             Words.put64(b, ((int) l8) - 58672, l29 + 3L);
+             Words.put64(b, ((int) l8) - 58688, 1L);
+             Words.put32(b, ((int) l8) - 58680, ((l45 | (l42 << 12)) + (l52 << 6)) + -925824);
+             final int t132 = (int) l8;
+             final int t133 = b[((int) ((l29 = ((((l42 = ((l52 << 8) | (l45 << 16)) | l42) & 0xffffffffL) * 953497L) >>> 22L) & 1016L) + 66857L)) - 58912] & 0xff;
+             final int t134 = l42 = (Words.get32(b, State.far((int) l29, 66852)) == l42) ? 1 : 0;
+             b[t132 - 58675] = (byte) (t134 != 0 ? t133 : 0);
+             final int t135 = (int) l8;
+             final int t136 = b[((int) (l29 + 66856L)) - 58912] & 0xff;
+             final int t137 = l42;
+             b[t135 - 58676] = (byte) (t137 != 0 ? t136 : 2);
+             break L128;
             }
-            if (l26 == 0L) { break L94; }
-            l29 = b[((int) l27) - 60720] & 0xff;
+            if (l28 == 0L) { break L129; }
+            l42 = b[((int) l29) - 58912] & 0xff;
            }
-           l25 = 1L;
-           L103: {
-            if (((int) (byte) l29) > -1) { break L103; }
-            l33 = (b[((int) l27) - 60719] & 0xff) & 63;
-            L104: {
-             if (l29 + Integer.MIN_VALUE > -2147483425) { break L104; }
-             l29 = ((l29 << 6) & 1984) | l33;
-             l25 = 2L;
-             break L103;
+           l27 = 1L;
+           L138: {
+            if (((int) (byte) l42) > -1) { break L138; }
+            l45 = (b[((int) l29) - 58911] & 0xff) & 63;
+            L139: {
+             if (l42 + Integer.MIN_VALUE > -2147483425) { break L139; }
+             l42 = ((l42 << 6) & 1984) | l45;
+             l27 = 2L;
+             break L138;
             }
-            l39 = (b[((int) l27) - 60718] & 0xff) & 63;
-            L105: {
-             if (l29 + Integer.MIN_VALUE > -2147483409) { break L105; }
-             l29 = ((l33 << 6) | ((l29 << 12) & 61440)) | l39;
-             l25 = 3L;
-             break L103;
+            l52 = (b[((int) l29) - 58910] & 0xff) & 63;
+            L140: {
+             if (l42 + Integer.MIN_VALUE > -2147483409) { break L140; }
+             l42 = ((l45 << 6) | ((l42 << 12) & 61440)) | l52;
+             l27 = 3L;
+             break L138;
             }
-            l29 = ((l39 << 6) | ((l33 << 12) | ((l29 << 18) & 1835008))) | ((b[((int) l27) - 60717] & 0xff) & 63);
-            l25 = 4L;
+            l42 = ((l52 << 6) | ((l45 << 12) | ((l42 << 18) & 1835008))) | ((b[((int) l29) - 58909] & 0xff) & 63);
+            l27 = 4L;
            }
-           l26 = l26 - l25;
-           l27 = l27 + l25;
-           L106: {
-            L107: {
-             if ((l29 + -2048) + Integer.MIN_VALUE > -2147420161) { break L107; }
-             final int t108 = b[((int) ((l25 = ((((l33 = (((l29 >>> 12) | ((l29 << 2) & 16128)) | ((l29 << 16) & 4128768)) | 8421600) & 0xffffffffL) * 953497L) >>> 22L) & 1016L) + 66857L)) - 60720] & 0xff;
-             final int t109 = l39 = (Words.get32(b, State.far((int) l25, 66852)) == l33) ? 1 : 0;
-             l33 = t109 != 0 ? t108 : 0;
-             final int t110 = b[((int) (l25 + 66856L)) - 60720] & 0xff;
-             final int t111 = l39;
-             l39 = t111 != 0 ? t110 : 2;
-             break L106;
+           l28 = l28 - l27;
+           l29 = l29 + l27;
+           L141: {
+            L142: {
+             if ((l42 + -2048) + Integer.MIN_VALUE > -2147420161) { break L142; }
+             final int t143 = b[((int) ((l27 = ((((l45 = (((l42 >>> 12) | ((l42 << 2) & 16128)) | ((l42 << 16) & 4128768)) | 8421600) & 0xffffffffL) * 953497L) >>> 22L) & 1016L) + 66857L)) - 58912] & 0xff;
+             final int t144 = l52 = (Words.get32(b, State.far((int) l27, 66852)) == l45) ? 1 : 0;
+             l45 = t144 != 0 ? t143 : 0;
+             final int t145 = b[((int) (l27 + 66856L)) - 58912] & 0xff;
+             final int t146 = l52;
+             l52 = t146 != 0 ? t145 : 2;
+             break L141;
             }
-            final int t112 = l33 = l29 + -48;
-            final int t113 = l39 = (l33 + Integer.MIN_VALUE < -2147483638) ? 1 : 0;
-            l33 = t113 != 0 ? t112 : 0;
-            l39 = l39 != 0 ? 0 : 2;
+            final int t147 = l45 = l42 + -48;
+            final int t148 = l52 = (l45 + Integer.MIN_VALUE < -2147483638) ? 1 : 0;
+            l45 = t148 != 0 ? t147 : 0;
+            l52 = l52 != 0 ? 0 : 2;
            }
-           Words.put64(b, ((int) l8) - 60552, l26);
-           Words.put64(b, ((int) l8) - 60560, l27);
-           b[((int) l8) - 60563] = (byte) l33;
-           b[((int) l8) - 60564] = (byte) l39;
-           Words.put32(b, ((int) l8) - 60568, l29);
-           Words.put64(b, ((int) l8) - 60576, 1L);
-           break L93;
+           Words.put64(b, ((int) l8) - 58664, l28);
+           Words.put64(b, ((int) l8) - 58672, l29);
+           b[((int) l8) - 58675] = (byte) l45;
+           b[((int) l8) - 58676] = (byte) l52;
+           Words.put32(b, ((int) l8) - 58680, l42);
+           Words.put64(b, ((int) l8) - 58688, 1L);
+           break L128;
           }
-          Words.put64(b, ((int) l12) - 60720, 0L);
-          Words.put64(b, ((int) l12) - 60712, 0L);
-          Words.put64(b, ((int) l8) - 60570, 0L);
-          Words.put64(b, ((int) l8) - 60576, 0L);
+          Words.put64(b, ((int) l12) - 58912, 0L);
+          Words.put64(b, ((int) l12) - 58904, 0L);
+          Words.put64(b, ((int) l8) - 58682, 0L);
+          Words.put64(b, ((int) l8) - 58688, 0L);
          }
-         l39 = f105(m, l8 + 144L);
-         break L71;
+         l52 = f112(m, l8 + 224L);
+         break L106;
         }
-        l39 = 1;
+        l52 = 1;
        }
-       l33 = 0;
-       break L69;
+       l45 = 0;
+       break L104;
       }
-      l33 = 0;
-      l39 = 0;
+      l45 = 0;
+      l52 = 0;
      }
-     Words.put32(b, ((int) l8) - 60576, 0);
-     L114: {
-      L115: {
-       L116: {
-        L117: {
-         L118: {
-          L119: {
-           L120: {
-            L121: {
-             if ((l27 = l20 + -1L) + Long.MIN_VALUE > -9223372036854775806L) { break L121; }
-             L122: {
-              switch ((int) l27) {
-              case 1: break L121;
-              case 2: break L122;
-              default: break L118;
+     Words.put32(b, ((int) l8) - 58688, 0);
+     L149: {
+      L150: {
+       L151: {
+        L152: {
+         L153: {
+          L154: {
+           L155: {
+            L156: {
+             if ((l29 = l2 + -1L) + Long.MIN_VALUE > -9223372036854775806L) { break L156; }
+             L157: {
+              switch ((int) l29) {
+              case 1: break L156;
+              case 2: break L157;
+              default: break L153;
               }
              }
-             if ((l29 = (Words.get32(b, State.far((int) (l27 = ((((l29 = (((b[((int) l21) - 60719] & 0xff) << 8) | (l41 = b[((int) l21) - 60720] & 0xff)) | ((b[((int) l21) - 60718] & 0xff) << 16)) & 0xffffffffL) * 953497L) >>> 22L) & 1016L), 66852)) != l29) ? 1 : 0) != 0) { break L120; }
-             l40 = 1;
-             final int t123 = b[((int) (l27 + 66856L)) - 60720] & 0xff;
-             final int t124 = l29;
-             if (((l29 = t124 != 0 ? 0 : t123) & 255) == 2) { break L120; }
-             break L117;
+             if ((l42 = (Words.get32(b, State.far((int) (l29 = ((((l42 = (((b[((int) l22) - 58911] & 0xff) << 8) | (l54 = b[((int) l22) - 58912] & 0xff)) | ((b[((int) l22) - 58910] & 0xff) << 16)) & 0xffffffffL) * 953497L) >>> 22L) & 1016L), 66852)) != l42) ? 1 : 0) != 0) { break L155; }
+             l53 = 1;
+             final int t158 = b[((int) (l29 + 66856L)) - 58912] & 0xff;
+             final int t159 = l42;
+             if (((l42 = t159 != 0 ? 0 : t158) & 255) == 2) { break L155; }
+             break L152;
             }
-            if (l20 + Long.MIN_VALUE > -9223372036854775804L) { break L116; }
-            if (l20 == 0L) { break L119; }
-            l41 = b[((int) l21) - 60720] & 0xff;
+            if (l2 + Long.MIN_VALUE > -9223372036854775804L) { break L151; }
+            if (l2 == 0L) { break L154; }
+            l54 = b[((int) l22) - 58912] & 0xff;
            }
-           if (((int) (byte) l41) > -1) { break L116; }
+           if (((int) (byte) l54) > -1) { break L151; }
           }
-          f106(m, l8 + 144L, l21, l20);
-          if ((b[((int) l8) - 60576] & 0xff) != 1) { break L116; }
-          l40 = b[((int) l8) - 60573] & 0xff;
-          l29 = b[((int) l8) - 60575] & 0xff;
-          break L117;
+          f113(m, l8 + 224L, l22, l2);
+          if ((b[((int) l8) - 58688] & 0xff) != 1) { break L151; }
+          l53 = b[((int) l8) - 58685] & 0xff;
+          l42 = b[((int) l8) - 58687] & 0xff;
+          break L152;
          }
-         l29 = ((l40 = ((((b[((int) l21) - 60720] & 0xff) + -58) & 255) + Integer.MIN_VALUE < -2147483402) ? 1 : 0) != 0) ? 2 : 0;
+         l42 = ((l53 = ((((b[((int) l22) - 58912] & 0xff) + -58) & 255) + Integer.MIN_VALUE < -2147483402) ? 1 : 0) != 0) ? 2 : 0;
         }
-        final int t125 = l39 != 0 ? 0 : 2;
-        final int t126 = l31;
-        l29 = (t126 != 0 ? 0 : t125) | (((l31 = l29 & 255) == 0) ? 1 : 0);
-        l40 = ((l40 & 1) != 0) ? 8 : 0;
-        l27 = l20 + l2;
-        if ((l33 | (l32 & ((l31 == 1) ? 1 : 0))) != 0) { break L115; }
-        break L114;
+        final int t160 = l52 != 0 ? 0 : 2;
+        final int t161 = l44;
+        l42 = (t161 != 0 ? 0 : t160) | (((l44 = l42 & 255) == 0) ? 1 : 0);
+        l53 = ((l53 & 1) != 0) ? 8 : 0;
+        l29 = l2 + l24;
+        if ((l45 | (l46 & ((l44 == 1) ? 1 : 0))) != 0) { break L150; }
+        break L149;
        }
-       l29 = f107(m, l21, l20);
-       L127: {
-        L128: {
-         L129: {
-          if (l32 == 0) { break L129; }
-          if ((l33 | f108(m, l21, l20)) != 0) { break L128; }
-          break L127;
+       l42 = f114(m, l22, l2);
+       L162: {
+        L163: {
+         L164: {
+          if (l46 == 0) { break L164; }
+          if ((l45 | f115(m, l22, l2)) != 0) { break L163; }
+          break L162;
          }
-         if (l33 == 0) { break L127; }
+         if (l45 == 0) { break L162; }
         }
-        l40 = 0;
-        final int t130 = l39 != 0 ? 0 : 2;
-        final int t131 = l31;
-        l29 = (t131 != 0 ? 0 : t130) | l29;
-        l27 = l20 + l2;
-        break L115;
+        l53 = 0;
+        final int t165 = l52 != 0 ? 0 : 2;
+        final int t166 = l44;
+        l42 = (t166 != 0 ? 0 : t165) | l42;
+        l29 = l2 + l24;
+        break L150;
        }
-       l40 = 0;
-       final int t132 = l39 != 0 ? 0 : 2;
-       final int t133 = l31;
-       l29 = (t133 != 0 ? 0 : t132) | l29;
-       l27 = l20 + l2;
-       if (f109(m, l21, l20) == 0) { break L114; }
+       l53 = 0;
+       final int t167 = l52 != 0 ? 0 : 2;
+       final int t168 = l44;
+       l42 = (t168 != 0 ? 0 : t167) | l42;
+       l29 = l2 + l24;
+       if (f116(m, l22, l2) == 0) { break L149; }
       }
-      l29 = l29 | 4;
+      l42 = l42 | 4;
      }
-     Words.put64(b, ((int) l8) - 60536, l11);
-     Words.put64(b, ((int) l8) - 60544, l10);
-     Words.put64(b, ((int) l8) - 60552, l20);
-     Words.put64(b, ((int) l8) - 60560, l21);
-     Words.put64(b, ((int) l8) - 60568, l2);
-     Words.put64(b, ((int) l8) - 60576, l22);
-     Core4.f117(m, l8 + 8L, l8 + 144L);
-     l32 = b[((int) l8) - 60711] & 0xff;
-     l33 = b[((int) l8) - 60712] & 0xff;
-     Words.put32(b, ((int) (l5 + 52L)) - 60720, 0);
-     Words.put32(b, ((int) (l5 + 48L)) - 60720, l38);
-     Words.put32(b, ((int) (l5 + 44L)) - 60720, l37);
-     Words.put32(b, ((int) (l5 + 40L)) - 60720, l36);
-     Words.put32(b, ((int) (l5 + 36L)) - 60720, l35);
-     Words.put32(b, ((int) (l5 + 28L)) - 60720, l34);
-     Words.put32(b, ((int) (l5 + 24L)) - 60720, l30);
-     Words.put64(b, ((int) (l5 + 16L)) - 60720, l28);
-     Words.put64(b, ((int) (l5 + 8L)) - 60720, l27);
-     Words.put64(b, ((int) l5) - 60720, l2);
-     final int t134 = (int) (l5 + 32L);
-     final int t135 = l40 | l29;
-     final int t136 = ((l32 + 1) & 255) << 4;
-     final int t137 = l33 & 1;
-     Words.put32(b, t134 - 60720, t135 | (t137 != 0 ? t136 : 0));
-     l5 = l5 + 56L;
-     if (l6 != (l9 = l9 + 1L)) { continue L5; }
+     Words.put64(b, ((int) l8) - 58648, l11);
+     Words.put64(b, ((int) l8) - 58656, l10);
+     Words.put64(b, ((int) l8) - 58664, l2);
+     Words.put64(b, ((int) l8) - 58672, l22);
+     Words.put64(b, ((int) l8) - 58680, l24);
+     Words.put64(b, ((int) l8) - 58688, l23);
+     Core4.f126(m, l8, l8 + 224L);
+     l46 = b[((int) l8) - 58911] & 0xff;
+     l45 = b[((int) l8) - 58912] & 0xff;
+     Words.put32(b, ((int) (l2 = l5 + (l9 * 56L))) - 58860, 0);
+     Words.put32(b, ((int) l2) - 58864, l51);
+     Words.put32(b, ((int) l2) - 58868, l50);
+     Words.put32(b, ((int) l2) - 58872, l49);
+     Words.put32(b, ((int) l2) - 58876, l48);
+     Words.put32(b, ((int) l2) - 58884, l47);
+     Words.put32(b, ((int) l2) - 58888, l43);
+     Words.put64(b, ((int) l2) - 58896, l30);
+     Words.put64(b, ((int) l2) - 58904, l29);
+     Words.put64(b, ((int) l2) - 58912, l24);
+     final int t169 = (int) l2;
+     final int t170 = l53 | l42;
+     final int t171 = ((l46 + 1) & 255) << 4;
+     final int t172 = l45 & 1;
+     Words.put32(b, t169 - 58880, t170 | (t172 != 0 ? t171 : 0));
+     if ((l9 = l9 + 1L) != l6) { continue L5; }
      break L5;
     }
     l9 = l6;
    }
-   l29 = 0;
+   l42 = 0;
   }
-  Words.put64(b, ((int) l7) - 60720, l9);
-  m.g0 = l8 + 384L;
-  final int t138 = l29;
-  return t138;
+  Words.put64(b, ((int) l7) - 58912, l9);
+  m.g0 = l8 + 528L;
+  final int t173 = l42;
+  return t173;
  }
  throw State.trap();
 }
 
-static void f111(State m, long l0, long l1, long l2, long l3, long l4, int l5, int l6) {
+static void f118(State m, long l0, long l1, long l2, long l3, long l4, int l5, int l6) {
  final byte[] b = m.bytes;
  long l7 = 0;
  long l8 = 0;
@@ -6172,7 +7768,7 @@ static void f111(State m, long l0, long l1, long l2, long l3, long l4, int l5, i
     L4: while (true) {
      L5: {
       L6: {
-       if ((l11 = (int) b[((int) l3) - 60720]) <= -1) { break L6; }
+       if ((l11 = (int) b[((int) l3) - 58912]) <= -1) { break L6; }
        l8 = 1L;
        break L5;
       }
@@ -6184,7 +7780,7 @@ static void f111(State m, long l0, long l1, long l2, long l3, long l4, int l5, i
       l8 = (l11 + Integer.MIN_VALUE < 2147483632) ? 3L : 4L;
      }
      l12 = l11 & 255;
-     m.fill((int) (l7 + 8L), 0, (int) 120L);
+     m.fill((int) l7, 0, (int) 128L);
      L8: {
       L9: {
        L10: {
@@ -6193,31 +7789,31 @@ static void f111(State m, long l0, long l1, long l2, long l3, long l4, int l5, i
           L13: {
            if (l4 + Long.MIN_VALUE < -9223372036854775805L) { break L13; }
            if ((l12 & 240) != 224) { break L13; }
-           l11 = (((l13 = b[((int) l3) - 60719] & 0xff) << 8) | ((l14 = b[((int) l3) - 60718] & 0xff) << 16)) | l12;
+           l11 = (((l13 = b[((int) l3) - 58911] & 0xff) << 8) | ((l14 = b[((int) l3) - 58910] & 0xff) << 16)) | l12;
            l12 = (((l12 << 12) | l14) + (l13 << 6)) + -925824;
-           if (l11 == Words.get32(b, ((int) ((l9 = (((l11 & 0xffffffffL) * 953497L) >>> 22L) & 1016L) + 66852L)) - 60720)) { break L12; }
+           if (l11 == Words.get32(b, ((int) ((l9 = (((l11 & 0xffffffffL) * 953497L) >>> 22L) & 1016L) + 66852L)) - 58912)) { break L12; }
            break L10;
           }
           L14: {
            if (l11 > -1) { break L14; }
-           l13 = (b[((int) l3) - 60719] & 0xff) & 63;
+           l13 = (b[((int) l3) - 58911] & 0xff) & 63;
            L15: {
             if (l11 + Integer.MIN_VALUE > 2147483615) { break L15; }
             l12 = ((l12 << 6) & 1984) | l13;
             break L14;
            }
-           l14 = (b[((int) l3) - 60718] & 0xff) & 63;
+           l14 = (b[((int) l3) - 58910] & 0xff) & 63;
            L16: {
             if (l11 + Integer.MIN_VALUE > 2147483631) { break L16; }
             l12 = ((l13 << 6) | ((l12 << 12) & 61440)) | l14;
             break L14;
            }
-           l12 = ((l14 << 6) | ((l13 << 12) | ((l12 << 18) & 1835008))) | ((b[((int) l3) - 60717] & 0xff) & 63);
+           l12 = ((l14 << 6) | ((l13 << 12) | ((l12 << 18) & 1835008))) | ((b[((int) l3) - 58909] & 0xff) & 63);
           }
           if ((l12 + -2048) + Integer.MIN_VALUE > -2147420161) { break L11; }
-          if (Words.get32(b, ((int) ((l9 = ((((l11 = (((l12 >>> 12) | ((l12 << 2) & 16128)) | ((l12 << 16) & 4128768)) | 8421600) & 0xffffffffL) * 953497L) >>> 22L) & 1016L) + 66852L)) - 60720) != l11) { break L10; }
+          if (Words.get32(b, ((int) ((l9 = ((((l11 = (((l12 >>> 12) | ((l12 << 2) & 16128)) | ((l12 << 16) & 4128768)) | 8421600) & 0xffffffffL) * 953497L) >>> 22L) & 1016L) + 66852L)) - 58912) != l11) { break L10; }
          }
-         if ((b[((int) (l9 + 66856L)) - 60720] & 0xff) != 2) { break L9; }
+         if ((b[((int) (l9 + 66856L)) - 58912] & 0xff) != 2) { break L9; }
          break L10;
         }
         if ((l12 + -48) + Integer.MIN_VALUE < -2147483638) { break L9; }
@@ -6297,36 +7893,42 @@ static void f111(State m, long l0, long l1, long l2, long l3, long l4, int l5, i
         if (l12 + Integer.MIN_VALUE < -2147483601) { break L9; }
         if ((l12 + -65292) + Integer.MIN_VALUE < -2147483645) { break L9; }
        }
-       if (Core4.f118(m, l12) == 0) { break L8; }
+       if (Core4.f127(m, l12) == 0) { break L8; }
       }
-      f112(m, l7 + 8L, l1, l2, l3, l4, l5, l6);
-      if ((b[((int) l7) - 60712] & 0xff) != 1) { break L8; }
-      l8 = Words.get64(b, ((int) l7) - 60600);
-      l9 = Words.get64(b, ((int) l7) - 60608);
-      l10 = Words.get64(b, ((int) l7) - 60688);
+      Core4.f119(m, l7, l1, l2, l3, l4, l5, l6);
+      if ((b[((int) l7) - 58912] & 0xff) != 1) { break L8; }
+      l8 = Words.get64(b, ((int) l7) - 58800);
+      l9 = Words.get64(b, ((int) l7) - 58808);
+      l10 = Words.get64(b, ((int) l7) - 58888);
       L29: {
        L30: {
         L31: {
-         switch ((int) (b[((int) l7) - 60704] & 0xffL)) {
-         case 1: break L29;
-         case 2: break L31;
-         default: break L30;
+         L32: {
+          switch ((int) (b[((int) l7) - 58904] & 0xffL)) {
+          case 1: break L32;
+          case 2: break L29;
+          case 3: break L31;
+          default: break L30;
+          }
          }
+         l9 = l8;
+         l8 = Words.get64(b, ((int) l7) - 58792);
+         break L29;
         }
-        l9 = Words.get64(b, ((int) l7) - 60696);
+        l9 = Words.get64(b, ((int) l7) - 58896);
         l8 = l10;
         break L29;
        }
-       l8 = Words.get64(b, ((int) l7) - 60680);
+       l8 = Words.get64(b, ((int) l7) - 58880);
        l9 = l10;
       }
-      Words.put64(b, ((int) l0) - 60720, 1L);
-      Words.put64(b, ((int) (l0 + 48L)) - 60720, l8);
-      Words.put64(b, ((int) (l0 + 40L)) - 60720, l9);
-      Words.put64(b, ((int) (l0 + 32L)) - 60720, l4 - l8);
-      Words.put64(b, ((int) (l0 + 24L)) - 60720, l3);
-      Words.put64(b, ((int) (l0 + 16L)) - 60720, l2 - l4);
-      Words.put64(b, ((int) (l0 + 8L)) - 60720, l1);
+      Words.put64(b, ((int) l0) - 58912, 1L);
+      Words.put64(b, ((int) (l0 + 48L)) - 58912, l8);
+      Words.put64(b, ((int) (l0 + 40L)) - 58912, l9);
+      Words.put64(b, ((int) (l0 + 32L)) - 58912, l4 - l8);
+      Words.put64(b, ((int) (l0 + 24L)) - 58912, l3);
+      Words.put64(b, ((int) (l0 + 16L)) - 58912, l2 - l4);
+      Words.put64(b, ((int) (l0 + 8L)) - 58912, l1);
       break L1;
      }
      l3 = l3 + l8;
@@ -6334,1843 +7936,17 @@ static void f111(State m, long l0, long l1, long l2, long l3, long l4, int l5, i
      break L4;
     }
    }
-   Words.put64(b, ((int) l0) - 60672, 0L);
-   Words.put64(b, ((int) l0) - 60680, 0L);
-   Words.put64(b, ((int) l0) - 60688, 0L);
-   Words.put64(b, ((int) l0) - 60696, 0L);
-   Words.put64(b, ((int) l0) - 60704, 0L);
-   Words.put64(b, ((int) l0) - 60712, 0L);
-   Words.put64(b, ((int) l0) - 60720, 0L);
+   Words.put64(b, ((int) l0) - 58864, 0L);
+   Words.put64(b, ((int) l0) - 58872, 0L);
+   Words.put64(b, ((int) l0) - 58880, 0L);
+   Words.put64(b, ((int) l0) - 58888, 0L);
+   Words.put64(b, ((int) l0) - 58896, 0L);
+   Words.put64(b, ((int) l0) - 58904, 0L);
+   Words.put64(b, ((int) l0) - 58912, 0L);
    break L1;
   }
   throw State.trap();
  }
  m.g0 = l7 + 128L;
-}
-
-static int f112_1(State m, long l1, long l2, long l3, long l4, int l5, int l6, long l7, long l8, long l9, long l10, long l11, long l12, long l13, long l14, long l15, long l16, long l17, long l18, long l19, long l20, long l21, int l22, int l23, int l24, int l25, int l26) {
- final byte[] b = m.bytes;
- int exit = 0;
- PART: {
-  L66: {
-   L67: {
-    if ((l12 = b[((int) l7) - 60656] & 0xffL) == 1L) { break L67; }
-    l25 = 0;
-    l1 = 0L;
-    l9 = 0L;
-    l3 = 0L;
-    l10 = 0L;
-    l8 = 0L;
-    l4 = 0L;
-    l2 = 0L;
-    l13 = 0L;
-    l16 = 0L;
-    l15 = 0L;
-    l14 = 0L;
-    l17 = 0L;
-    break L66;
-   }
-   l10 = Words.get64(b, ((int) l7) - 60648);
-   l17 = 2L;
-   l25 = 0;
-   L68: {
-    L69: {
-     L70: {
-      if (!((l8 = Words.get64(b, ((int) l7) - 60640)) == 0L)) { break L70; }
-      l9 = 0L;
-      l12 = 1L;
-      l1 = l10;
-      l3 = 0L;
-      break L69;
-     }
-     l23 = (l22 = (int) b[((int) l10) - 60720]) & 255;
-     l14 = 1L;
-     L71: {
-      if (l22 > -1) { break L71; }
-      l24 = (b[((int) l10) - 60719] & 0xff) & 63;
-      L72: {
-       if (l22 + Integer.MIN_VALUE > 2147483615) { break L72; }
-       l23 = ((l23 << 6) & 1984) | l24;
-       l14 = 2L;
-       break L71;
-      }
-      l26 = (b[((int) l10) - 60718] & 0xff) & 63;
-      L73: {
-       if (l22 + Integer.MIN_VALUE > 2147483631) { break L73; }
-       l23 = ((l24 << 6) | ((l23 << 12) & 61440)) | l26;
-       l14 = 3L;
-       break L71;
-      }
-      l23 = ((l26 << 6) | ((l24 << 12) | ((l23 << 18) & 1835008))) | ((b[((int) l10) - 60717] & 0xff) & 63);
-      l14 = 4L;
-     }
-     l11 = l4 - l8;
-     l4 = -32L;
-     L74: {
-      L75: while (true) {
-       if ((l24 = Words.get32(b, ((int) (l4 + 83604L)) - 60720)) == l23) { break L74; }
-       l22 = (l4 != 0L) ? 1 : 0;
-       l4 = l4 + 4L;
-       if (l22 != 0) { continue L75; }
-       break L75;
-      }
-     }
-     l4 = 0L;
-     l12 = 1L;
-     L76: {
-      L77: {
-       L78: {
-        if (l24 != l23) { break L78; }
-        l4 = 0L;
-        Words.put64(b, ((int) l7) - 60640, 0L);
-        Words.put64(b, ((int) l7) - 60648, 0L);
-        Words.put64(b, ((int) l7) - 60656, 0L);
-        Core4.f124(m, l7 + 64L, l1, l2, l13 = l10 + l14, l18 = l8 - l14, l5, l6);
-        if ((b[((int) l7) - 60656] & 0xff) != 1) { break L78; }
-        l15 = Words.get64(b, ((int) l7) - 60648);
-        l14 = Words.get64(b, ((int) l7) - 60640);
-        Words.put64(b, ((int) l7) - 60600, 0L);
-        Words.put64(b, ((int) l7) - 60608, 0L);
-        Words.put64(b, ((int) l7) - 60616, 0L);
-        Words.put64(b, ((int) l7) - 60624, 0L);
-        Words.put64(b, ((int) l7) - 60632, 0L);
-        Words.put64(b, ((int) l7) - 60640, 0L);
-        Words.put64(b, ((int) l7) - 60648, 0L);
-        Words.put64(b, ((int) l7) - 60656, 0L);
-        Core2.f75(m, l7 + 64L, l3, l11, 1);
-        if ((b[((int) l7) - 60656] & 0xff) != 0) { break L76; }
-        if (((b[((int) l7) - 60608] & 0xff) & 255) == 3) { break L76; }
-        if (Words.get64(b, ((int) l7) - 60632) <= -1L) { break L76; }
-        Words.put64(b, ((int) l7) - 60664, l8);
-        Words.put64(b, ((int) l7) - 60672, l10);
-        Words.put64(b, ((int) l7) - 60680, l11);
-        Words.put64(b, ((int) l7) - 60688, l3);
-        Words.put64(b, ((int) l7) - 60696, l9);
-        Words.put64(b, ((int) l7) - 60704, l1);
-        l4 = 0L;
-        if (Core4.f125(m, l7 + 16L) != 0) { break L78; }
-        Words.put64(b, ((int) l7) - 60600, 0L);
-        Words.put64(b, ((int) l7) - 60608, 0L);
-        Words.put64(b, ((int) l7) - 60616, 0L);
-        Words.put64(b, ((int) l7) - 60624, 0L);
-        Words.put64(b, ((int) l7) - 60632, 0L);
-        Words.put64(b, ((int) l7) - 60640, 0L);
-        Words.put64(b, ((int) l7) - 60648, 0L);
-        Words.put64(b, ((int) l7) - 60656, 0L);
-        Core2.f75(m, l7 + 64L, l13, l16 = l18 - l14, 1);
-        if ((b[((int) l7) - 60656] & 0xff) != 0) { break L76; }
-        if (((b[((int) l7) - 60608] & 0xff) & 255) == 3) { break L76; }
-        if (Words.get64(b, ((int) l7) - 60632) <= -1L) { break L76; }
-        Words.put64(b, ((int) l7) - 60664, l14);
-        Words.put64(b, ((int) l7) - 60672, l15);
-        Words.put64(b, ((int) l7) - 60680, l16);
-        Words.put64(b, ((int) l7) - 60688, l13);
-        Words.put64(b, ((int) l7) - 60696, l2 = l2 - l18);
-        Words.put64(b, ((int) l7) - 60704, l1);
-        l4 = 0L;
-        if (Core4.f125(m, l7 + 16L) != 0) { break L78; }
-        l4 = 0L;
-        if (Core4.f126(m, l1, l9, l15, l14) != 0) { break L78; }
-        l4 = 0L;
-        if (Core4.f127(m, l1, l9) == 0) { break L77; }
-       }
-       l1 = l10;
-       l9 = l8;
-       l3 = 0L;
-       l11 = 0L;
-       l10 = 0L;
-       l8 = 0L;
-       break L68;
-      }
-      m.fill((int) (l7 + 64L), 0, (int) 112L);
-      L79: {
-       L80: {
-        L81: {
-         L82: {
-          if (l23 == 21040) { break L82; }
-          l4 = l3;
-          l19 = l11;
-          if (l23 != 33267) { break L81; }
-         }
-         if (l11 == 0L) { break L80; }
-         l24 = (l22 = (int) b[((int) l3) - 60720]) & 255;
-         l4 = 1L;
-         L83: {
-          if (l22 > -1) { break L83; }
-          l6 = (b[((int) l3) - 60719] & 0xff) & 63;
-          L84: {
-           if (l22 + Integer.MIN_VALUE > 2147483615) { break L84; }
-           l24 = ((l24 << 6) & 1984) | l6;
-           l4 = 2L;
-           break L83;
-          }
-          l5 = (b[((int) l3) - 60718] & 0xff) & 63;
-          L85: {
-           if (l22 + Integer.MIN_VALUE > 2147483631) { break L85; }
-           l24 = ((l6 << 6) | ((l24 << 12) & 61440)) | l5;
-           l4 = 3L;
-           break L83;
-          }
-          l24 = ((l5 << 6) | ((l6 << 12) | ((l24 << 18) & 1835008))) | ((b[((int) l3) - 60717] & 0xff) & 63);
-          l4 = 4L;
-         }
-         if (l14 == 0L) { break L80; }
-         l22 = (l6 = (int) b[((int) l15) - 60720]) & 255;
-         L86: {
-          if (l6 > -1) { break L86; }
-          l5 = (b[((int) l15) - 60719] & 0xff) & 63;
-          L87: {
-           if (l6 + Integer.MIN_VALUE > 2147483615) { break L87; }
-           l22 = ((l22 << 6) & 1984) | l5;
-           break L86;
-          }
-          l25 = (b[((int) l15) - 60718] & 0xff) & 63;
-          L88: {
-           if (l6 + Integer.MIN_VALUE > 2147483631) { break L88; }
-           l22 = ((l5 << 6) | ((l22 << 12) & 61440)) | l25;
-           break L86;
-          }
-          l22 = ((l25 << 6) | ((l5 << 12) | ((l22 << 18) & 1835008))) | ((b[((int) l15) - 60717] & 0xff) & 63);
-         }
-         if (l11 != l4) { break L80; }
-         if (l24 != 19968) { break L80; }
-         L89: {
-          if (l22 > 26375) { break L89; }
-          L90: {
-           switch (l22 + -26085) {
-           case 0: case 17: break L79;
-           case 1: case 2: case 3: case 4: case 5: case 6: case 7: case 8: case 9: case 10: case 11: case 12: case 13: case 14: case 15: case 16: break L80;
-           default: break L90;
-           }
-          }
-          if (l22 == 21495) { break L79; }
-          if (l22 == 26178) { break L79; }
-          break L80;
-         }
-         L91: {
-          if (l22 > 34398) { break L91; }
-          if (l22 == 26376) { break L79; }
-          if (l22 == 28857) { break L79; }
-          break L80;
-         }
-         if (l22 == 34399) { break L79; }
-         if (l22 == 40670) { break L79; }
-         break L80;
-        }
-        L92: {
-         L93: while (true) {
-          if ((l20 = l19) == 0L) { break L92; }
-          l22 = (l24 = (int) b[((int) l4) - 60720]) & 255;
-          l18 = 1L;
-          L94: {
-           if (l24 > -1) { break L94; }
-           l6 = (b[((int) l4) - 60719] & 0xff) & 63;
-           L95: {
-            if (l24 + Integer.MIN_VALUE > 2147483615) { break L95; }
-            l22 = ((l22 << 6) & 1984) | l6;
-            l18 = 2L;
-            break L94;
-           }
-           l5 = (b[((int) l4) - 60718] & 0xff) & 63;
-           L96: {
-            if (l24 + Integer.MIN_VALUE > 2147483631) { break L96; }
-            l22 = ((l6 << 6) | ((l22 << 12) & 61440)) | l5;
-            l18 = 3L;
-            break L94;
-           }
-           l22 = ((l5 << 6) | ((l6 << 12) | ((l22 << 18) & 1835008))) | ((b[((int) l4) - 60717] & 0xff) & 63);
-           l18 = 4L;
-          }
-          if ((l22 + -48) + Integer.MIN_VALUE < -2147483638) { break L92; }
-          l19 = l20 - l18;
-          l4 = l4 + l18;
-          if ((l22 + -65296) + Integer.MIN_VALUE > -2147483639) { continue L93; }
-          break L93;
-         }
-        }
-        l4 = l13;
-        l19 = l16;
-        L97: {
-         L98: while (true) {
-          if ((l21 = l19) == 0L) { break L97; }
-          l22 = (l24 = (int) b[((int) l4) - 60720]) & 255;
-          l18 = 1L;
-          L99: {
-           if (l24 > -1) { break L99; }
-           l6 = (b[((int) l4) - 60719] & 0xff) & 63;
-           L100: {
-            if (l24 + Integer.MIN_VALUE > 2147483615) { break L100; }
-            l22 = ((l22 << 6) & 1984) | l6;
-            l18 = 2L;
-            break L99;
-           }
-           l5 = (b[((int) l4) - 60718] & 0xff) & 63;
-           L101: {
-            if (l24 + Integer.MIN_VALUE > 2147483631) { break L101; }
-            l22 = ((l6 << 6) | ((l22 << 12) & 61440)) | l5;
-            l18 = 3L;
-            break L99;
-           }
-           l22 = ((l5 << 6) | ((l6 << 12) | ((l22 << 18) & 1835008))) | ((b[((int) l4) - 60717] & 0xff) & 63);
-           l18 = 4L;
-          }
-          if ((l22 + -48) + Integer.MIN_VALUE < -2147483638) { break L97; }
-          l19 = l21 - l18;
-          l4 = l4 + l18;
-          if ((l22 + -65296) + Integer.MIN_VALUE > -2147483639) { continue L98; }
-          break L98;
-         }
-        }
-        if ((l20 != 0L) ^ (l21 != 0L)) { break L79; }
-        if (Core4.f128(m, l3, l11) != 0) { break L79; }
-        if (Core4.f128(m, l13, l16) != 0) { break L79; }
-        L102: {
-         if (l16 == 0L) { break L102; }
-         l22 = (l24 = (int) b[((int) l13) - 60720]) & 255;
-         L103: {
-          if (l24 > -1) { break L103; }
-          l6 = (b[((int) l13) - 60719] & 0xff) & 63;
-          L104: {
-           if (l24 + Integer.MIN_VALUE > 2147483615) { break L104; }
-           l22 = ((l22 << 6) & 1984) | l6;
-           break L103;
-          }
-          l5 = (b[((int) l13) - 60718] & 0xff) & 63;
-          L105: {
-           L106: {
-            if (l24 + Integer.MIN_VALUE > 2147483631) { break L106; }
-            l22 = ((l6 << 6) | ((l22 << 12) & 61440)) | l5;
-            break L105;
-           }
-           l22 = ((l5 << 6) | ((l6 << 12) | ((l22 << 18) & 1835008))) | ((b[((int) l13) - 60717] & 0xff) & 63);
-          }
-          if (l22 == 27491) { break L79; }
-         }
-         L107: {
-          if (l22 > 35999) { break L107; }
-          L108: {
-           switch (l22 + -43) {
-           case 0: case 2: break L79;
-           case 1: break L102;
-           default: break L108;
-           }
-          }
-          if (l22 != 8722) { break L102; }
-          break L79;
-         }
-         L109: {
-          switch (l22 + -65291) {
-          case 0: case 2: break L79;
-          case 1: break L102;
-          default: break L109;
-          }
-         }
-         if (l22 == 36000) { break L79; }
-         if (l22 == 36127) { break L79; }
-        }
-        L110: {
-         if (l9 == 0L) { break L110; }
-         L111: {
-          if ((l22 = (int) b[((int) ((l4 = l1 + l9) + -1L)) - 60720]) >= 0) { break L111; }
-          l18 = -2L;
-          L112: {
-           if ((b[((int) (l4 + -2L)) - 60720] & 0xff) + Integer.MIN_VALUE > -2147483457) { break L112; }
-           l18 = ((b[((int) (l4 + -3L)) - 60720] & 0xff) + Integer.MIN_VALUE > -2147483457) ? -3L : -4L;
-          }
-          l22 = (l24 = (int) b[((int) (l4 = (l1 + l18) + l9)) - 60720]) & 255;
-          if (l24 > -1) { break L111; }
-          l6 = (b[((int) l4) - 60719] & 0xff) & 63;
-          L113: {
-           if (l24 + Integer.MIN_VALUE > 2147483615) { break L113; }
-           l22 = ((l22 << 6) & 1984) | l6;
-           break L111;
-          }
-          l5 = (b[((int) l4) - 60718] & 0xff) & 63;
-          L114: {
-           if (l24 + Integer.MIN_VALUE > 2147483631) { break L114; }
-           l22 = ((l6 << 6) | ((l22 << 12) & 61440)) | l5;
-           break L111;
-          }
-          l22 = ((l5 << 6) | ((l6 << 12) | ((l22 << 18) & 1835008))) | ((b[((int) l4) - 60717] & 0xff) & 63);
-         }
-         if (l22 == 64) { break L79; }
-         if ((l22 + -35) + Integer.MIN_VALUE < -2147483646) { break L79; }
-         if (l22 == 95) { break L79; }
-         if (l22 == 215) { break L79; }
-         if (l22 == 42) { break L79; }
-         if (l22 == 94) { break L79; }
-         if (l22 == 43) { break L79; }
-         if (l22 == 61) { break L79; }
-         if (l22 == 126) { break L79; }
-         if (l22 == 65306) { break L79; }
-         if (l22 == 58) { break L79; }
-         if (l22 == 46) { break L79; }
-         if ((l22 & -3) == 45) { break L79; }
-         if ((l22 + -48) + Integer.MIN_VALUE < -2147483638) { break L79; }
-         if ((l22 + -65296) + Integer.MIN_VALUE < -2147483638) { break L79; }
-        }
-        L115: {
-         if (l14 == 0L) { break L115; }
-         l22 = (l24 = (int) b[((int) l15) - 60720]) & 255;
-         L116: {
-          if (l24 > -1) { break L116; }
-          l6 = (b[((int) l15) - 60719] & 0xff) & 63;
-          L117: {
-           if (l24 + Integer.MIN_VALUE > 2147483615) { break L117; }
-           l22 = ((l22 << 6) & 1984) | l6;
-           break L116;
-          }
-          l5 = (b[((int) l15) - 60718] & 0xff) & 63;
-          L118: {
-           if (l24 + Integer.MIN_VALUE > 2147483631) { break L118; }
-           l22 = ((l6 << 6) | ((l22 << 12) & 61440)) | l5;
-           break L116;
-          }
-          l22 = ((l5 << 6) | ((l6 << 12) | ((l22 << 18) & 1835008))) | ((b[((int) l15) - 60717] & 0xff) & 63);
-         }
-         L119: {
-          switch (l22 + -42) {
-          case 0: case 1: case 3: case 5: case 16: case 19: case 50: case 52: case 53: case 84: break L79;
-          case 2: case 4: case 6: case 7: case 8: case 9: case 10: case 11: case 12: case 13: case 14: case 15: case 17: case 18: case 20: case 21: case 22: case 23: case 24: case 25: case 26: case 27: case 28: case 29: case 30: case 31: case 32: case 33: case 34: case 35: case 36: case 37: case 38: case 39: case 40: case 41: case 42: case 43: case 44: case 45: case 46: case 47: case 48: case 49: case 51: case 54: case 55: case 56: case 57: case 58: case 59: case 60: case 61: case 62: case 63: case 64: case 65: case 66: case 67: case 68: case 69: case 70: case 71: case 72: case 73: case 74: case 75: case 76: case 77: case 78: case 79: case 80: case 81: case 82: case 83: break L115;
-          default: break L119;
-          }
-         }
-         if (l22 == 65306) { break L79; }
-         if (l22 == 215) { break L79; }
-        }
-        Core2.f72(m, l7 + 64L, l3, l11, l13, l16);
-        if ((b[((int) l7) - 60656] & 0xff) != 1) { break L79; }
-       }
-       l12 = 1L;
-       l25 = l23;
-       l4 = l1;
-       l17 = 1L;
-       break L66;
-      }
-      l25 = 0;
-     }
-     l3 = 0L;
-     l1 = l10;
-     l9 = l8;
-    }
-    l11 = 0L;
-    l10 = 0L;
-    l8 = 0L;
-    l4 = 0L;
-   }
-   l2 = 0L;
-   l13 = 0L;
-   l16 = 0L;
-   l15 = 0L;
-   l14 = 0L;
-  }
- }
- m.kept[0] = l1;
- m.kept[1] = l2;
- m.kept[2] = l3;
- m.kept[3] = l4;
- m.kept[4] = l5;
- m.kept[5] = l6;
- m.kept[6] = l8;
- m.kept[7] = l9;
- m.kept[8] = l10;
- m.kept[9] = l11;
- m.kept[10] = l12;
- m.kept[11] = l13;
- m.kept[12] = l14;
- m.kept[13] = l15;
- m.kept[14] = l16;
- m.kept[15] = l17;
- m.kept[16] = l18;
- m.kept[17] = l19;
- m.kept[18] = l20;
- m.kept[19] = l21;
- m.kept[20] = l22;
- m.kept[21] = l23;
- m.kept[22] = l24;
- m.kept[23] = l25;
- m.kept[24] = l26;
- return exit;
-}
-
-static void f112(State m, long l0, long l1, long l2, long l3, long l4, int l5, int l6) {
- final byte[] b = m.bytes;
- long l7 = 0;
- long l8 = 0;
- long l9 = 0;
- long l10 = 0;
- long l11 = 0;
- long l12 = 0;
- long l13 = 0;
- long l14 = 0;
- long l15 = 0;
- long l16 = 0;
- long l17 = 0;
- long l18 = 0;
- long l19 = 0;
- long l20 = 0;
- long l21 = 0;
- int l22 = 0;
- int l23 = 0;
- int l24 = 0;
- int l25 = 0;
- int l26 = 0;
- int l27 = 0;
- m.g0 = l7 = m.g0 - 176L;
- L1: {
-  L2: {
-   L3: {
-    L4: {
-     L5: {
-      L6: {
-       if ((l7 = l7) < 16L) { break L6; }
-       l8 = 0L;
-       Words.put64(b, ((int) l7) - 60680, 0L);
-       Words.put64(b, ((int) l7) - 60688, 0L);
-       Words.put64(b, ((int) l7) - 60696, 0L);
-       Words.put64(b, ((int) l7) - 60704, 0L);
-       Words.put64(b, ((int) l7) - 60632, 0L);
-       Words.put64(b, ((int) l7) - 60640, 0L);
-       Words.put64(b, ((int) l7) - 60648, 0L);
-       Words.put64(b, ((int) l7) - 60656, 0L);
-       l9 = l2 - l4;
-       l10 = 83372L;
-       L7: {
-        if (Core4.f119(m, l3, l4) != 0) { break L7; }
-        l11 = 0L;
-        break L1;
-       }
-       Core4.f120(m, l7 + 64L, l3, l4);
-       l11 = Words.get64(b, ((int) l7) - 60632);
-       l12 = Words.get64(b, ((int) l7) - 60640);
-       L8: {
-        L9: {
-         if (!(l4 == 0L)) { break L9; }
-         l22 = 0;
-         break L8;
-        }
-        l22 = (l23 = (int) b[((int) l3) - 60720]) & 255;
-        L10: {
-         if (l23 > -1) { break L10; }
-         l24 = (b[((int) l3) - 60719] & 0xff) & 63;
-         L11: {
-          if (l23 + Integer.MIN_VALUE > 2147483615) { break L11; }
-          l22 = ((l22 << 6) & 1984) | l24;
-          break L10;
-         }
-         l25 = (b[((int) l3) - 60718] & 0xff) & 63;
-         L12: {
-          if (l23 + Integer.MIN_VALUE > 2147483631) { break L12; }
-          l22 = ((l24 << 6) | ((l22 << 12) & 61440)) | l25;
-          break L10;
-         }
-         l22 = ((l25 << 6) | ((l24 << 12) | ((l22 << 18) & 1835008))) | ((b[((int) l3) - 60717] & 0xff) & 63);
-        }
-        l22 = (((l22 + -48) + Integer.MIN_VALUE < -2147483638) | ((l22 + -65296) + Integer.MIN_VALUE < -2147483638)) ? 1 : 0;
-       }
-       Core4.f121(m, l7, l22, l12, l11);
-       L13: {
-        if (!(Words.get64(b, ((int) l7) - 60712) == 0L)) { break L13; }
-        l11 = 0L;
-        break L1;
-       }
-       l22 = (l23 = (int) b[((int) (l11 = Words.get64(b, ((int) l7) - 60720))) - 60720]) & 255;
-       L14: {
-        if (l23 > -1) { break L14; }
-        l24 = (b[((int) l11) - 60719] & 0xff) & 63;
-        L15: {
-         if (l23 + Integer.MIN_VALUE > 2147483615) { break L15; }
-         l22 = ((l22 << 6) & 1984) | l24;
-         break L14;
-        }
-        l25 = (b[((int) l11) - 60718] & 0xff) & 63;
-        L16: {
-         if (l23 + Integer.MIN_VALUE > 2147483631) { break L16; }
-         l22 = ((l24 << 6) | ((l22 << 12) & 61440)) | l25;
-         break L14;
-        }
-        l22 = ((l25 << 6) | ((l24 << 12) | ((l22 << 18) & 1835008))) | ((b[((int) l11) - 60717] & 0xff) & 63);
-       }
-       l11 = 4L;
-       L17: {
-        L18: {
-         L19: {
-          L20: {
-           L21: {
-            L22: {
-             L23: {
-              L24: {
-               L25: {
-                L26: {
-                 L27: {
-                  L28: {
-                   L29: {
-                    L30: {
-                     L31: {
-                      L32: {
-                       L33: {
-                        L34: {
-                         L35: {
-                          L36: {
-                           L37: {
-                            if (l22 > 26084) { break L37; }
-                            L38: {
-                             if (l22 > 21494) { break L38; }
-                             L39: {
-                              if (l22 > 20009) { break L39; }
-                              L40: {
-                               switch (l22 + -45) {
-                               case 0: break L25;
-                               case 1: case 3: case 4: case 5: case 6: case 7: case 8: case 9: case 10: case 11: case 12: break L18;
-                               case 2: break L24;
-                               case 13: break L26;
-                               default: break L40;
-                               }
-                              }
-                              if (l22 == 126) { break L17; }
-                              if (l22 != 12316) { break L18; }
-                              break L17;
-                             }
-                             L41: {
-                              if (l22 > 20997) { break L41; }
-                              switch (l22 + -20491) {
-                              case 0: break L5;
-                              case 1: break L18;
-                              case 2: break L2;
-                              default: break L19;
-                              }
-                             }
-                             if (l22 == 20998) { break L22; }
-                             if (l22 != 21040) { break L18; }
-                             break L17;
-                            }
-                            L42: {
-                             if (l22 > 23566) { break L42; }
-                             L43: {
-                              if (l22 > 21607) { break L43; }
-                              if (l22 == 21495) { break L34; }
-                              if (l22 == 21544) { break L2; }
-                              break L18;
-                             }
-                             if (l22 == 21608) { break L2; }
-                             if (l22 == 22136) { break L2; }
-                             if (l22 == 22825) { break L2; }
-                             break L18;
-                            }
-                            L44: {
-                             if (l22 > 24179) { break L44; }
-                             if (l22 == 23567) { break L3; }
-                             if (l22 == 23681) { break L2; }
-                             break L18;
-                            }
-                            L45: {
-                             if (l22 != 24180) { break L45; }
-                             l10 = 83502L;
-                             break L1;
-                            }
-                            if (l22 == 24230) { break L36; }
-                            if (l22 == 26020) { break L2; }
-                            break L18;
-                           }
-                           if (l22 > 33266) { break L35; }
-                           L46: {
-                            if (l22 > 27603) { break L46; }
-                            L47: {
-                             if (l22 > 26375) { break L47; }
-                             switch (l22 + -26085) {
-                             case 0: break L34;
-                             case 1: case 2: case 3: case 4: case 5: case 6: case 7: case 8: case 9: case 10: case 11: case 12: case 13: case 14: case 15: case 16: break L18;
-                             case 17: break L27;
-                             default: break L28;
-                             }
-                            }
-                            if (l22 == 26376) { break L29; }
-                            if (l22 != 27506) { break L18; }
-                            break L2;
-                           }
-                           L48: {
-                            if (l22 > 31185) { break L48; }
-                            if (l22 == 27604) { break L20; }
-                            if (l22 == 28857) { break L31; }
-                            break L18;
-                           }
-                           if (l22 == 31186) { break L21; }
-                           if (l22 != 31859) { break L18; }
-                          }
-                          l10 = 83542L;
-                          break L4;
-                         }
-                         if (l22 > 38046) { break L32; }
-                         if (l22 > 36912) { break L33; }
-                         if (l22 == 33267) { break L17; }
-                         if (l22 != 34399) { break L18; }
-                        }
-                        l10 = 83510L;
-                        l11 = 2L;
-                        break L1;
-                       }
-                       if (l22 == 36913) { break L2; }
-                       if (l22 == 37324) { break L2; }
-                       if (l22 != 37912) { break L18; }
-                       break L3;
-                      }
-                      if (l22 > 65292) { break L30; }
-                      if (l22 == 38047) { break L3; }
-                      if (l22 != 40670) { break L18; }
-                     }
-                     l10 = 83512L;
-                     l11 = 7L;
-                     break L1;
-                    }
-                    switch (l22 + -65293) {
-                    case 0: break L17;
-                    case 1: case 2: case 3: case 4: case 5: case 6: case 7: case 8: case 9: case 10: case 11: case 12: break L18;
-                    case 13: break L26;
-                    default: break L23;
-                    }
-                   }
-                   l10 = 83506L;
-                   break L1;
-                  }
-                  if (l22 != 26178) { break L18; }
-                 }
-                 l10 = 83519L;
-                 l11 = 5L;
-                 break L1;
-                }
-                l10 = 83524L;
-                break L4;
-               }
-               l10 = 83527L;
-               break L1;
-              }
-              l10 = 83531L;
-              l11 = 1L;
-              break L1;
-             }
-             if (l22 != 65374) { break L18; }
-             break L17;
-            }
-            l10 = 83540L;
-            l11 = 1L;
-            break L1;
-           }
-           l10 = 83545L;
-           l11 = 2L;
-           break L1;
-          }
-          l10 = 83547L;
-          l11 = 1L;
-          break L1;
-         }
-         if (l22 == 20010) { break L5; }
-        }
-        l11 = 0L;
-        if ((l22 + -8211) + Integer.MIN_VALUE > -2147483647) { break L1; }
-       }
-       l10 = 83532L;
-       break L4;
-      }
-      throw State.trap();
-     }
-     l10 = 83535L;
-    }
-    l11 = 3L;
-    break L1;
-   }
-   l10 = 83538L;
-   l11 = 2L;
-   break L1;
-  }
-  l10 = 83541L;
-  l11 = 1L;
- }
- l22 = 0;
- Core4.f122(m, l7 + 16L, l1, l9, l3, l4, 0, l10, l11);
- l12 = Words.get64(b, ((int) l7) - 60680);
- l13 = Words.get64(b, ((int) l7) - 60688);
- l14 = Words.get64(b, ((int) l7) - 60696);
- l23 = b[((int) l7) - 60704] & 0xff;
- L49: {
-  L50: {
-   L51: {
-    if (!(l4 == 0L)) { break L51; }
-    l22 = 0;
-    break L50;
-   }
-   l24 = (l25 = (int) b[((int) l3) - 60720]) & 255;
-   L52: {
-    if (l25 > -1) { break L52; }
-    l26 = (b[((int) l3) - 60719] & 0xff) & 63;
-    L53: {
-     if (l25 + Integer.MIN_VALUE > 2147483615) { break L53; }
-     l24 = ((l24 << 6) & 1984) | l26;
-     break L52;
-    }
-    l27 = (b[((int) l3) - 60718] & 0xff) & 63;
-    L54: {
-     if (l25 + Integer.MIN_VALUE > 2147483631) { break L54; }
-     l24 = ((l26 << 6) | ((l24 << 12) & 61440)) | l27;
-     break L52;
-    }
-    l24 = ((l27 << 6) | ((l26 << 12) | ((l24 << 18) & 1835008))) | ((b[((int) l3) - 60717] & 0xff) & 63);
-   }
-   l8 = 0L;
-   if (Core4.f118(m, l24) == 0) { break L50; }
-   Words.put64(b, ((int) l7) - 60632, 0L);
-   Words.put64(b, ((int) l7) - 60640, 0L);
-   Words.put64(b, ((int) l7) - 60648, 0L);
-   Words.put64(b, ((int) l7) - 60656, 0L);
-   Words.put64(b, ((int) l7) - 60688, 0L);
-   Words.put64(b, ((int) l7) - 60696, 0L);
-   Words.put64(b, ((int) l7) - 60704, 0L);
-   Core4.f123(m, l7 + 16L, 21, l3, l4);
-   l10 = 0L;
-   l11 = 0L;
-   l8 = 0L;
-   l24 = 1;
-   L55: {
-    if ((b[((int) l7) - 60704] & 0xff) != 1) { break L55; }
-    Core4.f122(m, l7 + 64L, l1, l9, l3, l4, 1, 85060L, 9L);
-    l24 = ((b[((int) l7) - 60656] & 0xff) == 0) ? 1 : 0;
-    l10 = Words.get64(b, ((int) l7) - 60632);
-    l11 = Words.get64(b, ((int) l7) - 60640);
-    l8 = Words.get64(b, ((int) l7) - 60648);
-   }
-   Words.put64(b, ((int) l7) - 60632, 0L);
-   Words.put64(b, ((int) l7) - 60640, 0L);
-   Words.put64(b, ((int) l7) - 60648, 0L);
-   Words.put64(b, ((int) l7) - 60656, 0L);
-   Words.put64(b, ((int) l7) - 60688, 0L);
-   Words.put64(b, ((int) l7) - 60696, 0L);
-   Words.put64(b, ((int) l7) - 60704, 0L);
-   Core4.f123(m, l7 + 16L, 22, l3, l4);
-   L56: {
-    L57: {
-     if ((b[((int) l7) - 60704] & 0xff) != 1) { break L57; }
-     Core4.f122(m, l7 + 64L, l1, l9, l3, l4, 2, 85060L, 9L);
-     l15 = Words.get64(b, ((int) l7) - 60632);
-     l16 = Words.get64(b, ((int) l7) - 60640);
-     l17 = Words.get64(b, ((int) l7) - 60648);
-     l22 = b[((int) l7) - 60656] & 0xff;
-     if (l24 == 0) { break L56; }
-     l8 = l17;
-     l11 = l16;
-     l10 = l15;
-     break L49;
-    }
-    l22 = 1;
-    if (l24 == 0) { break L49; }
-    l8 = 0L;
-    l22 = 0;
-    break L50;
-   }
-   l24 = l22 & 255;
-   l22 = 1;
-   if (l24 == 0) { break L49; }
-   l10 = ((l24 = (l15 + Long.MIN_VALUE < l10 + Long.MIN_VALUE) ? 1 : 0) != 0) ? l15 : l10;
-   l11 = l24 != 0 ? l16 : l11;
-   l8 = l24 != 0 ? l17 : l8;
-   break L49;
-  }
-  l11 = 0L;
-  l10 = 0L;
- }
- L58: {
-  L59: {
-   L60: {
-    L61: {
-     if ((l23 & 255) == 0) { break L61; }
-     L62: {
-      if ((l22 & 255) != 0) { break L62; }
-      l10 = l12;
-      l11 = l13;
-      l8 = l14;
-      break L60;
-     }
-     l10 = ((l22 = (l10 + Long.MIN_VALUE < l12 + Long.MIN_VALUE) ? 1 : 0) != 0) ? l10 : l12;
-     l11 = l22 != 0 ? l11 : l13;
-     l8 = l22 != 0 ? l8 : l14;
-     break L60;
-    }
-    if ((l22 & 255) != 1) { break L59; }
-   }
-   Words.put64(b, ((int) l7) - 60640, 0L);
-   Words.put64(b, ((int) l7) - 60648, 0L);
-   Words.put64(b, ((int) l7) - 60656, 0L);
-   L63: {
-    if (l2 == l10) { break L63; }
-    L64: {
-     if (((int) b[((int) (l1 + (l12 = (l13 = l2 - l10) + -1L))) - 60720]) > -1) { break L64; }
-     l12 = -2L;
-     L65: {
-      if ((b[((int) ((l14 = l1 + l13) + -2L)) - 60720] & 0xff) + Integer.MIN_VALUE > -2147483457) { break L65; }
-      l12 = ((b[((int) (l14 + -3L)) - 60720] & 0xff) + Integer.MIN_VALUE > -2147483457) ? -3L : -4L;
-     }
-     l12 = l12 + l13;
-    }
-    Core4.f124(m, l7 + 64L, l1, l2, l1 + l12, l2 - l12, l5, l6);
-    if ((b[((int) l7) - 60656] & 0xff) != 1) { break L63; }
-    if (Words.get64(b, ((int) l7) - 60640) != l10) { break L59; }
-   }
-   Words.put64(b, ((int) l0) - 60720, 1L);
-   Words.put64(b, ((int) (l0 + 32L)) - 60720, l10);
-   Words.put64(b, ((int) (l0 + 24L)) - 60720, l11);
-   Words.put64(b, ((int) (l0 + 16L)) - 60720, l8);
-   Words.put64(b, ((int) (l0 + 8L)) - 60720, 0L);
-   m.fill((int) (l0 + 40L), 0, (int) 80L);
-   break L58;
-  }
-  l11 = 0L;
-  Words.put64(b, ((int) l7) - 60640, 0L);
-  Words.put64(b, ((int) l7) - 60648, 0L);
-  Words.put64(b, ((int) l7) - 60656, 0L);
-  Core4.f124(m, l7 + 64L, l1, l2, l3, l4, l5, l6);
-  f112_1(m, l1, l2, l3, l4, l5, l6, l7, l8, l9, l10, l11, l12, l13, l14, l15, l16, l17, l18, l19, l20, l21, l22, l23, l24, l25, l26);
-  l1 = m.kept[0];
-  l2 = m.kept[1];
-  l3 = m.kept[2];
-  l4 = m.kept[3];
-  l5 = (int) m.kept[4];
-  l6 = (int) m.kept[5];
-  l8 = m.kept[6];
-  l9 = m.kept[7];
-  l10 = m.kept[8];
-  l11 = m.kept[9];
-  l12 = m.kept[10];
-  l13 = m.kept[11];
-  l14 = m.kept[12];
-  l15 = m.kept[13];
-  l16 = m.kept[14];
-  l17 = m.kept[15];
-  l18 = m.kept[16];
-  l19 = m.kept[17];
-  l20 = m.kept[18];
-  l21 = m.kept[19];
-  l22 = (int) m.kept[20];
-  l23 = (int) m.kept[21];
-  l24 = (int) m.kept[22];
-  l25 = (int) m.kept[23];
-  l26 = (int) m.kept[24];
-  Words.put64(b, ((int) l0) - 60720, l12);
-  Words.put64(b, ((int) (l0 + 112L)) - 60720, l14);
-  Words.put64(b, ((int) (l0 + 104L)) - 60720, l15);
-  Words.put64(b, ((int) (l0 + 96L)) - 60720, l16);
-  Words.put64(b, ((int) (l0 + 88L)) - 60720, l13);
-  Words.put64(b, ((int) (l0 + 80L)) - 60720, l2);
-  Words.put64(b, ((int) (l0 + 72L)) - 60720, l4);
-  Words.put32(b, ((int) (l0 + 68L)) - 60720, 0);
-  Words.put32(b, ((int) (l0 + 64L)) - 60720, l25);
-  Words.put64(b, ((int) (l0 + 56L)) - 60720, l8);
-  Words.put64(b, ((int) (l0 + 48L)) - 60720, l10);
-  Words.put64(b, ((int) (l0 + 40L)) - 60720, l11);
-  Words.put64(b, ((int) (l0 + 32L)) - 60720, l3);
-  Words.put64(b, ((int) (l0 + 24L)) - 60720, l9);
-  Words.put64(b, ((int) (l0 + 16L)) - 60720, l1);
-  Words.put64(b, ((int) (l0 + 8L)) - 60720, l17);
- }
- m.g0 = l7 + 176L;
-}
-
-static void f113(State m, long l0, int l1, long l2) {
- final byte[] b = m.bytes;
- int l3 = 0;
- int l4 = 0;
- int l5 = 0;
- int l6 = 0;
- int l7 = 0;
- int l8 = 0;
- int l9 = 0;
- int l10 = 0;
- int l11 = 0;
- int l12 = 0;
- int l13 = 0;
- L1: {
-  L2: {
-   L3: {
-    L4: {
-     L5: {
-      L6: {
-       L7: {
-        L8: {
-         if (m.g0 < 16L) { break L8; }
-         l3 = Words.get16(b, ((int) l2) - 60716) & 0xffff;
-         l4 = Words.get16(b, ((int) l2) - 60718) & 0xffff;
-         l5 = Words.get16(b, ((int) l2) - 60720) & 0xffff;
-         L9: {
-          L10: {
-           L11: {
-            L12: {
-             L13: {
-              L14: {
-               L15: {
-                L16: {
-                 L17: {
-                  L18: {
-                   L19: {
-                    L20: {
-                     L21: {
-                      L22: {
-                       L23: {
-                        L24: {
-                         L25: {
-                          L26: {
-                           L27: {
-                            L28: {
-                             L29: {
-                              L30: {
-                               L31: {
-                                L32: {
-                                 L33: {
-                                  L34: {
-                                   L35: {
-                                    switch ((int) ((l1 & 0xffffffffL) & 255L)) {
-                                    case 1: break L33;
-                                    case 2: break L34;
-                                    case 3: break L32;
-                                    case 4: case 12: break L31;
-                                    case 7: break L26;
-                                    case 8: case 9: break L25;
-                                    case 10: case 11: break L24;
-                                    case 13: break L30;
-                                    case 14: case 20: break L23;
-                                    case 15: case 16: case 17: case 21: break L22;
-                                    case 18: break L21;
-                                    case 19: break L20;
-                                    case 22: break L19;
-                                    case 23: break L18;
-                                    case 24: break L17;
-                                    case 25: break L16;
-                                    case 26: case 27: break L14;
-                                    case 28: break L13;
-                                    case 29: break L12;
-                                    case 30: case 31: break L11;
-                                    default: break L35;
-                                    }
-                                   }
-                                   if (((l4 + -1) & 65535) + Integer.MIN_VALUE > -2147483637) { break L5; }
-                                   L36: {
-                                    L37: {
-                                     if ((l4 & 65535) != 2) { break L37; }
-                                     l6 = 28;
-                                     if (((l1 = ((l5 & 65535) + Integer.MIN_VALUE < -2147483548) ? 2000 : l5) & 3) != 0) { break L36; }
-                                     final int t38 = (((int) (((l1 = l1 & 65535) & 0xffffffffL) % 400L)) != 0) ? 28 : 29;
-                                     final int t39 = (int) ((l1 & 0xffffffffL) % 100L);
-                                     l6 = t39 != 0 ? 29 : t38;
-                                     break L36;
-                                    }
-                                    final int t40 = ((l1 = l4 & 13) == 9) ? 30 : 31;
-                                    final int t41 = (l1 == 4) ? 1 : 0;
-                                    l6 = t41 != 0 ? 30 : t40;
-                                   }
-                                   l1 = 0;
-                                   if (((l3 + -1) & 65535) + Integer.MIN_VALUE > -2147483394) { break L4; }
-                                   l7 = 0;
-                                   l8 = 0;
-                                   l9 = 0;
-                                   l10 = 0;
-                                   l11 = 0;
-                                   l12 = 0;
-                                   l13 = 0;
-                                   if (l3 + Integer.MIN_VALUE > l6 + Integer.MIN_VALUE) { break L1; }
-                                   l13 = ((l3 << 24) | ((l4 << 8) & 65280)) | 65537;
-                                   l12 = (l5 & 65280) >>> 8;
-                                   l1 = 1;
-                                   l7 = 0;
-                                   l8 = 0;
-                                   l9 = 1;
-                                   l10 = 0;
-                                   l11 = l5;
-                                   break L1;
-                                  }
-                                  if (((l4 + -1) & 65535) + Integer.MIN_VALUE > -2147483637) { break L5; }
-                                  l5 = 29;
-                                  L42: {
-                                   if ((l4 & 65535) == 2) { break L42; }
-                                   final int t43 = ((l1 = l4 & 13) == 9) ? 30 : 31;
-                                   final int t44 = (l1 == 4) ? 1 : 0;
-                                   l5 = t44 != 0 ? 30 : t43;
-                                  }
-                                  l1 = 0;
-                                  if (((l3 + -1) & 65535) + Integer.MIN_VALUE > -2147483394) { break L4; }
-                                  l7 = 0;
-                                  l8 = 0;
-                                  l9 = 0;
-                                  l10 = 0;
-                                  l11 = 0;
-                                  l12 = 0;
-                                  l13 = 0;
-                                  if (l3 + Integer.MIN_VALUE > l5 + Integer.MIN_VALUE) { break L1; }
-                                  l13 = ((l3 << 24) | ((l4 << 8) & 65280)) | 65537;
-                                  break L29;
-                                 }
-                                 L45: {
-                                  if (((l3 + -1) & 65535) + Integer.MIN_VALUE > -2147483637) { break L45; }
-                                  l12 = (l4 & 65280) >>> 8;
-                                  l1 = 1;
-                                  l13 = ((l3 << 8) | 1) & 65281;
-                                  l7 = 0;
-                                  l8 = 0;
-                                  l9 = 1;
-                                  l10 = 0;
-                                  l11 = l4;
-                                  break L1;
-                                 }
-                                 Words.put32(b, ((int) l0) - 60712, 0);
-                                 Words.put64(b, ((int) l0) - 60720, 0L);
-                                 return;
-                                }
-                                l12 = l3 >>> 8;
-                                l7 = 0;
-                                l1 = 1;
-                                l8 = 0;
-                                l9 = 1;
-                                l10 = 0;
-                                break L9;
-                               }
-                               L46: {
-                                if (((l3 + -1) & 65535) + Integer.MIN_VALUE > -2147483637) { break L46; }
-                                l1 = 1;
-                                l13 = ((l3 << 8) | 1) & 65281;
-                                l7 = 0;
-                                break L28;
-                               }
-                               Words.put32(b, ((int) l0) - 60712, 0);
-                               Words.put64(b, ((int) l0) - 60720, 0L);
-                               return;
-                              }
-                              if (((l3 + -1) & 65535) + Integer.MIN_VALUE > -2147483618) { break L27; }
-                              l13 = (l3 << 24) | 65536;
-                             }
-                             l7 = 0;
-                             l1 = 1;
-                            }
-                            l8 = 0;
-                            l9 = 0;
-                            l10 = 0;
-                            l11 = 0;
-                            l12 = 0;
-                            break L1;
-                           }
-                           Words.put32(b, ((int) l0) - 60712, 0);
-                           Words.put64(b, ((int) l0) - 60720, 0L);
-                           return;
-                          }
-                          l8 = 0;
-                          l12 = (l11 = ((l1 = ((l4 & 65535) + Integer.MIN_VALUE < l3 + Integer.MIN_VALUE) ? 1 : 0) != 0) ? l3 : 0) >>> 8;
-                          l10 = ((l9 = l1 != 0 ? l4 : 0) & 65280) >>> 8;
-                          l7 = l1;
-                          break L2;
-                         }
-                         if (((l4 + -1) & 65535) + Integer.MIN_VALUE > -2147483637) { break L5; }
-                         l1 = 0;
-                         if (((l3 + -1) & 65535) + Integer.MIN_VALUE > -2147483637) { break L4; }
-                         l7 = 0;
-                         l8 = 0;
-                         l9 = 0;
-                         l10 = 0;
-                         l11 = 0;
-                         l12 = 0;
-                         l13 = 0;
-                         if ((l4 & 65535) + Integer.MIN_VALUE >= l3 + Integer.MIN_VALUE) { break L1; }
-                         l10 = 0;
-                         l7 = 2;
-                         break L7;
-                        }
-                        if (((l4 + -1) & 65535) + Integer.MIN_VALUE > -2147483618) { break L5; }
-                        l1 = 0;
-                        if (((l3 + -1) & 65535) + Integer.MIN_VALUE > -2147483618) { break L4; }
-                        l7 = 0;
-                        l8 = 0;
-                        l9 = 0;
-                        l10 = 0;
-                        l11 = 0;
-                        l12 = 0;
-                        l13 = 0;
-                        if ((l4 & 65535) + Integer.MIN_VALUE >= l3 + Integer.MIN_VALUE) { break L1; }
-                        l10 = 0;
-                        l7 = 3;
-                        break L7;
-                       }
-                       L47: {
-                        L48: {
-                         if ((l7 = l5 & 65535) + Integer.MIN_VALUE > -2147483625) { break L48; }
-                         if ((l4 & 65535) + Integer.MIN_VALUE > -2147483589) { break L48; }
-                         if (l3 + Integer.MIN_VALUE < -2147483588) { break L47; }
-                        }
-                        l1 = 0;
-                        if (l7 != 24) { break L4; }
-                        l7 = 0;
-                        l8 = 0;
-                        l9 = 0;
-                        l10 = 0;
-                        l11 = 0;
-                        l12 = 0;
-                        l13 = 0;
-                        if (((l3 | l4) & 65535) != 0) { break L1; }
-                       }
-                       l11 = 0;
-                       l7 = 4;
-                       l1 = 1;
-                       l8 = l5;
-                       l9 = l4;
-                       l10 = l3;
-                       l12 = 0;
-                       break L2;
-                      }
-                      L49: {
-                       L50: {
-                        if ((l7 = l4 & 65535) + Integer.MIN_VALUE > -2147483625) { break L50; }
-                        if (l3 + Integer.MIN_VALUE < -2147483588) { break L49; }
-                       }
-                       l1 = 0;
-                       if (l7 != 24) { break L4; }
-                       l7 = 0;
-                       l8 = 0;
-                       l9 = 0;
-                       l10 = 0;
-                       l11 = 0;
-                       l12 = 0;
-                       l13 = 0;
-                       if (l3 != 0) { break L1; }
-                      }
-                      l10 = 0;
-                      l7 = 4;
-                      break L7;
-                     }
-                     if (l3 + Integer.MIN_VALUE > -2147483625) { break L5; }
-                     l10 = 0;
-                     l9 = 30;
-                     l7 = 4;
-                     l1 = 1;
-                     l8 = l3;
-                     break L3;
-                    }
-                    L51: {
-                     if (((l3 + -1) & 65535) + Integer.MIN_VALUE > -2147483646) { break L51; }
-                     if ((l4 & 65535) + Integer.MIN_VALUE > -2147483625) { break L5; }
-                     l9 = l3 * 15;
-                     l10 = 0;
-                     l7 = 4;
-                     l1 = 1;
-                     l8 = l4;
-                     break L3;
-                    }
-                    Words.put32(b, ((int) l0) - 60712, 0);
-                    Words.put64(b, ((int) l0) - 60720, 0L);
-                    return;
-                   }
-                   l9 = 0;
-                   l8 = ((l1 = (l3 + Integer.MIN_VALUE < -2147483623) ? 1 : 0) != 0) ? l3 : 0;
-                   l7 = l1 != 0 ? 4 : 0;
-                   l10 = 0;
-                   break L3;
-                  }
-                  if (l3 + Integer.MIN_VALUE > -2147483589) { break L5; }
-                  L52: {
-                   if ((l5 & 65535) == 0) { break L52; }
-                   if ((l4 & 65535) + Integer.MIN_VALUE > -2147483589) { break L5; }
-                  }
-                  l12 = (l4 & 65280) >>> 8;
-                  l10 = (l5 & 65280) >>> 8;
-                  l8 = 0;
-                  l7 = 5;
-                  l1 = 1;
-                  l9 = l5;
-                  break L15;
-                 }
-                 L53: {
-                  if ((l4 & 65535) == 0) { break L53; }
-                  if (l3 + Integer.MIN_VALUE > -2147483589) { break L5; }
-                 }
-                 l12 = l3 >>> 8;
-                 l10 = (l4 & 65280) >>> 8;
-                 l8 = 0;
-                 l7 = 5;
-                 break L10;
-                }
-                if (l3 + Integer.MIN_VALUE > -2147483589) { break L5; }
-                l12 = (l4 & 65280) >>> 8;
-                l8 = 0;
-                l7 = 5;
-                l1 = 1;
-                l9 = 0;
-                l10 = 0;
-               }
-               l11 = l4;
-               l13 = l3;
-               break L1;
-              }
-              l10 = l3 >>> 8;
-              l8 = 0;
-              l7 = 6;
-              l1 = 1;
-              break L6;
-             }
-             if (l3 + Integer.MIN_VALUE > -2147483549) { break L5; }
-             l10 = (l4 & 65280) >>> 8;
-             l8 = 0;
-             l1 = 1;
-             l7 = 7;
-             l9 = l4;
-             l11 = l3;
-             l12 = 1;
-             break L2;
-            }
-            if (l3 + Integer.MIN_VALUE > -2147483549) { break L5; }
-            l10 = (l4 & 65280) >>> 8;
-            l8 = 0;
-            l12 = 2;
-            l7 = 7;
-            break L10;
-           }
-           l7 = 8;
-           l12 = l3 >>> 8;
-           l10 = (l4 & 65280) >>> 8;
-           l8 = 0;
-          }
-          l1 = 1;
-          l9 = l4;
-         }
-         l11 = l3;
-         break L2;
-        }
-        throw State.trap();
-       }
-       l1 = 1;
-       l8 = l4;
-      }
-      l9 = l3;
-      break L3;
-     }
-     l1 = 0;
-    }
-    l7 = 0;
-    l8 = 0;
-    l9 = 0;
-    l10 = 0;
-   }
-   l11 = 0;
-   l12 = 0;
-  }
-  l13 = 0;
- }
- Words.put16(b, ((int) l0) - 60720, (short) l1);
- Words.put32(b, ((int) (l0 + 8L)) - 60720, l13);
- b[((int) (l0 + 3L)) - 60720] = (byte) l8;
- b[((int) (l0 + 2L)) - 60720] = (byte) l7;
- Words.put16(b, ((int) (l0 + 6L)) - 60720, (short) ((l12 << 8) | (l11 & 255)));
- Words.put16(b, ((int) (l0 + 4L)) - 60720, (short) ((l10 << 8) | (l9 & 255)));
-}
-
-static int f114(State m, long l0, long l1, long l2, long l3, long l4) {
- final byte[] b = m.bytes;
- long l5 = 0;
- long l6 = 0;
- long l7 = 0;
- long l8 = 0;
- long l9 = 0;
- int l10 = 0;
- int l11 = 0;
- int l12 = 0;
- int l13 = 0;
- int l14 = 0;
- int l15 = 0;
- int l16 = 0;
- m.g0 = l5 = m.g0 - 96L;
- L1: {
-  L2: {
-   L3: {
-    if ((l5 = l5) < 16L) { break L3; }
-    l10 = b[((int) l2) - 60719] & 0xff;
-    l11 = b[((int) l2) - 60720] & 0xff;
-    l13 = (int) ((((l12 = Words.get16(b, ((int) l2) - 60714) & 0xffff) & 65535) & 0xffffffffL) % 100L);
-    L4: {
-     if (l4 == 0L) { break L4; }
-     if ((l10 & 255) != 3) { break L4; }
-     if (l13 != 0) { break L4; }
-     l6 = Words.get64(b, ((int) l2) - 60704);
-     l13 = (l14 = (int) b[((int) l3) - 60720]) & 255;
-     L5: {
-      if (l14 > -1) { break L5; }
-      l15 = (b[((int) l3) - 60719] & 0xff) & 63;
-      L6: {
-       if (l14 + Integer.MIN_VALUE > 2147483615) { break L6; }
-       l13 = ((l13 << 6) & 1984) | l15;
-       break L5;
-      }
-      l16 = (b[((int) l3) - 60718] & 0xff) & 63;
-      L7: {
-       if (l14 + Integer.MIN_VALUE > 2147483631) { break L7; }
-       l13 = ((l15 << 6) | ((l13 << 12) & 61440)) | l16;
-       break L5;
-      }
-      l13 = ((l16 << 6) | ((l15 << 12) | ((l13 << 18) & 1835008))) | ((b[((int) l3) - 60717] & 0xff) & 63);
-     }
-     if (l6 == 0L) { break L4; }
-     if (((l13 + -58) + Integer.MIN_VALUE < 2147483638) & ((l13 + -65306) + Integer.MIN_VALUE < 2147483638)) { break L4; }
-     if ((l13 = (int) b[((int) (l2 = Words.get64(b, ((int) l2) - 60712))) - 60720]) > -1) { break L4; }
-     if (l13 + Integer.MIN_VALUE < 2147483616) { break L4; }
-     l14 = l13 & 255;
-     l15 = (b[((int) l2) - 60719] & 0xff) & 63;
-     l16 = (b[((int) l2) - 60718] & 0xff) & 63;
-     L8: {
-      L9: {
-       if (l13 + Integer.MIN_VALUE > 2147483631) { break L9; }
-       l14 = ((l15 << 6) | ((l14 << 12) & 61440)) | l16;
-       break L8;
-      }
-      l14 = ((l16 << 6) | ((l15 << 12) | ((l14 << 18) & 1835008))) | ((b[((int) l2) - 60717] & 0xff) & 63);
-     }
-     l13 = 1;
-     L10: {
-      if (l14 > 26468) { break L10; }
-      if (l14 == 20358) { break L1; }
-      if (l14 == 21069) { break L1; }
-      if (l14 != 21382) { break L4; }
-      break L1;
-     }
-     L11: {
-      if (l14 > 38290) { break L11; }
-      if (l14 == 26469) { break L1; }
-      if (l14 != 27511) { break L4; }
-      break L1;
-     }
-     if (l14 == 38291) { break L1; }
-     if (l14 == 38388) { break L1; }
-    }
-    Words.put64(b, ((int) l5) - 60640, 0L);
-    Words.put64(b, ((int) l5) - 60648, 0L);
-    Words.put64(b, ((int) l5) - 60656, 0L);
-    Words.put64(b, ((int) l5) - 60664, 0L);
-    Core4.f120(m, l5 + 56L, l3, l4);
-    if ((l10 & 255) + Integer.MIN_VALUE > -2147483647) { break L2; }
-    l7 = Words.get64(b, ((int) l5) - 60656);
-    l8 = Words.get64(b, ((int) l5) - 60664);
-    if (Core4.f145(m, 85072L, 1L, 85076L, 1L, l0, l1) != 0) { break L2; }
-    l2 = l8;
-    l9 = l7;
-    L12: {
-     L13: while (true) {
-      if (l9 == 0L) { break L12; }
-      l13 = (l14 = (int) b[((int) l2) - 60720]) & 255;
-      l6 = 1L;
-      L14: {
-       if (l14 > -1) { break L14; }
-       l15 = (b[((int) l2) - 60719] & 0xff) & 63;
-       L15: {
-        if (l14 + Integer.MIN_VALUE > 2147483615) { break L15; }
-        l13 = ((l13 << 6) & 1984) | l15;
-        l6 = 2L;
-        break L14;
-       }
-       l16 = (b[((int) l2) - 60718] & 0xff) & 63;
-       L16: {
-        if (l14 + Integer.MIN_VALUE > 2147483631) { break L16; }
-        l13 = ((l15 << 6) | ((l13 << 12) & 61440)) | l16;
-        l6 = 3L;
-        break L14;
-       }
-       l13 = ((l16 << 6) | ((l15 << 12) | ((l13 << 18) & 1835008))) | ((b[((int) l2) - 60717] & 0xff) & 63);
-       l6 = 4L;
-      }
-      L17: {
-       if (l13 == 30334) { break L17; }
-       l9 = l9 - l6;
-       l2 = l2 + l6;
-       if (l13 != 21313) { continue L13; }
-      }
-      break L13;
-     }
-     l13 = 1;
-     break L1;
-    }
-    Words.put32(b, ((int) l5) - 60720, 0);
-    L18: {
-     L19: {
-      L20: {
-       L21: {
-        if ((l2 = l7 + -1L) + Long.MIN_VALUE > -9223372036854775806L) { break L21; }
-        L22: {
-         switch ((int) l2) {
-         case 1: break L21;
-         case 2: break L22;
-         default: break L18;
-         }
-        }
-        if (Words.get32(b, State.far((int) (l2 = ((((l14 = (((b[((int) l8) - 60719] & 0xff) << 8) | (l13 = b[((int) l8) - 60720] & 0xff)) | ((b[((int) l8) - 60718] & 0xff) << 16)) & 0xffffffffL) * 953497L) >>> 22L) & 1016L), 66852)) != l14) { break L20; }
-        if (((b[((int) (l2 + 66856L)) - 60720] & 0xff) & 255) == 2) { break L20; }
-        l13 = 1;
-        break L1;
-       }
-       if (l7 + Long.MIN_VALUE > -9223372036854775804L) { break L2; }
-       if (l7 == 0L) { break L19; }
-       l13 = b[((int) l8) - 60720] & 0xff;
-      }
-      if (((int) (byte) l13) > -1) { break L2; }
-     }
-     f106(m, l5, l8, l7);
-     l13 = 1;
-     if ((b[((int) l5) - 60720] & 0xff) != 1) { break L2; }
-     if (((b[((int) l5) - 60717] & 0xff) & 1) != 0) { break L1; }
-     break L2;
-    }
-    if ((((b[((int) l8) - 60720] & 0xff) + -58) & 255) + Integer.MIN_VALUE >= -2147483402) { break L2; }
-    l13 = 1;
-    break L1;
-   }
-   throw State.trap();
-  }
-  L23: {
-   if ((l10 & 255) + Integer.MIN_VALUE > -2147483644) { break L23; }
-   l13 = 1;
-   if (Core5.f156(m, l0, l1) != 0) { break L1; }
-   if (Core4.f145(m, 85080L, 2L, 85088L, 9L, l0, l1) != 0) { break L1; }
-  }
-  Words.put64(b, ((int) l5) - 60664, 0L);
-  Words.put64(b, ((int) l5) - 60656, 0L);
-  Words.put64(b, ((int) l5) - 60648, 0L);
-  Words.put64(b, ((int) l5) - 60640, 0L);
-  Words.put64(b, ((int) l5) - 60688, 0L);
-  Words.put64(b, ((int) l5) - 60680, 0L);
-  Words.put64(b, ((int) l5) - 60672, 0L);
-  Words.put64(b, ((int) l5) - 60720, 0L);
-  Words.put64(b, ((int) l5) - 60712, 0L);
-  Words.put64(b, ((int) l5) - 60704, 0L);
-  Words.put64(b, ((int) l5) - 60696, 0L);
-  Core4.f120(m, l5 + 56L, l3, l4);
-  Core4.f123(m, l5 + 32L, 3, Words.get64(b, ((int) l5) - 60648), Words.get64(b, ((int) l5) - 60640));
-  L24: {
-   if ((b[((int) l5) - 60688] & 0xff) != 1) { break L24; }
-   Core4.f120(m, l5, Words.get64(b, ((int) l5) - 60680), Words.get64(b, ((int) l5) - 60672));
-   if ((l11 & 255) != 0) { break L24; }
-   if ((l10 & 255) != 15) { break L24; }
-   if ((l12 & 65535) + Integer.MIN_VALUE > -2147483639) { break L24; }
-   l2 = Words.get64(b, ((int) l5) - 60712);
-   l6 = Words.get64(b, ((int) l5) - 60720);
-   L25: {
-    if (l1 == 0L) { break L25; }
-    if (((int) b[((int) ((l9 = l0 + l1) + -1L)) - 60720]) > -1) { break L25; }
-    l7 = -2L;
-    L26: {
-     if ((b[((int) (l9 + -2L)) - 60720] & 0xff) + Integer.MIN_VALUE > -2147483457) { break L26; }
-     l7 = ((b[((int) (l9 + -3L)) - 60720] & 0xff) + Integer.MIN_VALUE > -2147483457) ? -3L : -4L;
-    }
-    if ((l13 = (int) b[((int) (l9 = (l0 + l7) + l1)) - 60720]) > -1) { break L25; }
-    if (l13 + Integer.MIN_VALUE < 2147483616) { break L25; }
-    l14 = l13 & 255;
-    l10 = (b[((int) l9) - 60719] & 0xff) & 63;
-    l15 = (b[((int) l9) - 60718] & 0xff) & 63;
-    L27: {
-     L28: {
-      if (l13 + Integer.MIN_VALUE > 2147483631) { break L28; }
-      l13 = ((l10 << 6) | ((l14 << 12) & 61440)) | l15;
-      break L27;
-     }
-     l13 = ((l15 << 6) | ((l10 << 12) | ((l14 << 18) & 1835008))) | ((b[((int) l9) - 60717] & 0xff) & 63);
-    }
-    if (l13 == 21495) { break L24; }
-    if (l13 == 26085) { break L24; }
-    if (l13 == 34399) { break L24; }
-   }
-   Words.put32(b, ((int) l5) - 60628, 0);
-   L29: {
-    L30: {
-     L31: {
-      L32: {
-       if ((l9 = l2 + -1L) + Long.MIN_VALUE > -9223372036854775806L) { break L32; }
-       L33: {
-        switch ((int) l9) {
-        case 1: break L32;
-        case 2: break L33;
-        default: break L29;
-        }
-       }
-       if (Words.get32(b, State.far((int) (l9 = ((((l14 = (((b[((int) l6) - 60719] & 0xff) << 8) | (l13 = b[((int) l6) - 60720] & 0xff)) | ((b[((int) l6) - 60718] & 0xff) << 16)) & 0xffffffffL) * 953497L) >>> 22L) & 1016L), 66852)) != l14) { break L31; }
-       if (((b[((int) (l9 + 66856L)) - 60720] & 0xff) & 255) == 2) { break L31; }
-       l13 = 1;
-       break L1;
-      }
-      if (l2 + Long.MIN_VALUE > -9223372036854775804L) { break L24; }
-      if (l2 == 0L) { break L30; }
-      l13 = b[((int) l6) - 60720] & 0xff;
-     }
-     if (((int) (byte) l13) > -1) { break L24; }
-    }
-    f106(m, l5 + 92L, l6, l2);
-    l13 = 1;
-    if ((b[((int) l5) - 60628] & 0xff) != 1) { break L24; }
-    if (((b[((int) l5) - 60625] & 0xff) & 1) != 0) { break L1; }
-    break L24;
-   }
-   if ((((b[((int) l6) - 60720] & 0xff) + -58) & 255) + Integer.MIN_VALUE >= -2147483402) { break L24; }
-   l13 = 1;
-   break L1;
-  }
-  Words.put64(b, ((int) l5) - 60664, 0L);
-  Words.put64(b, ((int) l5) - 60656, 0L);
-  Words.put64(b, ((int) l5) - 60648, 0L);
-  Words.put64(b, ((int) l5) - 60720, 0L);
-  Words.put64(b, ((int) l5) - 60712, 0L);
-  Words.put64(b, ((int) l5) - 60704, 0L);
-  Core4.f133(m, l5 + 56L, 83924L, 1L, 83672L, 2L, l3, l4);
-  l13 = 1;
-  L34: {
-   if ((b[((int) l5) - 60664] & 0xff) != 1) { break L34; }
-   Core4.f133(m, l5, 83568L, 1L, 85168L, 3L, Words.get64(b, ((int) l5) - 60656), Words.get64(b, ((int) l5) - 60648));
-   if ((b[((int) l5) - 60720] & 0xff) == 1) { break L1; }
-  }
-  L35: {
-   if (l1 == 0L) { break L35; }
-   if (((int) b[((int) ((l2 = l0 + l1) + -1L)) - 60720]) > -1) { break L35; }
-   l6 = -2L;
-   L36: {
-    if ((b[((int) (l2 + -2L)) - 60720] & 0xff) + Integer.MIN_VALUE > -2147483457) { break L36; }
-    l6 = ((b[((int) (l2 + -3L)) - 60720] & 0xff) + Integer.MIN_VALUE > -2147483457) ? -3L : -4L;
-   }
-   if ((l13 = (int) b[((int) (l2 = (l0 + l6) + l1)) - 60720]) > -1) { break L35; }
-   if (l13 + Integer.MIN_VALUE < 2147483616) { break L35; }
-   l14 = l13 & 255;
-   l10 = (b[((int) l2) - 60719] & 0xff) & 63;
-   l15 = (b[((int) l2) - 60718] & 0xff) & 63;
-   L37: {
-    L38: {
-     if (l13 + Integer.MIN_VALUE > 2147483631) { break L38; }
-     l14 = ((l10 << 6) | ((l14 << 12) & 61440)) | l15;
-     break L37;
-    }
-    l14 = ((l15 << 6) | ((l10 << 12) | ((l14 << 18) & 1835008))) | ((b[((int) l2) - 60717] & 0xff) & 63);
-   }
-   l13 = 1;
-   if (l14 == 9675) { break L1; }
-   if (l14 == 9711) { break L1; }
-  }
-  l13 = Core5.f157(m, l0, l1);
- }
- m.g0 = l5 + 96L;
- return l13;
-}
-
-static void f115(State m, long l0, int l1, long l2, long l3, long l4) {
- final byte[] b = m.bytes;
- int l5 = 0;
- int l6 = 0;
- int l7 = 0;
- int l8 = 0;
- int l9 = 0;
- int l10 = 0;
- int l11 = 0;
- L1: {
-  L2: {
-   L3: {
-    L4: {
-     L5: {
-      L6: {
-       L7: {
-        if (m.g0 < 16L) { break L7; }
-        l5 = b[((int) l4) - 60718] & 0xff;
-        l6 = b[((int) l4) - 60719] & 0xff;
-        if ((((l7 = b[((int) l4) - 60720] & 0xff) + -13) & 255) + Integer.MIN_VALUE < -2147483404) { break L5; }
-        L8: {
-         if ((l1 & 255) == 1) { break L8; }
-         l1 = 0;
-         break L2;
-        }
-        if (l3 == 0L) { break L4; }
-        l1 = (l8 = (int) b[((int) l2) - 60720]) & 255;
-        l4 = 1L;
-        L9: {
-         if (l8 > -1) { break L9; }
-         l9 = (b[((int) l2) - 60719] & 0xff) & 63;
-         L10: {
-          if (l8 + Integer.MIN_VALUE > 2147483615) { break L10; }
-          l1 = ((l1 << 6) & 1984) | l9;
-          l4 = 2L;
-          break L9;
-         }
-         l10 = (b[((int) l2) - 60718] & 0xff) & 63;
-         L11: {
-          if (l8 + Integer.MIN_VALUE > 2147483631) { break L11; }
-          l1 = ((l9 << 6) | ((l1 << 12) & 61440)) | l10;
-          l4 = 3L;
-          break L9;
-         }
-         l1 = ((l10 << 6) | ((l9 << 12) | ((l1 << 18) & 1835008))) | ((b[((int) l2) - 60717] & 0xff) & 63);
-         l4 = 4L;
-        }
-        if (l3 == l4) { break L4; }
-        l9 = (l8 = (int) b[((int) (l4 = l2 + l4)) - 60720]) & 255;
-        L12: {
-         if (l8 > -1) { break L12; }
-         l10 = (b[((int) l4) - 60719] & 0xff) & 63;
-         L13: {
-          if (l8 + Integer.MIN_VALUE > 2147483615) { break L13; }
-          l9 = ((l9 << 6) & 1984) | l10;
-          break L12;
-         }
-         l11 = (b[((int) l4) - 60718] & 0xff) & 63;
-         L14: {
-          if (l8 + Integer.MIN_VALUE > 2147483631) { break L14; }
-          l9 = ((l10 << 6) | ((l9 << 12) & 61440)) | l11;
-          break L12;
-         }
-         l9 = ((l11 << 6) | ((l10 << 12) | ((l9 << 18) & 1835008))) | ((b[((int) l4) - 60717] & 0xff) & 63);
-        }
-        L15: {
-         L16: {
-          L17: {
-           L18: {
-            L19: {
-             L20: {
-              if (l1 > 24402) { break L20; }
-              L21: {
-               if (l1 > 20939) { break L21; }
-               L22: {
-                switch (l1 + -19978) {
-                case 0: break L5;
-                case 1: break L6;
-                default: break L22;
-                }
-               }
-               if (l1 == 20013) { break L17; }
-               if (l1 != 20170) { break L4; }
-               break L19;
-              }
-              L23: {
-               switch (l1 + -21320) {
-               case 0: break L16;
-               case 1: break L4;
-               case 2: break L15;
-               default: break L23;
-               }
-              }
-              if (l1 == 20940) { break L18; }
-              if (l1 != 22812) { break L4; }
-              break L15;
-             }
-             L24: {
-              if (l1 > 27490) { break L24; }
-              L25: {
-               if (l1 > 26125) { break L25; }
-               if (l1 == 24403) { break L19; }
-               if (l1 != 26089) { break L4; }
-               break L5;
-              }
-              if (l1 == 26126) { break L19; }
-              if (l1 != 26152) { break L4; }
-              break L19;
-             }
-             L26: {
-              if (l1 > 28164) { break L26; }
-              if (l1 == 27491) { break L17; }
-              if (l1 == 28145) { break L15; }
-              break L4;
-             }
-             if (l1 == 28165) { break L5; }
-             if (l1 != 30070) { break L4; }
-            }
-            if (l9 == 26089) { break L5; }
-            if (l9 != 26216) { break L4; }
-            break L5;
-           }
-           l7 = ((l7 & 255) == 12) ? 0 : l7;
-           break L5;
-          }
-          final int t27 = l7 | 12;
-          final int t28 = l7;
-          final int t29 = ((l7 & 255) + Integer.MIN_VALUE < -2147483645) ? 1 : 0;
-          l7 = t29 != 0 ? t27 : t28;
-          break L5;
-         }
-         if (l9 != 22812) { break L6; }
-        }
-        final int t30 = l7;
-        final int t31 = l7 + 12;
-        final int t32 = ((l7 & 255) + Integer.MIN_VALUE < -2147483643) ? 1 : 0;
-        l7 = t32 != 0 ? t30 : t31;
-        break L5;
-       }
-       throw State.trap();
-      }
-      final int t33 = l7 + 12;
-      final int t34 = ((l7 & 255) == 12) ? 1 : 0;
-      l7 = t34 != 0 ? 12 : t33;
-     }
-     l1 = 1;
-     break L3;
-    }
-    l1 = ((l8 = l7 & 255) + Integer.MIN_VALUE > -2147483644) ? 1 : 0;
-    if (l8 + Integer.MIN_VALUE < -2147483643) { break L2; }
-    l7 = l7 + 12;
-   }
-   if ((l7 & 255) != 24) { break L1; }
-   if (((l6 | l5) & 255) == 0) { break L1; }
-  }
-  l7 = 0;
- }
- b[((int) l0) - 60719] = (byte) l7;
- b[((int) l0) - 60720] = (byte) l1;
-}
-
-static int f116(State m, long l0) {
- final byte[] b = m.bytes;
- long l1 = 0;
- long l2 = 0;
- long l3 = 0;
- int l4 = 0;
- int l5 = 0;
- int l6 = 0;
- int l7 = 0;
- m.g0 = l1 = m.g0 - 160L;
- m.copy((int) ((l1 = l1) + 24L), (int) l0, (int) 88L);
- L1: {
-  if (l1 < 16L) { break L1; }
-  l2 = Words.get64(b, ((int) l0) - 60632);
-  L2: {
-   L3: {
-    if ((l3 = Words.get64(b, ((int) l0) - 60624)) == 0L) { break L3; }
-    if ((l4 = (int) b[((int) l2) - 60720]) > -1) { break L3; }
-    if (l4 + Integer.MIN_VALUE < 2147483616) { break L3; }
-    l5 = l4 & 255;
-    l6 = (b[((int) l2) - 60719] & 0xff) & 63;
-    l7 = (b[((int) l2) - 60718] & 0xff) & 63;
-    L4: {
-     L5: {
-      if (l4 + Integer.MIN_VALUE > 2147483631) { break L5; }
-      l5 = ((l6 << 6) | ((l5 << 12) & 61440)) | l7;
-      break L4;
-     }
-     l5 = ((l7 << 6) | ((l6 << 12) | ((l5 << 18) & 1835008))) | ((b[((int) l2) - 60717] & 0xff) & 63);
-    }
-    l4 = 1;
-    if (l5 == 25104) { break L2; }
-    if (l5 == 25240) { break L2; }
-   }
-   Words.put64(b, ((int) l1) - 60568, Words.get64(b, ((int) l0) - 60680));
-   Words.put64(b, ((int) l1) - 60576, Words.get64(b, ((int) l0) - 60688));
-   Words.put64(b, ((int) l1) - 60584, Words.get64(b, ((int) l0) - 60696));
-   Words.put64(b, ((int) l1) - 60592, Words.get64(b, ((int) l0) - 60704));
-   Words.put64(b, ((int) l1) - 60600, Words.get64(b, ((int) l0) - 60712));
-   Words.put64(b, ((int) l1) - 60608, Words.get64(b, ((int) l0) - 60720));
-   Core4.f117(m, l1 + 16L, l1 + 112L);
-   L6: {
-    if ((b[((int) l1) - 60704] & 0xff) != 1) { break L6; }
-    l4 = 1;
-    if (((1 << ((b[((int) l1) - 60703] & 0xff) & 255)) & 23) != 0) { break L2; }
-   }
-   Words.put64(b, ((int) l1) - 60584, Words.get64(b, ((int) l1) - 60616));
-   Words.put64(b, ((int) l1) - 60592, Words.get64(b, ((int) l1) - 60624));
-   Words.put64(b, ((int) l1) - 60600, Words.get64(b, ((int) l1) - 60632));
-   Words.put64(b, ((int) l1) - 60608, Words.get64(b, ((int) l1) - 60640));
-   Words.put64(b, ((int) l1) - 60568, l3);
-   Words.put64(b, ((int) l1) - 60576, l2);
-   Core4.f117(m, l1 + 8L, l1 + 112L);
-   l4 = (((b[((int) l1) - 60712] & 0xff) == 1) ? 1 : 0) & (23 >>> ((b[((int) l1) - 60711] & 0xff) & 63));
-  }
-  m.g0 = l1 + 160L;
-  final int t7 = l4;
-  return t7;
- }
- throw State.trap();
 }
 }

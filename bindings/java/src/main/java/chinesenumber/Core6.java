@@ -2,1811 +2,7 @@
 package chinesenumber;
 
 final class Core6 {
-static int f174(State m, int l0, long l1, long l2) {
- final byte[] b = m.bytes;
- long l3 = 0;
- long l4 = 0;
- long l5 = 0;
- long l6 = 0;
- long l7 = 0;
- long l8 = 0;
- long l9 = 0;
- int l10 = 0;
- int l11 = 0;
- int l12 = 0;
- int l13 = 0;
- int l14 = 0;
- int l15 = 0;
- int l16 = 0;
- m.g0 = l3 = m.g0 - 128L;
- L1: {
-  L2: {
-   L3: {
-    L4: {
-     L5: {
-      L6: {
-       if ((l3 = l3) < 16L) { break L6; }
-       l4 = Words.get64(b, ((int) l2) - 60680);
-       l5 = Words.get64(b, ((int) l2) - 60688);
-       l6 = Words.get64(b, ((int) l2) - 60696);
-       l7 = Words.get64(b, ((int) l2) - 60704);
-       l8 = Words.get64(b, ((int) l2) - 60712);
-       l2 = Words.get64(b, ((int) l2) - 60720);
-       l10 = b[((int) l1) - 60718] & 0xff;
-       l11 = b[((int) l1) - 60720] & 0xff;
-       if (((b[((int) l1) - 60719] & 0xff) & 1) != 0) { break L3; }
-       Words.put32(b, ((int) l3) - 60660, 0);
-       L7: {
-        L8: {
-         L9: {
-          if ((l1 = l6 + -1L) + Long.MIN_VALUE > -9223372036854775806L) { break L9; }
-          L10: {
-           switch ((int) l1) {
-           case 1: break L9;
-           case 2: break L10;
-           default: break L5;
-           }
-          }
-          if (Words.get32(b, State.far((int) (l1 = ((((l13 = (((b[((int) l7) - 60719] & 0xff) << 8) | (l12 = b[((int) l7) - 60720] & 0xff)) | ((b[((int) l7) - 60718] & 0xff) << 16)) & 0xffffffffL) * 953497L) >>> 22L) & 1016L), 66852)) != l13) { break L8; }
-          if (((b[((int) (l1 + 66856L)) - 60720] & 0xff) & 255) == 2) { break L8; }
-          break L4;
-         }
-         if (l6 + Long.MIN_VALUE > -9223372036854775804L) { break L3; }
-         if (l6 == 0L) { break L7; }
-         l12 = b[((int) l7) - 60720] & 0xff;
-        }
-        if (((int) (byte) l12) > -1) { break L3; }
-       }
-       Core3.f106(m, l3 + 60L, l7, l6);
-       if ((b[((int) l3) - 60660] & 0xff) != 1) { break L3; }
-       if (((b[((int) l3) - 60657] & 0xff) & 1) == 0) { break L3; }
-       if (l6 == 0L) { break L2; }
-       l12 = b[((int) l7) - 60720] & 0xff;
-       break L4;
-      }
-      throw State.trap();
-     }
-     if ((((l12 = b[((int) l7) - 60720] & 0xff) + -58) & 255) + Integer.MIN_VALUE >= -2147483402) { break L3; }
-    }
-    if (((int) (byte) l12) > -1) { break L2; }
-    if ((l13 = l12 & 255) + Integer.MIN_VALUE < -2147483424) { break L2; }
-    l14 = (b[((int) l7) - 60719] & 0xff) & 63;
-    l15 = (b[((int) l7) - 60718] & 0xff) & 63;
-    L11: {
-     L12: {
-      if ((l12 & 255) + Integer.MIN_VALUE > -2147483409) { break L12; }
-      l12 = ((l14 << 6) | ((l13 << 12) & 61440)) | l15;
-      l1 = 3L;
-      break L11;
-     }
-     l12 = ((l15 << 6) | ((l14 << 12) | ((l13 << 18) & 1835008))) | ((b[((int) l7) - 60717] & 0xff) & 63);
-     l1 = 4L;
-    }
-    if (l12 != 21313) { break L2; }
-    if (l6 != l1) { break L2; }
-    L13: {
-     L14: {
-      L15: {
-       if (l4 == 0L) { break L15; }
-       if ((l12 = (int) b[((int) l5) - 60720]) > -1) { break L15; }
-       if (l12 + Integer.MIN_VALUE < 2147483616) { break L15; }
-       l13 = l12 & 255;
-       l14 = (b[((int) l5) - 60719] & 0xff) & 63;
-       l15 = (b[((int) l5) - 60718] & 0xff) & 63;
-       L16: {
-        L17: {
-         if (l12 + Integer.MIN_VALUE > 2147483631) { break L17; }
-         l12 = ((l14 << 6) | ((l13 << 12) & 61440)) | l15;
-         break L16;
-        }
-        l12 = ((l15 << 6) | ((l14 << 12) | ((l13 << 18) & 1835008))) | ((b[((int) l5) - 60717] & 0xff) & 63);
-       }
-       L18: {
-        L19: {
-         if (l12 > 23680) { break L19; }
-         L20: {
-          if (l12 > 21494) { break L20; }
-          switch (l12 + -20803) {
-          case 0: case 8: break L14;
-          case 1: case 2: case 3: case 4: case 5: case 6: case 7: break L15;
-          default: break L18;
-          }
-         }
-         if (l12 == 21495) { break L14; }
-         if (l12 == 21544) { break L14; }
-         if (l12 != 22136) { break L15; }
-         break L14;
-        }
-        L21: {
-         if (l12 > 31185) { break L21; }
-         if (l12 == 23681) { break L14; }
-         if (l12 == 24230) { break L14; }
-         if (l12 != 27506) { break L15; }
-         break L14;
-        }
-        if (l12 == 31186) { break L14; }
-        if (l12 == 31859) { break L14; }
-        if (l12 == 34399) { break L14; }
-        break L15;
-       }
-       if (l12 == 21319) { break L14; }
-      }
-      if (Core4.f131(m, 85596L, 7L, 85624L, 9L, l5, l4) != 0) { break L14; }
-      if (Core4.f131(m, 85660L, 2L, 85668L, 4L, l5, l4) != 0) { break L14; }
-      if (Core4.f131(m, 85684L, 5L, 85704L, 1L, l5, l4) != 0) { break L14; }
-      if (Core4.f131(m, 85304L, 1L, 83564L, 1L, l5, l4) != 0) { break L14; }
-      if (l8 == 0L) { break L2; }
-      if (((int) b[((int) ((l1 = l2 + l8) + -1L)) - 60720]) > -1) { break L2; }
-      l9 = -2L;
-      L22: {
-       if ((l12 = b[((int) (l1 + -2L)) - 60720] & 0xff) + Integer.MIN_VALUE > -2147483457) { break L22; }
-       l9 = ((b[((int) (l1 + -3L)) - 60720] & 0xff) + Integer.MIN_VALUE > -2147483457) ? -3L : -4L;
-      }
-      if ((l13 = (int) b[((int) (l1 = (l2 + l9) + l8)) - 60720]) > -1) { break L2; }
-      if (l13 + Integer.MIN_VALUE < 2147483616) { break L2; }
-      l14 = l13 & 255;
-      l15 = (b[((int) l1) - 60719] & 0xff) & 63;
-      l16 = (b[((int) l1) - 60718] & 0xff) & 63;
-      L23: {
-       L24: {
-        if (l13 + Integer.MIN_VALUE > 2147483631) { break L24; }
-        l13 = ((l15 << 6) | ((l14 << 12) & 61440)) | l16;
-        break L23;
-       }
-       l13 = ((l16 << 6) | ((l15 << 12) | ((l14 << 18) & 1835008))) | ((b[((int) l1) - 60717] & 0xff) & 63);
-      }
-      if (l13 == 27599) { break L13; }
-      break L2;
-     }
-     if (l8 == 0L) { break L3; }
-     if (((int) b[((int) ((l1 = l2 + l8) + -1L)) - 60720]) > -1) { break L3; }
-     l12 = b[((int) (l1 + -2L)) - 60720] & 0xff;
-    }
-    l1 = -2L;
-    L25: {
-     if ((l12 & 255) + Integer.MIN_VALUE > -2147483457) { break L25; }
-     l1 = ((b[((int) ((l2 + l8) + -3L)) - 60720] & 0xff) + Integer.MIN_VALUE > -2147483457) ? -3L : -4L;
-    }
-    if ((l12 = (int) b[((int) (l1 = (l2 + l1) + l8)) - 60720]) > -1) { break L3; }
-    if (l12 + Integer.MIN_VALUE < 2147483616) { break L3; }
-    l13 = l12 & 255;
-    l14 = (b[((int) l1) - 60719] & 0xff) & 63;
-    l15 = (b[((int) l1) - 60718] & 0xff) & 63;
-    L26: {
-     L27: {
-      if (l12 + Integer.MIN_VALUE > 2147483631) { break L27; }
-      l12 = ((l14 << 6) | ((l13 << 12) & 61440)) | l15;
-      break L26;
-     }
-     l12 = ((l15 << 6) | ((l14 << 12) | ((l13 << 18) & 1835008))) | ((b[((int) l1) - 60717] & 0xff) & 63);
-    }
-    L28: {
-     if (l12 > 21643) { break L28; }
-     if (l12 == 12289) { break L2; }
-     if (l12 == 19982) { break L2; }
-     if (l12 == 21040) { break L2; }
-     break L3;
-    }
-    L29: {
-     if (l12 > 33266) { break L29; }
-     if (l12 == 21644) { break L2; }
-     if (l12 == 25110) { break L2; }
-     break L3;
-    }
-    if (l12 == 33267) { break L2; }
-    if (l12 == 33287) { break L2; }
-   }
-   L30: {
-    if ((l11 & 1) != 0) { break L30; }
-    Words.put64(b, ((int) l3) - 60616, l4);
-    Words.put64(b, ((int) l3) - 60624, l5);
-    Words.put64(b, ((int) l3) - 60632, l6);
-    Words.put64(b, ((int) l3) - 60640, l7);
-    Words.put64(b, ((int) l3) - 60648, l8);
-    Words.put64(b, ((int) l3) - 60656, l2);
-    if (Core4.f125(m, l3 + 64L) != 0) { break L2; }
-   }
-   Words.put64(b, ((int) l3) - 60672, l4);
-   Words.put64(b, ((int) l3) - 60680, l5);
-   Words.put64(b, ((int) l3) - 60688, l6);
-   Words.put64(b, ((int) l3) - 60696, l7);
-   Words.put64(b, ((int) l3) - 60704, l8);
-   Words.put64(b, ((int) l3) - 60712, l2);
-   Core4.f117(m, l3, l3 + 8L);
-   L31: {
-    if (((b[((int) l3) - 60720] & 0xff) & 1) == 0) { break L31; }
-    l11 = 0;
-    if (((b[((int) l3) - 60719] & 0xff) & 255) == 3) { break L1; }
-    if ((l10 & 1) == 0) { break L1; }
-   }
-   l11 = 0;
-   if (Core4.f126(m, l2, l8, l5, l4) != 0) { break L1; }
-   Words.put64(b, ((int) l3) - 60600, 0L);
-   Words.put64(b, ((int) l3) - 60608, 0L);
-   Words.put64(b, ((int) l3) - 60616, 0L);
-   Words.put64(b, ((int) l3) - 60624, 0L);
-   Words.put64(b, ((int) l3) - 60632, 0L);
-   Words.put64(b, ((int) l3) - 60640, 0L);
-   Words.put64(b, ((int) l3) - 60648, 0L);
-   Words.put64(b, ((int) l3) - 60656, 0L);
-   Core2.f75(m, l3 + 64L, l7, l6, l0);
-   l11 = ((b[((int) l3) - 60656] & 0xff) == 0) ? 1 : 0;
-   break L1;
-  }
-  l11 = 0;
- }
- m.g0 = l3 + 128L;
- return l11;
-}
-
-static int f175(State m, long l0, long l1) {
- final byte[] b = m.bytes;
- int l2 = 0;
- int l3 = 0;
- int l4 = 0;
- int l5 = 0;
- long l6 = 0;
- L1: {
-  if (m.g0 < 16L) { break L1; }
-  L2: {
-   if (l1 == 0L) { break L2; }
-   L3: while (true) {
-    l3 = (l2 = (int) b[((int) l0) - 60720]) & 255;
-    l6 = 1L;
-    L4: {
-     if (l2 > -1) { break L4; }
-     l4 = (b[((int) l0) - 60719] & 0xff) & 63;
-     L5: {
-      if (l2 + Integer.MIN_VALUE > 2147483615) { break L5; }
-      l3 = ((l3 << 6) & 1984) | l4;
-      l6 = 2L;
-      break L4;
-     }
-     l5 = (b[((int) l0) - 60718] & 0xff) & 63;
-     L6: {
-      if (l2 + Integer.MIN_VALUE > 2147483631) { break L6; }
-      l3 = ((l4 << 6) | ((l3 << 12) & 61440)) | l5;
-      l6 = 3L;
-      break L4;
-     }
-     l3 = ((l5 << 6) | ((l4 << 12) | ((l3 << 18) & 1835008))) | ((b[((int) l0) - 60717] & 0xff) & 63);
-     l6 = 4L;
-    }
-    L7: {
-     if ((l3 + -48) + Integer.MIN_VALUE < -2147483638) { break L7; }
-     if ((l3 + -65296) + Integer.MIN_VALUE < -2147483638) { break L7; }
-     if ((l3 + -44) + Integer.MIN_VALUE < -2147483645) { break L7; }
-     if ((l3 + -65292) + Integer.MIN_VALUE < -2147483645) { break L7; }
-     if (l3 == 8722) { break L7; }
-     return 0;
-    }
-    l0 = l0 + l6;
-    if ((l1 = l1 - l6) != 0L) { continue L3; }
-    break L3;
-   }
-  }
-  return 1;
- }
- throw State.trap();
-}
-
-static int f176(State m, long l0, long l1) {
- final byte[] b = m.bytes;
- long l2 = 0;
- long l3 = 0;
- long l4 = 0;
- long l5 = 0;
- int l6 = 0;
- int l7 = 0;
- int l8 = 0;
- int l9 = 0;
- m.g0 = l2 = m.g0 - 48L;
- L1: {
-  if ((l3 = l2) < 16L) { break L1; }
-  Words.put64(b, ((int) l3) - 60680, 0L);
-  Words.put64(b, ((int) l3) - 60688, 0L);
-  Words.put64(b, ((int) l3) - 60696, 0L);
-  Words.put64(b, ((int) l3) - 60704, 0L);
-  Words.put64(b, ((int) l3) - 60712, 0L);
-  l2 = l0;
-  l4 = l1;
-  L2: {
-   L3: while (true) {
-    L4: {
-     if (!(l4 == 0L)) { break L4; }
-     l6 = 0;
-     break L2;
-    }
-    l6 = (l7 = (int) b[((int) l2) - 60720]) & 255;
-    l5 = 1L;
-    L5: {
-     if (l7 > -1) { break L5; }
-     l8 = (b[((int) l2) - 60719] & 0xff) & 63;
-     L6: {
-      if (l7 + Integer.MIN_VALUE > 2147483615) { break L6; }
-      l6 = ((l6 << 6) & 1984) | l8;
-      l5 = 2L;
-      break L5;
-     }
-     l9 = (b[((int) l2) - 60718] & 0xff) & 63;
-     L7: {
-      if (l7 + Integer.MIN_VALUE > 2147483631) { break L7; }
-      l6 = ((l8 << 6) | ((l6 << 12) & 61440)) | l9;
-      l5 = 3L;
-      break L5;
-     }
-     l6 = ((l9 << 6) | ((l8 << 12) | ((l6 << 18) & 1835008))) | ((b[((int) l2) - 60717] & 0xff) & 63);
-     l5 = 4L;
-    }
-    L8: {
-     if ((l6 + -48) + Integer.MIN_VALUE < -2147483638) { break L8; }
-     l4 = l4 - l5;
-     l2 = l2 + l5;
-     if ((l6 + -65296) + Integer.MIN_VALUE > -2147483639) { continue L3; }
-    }
-    break L3;
-   }
-   f180(m, l3 + 8L, l0, l1);
-   l6 = ((b[((int) l3) - 60712] & 0xff) != 1) ? 1 : 0;
-  }
-  m.g0 = l3 + 48L;
-  final int t9 = l6;
-  return t9;
- }
- throw State.trap();
-}
-
-static void f177(State m, long l0, long l1, long l2) {
- final byte[] b = m.bytes;
- int l3 = 0;
- int l4 = 0;
- int l5 = 0;
- int l6 = 0;
- int l7 = 0;
- long l8 = 0;
- long l9 = 0;
- L1: {
-  if (m.g0 < 16L) { break L1; }
-  L2: {
-   L3: {
-    L4: {
-     L5: {
-      if (l2 == 0L) { break L5; }
-      l4 = (l3 = (int) b[((int) l1) - 60720]) & 255;
-      l8 = 1L;
-      L6: {
-       if (l3 > -1) { break L6; }
-       l5 = (b[((int) l1) - 60719] & 0xff) & 63;
-       L7: {
-        if (l3 + Integer.MIN_VALUE > 2147483615) { break L7; }
-        l4 = ((l4 << 6) & 1984) | l5;
-        l8 = 2L;
-        break L6;
-       }
-       l6 = (b[((int) l1) - 60718] & 0xff) & 63;
-       L8: {
-        if (l3 + Integer.MIN_VALUE > 2147483631) { break L8; }
-        l4 = ((l5 << 6) | ((l4 << 12) & 61440)) | l6;
-        l8 = 3L;
-        break L6;
-       }
-       l4 = ((l6 << 6) | ((l5 << 12) | ((l4 << 18) & 1835008))) | ((b[((int) l1) - 60717] & 0xff) & 63);
-       l8 = 4L;
-      }
-      if (l2 == l8) { break L2; }
-      l3 = (l5 = (int) b[((int) (l9 = l1 + l8)) - 60720]) & 255;
-      l1 = 1L;
-      if (l5 > -1) { break L3; }
-      l6 = (b[((int) l9) - 60719] & 0xff) & 63;
-      L9: {
-       if (l5 + Integer.MIN_VALUE > 2147483615) { break L9; }
-       l3 = ((l3 << 6) & 1984) | l6;
-       l1 = 2L;
-       break L3;
-      }
-      l7 = (b[((int) l9) - 60718] & 0xff) & 63;
-      if (l5 + Integer.MIN_VALUE > 2147483631) { break L4; }
-      l3 = ((l6 << 6) | ((l3 << 12) & 61440)) | l7;
-      l1 = 3L;
-      break L3;
-     }
-     Words.put64(b, ((int) l0) - 60704, 0L);
-     Words.put64(b, ((int) l0) - 60712, 0L);
-     Words.put64(b, ((int) l0) - 60720, 0L);
-     return;
-    }
-    l3 = ((l7 << 6) | ((l6 << 12) | ((l3 << 18) & 1835008))) | ((b[((int) l9) - 60717] & 0xff) & 63);
-    l1 = 4L;
-   }
-   final int t10 = (int) (l0 + 16L);
-   final long t11 = l2 - (l8 + l1);
-   final int t12 = l3 = ((l4 == 38646) & (l3 == 19979)) ? 1 : 0;
-   Words.put64(b, t10 - 60720, t12 != 0 ? t11 : 0L);
-   final int t13 = (int) (l0 + 8L);
-   final long t14 = l9 + l1;
-   final int t15 = l3;
-   Words.put64(b, t13 - 60720, t15 != 0 ? t14 : 0L);
-   Words.put64(b, ((int) l0) - 60720, l3 & 0xffffffffL);
-   return;
-  }
-  Words.put64(b, ((int) l0) - 60704, 0L);
-  Words.put64(b, ((int) l0) - 60712, 0L);
-  Words.put64(b, ((int) l0) - 60720, 0L);
-  return;
- }
- throw State.trap();
-}
-
-static void f178(State m, long l0, int l1, long l2, long l3) {
- final byte[] b = m.bytes;
- long l4 = 0;
- long l5 = 0;
- long l6 = 0;
- long l7 = 0;
- long l8 = 0;
- long l9 = 0;
- long l10 = 0;
- long l11 = 0;
- int l12 = 0;
- int l13 = 0;
- int l14 = 0;
- int l15 = 0;
- int l16 = 0;
- int l17 = 0;
- m.g0 = l4 = m.g0 - 240L;
- L1: {
-  L2: {
-   L3: {
-    L4: {
-     L5: {
-      L6: {
-       if ((l4 = l4) < 16L) { break L6; }
-       Words.put64(b, ((int) l4) - 60616, 0L);
-       Words.put64(b, ((int) l4) - 60624, 0L);
-       Words.put64(b, ((int) l4) - 60632, 0L);
-       Words.put64(b, ((int) l4) - 60640, 0L);
-       Words.put64(b, ((int) l4) - 60648, 0L);
-       f180(m, l4 + 72L, l2, l3);
-       if ((b[((int) l4) - 60648] & 0xff) != 1) { break L2; }
-       l5 = Words.get64(b, ((int) l4) - 60616);
-       l6 = Words.get64(b, ((int) l4) - 60624);
-       l7 = Words.get64(b, ((int) l4) - 60632);
-       l8 = Words.get64(b, ((int) l4) - 60640);
-       Words.put64(b, ((int) l4) - 60552, 0L);
-       Words.put64(b, ((int) l4) - 60560, 0L);
-       Words.put64(b, ((int) l4) - 60568, 0L);
-       Words.put64(b, ((int) l4) - 60576, 0L);
-       Words.put64(b, ((int) l4) - 60584, 0L);
-       Words.put64(b, ((int) l4) - 60592, 0L);
-       Words.put64(b, ((int) l4) - 60600, 0L);
-       Words.put64(b, ((int) l4) - 60608, 0L);
-       Core2.f75(m, l4 + 112L, l2, l3, l1);
-       l12 = 0;
-       if ((b[((int) l4) - 60608] & 0xff) != 0) { break L1; }
-       l9 = Words.get64(b, ((int) l4) - 60584);
-       l10 = Words.get64(b, ((int) l4) - 60592);
-       l13 = b[((int) l4) - 60560] & 0xff;
-       l3 = l6;
-       l11 = l5;
-       L7: {
-        L8: while (true) {
-         if (l11 == 0L) { break L7; }
-         l15 = (l14 = (int) b[((int) l3) - 60720]) & 255;
-         l2 = 1L;
-         L9: {
-          if (l14 > -1) { break L9; }
-          l16 = (b[((int) l3) - 60719] & 0xff) & 63;
-          L10: {
-           if (l14 + Integer.MIN_VALUE > 2147483615) { break L10; }
-           l15 = ((l15 << 6) & 1984) | l16;
-           l2 = 2L;
-           break L9;
-          }
-          l17 = (b[((int) l3) - 60718] & 0xff) & 63;
-          L11: {
-           if (l14 + Integer.MIN_VALUE > 2147483631) { break L11; }
-           l15 = ((l16 << 6) | ((l15 << 12) & 61440)) | l17;
-           l2 = 3L;
-           break L9;
-          }
-          l15 = ((l17 << 6) | ((l16 << 12) | ((l15 << 18) & 1835008))) | ((b[((int) l3) - 60717] & 0xff) & 63);
-          l2 = 4L;
-         }
-         Core2.f61(m, l4 + 48L, l15);
-         L12: {
-          if ((b[((int) l4) - 60672] & 0xff) != 1) { break L12; }
-          l11 = l11 - l2;
-          l3 = l3 + l2;
-          if (((b[((int) l4) - 60671] & 0xff) & 255) + Integer.MIN_VALUE > -2147483647) { continue L8; }
-         }
-         break L8;
-        }
-        if (l5 == 0L) { break L5; }
-        l15 = (l14 = (int) b[((int) l6) - 60720]) & 255;
-        l3 = 1L;
-        L13: {
-         if (l14 > -1) { break L13; }
-         l16 = (b[((int) l6) - 60719] & 0xff) & 63;
-         L14: {
-          if (l14 + Integer.MIN_VALUE > 2147483615) { break L14; }
-          l15 = ((l15 << 6) & 1984) | l16;
-          l3 = 2L;
-          break L13;
-         }
-         l17 = (b[((int) l6) - 60718] & 0xff) & 63;
-         L15: {
-          if (l14 + Integer.MIN_VALUE > 2147483631) { break L15; }
-          l15 = ((l16 << 6) | ((l15 << 12) & 61440)) | l17;
-          l3 = 3L;
-          break L13;
-         }
-         l15 = ((l17 << 6) | ((l16 << 12) | ((l15 << 18) & 1835008))) | ((b[((int) l6) - 60717] & 0xff) & 63);
-         l3 = 4L;
-        }
-        L16: {
-         L17: {
-          if (l15 > 35999) { break L17; }
-          if (l15 == 45) { break L16; }
-          if (l15 == 8722) { break L16; }
-          break L5;
-         }
-         if (l15 == 36000) { break L16; }
-         if (l15 == 65293) { break L16; }
-         if (l15 != 36127) { break L5; }
-        }
-        f181(m, l4 + 40L, l1, l6 + l3, l5 - l3);
-        l15 = b[((int) l4) - 60679] & 0xff;
-        break L4;
-       }
-       Words.put64(b, ((int) l4) - 60504, 0L);
-       Words.put64(b, ((int) l4) - 60512, 1L);
-       Words.put64(b, ((int) l4) - 60528, l10);
-       Words.put64(b, ((int) l4) - 60496, 0L);
-       Words.put64(b, ((int) l4) - 60488, 0L);
-       Words.put64(b, ((int) l4) - 60520, l9);
-       m.fill((int) (l4 + 112L), 0, (int) 80L);
-       Core2.f52(m, l4 + 16L, l4 + 112L, l4 + 192L);
-       break L3;
-      }
-      throw State.trap();
-     }
-     f181(m, l4 + 32L, l1, l6, l5);
-     l15 = b[((int) l4) - 60687] & 0xff;
-    }
-    if ((l15 & 1) == 0) { break L1; }
-   }
-   L18: {
-    if ((l13 & 255) != 2) { break L18; }
-    l12 = 1;
-    break L1;
-   }
-   Words.put64(b, ((int) l4) - 60552, 0L);
-   Words.put64(b, ((int) l4) - 60560, 0L);
-   Words.put64(b, ((int) l4) - 60568, 0L);
-   Words.put64(b, ((int) l4) - 60576, 0L);
-   Words.put64(b, ((int) l4) - 60584, 0L);
-   Words.put64(b, ((int) l4) - 60592, 0L);
-   Words.put64(b, ((int) l4) - 60600, 0L);
-   Words.put64(b, ((int) l4) - 60608, 0L);
-   Core2.f75(m, l4 + 112L, l8, l7, l1);
-   if ((b[((int) l4) - 60608] & 0xff) != 0) { break L1; }
-   final int t19 = (Words.get64(b, ((int) l4) - 60592) + Long.MIN_VALUE > -9223372036854774809L) ? 1 : 0;
-   final int t20 = ((l3 = Words.get64(b, ((int) l4) - 60584)) > 0L) ? 1 : 0;
-   final int t21 = (l3 == 0L) ? 1 : 0;
-   if ((t21 != 0 ? t19 : t20) != 0) { break L1; }
-   f181(m, l4 + 8L, l1, l8, l7);
-   l12 = b[((int) l4) - 60711] & 0xff;
-   break L1;
-  }
-  L22: {
-   if (!(l3 == 0L)) { break L22; }
-   l12 = 0;
-   break L1;
-  }
-  L23: {
-   if ((l15 = (int) b[((int) (l2 + (l11 = l3 + -1L))) - 60720]) >= 0) { break L23; }
-   l11 = -2L;
-   L24: {
-    if ((b[((int) ((l6 = l2 + l3) + -2L)) - 60720] & 0xff) + Integer.MIN_VALUE > -2147483457) { break L24; }
-    l11 = ((b[((int) (l6 + -3L)) - 60720] & 0xff) + Integer.MIN_VALUE > -2147483457) ? -3L : -4L;
-   }
-   l15 = (l14 = (int) b[((int) (l6 = l2 + (l11 = l11 + l3))) - 60720]) & 255;
-   if (l14 > -1) { break L23; }
-   l16 = (b[((int) l6) - 60719] & 0xff) & 63;
-   L25: {
-    if (l14 + Integer.MIN_VALUE > 2147483615) { break L25; }
-    l15 = ((l15 << 6) & 1984) | l16;
-    break L23;
-   }
-   l12 = (b[((int) l6) - 60718] & 0xff) & 63;
-   L26: {
-    if (l14 + Integer.MIN_VALUE > 2147483631) { break L26; }
-    l15 = ((l16 << 6) | ((l15 << 12) & 61440)) | l12;
-    break L23;
-   }
-   l15 = ((l12 << 6) | ((l16 << 12) | ((l15 << 18) & 1835008))) | ((b[((int) l6) - 60717] & 0xff) & 63);
-  }
-  L27: {
-   L28: {
-    if (l15 == 37) { break L28; }
-    if (l15 == 65285) { break L28; }
-    if (l15 != 8240) { break L27; }
-   }
-   f181(m, l4 + 64L, l1, l2, l11);
-   l12 = (b[((int) l4) - 60655] & 0xff) & 1;
-   break L1;
-  }
-  f181(m, l4 + 56L, l1, l2, l3);
-  l12 = b[((int) l4) - 60663] & 0xff;
- }
- b[((int) l0) - 60719] = (byte) l12;
- b[((int) l0) - 60720] = (byte) 0;
- m.g0 = l4 + 240L;
-}
-
-static void f179(State m, long l0, int l1, int l2) {
- final byte[] b = m.bytes;
- long l3 = 0;
- long l4 = 0;
- L1: {
-  L2: {
-   L3: {
-    if (m.g0 < 16L) { break L3; }
-    l3 = 0L;
-    l4 = 83372L;
-    if (l1 != 0) { break L1; }
-    l3 = 1L;
-    l4 = 85708L;
-    L4: {
-     L5: {
-      L6: {
-       L7: {
-        L8: {
-         L9: {
-          L10: {
-           L11: {
-            L12: {
-             L13: {
-              L14: {
-               L15: {
-                L16: {
-                 switch (l2 + -45) {
-                 case 0: break L2;
-                 case 1: break L6;
-                 case 2: break L4;
-                 case 3: break L1;
-                 case 4: break L15;
-                 case 5: break L14;
-                 case 6: break L13;
-                 case 7: break L12;
-                 case 8: break L11;
-                 case 9: break L10;
-                 case 10: break L9;
-                 case 11: break L8;
-                 case 12: break L7;
-                 default: break L16;
-                 }
-                }
-                switch (l2 + -65293) {
-                case 0: break L2;
-                case 1: break L6;
-                case 2: break L4;
-                case 3: break L1;
-                case 4: break L15;
-                case 5: break L14;
-                case 6: break L13;
-                case 7: break L12;
-                case 8: break L11;
-                case 9: break L10;
-                case 10: break L9;
-                case 11: break L8;
-                case 12: break L7;
-                default: break L5;
-                }
-               }
-               l4 = 85709L;
-               break L1;
-              }
-              l4 = 85710L;
-              break L1;
-             }
-             l4 = 85711L;
-             break L1;
-            }
-            l4 = 85712L;
-            break L1;
-           }
-           l4 = 85713L;
-           break L1;
-          }
-          l4 = 85714L;
-          break L1;
-         }
-         l4 = 85715L;
-         break L1;
-        }
-        l4 = 85716L;
-        break L1;
-       }
-       l4 = 85717L;
-       break L1;
-      }
-      l4 = 85718L;
-      break L1;
-     }
-     if (l2 == 8722) { break L2; }
-    }
-    l4 = 83372L;
-    l3 = 0L;
-    break L1;
-   }
-   throw State.trap();
-  }
-  l4 = 77252L;
- }
- Words.put64(b, ((int) l0) - 60712, l3);
- Words.put64(b, ((int) l0) - 60720, l4);
-}
-
-static void f180(State m, long l0, long l1, long l2) {
- final byte[] b = m.bytes;
- int l3 = 0;
- int l4 = 0;
- int l5 = 0;
- int l6 = 0;
- int l7 = 0;
- long l8 = 0;
- long l9 = 0;
- long l10 = 0;
- long l11 = 0;
- L1: {
-  if (m.g0 < 16L) { break L1; }
-  L2: {
-   if (l2 == 0L) { break L2; }
-   l3 = b[((int) l1) - 60720] & 0xff;
-   l8 = l2;
-   l9 = l1;
-   L3: while (true) {
-    l10 = l8;
-    l4 = l3 & 255;
-    l11 = 1L;
-    L4: {
-     if (((int) (byte) l3) > -1) { break L4; }
-     l5 = (b[((int) l9) - 60719] & 0xff) & 63;
-     L5: {
-      if ((l3 & 255) + Integer.MIN_VALUE > -2147483425) { break L5; }
-      l4 = ((l4 << 6) & 1984) | l5;
-      l11 = 2L;
-      break L4;
-     }
-     l6 = (b[((int) l9) - 60718] & 0xff) & 63;
-     L6: {
-      if ((l3 & 255) + Integer.MIN_VALUE > -2147483409) { break L6; }
-      l4 = ((l5 << 6) | ((l4 << 12) & 61440)) | l6;
-      l11 = 3L;
-      break L4;
-     }
-     l4 = ((l6 << 6) | ((l5 << 12) | ((l4 << 18) & 1835008))) | ((b[((int) l9) - 60717] & 0xff) & 63);
-     l11 = 4L;
-    }
-    if ((l8 = l10 - l11) == 0L) { break L2; }
-    if ((l3 = (int) b[((int) (l9 = l9 + l11)) - 60720]) > -1) { continue L3; }
-    if (l3 + Integer.MIN_VALUE < 2147483616) { continue L3; }
-    l5 = l3 & 255;
-    l6 = (b[((int) l9) - 60719] & 0xff) & 63;
-    l7 = (b[((int) l9) - 60718] & 0xff) & 63;
-    L7: {
-     L8: {
-      if (l3 + Integer.MIN_VALUE > 2147483631) { break L8; }
-      l5 = ((l6 << 6) | ((l5 << 12) & 61440)) | l7;
-      l11 = 3L;
-      break L7;
-     }
-     l5 = ((l7 << 6) | ((l6 << 12) | ((l5 << 18) & 1835008))) | ((b[((int) l9) - 60717] & 0xff) & 63);
-     l11 = 4L;
-    }
-    if (l4 != 20998) { continue L3; }
-    if (l5 != 20043) { continue L3; }
-    break L3;
-   }
-   L9: {
-    L10: {
-     if ((l10 = l2 - l10) == 0L) { break L10; }
-     if ((l8 = l8 - l11) == 0L) { break L10; }
-     l11 = l9 + l11;
-     l9 = 1L;
-     break L9;
-    }
-    l11 = 0L;
-    l8 = 0L;
-    l1 = 0L;
-    l10 = 0L;
-    l9 = 0L;
-   }
-   Words.put64(b, ((int) l0) - 60720, l9);
-   Words.put64(b, ((int) (l0 + 32L)) - 60720, l8);
-   Words.put64(b, ((int) (l0 + 24L)) - 60720, l11);
-   Words.put64(b, ((int) (l0 + 16L)) - 60720, l10);
-   Words.put64(b, ((int) (l0 + 8L)) - 60720, l1);
-   return;
-  }
-  Words.put64(b, ((int) l0) - 60688, 0L);
-  Words.put64(b, ((int) l0) - 60696, 0L);
-  Words.put64(b, ((int) l0) - 60704, 0L);
-  Words.put64(b, ((int) l0) - 60712, 0L);
-  Words.put64(b, ((int) l0) - 60720, 0L);
-  return;
- }
- throw State.trap();
-}
-
-static void f181(State m, long l0, int l1, long l2, long l3) {
- final byte[] b = m.bytes;
- long l4 = 0;
- long l5 = 0;
- long l6 = 0;
- long l7 = 0;
- long l8 = 0;
- long l9 = 0;
- long l10 = 0;
- int l11 = 0;
- int l12 = 0;
- int l13 = 0;
- int l14 = 0;
- int l15 = 0;
- int l16 = 0;
- m.g0 = l4 = m.g0 - 336L;
- L1: {
-  L2: {
-   L3: {
-    if ((l4 = l4) < 16L) { break L3; }
-    Words.put64(b, ((int) l4) - 60584, 0L);
-    Words.put64(b, ((int) l4) - 60592, 0L);
-    Words.put64(b, ((int) l4) - 60600, 0L);
-    Words.put64(b, ((int) l4) - 60608, 0L);
-    Words.put64(b, ((int) l4) - 60616, 0L);
-    L4: {
-     if ((l11 = (l3 == 0L) ? 1 : 0) != 0) { break L4; }
-     l13 = (l12 = (int) b[((int) l2) - 60720]) & 255;
-     L5: {
-      if (l12 > -1) { break L5; }
-      l14 = (b[((int) l2) - 60719] & 0xff) & 63;
-      L6: {
-       if (l12 + Integer.MIN_VALUE > 2147483615) { break L6; }
-       l13 = ((l13 << 6) & 1984) | l14;
-       break L5;
-      }
-      l15 = (b[((int) l2) - 60718] & 0xff) & 63;
-      L7: {
-       if (l12 + Integer.MIN_VALUE > 2147483631) { break L7; }
-       l13 = ((l14 << 6) | ((l13 << 12) & 61440)) | l15;
-       break L5;
-      }
-      l13 = ((l15 << 6) | ((l14 << 12) | ((l13 << 18) & 1835008))) | ((b[((int) l2) - 60717] & 0xff) & 63);
-     }
-     l16 = 1;
-     if ((l13 + -48) + Integer.MIN_VALUE < -2147483638) { break L1; }
-     if ((l13 + -65296) + Integer.MIN_VALUE < -2147483638) { break L1; }
-    }
-    l5 = l2;
-    l6 = l3;
-    L8: {
-     L9: {
-      L10: {
-       L11: while (true) {
-        if (l6 == 0L) { break L10; }
-        l13 = (l12 = (int) b[((int) l5) - 60720]) & 255;
-        l7 = 1L;
-        L12: {
-         if (l12 > -1) { break L12; }
-         l14 = (b[((int) l5) - 60719] & 0xff) & 63;
-         L13: {
-          if (l12 + Integer.MIN_VALUE > 2147483615) { break L13; }
-          l13 = ((l13 << 6) & 1984) | l14;
-          l7 = 2L;
-          break L12;
-         }
-         l15 = (b[((int) l5) - 60718] & 0xff) & 63;
-         L14: {
-          if (l12 + Integer.MIN_VALUE > 2147483631) { break L14; }
-          l13 = ((l14 << 6) | ((l13 << 12) & 61440)) | l15;
-          l7 = 3L;
-          break L12;
-         }
-         l13 = ((l15 << 6) | ((l14 << 12) | ((l13 << 18) & 1835008))) | ((b[((int) l5) - 60717] & 0xff) & 63);
-         l7 = 4L;
-        }
-        Core2.f63(m, l4 + 96L, l13);
-        L15: {
-         if ((l13 + -58) + Integer.MIN_VALUE > 2147483637) { break L15; }
-         l6 = l6 - l7;
-         l5 = l5 + l7;
-         if (((b[((int) l4) - 60624] & 0xff) & 255) == 1) { continue L11; }
-        }
-        break L11;
-       }
-       f182(m, l4 + 104L, l2, l3);
-       if ((b[((int) l4) - 60616] & 0xff) != 1) { break L8; }
-       l7 = Words.get64(b, ((int) l4) - 60584);
-       l2 = Words.get64(b, ((int) l4) - 60592);
-       l5 = Words.get64(b, ((int) l4) - 60600);
-       l6 = Words.get64(b, ((int) l4) - 60608);
-       Words.put64(b, ((int) l4) - 60408, 0L);
-       Words.put64(b, ((int) l4) - 60416, 0L);
-       Words.put64(b, ((int) l4) - 60424, 0L);
-       Words.put64(b, ((int) l4) - 60432, 0L);
-       Words.put64(b, ((int) l4) - 60440, 0L);
-       Words.put64(b, ((int) l4) - 60448, 0L);
-       Words.put64(b, ((int) l4) - 60456, 0L);
-       Words.put64(b, ((int) l4) - 60464, 0L);
-       Core2.f75(m, l4 + 256L, l6, l5, l1);
-       Words.put64(b, ((int) l4) - 60576, Words.get64(b, ((int) l4) - 60448));
-       Words.put64(b, ((int) l4) - 60568, Words.get64(b, ((int) l4) - 60440));
-       Words.put64(b, ((int) l4) - 60560, Words.get64(b, ((int) l4) - 60432));
-       Words.put64(b, ((int) l4) - 60552, Words.get64(b, ((int) l4) - 60424));
-       Words.put64(b, ((int) l4) - 60544, Words.get64(b, ((int) l4) - 60416));
-       Words.put64(b, ((int) l4) - 60536, Words.get64(b, ((int) l4) - 60408));
-       if ((b[((int) l4) - 60464] & 0xff) == 0) { break L9; }
-       l16 = 0;
-       break L1;
-      }
-      l16 = 1;
-      if (l11 != 0) { break L1; }
-      L16: while (true) {
-       l13 = (l12 = (int) b[((int) l2) - 60720]) & 255;
-       l5 = 1L;
-       L17: {
-        if (l12 > -1) { break L17; }
-        l14 = (b[((int) l2) - 60719] & 0xff) & 63;
-        L18: {
-         if (l12 + Integer.MIN_VALUE > 2147483615) { break L18; }
-         l13 = ((l13 << 6) & 1984) | l14;
-         l5 = 2L;
-         break L17;
-        }
-        l15 = (b[((int) l2) - 60718] & 0xff) & 63;
-        L19: {
-         if (l12 + Integer.MIN_VALUE > 2147483631) { break L19; }
-         l13 = ((l14 << 6) | ((l13 << 12) & 61440)) | l15;
-         l5 = 3L;
-         break L17;
-        }
-        l13 = ((l15 << 6) | ((l14 << 12) | ((l13 << 18) & 1835008))) | ((b[((int) l2) - 60717] & 0xff) & 63);
-        l5 = 4L;
-       }
-       Core2.f63(m, l4 + 8L, l13);
-       l2 = l2 + l5;
-       if (!((l3 = l3 - l5) == 0L)) { continue L16; }
-       break L1;
-      }
-     }
-     m.fill((int) (l4 + 256L), 0, (int) 80L);
-     Core2.f52(m, l4 + 24L, l4 + 256L, l4 + 144L);
-     l16 = 1;
-     if (l7 == 0L) { break L1; }
-     L20: while (true) {
-      l13 = (l12 = (int) b[((int) l2) - 60720]) & 255;
-      l5 = 1L;
-      L21: {
-       if (l12 > -1) { break L21; }
-       l14 = (b[((int) l2) - 60719] & 0xff) & 63;
-       L22: {
-        if (l12 + Integer.MIN_VALUE > 2147483615) { break L22; }
-        l13 = ((l13 << 6) & 1984) | l14;
-        l5 = 2L;
-        break L21;
-       }
-       l15 = (b[((int) l2) - 60718] & 0xff) & 63;
-       L23: {
-        if (l12 + Integer.MIN_VALUE > 2147483631) { break L23; }
-        l13 = ((l14 << 6) | ((l13 << 12) & 61440)) | l15;
-        l5 = 3L;
-        break L21;
-       }
-       l13 = ((l15 << 6) | ((l14 << 12) | ((l13 << 18) & 1835008))) | ((b[((int) l2) - 60717] & 0xff) & 63);
-       l5 = 4L;
-      }
-      Core2.f63(m, l4 + 16L, l13);
-      l2 = l2 + l5;
-      if (!((l7 = l7 - l5) == 0L)) { continue L20; }
-      break L1;
-     }
-    }
-    L24: {
-     if (f183(m, l2, l3) == 0) { break L24; }
-     l16 = 1;
-     if (l11 != 0) { break L1; }
-     l8 = l4 + 272L;
-     l9 = l2;
-     l10 = l3;
-     L25: while (true) {
-      l13 = (l12 = (int) b[((int) l9) - 60720]) & 255;
-      l5 = 1L;
-      L26: {
-       if (l12 > -1) { break L26; }
-       l14 = (b[((int) l9) - 60719] & 0xff) & 63;
-       L27: {
-        if (l12 + Integer.MIN_VALUE > 2147483615) { break L27; }
-        l13 = ((l13 << 6) & 1984) | l14;
-        l5 = 2L;
-        break L26;
-       }
-       l15 = (b[((int) l9) - 60718] & 0xff) & 63;
-       L28: {
-        if (l12 + Integer.MIN_VALUE > 2147483631) { break L28; }
-        l13 = ((l14 << 6) | ((l13 << 12) & 61440)) | l15;
-        l5 = 3L;
-        break L26;
-       }
-       l13 = ((l15 << 6) | ((l14 << 12) | ((l13 << 18) & 1835008))) | ((b[((int) l9) - 60717] & 0xff) & 63);
-       l5 = 4L;
-      }
-      L29: {
-       if (f184(m, l13, l9 = l9 + l5, l10 = l10 - l5) == 0) { break L29; }
-       L30: {
-        L31: {
-         if (!((l7 = l3 - l10) == 0L)) { break L31; }
-         l6 = 0L;
-         break L30;
-        }
-        L32: while (true) {
-         l13 = (l12 = (int) b[((int) l2) - 60720]) & 255;
-         l5 = 1L;
-         L33: {
-          if (l12 > -1) { break L33; }
-          l14 = (b[((int) l2) - 60719] & 0xff) & 63;
-          L34: {
-           if (l12 + Integer.MIN_VALUE > 2147483615) { break L34; }
-           l13 = ((l13 << 6) & 1984) | l14;
-           l5 = 2L;
-           break L33;
-          }
-          l15 = (b[((int) l2) - 60718] & 0xff) & 63;
-          L35: {
-           if (l12 + Integer.MIN_VALUE > 2147483631) { break L35; }
-           l13 = ((l14 << 6) | ((l13 << 12) & 61440)) | l15;
-           l5 = 3L;
-           break L33;
-          }
-          l13 = ((l15 << 6) | ((l14 << 12) | ((l13 << 18) & 1835008))) | ((b[((int) l2) - 60717] & 0xff) & 63);
-          l5 = 4L;
-         }
-         L36: {
-          if (l13 == 38646) { break L36; }
-          if (l13 == 12295) { break L36; }
-          l6 = l7;
-          break L30;
-         }
-         l2 = l2 + l5;
-         l6 = 0L;
-         if ((l7 = l7 - l5) != 0L) { continue L32; }
-         break L32;
-        }
-       }
-       Words.put64(b, ((int) l4) - 60488, 0L);
-       Words.put64(b, ((int) l4) - 60496, 0L);
-       Words.put64(b, ((int) l4) - 60504, 0L);
-       Words.put64(b, ((int) l4) - 60512, 0L);
-       f185(m, l4 + 208L, l2, l6);
-       l2 = Words.get64(b, ((int) l4) - 60504);
-       l5 = Words.get64(b, ((int) l4) - 60512);
-       Words.put64(b, ((int) l4) - 60408, 0L);
-       Words.put64(b, ((int) l4) - 60416, 0L);
-       Words.put64(b, ((int) l4) - 60424, 0L);
-       Words.put64(b, ((int) l4) - 60432, 0L);
-       Words.put64(b, ((int) l4) - 60440, 0L);
-       Words.put64(b, ((int) l4) - 60448, 0L);
-       Words.put64(b, ((int) l4) - 60456, 0L);
-       Words.put64(b, ((int) l4) - 60464, 0L);
-       Core2.f75(m, l4 + 256L, l5, l2, l1);
-       Words.put64(b, ((int) l4) - 60576, Words.get64(b, ((int) l8) - 60720));
-       Words.put64(b, ((int) l4) - 60568, Words.get64(b, ((int) l8) - 60712));
-       Words.put64(b, ((int) l4) - 60560, Words.get64(b, ((int) l8) - 60704));
-       Words.put64(b, ((int) l4) - 60552, Words.get64(b, ((int) l8) - 60696));
-       Words.put64(b, ((int) l4) - 60544, Words.get64(b, ((int) l8) - 60688));
-       Words.put64(b, ((int) l4) - 60536, Words.get64(b, ((int) l8) - 60680));
-       if ((b[((int) l4) - 60464] & 0xff) != 0) { break L2; }
-       m.fill((int) (l4 + 256L), 0, (int) 80L);
-       Core2.f52(m, l4 + 40L, l4 + 256L, l4 + 144L);
-       l3 = l10;
-       l2 = l9;
-      }
-      if (!(l10 == 0L)) { continue L25; }
-      break L1;
-     }
-    }
-    Words.put64(b, ((int) l4) - 60520, 0L);
-    Words.put64(b, ((int) l4) - 60528, 0L);
-    Words.put64(b, ((int) l4) - 60536, 0L);
-    Words.put64(b, ((int) l4) - 60544, 0L);
-    Words.put64(b, ((int) l4) - 60552, 0L);
-    Words.put64(b, ((int) l4) - 60560, 0L);
-    Words.put64(b, ((int) l4) - 60568, 0L);
-    Words.put64(b, ((int) l4) - 60576, 0L);
-    f186(m, l4 + 144L, l2, l3);
-    L37: {
-     L38: {
-      L39: {
-       if ((b[((int) l4) - 60576] & 0xff) != 1) { break L39; }
-       l13 = Words.get32(b, ((int) l4) - 60552);
-       l2 = Words.get64(b, ((int) l4) - 60560);
-       l5 = Words.get64(b, ((int) l4) - 60568);
-       Words.put64(b, ((int) l4) - 60408, 0L);
-       Words.put64(b, ((int) l4) - 60416, 0L);
-       Words.put64(b, ((int) l4) - 60424, 0L);
-       Words.put64(b, ((int) l4) - 60432, 0L);
-       Words.put64(b, ((int) l4) - 60440, 0L);
-       Words.put64(b, ((int) l4) - 60448, 0L);
-       Words.put64(b, ((int) l4) - 60456, 0L);
-       Words.put64(b, ((int) l4) - 60464, 0L);
-       Core2.f75(m, l4 + 256L, l5, l2, l1);
-       Words.put64(b, ((int) l4) - 60512, Words.get64(b, ((int) l4) - 60448));
-       Words.put64(b, ((int) l4) - 60504, Words.get64(b, ((int) l4) - 60440));
-       Words.put64(b, ((int) l4) - 60496, Words.get64(b, ((int) l4) - 60432));
-       Words.put64(b, ((int) l4) - 60488, Words.get64(b, ((int) l4) - 60424));
-       Words.put64(b, ((int) l4) - 60480, Words.get64(b, ((int) l4) - 60416));
-       Words.put64(b, ((int) l4) - 60472, Words.get64(b, ((int) l4) - 60408));
-       if ((b[((int) l4) - 60464] & 0xff) == 0) { break L38; }
-       l16 = 0;
-       break L1;
-      }
-      Words.put64(b, ((int) l4) - 60408, 0L);
-      Words.put64(b, ((int) l4) - 60416, 0L);
-      Words.put64(b, ((int) l4) - 60424, 0L);
-      Words.put64(b, ((int) l4) - 60432, 0L);
-      Words.put64(b, ((int) l4) - 60440, 0L);
-      Words.put64(b, ((int) l4) - 60448, 0L);
-      Words.put64(b, ((int) l4) - 60456, 0L);
-      Words.put64(b, ((int) l4) - 60464, 0L);
-      Core2.f75(m, l4 + 256L, l2, l3, l1);
-      Words.put64(b, ((int) l4) - 60512, Words.get64(b, ((int) l4) - 60448));
-      Words.put64(b, ((int) l4) - 60504, Words.get64(b, ((int) l4) - 60440));
-      Words.put64(b, ((int) l4) - 60496, Words.get64(b, ((int) l4) - 60432));
-      Words.put64(b, ((int) l4) - 60488, Words.get64(b, ((int) l4) - 60424));
-      Words.put64(b, ((int) l4) - 60480, Words.get64(b, ((int) l4) - 60416));
-      Words.put64(b, ((int) l4) - 60472, Words.get64(b, ((int) l4) - 60408));
-      l16 = 0;
-      if ((b[((int) l4) - 60464] & 0xff) != 0) { break L1; }
-      m.fill((int) (l4 + 256L), 0, (int) 80L);
-      Core2.f52(m, l4 + 80L, l4 + 256L, l4 + 208L);
-      break L37;
-     }
-     m.fill((int) (l4 + 256L), 0, (int) 80L);
-     Core2.f52(m, l4 + 64L, l4 + 256L, l4 + 208L);
-     Core2.f63(m, l4 + 56L, l13);
-    }
-    l16 = 1;
-    break L1;
-   }
-   throw State.trap();
-  }
-  l16 = 0;
- }
- b[((int) l0) - 60719] = (byte) l16;
- b[((int) l0) - 60720] = (byte) 0;
- m.g0 = l4 + 336L;
-}
-
-static void f182(State m, long l0, long l1, long l2) {
- final byte[] b = m.bytes;
- long l3 = 0;
- long l4 = 0;
- long l5 = 0;
- long l6 = 0;
- long l7 = 0;
- long l8 = 0;
- int l9 = 0;
- int l10 = 0;
- int l11 = 0;
- int l12 = 0;
- m.g0 = l3 = m.g0 - 16L;
- L1: {
-  L2: {
-   L3: {
-    if ((l4 = l3) < 16L) { break L3; }
-    l5 = l1;
-    l6 = l2;
-    L4: while (true) {
-     l3 = l5;
-     if ((l7 = l6) == 0L) { break L2; }
-     l5 = 1L;
-     l11 = l10 = (l9 = (int) b[((int) l3) - 60720]) & 255;
-     L5: {
-      if (l9 > -1) { break L5; }
-      l11 = (b[((int) l3) - 60719] & 0xff) & 63;
-      L6: {
-       if (l9 + Integer.MIN_VALUE > 2147483615) { break L6; }
-       l11 = ((l10 << 6) & 1984) | l11;
-       l5 = 2L;
-       break L5;
-      }
-      l12 = (b[((int) l3) - 60718] & 0xff) & 63;
-      L7: {
-       if (l9 + Integer.MIN_VALUE > 2147483631) { break L7; }
-       l11 = ((l11 << 6) | ((l10 << 12) & 61440)) | l12;
-       l5 = 3L;
-       break L5;
-      }
-      l11 = ((l12 << 6) | ((l11 << 12) | ((l10 << 18) & 1835008))) | ((b[((int) l3) - 60717] & 0xff) & 63);
-      l5 = 4L;
-     }
-     L8: {
-      if (l11 == 40670) { break L8; }
-      l6 = l7 - l5;
-      l5 = l3 + l5;
-      if (l11 != 28857) { continue L4; }
-     }
-     break L4;
-    }
-    l5 = 1L;
-    L9: {
-     if (l9 > -1) { break L9; }
-     l11 = (b[((int) l3) - 60719] & 0xff) & 63;
-     L10: {
-      if (l9 + Integer.MIN_VALUE > 2147483615) { break L10; }
-      l10 = ((l10 << 6) & 1984) | l11;
-      l5 = 2L;
-      break L9;
-     }
-     l12 = (b[((int) l3) - 60718] & 0xff) & 63;
-     L11: {
-      if (l9 + Integer.MIN_VALUE > 2147483631) { break L11; }
-      l10 = ((l11 << 6) | ((l10 << 12) & 61440)) | l12;
-      l5 = 3L;
-      break L9;
-     }
-     l10 = ((l12 << 6) | ((l11 << 12) | ((l10 << 18) & 1835008))) | ((b[((int) l3) - 60717] & 0xff) & 63);
-     l5 = 4L;
-    }
-    L12: {
-     L13: {
-      L14: {
-       if (l10 == 28857) { break L14; }
-       if (l10 != 40670) { break L13; }
-      }
-      if (l2 == 0L) { break L13; }
-      L15: {
-       if ((l11 = (int) b[((int) ((l6 = l1 + l2) + -1L)) - 60720]) >= 0) { break L15; }
-       l8 = -2L;
-       L16: {
-        if ((b[((int) (l6 + -2L)) - 60720] & 0xff) + Integer.MIN_VALUE > -2147483457) { break L16; }
-        l8 = ((b[((int) (l6 + -3L)) - 60720] & 0xff) + Integer.MIN_VALUE > -2147483457) ? -3L : -4L;
-       }
-       l11 = (l9 = (int) b[((int) (l6 = (l1 + l8) + l2)) - 60720]) & 255;
-       if (l9 > -1) { break L15; }
-       l10 = (b[((int) l6) - 60719] & 0xff) & 63;
-       L17: {
-        if (l9 + Integer.MIN_VALUE > 2147483615) { break L17; }
-        l11 = ((l11 << 6) & 1984) | l10;
-        break L15;
-       }
-       l12 = (b[((int) l6) - 60718] & 0xff) & 63;
-       L18: {
-        if (l9 + Integer.MIN_VALUE > 2147483631) { break L18; }
-        l11 = ((l10 << 6) | ((l11 << 12) & 61440)) | l12;
-        break L15;
-       }
-       l11 = ((l12 << 6) | ((l10 << 12) | ((l11 << 18) & 1835008))) | ((b[((int) l6) - 60717] & 0xff) & 63);
-      }
-      Core2.f63(m, l4 + 8L, l11);
-      if ((b[((int) l4) - 60712] & 0xff) == 1) { break L12; }
-      Core2.f61(m, l4, l11);
-      if ((b[((int) l4) - 60720] & 0xff) != 1) { break L13; }
-      if (((b[((int) l4) - 60719] & 0xff) & 255) + Integer.MIN_VALUE > -2147483645) { break L12; }
-     }
-     Words.put64(b, ((int) l0) - 60688, 0L);
-     Words.put64(b, ((int) l0) - 60696, 0L);
-     Words.put64(b, ((int) l0) - 60704, 0L);
-     Words.put64(b, ((int) l0) - 60712, 0L);
-     Words.put64(b, ((int) l0) - 60720, 0L);
-     break L1;
-    }
-    Words.put64(b, ((int) l0) - 60720, 1L);
-    Words.put64(b, ((int) (l0 + 32L)) - 60720, l7 - l5);
-    Words.put64(b, ((int) (l0 + 24L)) - 60720, l3 + l5);
-    Words.put64(b, ((int) (l0 + 16L)) - 60720, l2 - l7);
-    Words.put64(b, ((int) (l0 + 8L)) - 60720, l1);
-    break L1;
-   }
-   throw State.trap();
-  }
-  Words.put64(b, ((int) l0) - 60688, 0L);
-  Words.put64(b, ((int) l0) - 60696, 0L);
-  Words.put64(b, ((int) l0) - 60704, 0L);
-  Words.put64(b, ((int) l0) - 60712, 0L);
-  Words.put64(b, ((int) l0) - 60720, 0L);
- }
- m.g0 = l4 + 16L;
-}
-
-static int f183(State m, long l0, long l1) {
- final byte[] b = m.bytes;
- long l2 = 0;
- long l3 = 0;
- long l4 = 0;
- int l5 = 0;
- int l6 = 0;
- int l7 = 0;
- int l8 = 0;
- m.g0 = l2 = m.g0 - 16L;
- L1: {
-  if ((l2 = l2) < 16L) { break L1; }
-  L2: {
-   L3: {
-    if (!(l1 == 0L)) { break L3; }
-    l5 = 0;
-    break L2;
-   }
-   L4: {
-    if ((l5 = (int) b[((int) ((l3 = l0 + l1) + -1L)) - 60720]) >= 0) { break L4; }
-    l4 = -2L;
-    L5: {
-     if ((b[((int) (l3 + -2L)) - 60720] & 0xff) + Integer.MIN_VALUE > -2147483457) { break L5; }
-     l4 = ((b[((int) (l3 + -3L)) - 60720] & 0xff) + Integer.MIN_VALUE > -2147483457) ? -3L : -4L;
-    }
-    l5 = (l6 = (int) b[((int) (l1 = (l0 + l4) + l1)) - 60720]) & 255;
-    if (l6 > -1) { break L4; }
-    l7 = (b[((int) l1) - 60719] & 0xff) & 63;
-    L6: {
-     if (l6 + Integer.MIN_VALUE > 2147483615) { break L6; }
-     l5 = ((l5 << 6) & 1984) | l7;
-     break L4;
-    }
-    l8 = (b[((int) l1) - 60718] & 0xff) & 63;
-    L7: {
-     if (l6 + Integer.MIN_VALUE > 2147483631) { break L7; }
-     l5 = ((l7 << 6) | ((l5 << 12) & 61440)) | l8;
-     break L4;
-    }
-    l5 = ((l8 << 6) | ((l7 << 12) | ((l5 << 18) & 1835008))) | ((b[((int) l1) - 60717] & 0xff) & 63);
-   }
-   Core2.f61(m, l2 + 8L, l5);
-   l5 = (((b[((int) l2) - 60712] & 0xff) == 1) & (((b[((int) l2) - 60711] & 0xff) & 255) + Integer.MIN_VALUE > -2147483645)) ? 1 : 0;
-  }
-  m.g0 = l2 + 16L;
-  final int t8 = l5;
-  return t8;
- }
- throw State.trap();
-}
-
-static int f184(State m, int l0, long l1, long l2) {
- final byte[] b = m.bytes;
- long l3 = 0;
- long l4 = 0;
- int l5 = 0;
- int l6 = 0;
- int l7 = 0;
- int l8 = 0;
- int l9 = 0;
- m.g0 = l3 = m.g0 - 16L;
- L1: {
-  if ((l3 = l3) < 16L) { break L1; }
-  Core2.f61(m, l3 + 8L, l0);
-  l5 = 0;
-  L2: {
-   if ((b[((int) l3) - 60712] & 0xff) != 1) { break L2; }
-   if (((l6 = b[((int) l3) - 60711] & 0xff) & 255) + Integer.MIN_VALUE < -2147483644) { break L2; }
-   L3: while (true) {
-    if ((l5 = (l2 == 0L) ? 1 : 0) != 0) { break L2; }
-    l0 = (l7 = (int) b[((int) l1) - 60720]) & 255;
-    l4 = 1L;
-    L4: {
-     if (l7 > -1) { break L4; }
-     l8 = (b[((int) l1) - 60719] & 0xff) & 63;
-     L5: {
-      if (l7 + Integer.MIN_VALUE > 2147483615) { break L5; }
-      l0 = ((l0 << 6) & 1984) | l8;
-      l4 = 2L;
-      break L4;
-     }
-     l9 = (b[((int) l1) - 60718] & 0xff) & 63;
-     L6: {
-      if (l7 + Integer.MIN_VALUE > 2147483631) { break L6; }
-      l0 = ((l8 << 6) | ((l0 << 12) & 61440)) | l9;
-      l4 = 3L;
-      break L4;
-     }
-     l0 = ((l9 << 6) | ((l8 << 12) | ((l0 << 18) & 1835008))) | ((b[((int) l1) - 60717] & 0xff) & 63);
-     l4 = 4L;
-    }
-    Core2.f61(m, l3, l0);
-    l2 = l2 - l4;
-    l1 = l1 + l4;
-    if ((b[((int) l3) - 60720] & 0xff) != 1) { continue L3; }
-    if (((b[((int) l3) - 60719] & 0xff) & 255) + Integer.MIN_VALUE < (l6 & 255) + Integer.MIN_VALUE) { continue L3; }
-    break L3;
-   }
-  }
-  m.g0 = l3 + 16L;
-  final int t7 = l5;
-  return t7;
- }
- throw State.trap();
-}
-
-static void f185(State m, long l0, long l1, long l2) {
- final byte[] b = m.bytes;
- long l3 = 0;
- long l4 = 0;
- long l5 = 0;
- long l6 = 0;
- long l7 = 0;
- long l8 = 0;
- long l9 = 0;
- long l10 = 0;
- long l11 = 0;
- int l12 = 0;
- int l13 = 0;
- int l14 = 0;
- int l15 = 0;
- int l16 = 0;
- int l17 = 0;
- L1: {
-  if ((l3 = m.g0) < 16L) { break L1; }
-  L2: {
-   L3: {
-    L4: {
-     if (l2 == 0L) { break L4; }
-     l4 = l2;
-     l5 = l1;
-     L5: while (true) {
-      l6 = l4;
-      l13 = (l12 = (int) b[((int) (l7 = l5)) - 60720]) & 255;
-      L6: {
-       L7: {
-        if (l12 > -1) { break L7; }
-        l8 = 2L;
-        final long t8 = l6;
-        final long t9 = (l12 + Integer.MIN_VALUE < 2147483632) ? 3L : 4L;
-        final int t10 = l14 = (l12 + Integer.MIN_VALUE < 2147483616) ? 1 : 0;
-        l4 = t8 - (l9 = t10 != 0 ? 2L : t9);
-        l5 = l7 + l9;
-        l15 = (b[((int) l7) - 60719] & 0xff) & 63;
-        L11: {
-         if (l14 == 0) { break L11; }
-         l13 = ((l13 << 6) & 1984) | l15;
-         break L6;
-        }
-        l14 = (b[((int) l7) - 60718] & 0xff) & 63;
-        L12: {
-         if (l12 + Integer.MIN_VALUE > 2147483631) { break L12; }
-         l13 = ((l15 << 6) | ((l13 << 12) & 61440)) | l14;
-         l8 = 3L;
-         break L6;
-        }
-        l13 = ((l14 << 6) | ((l15 << 12) | ((l13 << 18) & 1835008))) | ((b[((int) l7) - 60717] & 0xff) & 63);
-        l8 = 4L;
-        break L6;
-       }
-       l4 = l6 + -1L;
-       l8 = 1L;
-       l5 = l7 + 1L;
-      }
-      l10 = l7 + l8;
-      L13: {
-       L14: {
-        if ((l16 = ((l11 = l6 - l8) == 0L) ? 1 : 0) != 0) { break L14; }
-        l8 = l10;
-        L15: while (true) {
-         l12 = (l14 = (int) b[((int) l8) - 60720]) & 255;
-         l9 = 1L;
-         L16: {
-          if (l14 > -1) { break L16; }
-          l15 = (b[((int) l8) - 60719] & 0xff) & 63;
-          L17: {
-           if (l14 + Integer.MIN_VALUE > 2147483615) { break L17; }
-           l12 = ((l12 << 6) & 1984) | l15;
-           l9 = 2L;
-           break L16;
-          }
-          l17 = (b[((int) l8) - 60718] & 0xff) & 63;
-          L18: {
-           if (l14 + Integer.MIN_VALUE > 2147483631) { break L18; }
-           l12 = ((l15 << 6) | ((l12 << 12) & 61440)) | l17;
-           l9 = 3L;
-           break L16;
-          }
-          l12 = ((l17 << 6) | ((l15 << 12) | ((l12 << 18) & 1835008))) | ((b[((int) l8) - 60717] & 0xff) & 63);
-          l9 = 4L;
-         }
-         L19: {
-          L20: {
-           if (l12 > 27806) { break L20; }
-           L21: {
-            if (l12 > 22418) { break L21; }
-            L22: {
-             if (l12 > 20739) { break L22; }
-             L23: {
-              switch (l12 + -20140) {
-              case 0: case 19: break L19;
-              case 1: case 2: case 3: case 4: case 5: case 6: case 7: case 8: case 9: case 10: case 11: case 12: case 13: case 14: case 15: case 16: case 17: case 18: break L13;
-              default: break L23;
-              }
-             }
-             if (l12 == 19975) { break L19; }
-             break L13;
-            }
-            if (l12 == 20740) { break L19; }
-            if (l12 == 20806) { break L19; }
-            break L13;
-           }
-           L24: {
-            if (l12 > 26996) { break L24; }
-            if (l12 == 22419) { break L19; }
-            if (l12 == 26497) { break L19; }
-            break L13;
-           }
-           if (l12 == 26997) { break L19; }
-           if (l12 == 27491) { break L19; }
-           break L13;
-          }
-          L25: {
-           if (l12 > 31212) { break L25; }
-           L26: {
-            if (l12 > 28316) { break L26; }
-            if (l12 == 27807) { break L19; }
-            if (l12 == 28071) { break L19; }
-            break L13;
-           }
-           if (l12 == 28317) { break L19; }
-           if (l12 == 28567) { break L19; }
-           break L13;
-          }
-          L27: {
-           if (l12 > 33835) { break L27; }
-           if (l12 == 31213) { break L19; }
-           if (l12 == 31344) { break L19; }
-           break L13;
-          }
-          if (l12 == 33836) { break L19; }
-          if (l12 == 36733) { break L19; }
-          if (l12 != 36617) { break L13; }
-         }
-         l8 = l8 + l9;
-         if ((l11 = l11 - l9) != 0L) { continue L15; }
-         break L15;
-        }
-       }
-       if (f184(m, l13, l1, l8 = l2 - l6) != 0) { break L3; }
-       L28: {
-        if (l13 == 20491) { break L28; }
-        if (l13 != 20010) { break L13; }
-       }
-       if (l16 != 0) { break L13; }
-       l12 = (l14 = (int) b[((int) l10) - 60720]) & 255;
-       L29: {
-        if (l14 > -1) { break L29; }
-        l15 = (b[((int) l10) - 60719] & 0xff) & 63;
-        L30: {
-         if (l14 + Integer.MIN_VALUE > 2147483615) { break L30; }
-         l12 = ((l12 << 6) & 1984) | l15;
-         break L29;
-        }
-        l17 = (b[((int) l10) - 60718] & 0xff) & 63;
-        L31: {
-         if (l14 + Integer.MIN_VALUE > 2147483631) { break L31; }
-         l12 = ((l15 << 6) | ((l12 << 12) & 61440)) | l17;
-         break L29;
-        }
-        l12 = ((l17 << 6) | ((l15 << 12) | ((l12 << 18) & 1835008))) | ((b[((int) l10) - 60717] & 0xff) & 63);
-       }
-       if (f184(m, l12, l1, l8) != 0) { break L3; }
-      }
-      if (!(l4 == 0L)) { continue L5; }
-      break L5;
-     }
-    }
-    Words.put64(b, ((int) l0) - 60696, 0L);
-    Words.put64(b, ((int) l0) - 60704, 83372L);
-    Words.put64(b, ((int) l0) - 60712, l2);
-    break L2;
-   }
-   Words.put64(b, ((int) l0) - 60696, l6);
-   Words.put64(b, ((int) l0) - 60704, l7);
-   Words.put64(b, ((int) l0) - 60712, l8);
-  }
-  Words.put64(b, ((int) l0) - 60720, l1);
-  m.g0 = l3;
-  return;
- }
- throw State.trap();
-}
-
-static void f186(State m, long l0, long l1, long l2) {
- final byte[] b = m.bytes;
- long l3 = 0;
- long l4 = 0;
- long l5 = 0;
- long l6 = 0;
- long l7 = 0;
- long l8 = 0;
- long l9 = 0;
- long l10 = 0;
- int l11 = 0;
- int l12 = 0;
- int l13 = 0;
- int l14 = 0;
- int l15 = 0;
- int l16 = 0;
- m.g0 = l3 = m.g0 - 32L;
- L1: {
-  L2: {
-   L3: {
-    if ((l3 = l3) < 16L) { break L3; }
-    L4: {
-     L5: {
-      L6: {
-       if (l2 == 0L) { break L6; }
-       L7: {
-        if ((l11 = (int) b[((int) (l1 + (l4 = l2 + -1L))) - 60720]) >= 0) { break L7; }
-        l4 = -2L;
-        L8: {
-         if ((b[((int) ((l5 = l1 + l2) + -2L)) - 60720] & 0xff) + Integer.MIN_VALUE > -2147483457) { break L8; }
-         l4 = ((b[((int) (l5 + -3L)) - 60720] & 0xff) + Integer.MIN_VALUE > -2147483457) ? -3L : -4L;
-        }
-        l11 = (l12 = (int) b[((int) (l5 = l1 + (l4 = l4 + l2))) - 60720]) & 255;
-        if (l12 > -1) { break L7; }
-        l13 = (b[((int) l5) - 60719] & 0xff) & 63;
-        L9: {
-         if (l12 + Integer.MIN_VALUE > 2147483615) { break L9; }
-         l11 = ((l11 << 6) & 1984) | l13;
-         break L7;
-        }
-        l14 = (b[((int) l5) - 60718] & 0xff) & 63;
-        L10: {
-         if (l12 + Integer.MIN_VALUE > 2147483631) { break L10; }
-         l11 = ((l13 << 6) | ((l11 << 12) & 61440)) | l14;
-         break L7;
-        }
-        l11 = ((l14 << 6) | ((l13 << 12) | ((l11 << 18) & 1835008))) | ((b[((int) l5) - 60717] & 0xff) & 63);
-       }
-       if (l4 == 0L) { break L2; }
-       l6 = l1 + l4;
-       if ((l12 = (int) b[((int) (l1 + (l7 = l4 + -1L))) - 60720]) >= 0) { break L4; }
-       l5 = -2L;
-       L11: {
-        if ((b[((int) (l6 + -2L)) - 60720] & 0xff) + Integer.MIN_VALUE > -2147483457) { break L11; }
-        l5 = ((b[((int) (l6 + -3L)) - 60720] & 0xff) + Integer.MIN_VALUE > -2147483457) ? -3L : -4L;
-       }
-       l12 = (l13 = (int) b[((int) (l5 = l1 + (l7 = l5 + l4))) - 60720]) & 255;
-       if (l13 > -1) { break L4; }
-       l14 = (b[((int) l5) - 60719] & 0xff) & 63;
-       L12: {
-        if (l13 + Integer.MIN_VALUE > 2147483615) { break L12; }
-        l12 = ((l12 << 6) & 1984) | l14;
-        break L4;
-       }
-       l15 = (b[((int) l5) - 60718] & 0xff) & 63;
-       if (l13 + Integer.MIN_VALUE > 2147483631) { break L5; }
-       l12 = ((l14 << 6) | ((l12 << 12) & 61440)) | l15;
-       break L4;
-      }
-      Words.put64(b, ((int) l0) - 60664, 0L);
-      Words.put64(b, ((int) l0) - 60672, 0L);
-      Words.put64(b, ((int) l0) - 60680, 0L);
-      Words.put64(b, ((int) l0) - 60688, 0L);
-      Words.put64(b, ((int) l0) - 60696, 0L);
-      Words.put64(b, ((int) l0) - 60704, 0L);
-      Words.put64(b, ((int) l0) - 60712, 0L);
-      Words.put64(b, ((int) l0) - 60720, 0L);
-      break L1;
-     }
-     l12 = ((l15 << 6) | ((l14 << 12) | ((l12 << 18) & 1835008))) | ((b[((int) l5) - 60717] & 0xff) & 63);
-    }
-    Core2.f63(m, l3 + 24L, l11);
-    L13: {
-     L14: {
-      if ((b[((int) l3) - 60696] & 0xff) != 1) { break L14; }
-      if (((b[((int) l3) - 60695] & 0xff) & 255) == 0) { break L14; }
-      Core2.f61(m, l3 + 16L, l12);
-      if ((b[((int) l3) - 60704] & 0xff) != 1) { break L14; }
-      if (((l15 = b[((int) l3) - 60703] & 0xff) & 255) + Integer.MIN_VALUE < -2147483643) { break L14; }
-      l8 = l2 - l4;
-      l9 = l4 - l7;
-      l10 = l1 + l7;
-      l2 = l1;
-      l5 = l7;
-      L15: {
-       L16: while (true) {
-        if (l5 == 0L) { break L15; }
-        l12 = (l13 = (int) b[((int) l2) - 60720]) & 255;
-        l4 = 1L;
-        L17: {
-         if (l13 > -1) { break L17; }
-         l14 = (b[((int) l2) - 60719] & 0xff) & 63;
-         L18: {
-          if (l13 + Integer.MIN_VALUE > 2147483615) { break L18; }
-          l12 = ((l12 << 6) & 1984) | l14;
-          l4 = 2L;
-          break L17;
-         }
-         l16 = (b[((int) l2) - 60718] & 0xff) & 63;
-         L19: {
-          if (l13 + Integer.MIN_VALUE > 2147483631) { break L19; }
-          l12 = ((l14 << 6) | ((l12 << 12) & 61440)) | l16;
-          l4 = 3L;
-          break L17;
-         }
-         l12 = ((l16 << 6) | ((l14 << 12) | ((l12 << 18) & 1835008))) | ((b[((int) l2) - 60717] & 0xff) & 63);
-         l4 = 4L;
-        }
-        Core2.f61(m, l3 + 8L, l12);
-        l5 = l5 - l4;
-        l2 = l2 + l4;
-        if ((b[((int) l3) - 60712] & 0xff) != 1) { continue L16; }
-        if (((b[((int) l3) - 60711] & 0xff) & 255) + Integer.MIN_VALUE < (l15 & 255) + Integer.MIN_VALUE) { continue L16; }
-        break L14;
-       }
-      }
-      if (l7 == 0L) { break L13; }
-      L20: {
-       if ((l12 = (int) b[((int) (l10 + -1L)) - 60720]) >= 0) { break L20; }
-       l2 = -2L;
-       L21: {
-        if ((b[((int) (l10 + -2L)) - 60720] & 0xff) + Integer.MIN_VALUE > -2147483457) { break L21; }
-        l2 = ((b[((int) (l10 + -3L)) - 60720] & 0xff) + Integer.MIN_VALUE > -2147483457) ? -3L : -4L;
-       }
-       l12 = (l13 = (int) b[((int) (l2 = (l1 + l2) + l7)) - 60720]) & 255;
-       if (l13 > -1) { break L20; }
-       l14 = (b[((int) l2) - 60719] & 0xff) & 63;
-       L22: {
-        if (l13 + Integer.MIN_VALUE > 2147483615) { break L22; }
-        l12 = ((l12 << 6) & 1984) | l14;
-        break L20;
-       }
-       l15 = (b[((int) l2) - 60718] & 0xff) & 63;
-       L23: {
-        if (l13 + Integer.MIN_VALUE > 2147483631) { break L23; }
-        l12 = ((l14 << 6) | ((l12 << 12) & 61440)) | l15;
-        break L20;
-       }
-       l12 = ((l15 << 6) | ((l14 << 12) | ((l12 << 18) & 1835008))) | ((b[((int) l2) - 60717] & 0xff) & 63);
-      }
-      Core2.f61(m, l3, l12);
-      L24: {
-       if ((b[((int) l3) - 60720] & 0xff) != 1) { break L24; }
-       if (((b[((int) l3) - 60719] & 0xff) & 255) + Integer.MIN_VALUE > -2147483645) { break L14; }
-      }
-      if (l12 == 20010) { break L14; }
-      if (l12 != 20491) { break L13; }
-     }
-     Words.put64(b, ((int) l0) - 60664, 0L);
-     Words.put64(b, ((int) l0) - 60672, 0L);
-     Words.put64(b, ((int) l0) - 60680, 0L);
-     Words.put64(b, ((int) l0) - 60688, 0L);
-     Words.put64(b, ((int) l0) - 60696, 0L);
-     Words.put64(b, ((int) l0) - 60704, 0L);
-     Words.put64(b, ((int) l0) - 60712, 0L);
-     Words.put64(b, ((int) l0) - 60720, 0L);
-     break L1;
-    }
-    Words.put64(b, ((int) l0) - 60720, 1L);
-    Words.put64(b, ((int) (l0 + 56L)) - 60720, l9);
-    Words.put64(b, ((int) (l0 + 48L)) - 60720, l10);
-    Words.put64(b, ((int) (l0 + 40L)) - 60720, l8);
-    Words.put64(b, ((int) (l0 + 32L)) - 60720, l6);
-    Words.put32(b, ((int) (l0 + 28L)) - 60720, 0);
-    Words.put32(b, ((int) (l0 + 24L)) - 60720, l11);
-    Words.put64(b, ((int) (l0 + 16L)) - 60720, l7);
-    Words.put64(b, ((int) (l0 + 8L)) - 60720, l1);
-    break L1;
-   }
-   throw State.trap();
-  }
-  Words.put64(b, ((int) l0) - 60664, 0L);
-  Words.put64(b, ((int) l0) - 60672, 0L);
-  Words.put64(b, ((int) l0) - 60680, 0L);
-  Words.put64(b, ((int) l0) - 60688, 0L);
-  Words.put64(b, ((int) l0) - 60696, 0L);
-  Words.put64(b, ((int) l0) - 60704, 0L);
-  Words.put64(b, ((int) l0) - 60712, 0L);
-  Words.put64(b, ((int) l0) - 60720, 0L);
- }
- m.g0 = l3 + 32L;
-}
-
-static void f187(State m, long l0, long l1, int l2, long l3, long l4) {
+static int f181(State m, int l0, long l1, long l2, long l3, long l4) {
  final byte[] b = m.bytes;
  long l5 = 0;
  long l6 = 0;
@@ -1816,4921 +12,2504 @@ static void f187(State m, long l0, long l1, int l2, long l3, long l4) {
  long l10 = 0;
  long l11 = 0;
  long l12 = 0;
- int l13 = 0;
- int l14 = 0;
- int l15 = 0;
- int l16 = 0;
- int l17 = 0;
- int l18 = 0;
- m.g0 = l5 = m.g0 - 240L;
- L1: {
-  L2: {
-   L3: {
-    L4: {
-     L5: {
-      L6: {
-       if ((l5 = l5) < 16L) { break L6; }
-       Words.put64(b, ((int) l5) - 60616, 0L);
-       Words.put64(b, ((int) l5) - 60624, 0L);
-       Words.put64(b, ((int) l5) - 60632, 0L);
-       Words.put64(b, ((int) l5) - 60640, 0L);
-       Words.put64(b, ((int) l5) - 60648, 0L);
-       f180(m, l5 + 72L, l3, l4);
-       if ((b[((int) l5) - 60648] & 0xff) != 1) { break L2; }
-       l6 = Words.get64(b, ((int) l5) - 60616);
-       l7 = Words.get64(b, ((int) l5) - 60624);
-       l8 = Words.get64(b, ((int) l5) - 60632);
-       l9 = Words.get64(b, ((int) l5) - 60640);
-       Words.put64(b, ((int) l5) - 60552, 0L);
-       Words.put64(b, ((int) l5) - 60560, 0L);
-       Words.put64(b, ((int) l5) - 60568, 0L);
-       Words.put64(b, ((int) l5) - 60576, 0L);
-       Words.put64(b, ((int) l5) - 60584, 0L);
-       Words.put64(b, ((int) l5) - 60592, 0L);
-       Words.put64(b, ((int) l5) - 60600, 0L);
-       Words.put64(b, ((int) l5) - 60608, 0L);
-       Core2.f75(m, l5 + 112L, l3, l4, l2);
-       l13 = 0;
-       if ((b[((int) l5) - 60608] & 0xff) != 0) { break L1; }
-       l10 = Words.get64(b, ((int) l5) - 60584);
-       l11 = Words.get64(b, ((int) l5) - 60592);
-       l14 = b[((int) l5) - 60560] & 0xff;
-       l4 = l7;
-       l12 = l6;
-       L7: {
-        L8: while (true) {
-         if (l12 == 0L) { break L7; }
-         l16 = (l15 = (int) b[((int) l4) - 60720]) & 255;
-         l3 = 1L;
-         L9: {
-          if (l15 > -1) { break L9; }
-          l17 = (b[((int) l4) - 60719] & 0xff) & 63;
-          L10: {
-           if (l15 + Integer.MIN_VALUE > 2147483615) { break L10; }
-           l16 = ((l16 << 6) & 1984) | l17;
-           l3 = 2L;
-           break L9;
-          }
-          l18 = (b[((int) l4) - 60718] & 0xff) & 63;
-          L11: {
-           if (l15 + Integer.MIN_VALUE > 2147483631) { break L11; }
-           l16 = ((l17 << 6) | ((l16 << 12) & 61440)) | l18;
-           l3 = 3L;
-           break L9;
-          }
-          l16 = ((l18 << 6) | ((l17 << 12) | ((l16 << 18) & 1835008))) | ((b[((int) l4) - 60717] & 0xff) & 63);
-          l3 = 4L;
-         }
-         Core2.f61(m, l5 + 48L, l16);
-         L12: {
-          if ((b[((int) l5) - 60672] & 0xff) != 1) { break L12; }
-          l12 = l12 - l3;
-          l4 = l4 + l3;
-          if (((b[((int) l5) - 60671] & 0xff) & 255) + Integer.MIN_VALUE > -2147483647) { continue L8; }
-         }
-         break L8;
-        }
-        if (l6 == 0L) { break L5; }
-        l16 = (l15 = (int) b[((int) l7) - 60720]) & 255;
-        l4 = 1L;
-        L13: {
-         if (l15 > -1) { break L13; }
-         l17 = (b[((int) l7) - 60719] & 0xff) & 63;
-         L14: {
-          if (l15 + Integer.MIN_VALUE > 2147483615) { break L14; }
-          l16 = ((l16 << 6) & 1984) | l17;
-          l4 = 2L;
-          break L13;
-         }
-         l18 = (b[((int) l7) - 60718] & 0xff) & 63;
-         L15: {
-          if (l15 + Integer.MIN_VALUE > 2147483631) { break L15; }
-          l16 = ((l17 << 6) | ((l16 << 12) & 61440)) | l18;
-          l4 = 3L;
-          break L13;
-         }
-         l16 = ((l18 << 6) | ((l17 << 12) | ((l16 << 18) & 1835008))) | ((b[((int) l7) - 60717] & 0xff) & 63);
-         l4 = 4L;
-        }
-        L16: {
-         L17: {
-          if (l16 > 35999) { break L17; }
-          if (l16 == 45) { break L16; }
-          if (l16 == 8722) { break L16; }
-          break L5;
-         }
-         if (l16 == 36000) { break L16; }
-         if (l16 == 65293) { break L16; }
-         if (l16 != 36127) { break L5; }
-        }
-        Core2.f53(m, l1, 77252L, 1L);
-        f188(m, l5 + 40L, l1, l2, l7 + l4, l6 - l4);
-        l16 = b[((int) l5) - 60679] & 0xff;
-        break L4;
-       }
-       Words.put64(b, ((int) l5) - 60504, 0L);
-       Words.put64(b, ((int) l5) - 60512, 1L);
-       Words.put64(b, ((int) l5) - 60528, l11);
-       Words.put64(b, ((int) l5) - 60496, 0L);
-       Words.put64(b, ((int) l5) - 60488, 0L);
-       Words.put64(b, ((int) l5) - 60520, l10);
-       m.fill((int) (l5 + 112L), 0, (int) 80L);
-       Core2.f52(m, l5 + 16L, l5 + 112L, l5 + 192L);
-       Core2.f53(m, l1, Words.get64(b, ((int) l5) - 60704), Words.get64(b, ((int) l5) - 60696));
-       break L3;
-      }
-      throw State.trap();
-     }
-     f188(m, l5 + 32L, l1, l2, l7, l6);
-     l16 = b[((int) l5) - 60687] & 0xff;
-    }
-    if ((l16 & 1) == 0) { break L1; }
-   }
-   L18: {
-    if ((l14 & 255) != 2) { break L18; }
-    Core2.f53(m, l1, 77254L, 1L);
-    l13 = 1;
-    break L1;
-   }
-   Words.put64(b, ((int) l5) - 60552, 0L);
-   Words.put64(b, ((int) l5) - 60560, 0L);
-   Words.put64(b, ((int) l5) - 60568, 0L);
-   Words.put64(b, ((int) l5) - 60576, 0L);
-   Words.put64(b, ((int) l5) - 60584, 0L);
-   Words.put64(b, ((int) l5) - 60592, 0L);
-   Words.put64(b, ((int) l5) - 60600, 0L);
-   Words.put64(b, ((int) l5) - 60608, 0L);
-   Core2.f75(m, l5 + 112L, l9, l8, l2);
-   if ((b[((int) l5) - 60608] & 0xff) != 0) { break L1; }
-   final int t19 = (Words.get64(b, ((int) l5) - 60592) + Long.MIN_VALUE > -9223372036854774809L) ? 1 : 0;
-   final int t20 = ((l4 = Words.get64(b, ((int) l5) - 60584)) > 0L) ? 1 : 0;
-   final int t21 = (l4 == 0L) ? 1 : 0;
-   if ((t21 != 0 ? t19 : t20) != 0) { break L1; }
-   Core2.f53(m, l1, 77253L, 1L);
-   f188(m, l5 + 8L, l1, l2, l9, l8);
-   l13 = b[((int) l5) - 60711] & 0xff;
-   break L1;
-  }
-  L22: {
-   if (!(l4 == 0L)) { break L22; }
-   l13 = 0;
-   break L1;
-  }
-  L23: {
-   if ((l16 = (int) b[((int) (l3 + (l12 = l4 + -1L))) - 60720]) >= 0) { break L23; }
-   l12 = -2L;
-   L24: {
-    if ((b[((int) ((l7 = l3 + l4) + -2L)) - 60720] & 0xff) + Integer.MIN_VALUE > -2147483457) { break L24; }
-    l12 = ((b[((int) (l7 + -3L)) - 60720] & 0xff) + Integer.MIN_VALUE > -2147483457) ? -3L : -4L;
-   }
-   l16 = (l15 = (int) b[((int) (l7 = l3 + (l12 = l12 + l4))) - 60720]) & 255;
-   if (l15 > -1) { break L23; }
-   l13 = (b[((int) l7) - 60719] & 0xff) & 63;
-   L25: {
-    if (l15 + Integer.MIN_VALUE > 2147483615) { break L25; }
-    l16 = ((l16 << 6) & 1984) | l13;
-    break L23;
-   }
-   l17 = (b[((int) l7) - 60718] & 0xff) & 63;
-   L26: {
-    if (l15 + Integer.MIN_VALUE > 2147483631) { break L26; }
-    l16 = ((l13 << 6) | ((l16 << 12) & 61440)) | l17;
-    break L23;
-   }
-   l16 = ((l17 << 6) | ((l13 << 12) | ((l16 << 18) & 1835008))) | ((b[((int) l7) - 60717] & 0xff) & 63);
-  }
-  L27: {
-   L28: {
-    if (l16 == 37) { break L28; }
-    if (l16 == 65285) { break L28; }
-    if (l16 != 8240) { break L27; }
-   }
-   f188(m, l5 + 64L, l1, l2, l3, l12);
-   l13 = 1;
-   L29: {
-    if (((b[((int) l5) - 60655] & 0xff) & 1) != 0) { break L29; }
-    l13 = 0;
-    break L1;
-   }
-   Core2.f53(m, l1, l3 + l12, l4 - l12);
-   break L1;
-  }
-  f188(m, l5 + 56L, l1, l2, l3, l4);
-  l13 = b[((int) l5) - 60663] & 0xff;
- }
- b[((int) l0) - 60719] = (byte) l13;
- b[((int) l0) - 60720] = (byte) 0;
- m.g0 = l5 + 240L;
-}
-
-static void f188(State m, long l0, long l1, int l2, long l3, long l4) {
- final byte[] b = m.bytes;
- long l5 = 0;
- long l6 = 0;
- long l7 = 0;
- long l8 = 0;
- long l9 = 0;
- long l10 = 0;
- long l11 = 0;
- long l12 = 0;
- int l13 = 0;
- int l14 = 0;
- int l15 = 0;
- int l16 = 0;
- int l17 = 0;
- int l18 = 0;
- m.g0 = l5 = m.g0 - 320L;
+ long l13 = 0;
+ long l14 = 0;
+ long l15 = 0;
+ long l16 = 0;
+ long l17 = 0;
+ long l18 = 0;
+ int l19 = 0;
+ int l20 = 0;
+ int l21 = 0;
+ int l22 = 0;
+ int l23 = 0;
+ m.g0 = l5 = m.g0 - 160L;
  L1: {
   L2: {
    L3: {
     L4: {
      L5: {
       if ((l5 = l5) < 16L) { break L5; }
-      Words.put64(b, ((int) l5) - 60600, 0L);
-      Words.put64(b, ((int) l5) - 60608, 0L);
-      Words.put64(b, ((int) l5) - 60616, 0L);
-      Words.put64(b, ((int) l5) - 60624, 0L);
-      Words.put64(b, ((int) l5) - 60632, 0L);
-      l6 = l3;
-      l7 = l4;
       L6: {
-       if ((l13 = (l4 == 0L) ? 1 : 0) != 0) { break L6; }
-       l15 = (l14 = (int) b[((int) l3) - 60720]) & 255;
        L7: {
-        if (l14 > -1) { break L7; }
-        l16 = (b[((int) l3) - 60719] & 0xff) & 63;
         L8: {
-         if (l14 + Integer.MIN_VALUE > 2147483615) { break L8; }
-         l15 = ((l15 << 6) & 1984) | l16;
-         break L7;
+         if (l0 > 21039) { break L8; }
+         if (l0 == 45) { break L6; }
+         if (l0 == 126) { break L6; }
+         if (l0 != 12316) { break L7; }
+         break L6;
         }
-        l17 = (b[((int) l3) - 60718] & 0xff) & 63;
         L9: {
-         if (l14 + Integer.MIN_VALUE > 2147483631) { break L9; }
-         l15 = ((l16 << 6) | ((l15 << 12) & 61440)) | l17;
-         break L7;
+         if (l0 > 65292) { break L9; }
+         if (l0 == 21040) { break L6; }
+         if (l0 != 33267) { break L7; }
+         break L6;
         }
-        l15 = ((l17 << 6) | ((l16 << 12) | ((l15 << 18) & 1835008))) | ((b[((int) l3) - 60717] & 0xff) & 63);
+        if (l0 == 65293) { break L6; }
+        if (l0 == 65374) { break L6; }
        }
+       if ((l0 + -8211) + Integer.MIN_VALUE < -2147483646) { break L6; }
+       l19 = 0;
+       if (l0 != 12289) { break L1; }
+       if (l2 == 0L) { break L1; }
+       l20 = (l0 = (int) b[((int) l1) - 58912]) & 255;
+       l6 = 1L;
        L10: {
-        if ((l15 + -48) + Integer.MIN_VALUE < -2147483638) { break L10; }
-        l6 = l3;
-        l7 = l4;
-        if ((l15 + -65296) + Integer.MIN_VALUE >= -2147483638) { break L6; }
-       }
-       Core2.f53(m, l1, l3, l4);
-       break L2;
-      }
-      L11: while (true) {
-       if (l7 == 0L) { break L4; }
-       l15 = (l14 = (int) b[((int) l6) - 60720]) & 255;
-       l8 = 1L;
-       L12: {
-        if (l14 > -1) { break L12; }
-        l16 = (b[((int) l6) - 60719] & 0xff) & 63;
-        L13: {
-         if (l14 + Integer.MIN_VALUE > 2147483615) { break L13; }
-         l15 = ((l15 << 6) & 1984) | l16;
-         l8 = 2L;
-         break L12;
+        if (l0 > -1) { break L10; }
+        l21 = (b[((int) l1) - 58911] & 0xff) & 63;
+        L11: {
+         if (l0 + Integer.MIN_VALUE > 2147483615) { break L11; }
+         l20 = ((l20 << 6) & 1984) | l21;
+         l6 = 2L;
+         break L10;
         }
-        l17 = (b[((int) l6) - 60718] & 0xff) & 63;
+        l22 = (b[((int) l1) - 58910] & 0xff) & 63;
+        L12: {
+         if (l0 + Integer.MIN_VALUE > 2147483631) { break L12; }
+         l20 = ((l21 << 6) | ((l20 << 12) & 61440)) | l22;
+         l6 = 3L;
+         break L10;
+        }
+        l20 = ((l22 << 6) | ((l21 << 12) | ((l20 << 18) & 1835008))) | ((b[((int) l1) - 58909] & 0xff) & 63);
+        l6 = 4L;
+       }
+       if (l4 == 0L) { break L1; }
+       l21 = (l0 = (int) b[((int) l3) - 58912]) & 255;
+       L13: {
+        if (l0 > -1) { break L13; }
+        l22 = (b[((int) l3) - 58911] & 0xff) & 63;
         L14: {
-         if (l14 + Integer.MIN_VALUE > 2147483631) { break L14; }
-         l15 = ((l16 << 6) | ((l15 << 12) & 61440)) | l17;
-         l8 = 3L;
-         break L12;
+         if (l0 + Integer.MIN_VALUE > 2147483615) { break L14; }
+         l21 = ((l21 << 6) & 1984) | l22;
+         break L13;
         }
-        l15 = ((l17 << 6) | ((l16 << 12) | ((l15 << 18) & 1835008))) | ((b[((int) l6) - 60717] & 0xff) & 63);
-        l8 = 4L;
+        l23 = (b[((int) l3) - 58910] & 0xff) & 63;
+        L15: {
+         if (l0 + Integer.MIN_VALUE > 2147483631) { break L15; }
+         l21 = ((l22 << 6) | ((l21 << 12) & 61440)) | l23;
+         break L13;
+        }
+        l21 = ((l23 << 6) | ((l22 << 12) | ((l21 << 18) & 1835008))) | ((b[((int) l3) - 58909] & 0xff) & 63);
        }
-       Core2.f63(m, l5 + 80L, l15);
-       L15: {
-        if ((l15 + -58) + Integer.MIN_VALUE > 2147483637) { break L15; }
-        l7 = l7 - l8;
-        l6 = l6 + l8;
-        if (((b[((int) l5) - 60640] & 0xff) & 255) == 1) { continue L11; }
-       }
-       break L11;
+       if (l2 != l6) { break L1; }
+       Core2.f63(m, l5 + 88L, l20);
+       if ((l20 + -58) + Integer.MIN_VALUE > 2147483637) { break L1; }
+       if (((b[((int) l5) - 58824] & 0xff) & 255) != 1) { break L1; }
+       Core2.f63(m, l5 + 80L, l21);
+       if ((l21 + -58) + Integer.MIN_VALUE > 2147483637) { break L1; }
+       if (((b[((int) l5) - 58832] & 0xff) & 255) != 1) { break L1; }
+       Core2.f63(m, l5 + 72L, l20);
+       l0 = b[((int) l5) - 58840] & 0xff;
+       l20 = b[((int) l5) - 58839] & 0xff;
+       Core2.f63(m, l5 + 64L, l21);
+       if ((l0 & (b[((int) l5) - 58848] & 0xff)) == 0) { break L1; }
+       if (((b[((int) l5) - 58847] & 0xff) & 255) != ((l20 + 1) & 255)) { break L1; }
       }
-      f182(m, l5 + 88L, l3, l4);
+      Words.put64(b, ((int) l5) - 58760, 0L);
+      Words.put64(b, ((int) l5) - 58768, 0L);
+      Words.put64(b, ((int) l5) - 58776, 0L);
+      Words.put64(b, ((int) l5) - 58784, 0L);
+      Words.put64(b, ((int) l5) - 58792, 0L);
+      Words.put64(b, ((int) l5) - 58800, 0L);
+      Words.put64(b, ((int) l5) - 58808, 0L);
+      Words.put64(b, ((int) l5) - 58816, 0L);
+      l19 = 1;
+      Core3.f80(m, l5 + 96L, l1, l2, 1);
+      l6 = Words.get64(b, ((int) l5) - 58776);
+      l7 = Words.get64(b, ((int) l5) - 58784);
+      l8 = Words.get64(b, ((int) l5) - 58792);
+      l9 = Words.get64(b, ((int) l5) - 58800);
+      l20 = b[((int) l5) - 58768] & 0xff;
+      l0 = b[((int) l5) - 58816] & 0xff;
+      Words.put64(b, ((int) l5) - 58760, 0L);
+      Words.put64(b, ((int) l5) - 58768, 0L);
+      Words.put64(b, ((int) l5) - 58776, 0L);
+      Words.put64(b, ((int) l5) - 58784, 0L);
+      Words.put64(b, ((int) l5) - 58792, 0L);
+      Words.put64(b, ((int) l5) - 58800, 0L);
+      Words.put64(b, ((int) l5) - 58808, 0L);
+      Words.put64(b, ((int) l5) - 58816, 0L);
+      Core3.f80(m, l5 + 96L, l3, l4, 1);
       L16: {
-       if ((b[((int) l5) - 60632] & 0xff) != 1) { break L16; }
-       l7 = Words.get64(b, ((int) l5) - 60600);
-       l9 = Words.get64(b, ((int) l5) - 60608);
-       l6 = Words.get64(b, ((int) l5) - 60616);
-       l8 = Words.get64(b, ((int) l5) - 60624);
-       Words.put64(b, ((int) l5) - 60424, 0L);
-       Words.put64(b, ((int) l5) - 60432, 0L);
-       Words.put64(b, ((int) l5) - 60440, 0L);
-       Words.put64(b, ((int) l5) - 60448, 0L);
-       Words.put64(b, ((int) l5) - 60456, 0L);
-       Words.put64(b, ((int) l5) - 60464, 0L);
-       Words.put64(b, ((int) l5) - 60472, 0L);
-       Words.put64(b, ((int) l5) - 60480, 0L);
-       Core2.f75(m, l5 + 240L, l8, l6, l2);
-       Words.put64(b, ((int) l5) - 60592, Words.get64(b, ((int) l5) - 60464));
-       Words.put64(b, ((int) l5) - 60584, Words.get64(b, ((int) l5) - 60456));
-       Words.put64(b, ((int) l5) - 60576, Words.get64(b, ((int) l5) - 60448));
-       Words.put64(b, ((int) l5) - 60568, Words.get64(b, ((int) l5) - 60440));
-       Words.put64(b, ((int) l5) - 60560, Words.get64(b, ((int) l5) - 60432));
-       Words.put64(b, ((int) l5) - 60552, Words.get64(b, ((int) l5) - 60424));
-       L17: {
-        if ((b[((int) l5) - 60480] & 0xff) == 0) { break L17; }
-        l18 = 0;
-        break L1;
-       }
-       m.fill((int) (l5 + 240L), 0, (int) 80L);
-       Core2.f52(m, l5 + 8L, l5 + 240L, l5 + 128L);
-       Core2.f53(m, l1, Words.get64(b, ((int) l5) - 60712), Words.get64(b, ((int) l5) - 60704));
-       Core2.f53(m, l1, 85718L, 1L);
-       f189(m, l1, l9, l7);
-       break L2;
+       if ((l0 | ((b[((int) l5) - 58816] & 0xff) & 255)) == 0) { break L16; }
+       l19 = 0;
+       break L1;
+      }
+      if (((l20 & 255) == 2) ^ (((b[((int) l5) - 58768] & 0xff) & 255) == 2)) { break L1; }
+      L17: {
+       if (!(l4 == 0L)) { break L17; }
+       l19 = 0;
+       break L1;
       }
       L18: {
-       if (f183(m, l3, l4) == 0) { break L18; }
-       l18 = 1;
-       if (l13 != 0) { break L1; }
-       l10 = l5 + 256L;
-       l11 = l3;
-       l12 = l4;
-       L19: while (true) {
-        l15 = (l14 = (int) b[((int) l11) - 60720]) & 255;
-        l6 = 1L;
-        L20: {
-         if (l14 > -1) { break L20; }
-         l16 = (b[((int) l11) - 60719] & 0xff) & 63;
-         L21: {
-          if (l14 + Integer.MIN_VALUE > 2147483615) { break L21; }
-          l15 = ((l15 << 6) & 1984) | l16;
-          l6 = 2L;
-          break L20;
-         }
-         l17 = (b[((int) l11) - 60718] & 0xff) & 63;
-         L22: {
-          if (l14 + Integer.MIN_VALUE > 2147483631) { break L22; }
-          l15 = ((l16 << 6) | ((l15 << 12) & 61440)) | l17;
-          l6 = 3L;
-          break L20;
-         }
-         l15 = ((l17 << 6) | ((l16 << 12) | ((l15 << 18) & 1835008))) | ((b[((int) l11) - 60717] & 0xff) & 63);
-         l6 = 4L;
-        }
-        L23: {
-         if (f184(m, l15, l11 = l11 + l6, l12 = l12 - l6) == 0) { break L23; }
-         l6 = l3;
-         l9 = 0L;
-         L24: {
-          if ((l4 = l4 - l12) == 0L) { break L24; }
-          l7 = l4;
-          l6 = l3;
-          L25: while (true) {
-           l15 = (l14 = (int) b[((int) l6) - 60720]) & 255;
-           l8 = 1L;
-           L26: {
-            if (l14 > -1) { break L26; }
-            l16 = (b[((int) l6) - 60719] & 0xff) & 63;
-            L27: {
-             if (l14 + Integer.MIN_VALUE > 2147483615) { break L27; }
-             l15 = ((l15 << 6) & 1984) | l16;
-             l8 = 2L;
-             break L26;
-            }
-            l17 = (b[((int) l6) - 60718] & 0xff) & 63;
-            L28: {
-             if (l14 + Integer.MIN_VALUE > 2147483631) { break L28; }
-             l15 = ((l16 << 6) | ((l15 << 12) & 61440)) | l17;
-             l8 = 3L;
-             break L26;
-            }
-            l15 = ((l17 << 6) | ((l16 << 12) | ((l15 << 18) & 1835008))) | ((b[((int) l6) - 60717] & 0xff) & 63);
-            l8 = 4L;
-           }
-           L29: {
-            if (l15 == 38646) { break L29; }
-            if (l15 == 12295) { break L29; }
-            l9 = l7;
-            break L24;
-           }
-           l6 = l6 + l8;
-           l9 = 0L;
-           if ((l7 = l7 - l8) != 0L) { continue L25; }
-           break L25;
-          }
-         }
-         Core2.f53(m, l1, l3, l4 - l9);
-         Words.put64(b, ((int) l5) - 60504, 0L);
-         Words.put64(b, ((int) l5) - 60512, 0L);
-         Words.put64(b, ((int) l5) - 60520, 0L);
-         Words.put64(b, ((int) l5) - 60528, 0L);
-         f185(m, l5 + 192L, l6, l9);
-         l7 = Words.get64(b, ((int) l5) - 60504);
-         l9 = Words.get64(b, ((int) l5) - 60512);
-         l6 = Words.get64(b, ((int) l5) - 60520);
-         l8 = Words.get64(b, ((int) l5) - 60528);
-         Words.put64(b, ((int) l5) - 60424, 0L);
-         Words.put64(b, ((int) l5) - 60432, 0L);
-         Words.put64(b, ((int) l5) - 60440, 0L);
-         Words.put64(b, ((int) l5) - 60448, 0L);
-         Words.put64(b, ((int) l5) - 60456, 0L);
-         Words.put64(b, ((int) l5) - 60464, 0L);
-         Words.put64(b, ((int) l5) - 60472, 0L);
-         Words.put64(b, ((int) l5) - 60480, 0L);
-         Core2.f75(m, l5 + 240L, l8, l6, l2);
-         Words.put64(b, ((int) l5) - 60592, Words.get64(b, ((int) l10) - 60720));
-         Words.put64(b, ((int) l5) - 60584, Words.get64(b, ((int) l10) - 60712));
-         Words.put64(b, ((int) l5) - 60576, Words.get64(b, ((int) l10) - 60704));
-         Words.put64(b, ((int) l5) - 60568, Words.get64(b, ((int) l10) - 60696));
-         Words.put64(b, ((int) l5) - 60560, Words.get64(b, ((int) l10) - 60688));
-         Words.put64(b, ((int) l5) - 60552, Words.get64(b, ((int) l10) - 60680));
-         if ((b[((int) l5) - 60480] & 0xff) != 0) { break L3; }
-         m.fill((int) (l5 + 240L), 0, (int) 80L);
-         Core2.f52(m, l5 + 24L, l5 + 240L, l5 + 128L);
-         Core2.f53(m, l1, Words.get64(b, ((int) l5) - 60696), Words.get64(b, ((int) l5) - 60688));
-         Core2.f53(m, l1, l9, l7);
-         l4 = l12;
-         l3 = l11;
-        }
-        if (!(l12 == 0L)) { continue L19; }
-        break L1;
+       L19: {
+        if ((l0 = (int) b[((int) l3) - 58912]) <= -1) { break L19; }
+        l10 = -1L;
+        break L18;
        }
+       L20: {
+        if (l0 + Integer.MIN_VALUE >= 2147483616) { break L20; }
+        l10 = -2L;
+        break L18;
+       }
+       l10 = (l0 + Integer.MIN_VALUE < 2147483632) ? -3L : -4L;
       }
-      Words.put64(b, ((int) l5) - 60536, 0L);
-      Words.put64(b, ((int) l5) - 60544, 0L);
-      Words.put64(b, ((int) l5) - 60552, 0L);
-      Words.put64(b, ((int) l5) - 60560, 0L);
-      Words.put64(b, ((int) l5) - 60568, 0L);
-      Words.put64(b, ((int) l5) - 60576, 0L);
-      Words.put64(b, ((int) l5) - 60584, 0L);
-      Words.put64(b, ((int) l5) - 60592, 0L);
-      f186(m, l5 + 128L, l3, l4);
-      L30: {
-       L31: {
-        if ((b[((int) l5) - 60592] & 0xff) != 1) { break L31; }
-        l7 = Words.get64(b, ((int) l5) - 60536);
-        l9 = Words.get64(b, ((int) l5) - 60544);
-        l3 = Words.get64(b, ((int) l5) - 60552);
-        l4 = Words.get64(b, ((int) l5) - 60560);
-        l15 = Words.get32(b, ((int) l5) - 60568);
-        l6 = Words.get64(b, ((int) l5) - 60576);
-        l8 = Words.get64(b, ((int) l5) - 60584);
-        Words.put64(b, ((int) l5) - 60424, 0L);
-        Words.put64(b, ((int) l5) - 60432, 0L);
-        Words.put64(b, ((int) l5) - 60440, 0L);
-        Words.put64(b, ((int) l5) - 60448, 0L);
-        Words.put64(b, ((int) l5) - 60456, 0L);
-        Words.put64(b, ((int) l5) - 60464, 0L);
-        Words.put64(b, ((int) l5) - 60472, 0L);
-        Words.put64(b, ((int) l5) - 60480, 0L);
-        Core2.f75(m, l5 + 240L, l8, l6, l2);
-        Words.put64(b, ((int) l5) - 60528, Words.get64(b, ((int) l5) - 60464));
-        Words.put64(b, ((int) l5) - 60520, Words.get64(b, ((int) l5) - 60456));
-        Words.put64(b, ((int) l5) - 60512, Words.get64(b, ((int) l5) - 60448));
-        Words.put64(b, ((int) l5) - 60504, Words.get64(b, ((int) l5) - 60440));
-        Words.put64(b, ((int) l5) - 60496, Words.get64(b, ((int) l5) - 60432));
-        Words.put64(b, ((int) l5) - 60488, Words.get64(b, ((int) l5) - 60424));
-        if ((b[((int) l5) - 60480] & 0xff) == 0) { break L30; }
-        l18 = 0;
-        break L1;
+      L21: {
+       if (l10 != (0L - l4)) { break L21; }
+       l19 = 0;
+       break L1;
+      }
+      L22: {
+       if (((int) b[((int) ((l10 = l3 + l4) + -1L)) - 58912]) <= -1) { break L22; }
+       l19 = 0;
+       break L1;
+      }
+      l11 = -2L;
+      L23: {
+       if ((b[((int) (l10 + -2L)) - 58912] & 0xff) + Integer.MIN_VALUE > -2147483457) { break L23; }
+       l11 = ((b[((int) (l10 + -3L)) - 58912] & 0xff) + Integer.MIN_VALUE > -2147483457) ? -3L : -4L;
+      }
+      L24: {
+       if ((l0 = (int) b[((int) (l4 = l3 + (l10 = l11 + l4))) - 58912]) <= -1) { break L24; }
+       l19 = 0;
+       break L1;
+      }
+      L25: {
+       if (l0 + Integer.MIN_VALUE >= 2147483616) { break L25; }
+       l19 = 0;
+       break L1;
+      }
+      l19 = l0 & 255;
+      l20 = (b[((int) l4) - 58911] & 0xff) & 63;
+      l21 = (b[((int) l4) - 58910] & 0xff) & 63;
+      L26: {
+       L27: {
+        if (l0 + Integer.MIN_VALUE > 2147483631) { break L27; }
+        l0 = ((l20 << 6) | ((l19 << 12) & 61440)) | l21;
+        break L26;
        }
-       Words.put64(b, ((int) l5) - 60424, 0L);
-       Words.put64(b, ((int) l5) - 60432, 0L);
-       Words.put64(b, ((int) l5) - 60440, 0L);
-       Words.put64(b, ((int) l5) - 60448, 0L);
-       Words.put64(b, ((int) l5) - 60456, 0L);
-       Words.put64(b, ((int) l5) - 60464, 0L);
-       Words.put64(b, ((int) l5) - 60472, 0L);
-       Words.put64(b, ((int) l5) - 60480, 0L);
-       Core2.f75(m, l5 + 240L, l3, l4, l2);
-       Words.put64(b, ((int) l5) - 60528, Words.get64(b, ((int) l5) - 60464));
-       Words.put64(b, ((int) l5) - 60520, Words.get64(b, ((int) l5) - 60456));
-       Words.put64(b, ((int) l5) - 60512, Words.get64(b, ((int) l5) - 60448));
-       Words.put64(b, ((int) l5) - 60504, Words.get64(b, ((int) l5) - 60440));
-       Words.put64(b, ((int) l5) - 60496, Words.get64(b, ((int) l5) - 60432));
-       Words.put64(b, ((int) l5) - 60488, Words.get64(b, ((int) l5) - 60424));
-       l18 = 0;
-       if ((b[((int) l5) - 60480] & 0xff) != 0) { break L1; }
-       m.fill((int) (l5 + 240L), 0, (int) 80L);
-       Core2.f52(m, l5 + 64L, l5 + 240L, l5 + 192L);
-       Core2.f53(m, l1, Words.get64(b, ((int) l5) - 60656), Words.get64(b, ((int) l5) - 60648));
+       l0 = ((l21 << 6) | ((l20 << 12) | ((l19 << 18) & 1835008))) | ((b[((int) l4) - 58909] & 0xff) & 63);
+      }
+      l19 = 0;
+      if ((l0 + -2048) + Integer.MIN_VALUE > -2147420161) { break L1; }
+      l19 = 0;
+      if ((l20 = Words.get32(b, State.far((int) (l4 = ((((l0 = (((l0 >>> 12) | ((l0 << 2) & 16128)) | ((l0 << 16) & 4128768)) | 8421600) & 0xffffffffL) * 953497L) >>> 22L) & 1016L), 66852))) != l0) { break L1; }
+      if (((b[((int) (l4 + 66856L)) - 58912] & 0xff) & 255) != 1) { break L1; }
+      final int t28 = b[((int) (l4 + 66857L)) - 58912] & 0xff;
+      final int t29 = (l20 == l0) ? 1 : 0;
+      if (((l20 = t29 != 0 ? t28 : 0) & 255) == 0) { break L1; }
+      L30: {
+       if (l2 == 0L) { break L30; }
+       L31: {
+        if ((l0 = (int) b[((int) ((l4 = l1 + l2) + -1L)) - 58912]) >= 0) { break L31; }
+        l11 = -2L;
+        L32: {
+         if ((b[((int) (l4 + -2L)) - 58912] & 0xff) + Integer.MIN_VALUE > -2147483457) { break L32; }
+         l11 = ((b[((int) (l4 + -3L)) - 58912] & 0xff) + Integer.MIN_VALUE > -2147483457) ? -3L : -4L;
+        }
+        l0 = (l19 = (int) b[((int) (l4 = (l1 + l11) + l2)) - 58912]) & 255;
+        if (l19 > -1) { break L31; }
+        l21 = (b[((int) l4) - 58911] & 0xff) & 63;
+        L33: {
+         if (l19 + Integer.MIN_VALUE > 2147483615) { break L33; }
+         l0 = ((l0 << 6) & 1984) | l21;
+         break L31;
+        }
+        l22 = (b[((int) l4) - 58910] & 0xff) & 63;
+        L34: {
+         if (l19 + Integer.MIN_VALUE > 2147483631) { break L34; }
+         l0 = ((l21 << 6) | ((l0 << 12) & 61440)) | l22;
+         break L31;
+        }
+        l0 = ((l22 << 6) | ((l21 << 12) | ((l0 << 18) & 1835008))) | ((b[((int) l4) - 58909] & 0xff) & 63);
+       }
+       if ((l0 + -2048) + Integer.MIN_VALUE > -2147420161) { break L30; }
+       if ((l0 = (Words.get32(b, State.far((int) (l4 = ((((l0 = (((l0 >>> 12) | ((l0 << 2) & 16128)) | ((l0 << 16) & 4128768)) | 8421600) & 0xffffffffL) * 953497L) >>> 22L) & 1016L), 66852)) != l0) ? 1 : 0) != 0) { break L30; }
+       if (((b[((int) (l4 + 66856L)) - 58912] & 0xff) & 255) != 1) { break L30; }
+       l19 = 0;
+       final int t35 = b[((int) (l4 + 66857L)) - 58912] & 0xff;
+       final int t36 = l0;
+       if (((t36 != 0 ? 0 : t35) & 255) + Integer.MIN_VALUE >= (l20 & 255) + Integer.MIN_VALUE) { break L1; }
+      }
+      l11 = 0L;
+      Words.put64(b, ((int) l5) - 58760, 0L);
+      Words.put64(b, ((int) l5) - 58768, 0L);
+      Words.put64(b, ((int) l5) - 58776, 0L);
+      Words.put64(b, ((int) l5) - 58784, 0L);
+      Words.put64(b, ((int) l5) - 58792, 0L);
+      Words.put64(b, ((int) l5) - 58800, 0L);
+      Words.put64(b, ((int) l5) - 58808, 0L);
+      Words.put64(b, ((int) l5) - 58816, 0L);
+      Core3.f80(m, l5 + 96L, l3, l10, 1);
+      l19 = 0;
+      if ((b[((int) l5) - 58816] & 0xff) != 0) { break L1; }
+      l12 = Words.get64(b, ((int) l5) - 58776);
+      l13 = Words.get64(b, ((int) l5) - 58784);
+      l14 = Words.get64(b, ((int) l5) - 58792);
+      l15 = Words.get64(b, ((int) l5) - 58800);
+      L37: {
+       if ((l0 = ((l7 | l6) == 0L) ? 1 : 0) == 0) { break L37; }
+       l16 = 0L;
        break L2;
       }
-      m.fill((int) (l5 + 240L), 0, (int) 80L);
-      Core2.f52(m, l5 + 48L, l5 + 240L, l5 + 192L);
-      Core2.f53(m, l1, Words.get64(b, ((int) l5) - 60672), Words.get64(b, ((int) l5) - 60664));
-      Core2.f53(m, l1, 85718L, 1L);
-      Core2.f63(m, l5 + 40L, l15);
-      L32: {
-       L33: {
-        if ((b[((int) l5) - 60680] & 0xff) != 1) { break L33; }
-        Core2.f53(m, l1, Words.get64(b, State.far((int) ((((b[((int) l5) - 60679] & 0xff) & 0xffffffffL) & 255L) << 3L), 88216)), 1L);
-        break L32;
-       }
-       Core2.f53(m, l1, l4, l3);
+      final long t38 = 0L - (l8 + ((l9 != 0L) ? 1L : 0L));
+      final long t39 = l8;
+      final int t40 = l19 = (l8 < 0L) ? 1 : 0;
+      final long t41 = l1 = t40 != 0 ? t38 : t39;
+      final int t42 = l0;
+      final long t43 = l1;
+      final long t44 = 0L - l9;
+      final long t45 = l9;
+      final int t46 = l19;
+      final int t47 = t42 | (((t43 | (l8 = t46 != 0 ? t44 : t45)) == 0L) ? 1 : 0);
+      final long t48 = (long) Long.numberOfLeadingZeros(l6);
+      final long t49 = ((long) Long.numberOfLeadingZeros(l7)) + 64L;
+      final int t50 = (l6 != 0L) ? 1 : 0;
+      final long t51 = l4 = t50 != 0 ? t48 : t49;
+      final long t52 = (long) Long.numberOfLeadingZeros(l1);
+      final long t53 = ((long) Long.numberOfLeadingZeros(l8)) + 64L;
+      final int t54 = (l1 != 0L) ? 1 : 0;
+      final int t55 = ((l3 = t51 - (l2 = t54 != 0 ? t52 : t53)) + Long.MIN_VALUE > -9223372036854775681L) ? 1 : 0;
+      final int t56 = ((l9 = 0L - ((l4 + Long.MIN_VALUE < l2 + Long.MIN_VALUE) ? 1L : 0L)) != 0L) ? 1 : 0;
+      final int t57 = (l9 == 0L) ? 1 : 0;
+      l11 = ((l0 = t47 | (t57 != 0 ? t55 : t56)) != 0) ? 0L : t41;
+      l16 = l0 != 0 ? 0L : l8;
+      if (l0 != 0) { break L2; }
+      if (((l3 ^ 127L) | l9) == 0L) { break L2; }
+      Core1.f4(m, l5 + 48L, l8, l1, 127 - ((int) l3));
+      l2 = Words.get64(b, ((int) l5) - 58856);
+      l4 = Words.get64(b, ((int) l5) - 58864);
+      if (((l3 = l3 + 1L) | (l9 = l9 + ((l3 == 0L) ? 1L : 0L))) == 0L) { break L4; }
+      Core1.f5(m, l5 + 32L, l8, l1, (int) l3);
+      l17 = l7 + -1L;
+      l16 = l6 - ((l7 == 0L) ? 1L : 0L);
+      l10 = Words.get64(b, ((int) l5) - 58872);
+      l1 = Words.get64(b, ((int) l5) - 58880);
+      l8 = 0L;
+      L58: while (true) {
+       l11 = l8;
+       l10 = ((l8 = (l10 << 1L) | (l1 >>> 63L)) - ((l8 = ((l16 - l8) - ((l17 + Long.MIN_VALUE < (l1 = (l1 << 1L) | (l2 >>> 63L)) + Long.MIN_VALUE) ? 1L : 0L)) >> 63L) & l6)) - ((l1 + Long.MIN_VALUE < (l18 = l8 & l7) + Long.MIN_VALUE) ? 1L : 0L);
+       l8 = l8 & 1L;
+       l1 = l1 - l18;
+       l2 = 0L | ((l2 << 1L) | (l4 >>> 63L));
+       l0 = (l3 == 0L) ? 1 : 0;
+       l4 = l11 | (l4 << 1L);
+       l3 = l11 = l3 + -1L;
+       if (!((l11 | (l9 = l9 - (l0 & 0xffffffffL))) == 0L)) { continue L58; }
+       break L3;
       }
-      Core2.f53(m, l1, l9, l7);
-      break L2;
      }
      throw State.trap();
     }
-    f189(m, l1, l3, l4);
-    break L2;
+    l8 = 0L;
    }
-   l18 = 0;
-   break L1;
+   l11 = (l2 << 1L) | (l4 >>> 63L);
+   l16 = l8 | (l4 << 1L);
   }
-  l18 = 1;
+  L59: {
+   L60: {
+    if ((l0 = ((l13 | l12) == 0L) ? 1 : 0) == 0) { break L60; }
+    l3 = 0L;
+    l4 = 0L;
+    break L59;
+   }
+   final long t61 = 0L - (l14 + ((l15 != 0L) ? 1L : 0L));
+   final long t62 = l14;
+   final int t63 = l19 = (l14 < 0L) ? 1 : 0;
+   final long t64 = l1 = t63 != 0 ? t61 : t62;
+   final int t65 = l0;
+   final long t66 = l1;
+   final long t67 = 0L - l15;
+   final long t68 = l15;
+   final int t69 = l19;
+   final int t70 = t65 | (((t66 | (l6 = t69 != 0 ? t67 : t68)) == 0L) ? 1 : 0);
+   final long t71 = (long) Long.numberOfLeadingZeros(l12);
+   final long t72 = ((long) Long.numberOfLeadingZeros(l13)) + 64L;
+   final int t73 = (l12 != 0L) ? 1 : 0;
+   final long t74 = l4 = t73 != 0 ? t71 : t72;
+   final long t75 = (long) Long.numberOfLeadingZeros(l1);
+   final long t76 = ((long) Long.numberOfLeadingZeros(l6)) + 64L;
+   final int t77 = (l1 != 0L) ? 1 : 0;
+   final int t78 = ((l8 = t74 - (l3 = t77 != 0 ? t75 : t76)) + Long.MIN_VALUE > -9223372036854775681L) ? 1 : 0;
+   final int t79 = ((l7 = 0L - ((l4 + Long.MIN_VALUE < l3 + Long.MIN_VALUE) ? 1L : 0L)) != 0L) ? 1 : 0;
+   final int t80 = (l7 == 0L) ? 1 : 0;
+   l3 = ((l0 = t70 | (t80 != 0 ? t78 : t79)) != 0) ? 0L : t64;
+   l4 = l0 != 0 ? 0L : l6;
+   if (l0 != 0) { break L59; }
+   if (((l8 ^ 127L) | l7) == 0L) { break L59; }
+   Core1.f4(m, l5 + 16L, l6, l1, 127 - ((int) l8));
+   l2 = Words.get64(b, ((int) l5) - 58888);
+   l4 = Words.get64(b, ((int) l5) - 58896);
+   L81: {
+    L82: {
+     if (((l3 = l8 + 1L) | (l7 = l7 + ((l3 == 0L) ? 1L : 0L))) == 0L) { break L82; }
+     Core1.f5(m, l5, l6, l1, (int) l3);
+     l18 = l13 + -1L;
+     l17 = l12 - ((l13 == 0L) ? 1L : 0L);
+     l8 = Words.get64(b, ((int) l5) - 58904);
+     l1 = Words.get64(b, ((int) l5) - 58912);
+     l6 = 0L;
+     L83: while (true) {
+      l9 = l6;
+      l8 = ((l6 = (l8 << 1L) | (l1 >>> 63L)) - ((l6 = ((l17 - l6) - ((l18 + Long.MIN_VALUE < (l1 = (l1 << 1L) | (l2 >>> 63L)) + Long.MIN_VALUE) ? 1L : 0L)) >> 63L) & l12)) - ((l1 + Long.MIN_VALUE < (l10 = l6 & l13) + Long.MIN_VALUE) ? 1L : 0L);
+      l6 = l6 & 1L;
+      l1 = l1 - l10;
+      l2 = 0L | ((l2 << 1L) | (l4 >>> 63L));
+      l0 = (l3 == 0L) ? 1 : 0;
+      l4 = l9 | (l4 << 1L);
+      l3 = l9 = l3 + -1L;
+      if (!((l9 | (l7 = l7 - (l0 & 0xffffffffL))) == 0L)) { continue L83; }
+      break L81;
+     }
+    }
+    l6 = 0L;
+   }
+   l3 = (l2 << 1L) | (l4 >>> 63L);
+   l4 = l6 | (l4 << 1L);
+  }
+  final int t84 = (l16 + Long.MIN_VALUE <= l4 + Long.MIN_VALUE) ? 1 : 0;
+  final int t85 = (l11 + Long.MIN_VALUE <= l3 + Long.MIN_VALUE) ? 1 : 0;
+  final int t86 = (l11 == l3) ? 1 : 0;
+  l19 = t86 != 0 ? t84 : t85;
  }
- b[((int) l0) - 60719] = (byte) l18;
- b[((int) l0) - 60720] = (byte) 0;
- m.g0 = l5 + 320L;
+ m.g0 = l5 + 160L;
+ return l19;
 }
 
-static void f189(State m, long l0, long l1, long l2) {
+static int f182_1(State m, long l8, long l11, long l14, long l15, long l16, long l17, long l18, int l20, int l21, int l22, int l23, int l24) {
  final byte[] b = m.bytes;
+ int exit = 0;
+ PART: {
+  L5: {
+   L6: {
+    L7: {
+     L8: {
+      L9: {
+       L10: {
+        L11: {
+         L12: {
+          L13: {
+           L14: {
+            L15: {
+             if ((l15 = Words.get64(b, ((int) l8) - 58888)) + Long.MIN_VALUE < -9223372036854775805L) { break L15; }
+             if (((l20 = b[((int) ((l16 = l14 + l15) + -3L)) - 58912] & 0xff) & 240) != 224) { break L14; }
+             l23 = (((l20 << 12) | (l21 = b[((int) (l16 + -1L)) - 58912] & 0xff)) + ((l22 = b[((int) (l16 + -2L)) - 58912] & 0xff) << 6)) + -925824;
+             l16 = l15 + -3L;
+             if (Words.get32(b, ((int) ((l17 = ((((l20 = ((l22 << 8) | (l21 << 16)) | l20) & 0xffffffffL) * 953497L) >>> 22L) & 1016L) + 66852L)) - 58912) == l20) { break L13; }
+             break L11;
+            }
+            if (l15 == 0L) { break L6; }
+           }
+           l20 = 0;
+           if ((l23 = (int) b[((int) (l14 + (l16 = l15 + -1L))) - 58912]) >= 0) { break L12; }
+           l16 = -2L;
+           L16: {
+            if ((b[((int) ((l17 = l14 + l15) + -2L)) - 58912] & 0xff) + Integer.MIN_VALUE > -2147483457) { break L16; }
+            l16 = ((b[((int) (l17 + -3L)) - 58912] & 0xff) + Integer.MIN_VALUE > -2147483457) ? -3L : -4L;
+           }
+           l23 = (l21 = (int) b[((int) (l17 = l14 + (l16 = l16 + l15))) - 58912]) & 255;
+           if (l21 > -1) { break L12; }
+           l22 = (b[((int) l17) - 58911] & 0xff) & 63;
+           L17: {
+            if (l21 + Integer.MIN_VALUE > 2147483615) { break L17; }
+            l23 = ((l23 << 6) & 1984) | l22;
+            break L12;
+           }
+           l24 = (b[((int) l17) - 58910] & 0xff) & 63;
+           L18: {
+            L19: {
+             if (l21 + Integer.MIN_VALUE > 2147483631) { break L19; }
+             l23 = ((l22 << 6) | ((l23 << 12) & 61440)) | l24;
+             break L18;
+            }
+            l23 = ((l24 << 6) | ((l22 << 12) | ((l23 << 18) & 1835008))) | ((b[((int) l17) - 58909] & 0xff) & 63);
+           }
+           if ((l23 + -2048) + Integer.MIN_VALUE > -2147420161) { break L12; }
+           if (Words.get32(b, ((int) ((l17 = ((((l20 = (((l23 >>> 12) | ((l23 << 2) & 16128)) | ((l23 << 16) & 4128768)) | 8421600) & 0xffffffffL) * 953497L) >>> 22L) & 1016L) + 66852L)) - 58912) != l20) { break L10; }
+          }
+          if ((b[((int) (l17 + 66856L)) - 58912] & 0xff) != 0) { break L11; }
+          break L8;
+         }
+         if ((l23 + -48) + Integer.MIN_VALUE >= -2147483638) { break L11; }
+         l22 = 1;
+         break L5;
+        }
+        if (l23 + Integer.MIN_VALUE > -2147483521) { break L10; }
+        l22 = 1;
+        l20 = 0;
+        if (l23 == 95) { break L5; }
+        if ((l23 + -44) + Integer.MIN_VALUE < -2147483645) { break L9; }
+        if ((l23 + -48) + Integer.MIN_VALUE < -2147483638) { break L5; }
+        if (((l23 & 95) + -65) + Integer.MIN_VALUE >= -2147483622) { break L6; }
+        break L5;
+       }
+       l22 = 0;
+       l20 = 1;
+       L20: {
+        L21: {
+         if (l23 > 24185) { break L21; }
+         L22: {
+          if (l23 > 21316) { break L22; }
+          L23: {
+           if (l23 > 20959) { break L23; }
+           if (l23 == 20313) { break L6; }
+           if (l23 == 20358) { break L6; }
+           break L20;
+          }
+          if (l23 == 20960) { break L5; }
+          if (l23 == 20986) { break L6; }
+          break L20;
+         }
+         L24: {
+          switch (l23 + -21317) {
+          case 0: case 7: break L8;
+          case 1: case 2: case 3: case 4: case 5: case 6: break L20;
+          default: break L24;
+          }
+         }
+         if (l23 == 22810) { break L6; }
+         if (l23 == 22909) { break L6; }
+         break L20;
+        }
+        L25: {
+         if (l23 > 26468) { break L25; }
+         L26: {
+          switch (l23 + -24186) {
+          case 0: break L8;
+          case 1: case 2: case 3: break L20;
+          case 4: break L5;
+          default: break L26;
+          }
+         }
+         L27: {
+          switch (l23 + -25968) {
+          case 0: case 8: break L5;
+          case 1: case 2: case 3: case 4: case 5: case 6: case 7: break L20;
+          default: break L27;
+          }
+         }
+         if (l23 == 24319) { break L8; }
+         break L20;
+        }
+        L28: {
+         if (l23 > 39191) { break L28; }
+         if (l23 == 26469) { break L6; }
+         if (l23 != 28857) { break L20; }
+         break L9;
+        }
+        if (l23 == 39192) { break L6; }
+        if (l23 == 40670) { break L9; }
+       }
+       if ((l23 + -65296) + Integer.MIN_VALUE > -2147483639) { break L6; }
+       break L8;
+      }
+      Words.put64(b, ((int) l8) - 58880, 0L);
+      Words.put64(b, ((int) l8) - 58888, 0L);
+      Words.put64(b, ((int) l8) - 58896, 0L);
+      Words.put64(b, ((int) l8) - 58904, 0L);
+      L29: {
+       L30: {
+        L31: {
+         L32: {
+          L33: {
+           L34: {
+            if (l16 + Long.MIN_VALUE < -9223372036854775805L) { break L34; }
+            if (((l23 = b[((int) ((l17 = l14 + l16) + -3L)) - 58912] & 0xff) & 240) != 224) { break L33; }
+            Words.put64(b, ((int) l8) - 58888, l14);
+            Words.put64(b, ((int) l8) - 58904, 1L);
+            Words.put64(b, ((int) l8) - 58880, l16 + -3L);
+            Words.put32(b, ((int) l8) - 58896, (((l23 << 12) | (l20 = b[((int) (l17 + -1L)) - 58912] & 0xff)) + ((l21 = b[((int) (l17 + -2L)) - 58912] & 0xff) << 6)) + -925824);
+            final int t35 = (int) l8;
+            final int t36 = b[((int) ((l16 = ((((l23 = ((l21 << 8) | (l20 << 16)) | l23) & 0xffffffffL) * 953497L) >>> 22L) & 1016L) + 66857L)) - 58912] & 0xff;
+            final int t37 = l23 = (Words.get32(b, State.far((int) l16, 66852)) == l23) ? 1 : 0;
+            b[t35 - 58891] = (byte) (t37 != 0 ? t36 : 0);
+            final int t38 = (int) l8;
+            final int t39 = b[((int) (l16 + 66856L)) - 58912] & 0xff;
+            final int t40 = l23;
+            b[t38 - 58892] = (byte) (t40 != 0 ? t39 : 2);
+            break L29;
+           }
+           if (l16 == 0L) { break L32; }
+          }
+          if ((l23 = (int) b[((int) (l14 + (l17 = l16 + -1L))) - 58912]) >= 0) { break L31; }
+          l17 = -2L;
+          L41: {
+           if ((b[((int) ((l18 = l14 + l16) + -2L)) - 58912] & 0xff) + Integer.MIN_VALUE > -2147483457) { break L41; }
+           l17 = ((b[((int) (l18 + -3L)) - 58912] & 0xff) + Integer.MIN_VALUE > -2147483457) ? -3L : -4L;
+          }
+          l23 = (l20 = (int) b[((int) (l16 = l14 + (l17 = l17 + l16))) - 58912]) & 255;
+          if (l20 > -1) { break L31; }
+          l21 = (b[((int) l16) - 58911] & 0xff) & 63;
+          L42: {
+           if (l20 + Integer.MIN_VALUE > 2147483615) { break L42; }
+           l23 = ((l23 << 6) & 1984) | l21;
+           break L31;
+          }
+          l22 = (b[((int) l16) - 58910] & 0xff) & 63;
+          L43: {
+           L44: {
+            if (l20 + Integer.MIN_VALUE > 2147483631) { break L44; }
+            l23 = ((l21 << 6) | ((l23 << 12) & 61440)) | l22;
+            break L43;
+           }
+           l23 = ((l22 << 6) | ((l21 << 12) | ((l23 << 18) & 1835008))) | ((b[((int) l16) - 58909] & 0xff) & 63);
+          }
+          if ((l23 + -2048) + Integer.MIN_VALUE > -2147420161) { break L31; }
+          final int t45 = b[((int) ((l16 = ((((l20 = (((l23 >>> 12) | ((l23 << 2) & 16128)) | ((l23 << 16) & 4128768)) | 8421600) & 0xffffffffL) * 953497L) >>> 22L) & 1016L) + 66857L)) - 58912] & 0xff;
+          final int t46 = l21 = (Words.get32(b, State.far((int) l16, 66852)) == l20) ? 1 : 0;
+          l20 = t46 != 0 ? t45 : 0;
+          final int t47 = b[((int) (l16 + 66856L)) - 58912] & 0xff;
+          final int t48 = l21;
+          l21 = t48 != 0 ? t47 : 2;
+          break L30;
+         }
+         Words.put64(b, ((int) l11) - 58912, 0L);
+         Words.put64(b, ((int) l11) - 58904, 0L);
+         Words.put64(b, ((int) l8) - 58898, 0L);
+         Words.put64(b, ((int) l8) - 58904, 0L);
+         break L29;
+        }
+        final int t49 = l20 = l23 + -48;
+        final int t50 = l21 = (l20 + Integer.MIN_VALUE < -2147483638) ? 1 : 0;
+        l20 = t50 != 0 ? t49 : 0;
+        l21 = l21 != 0 ? 0 : 2;
+       }
+       Words.put64(b, ((int) l8) - 58880, l17);
+       Words.put64(b, ((int) l8) - 58888, l14);
+       b[((int) l8) - 58891] = (byte) l20;
+       b[((int) l8) - 58892] = (byte) l21;
+       Words.put32(b, ((int) l8) - 58896, l23);
+       Words.put64(b, ((int) l8) - 58904, 1L);
+      }
+      l22 = Core3.f110(m, l8 + 8L);
+      break L7;
+     }
+     l22 = 1;
+    }
+    l20 = 0;
+    break L5;
+   }
+   l20 = 0;
+   l22 = 0;
+  }
+ }
+ m.kept[0] = l15;
+ m.kept[1] = l16;
+ m.kept[2] = l17;
+ m.kept[3] = l18;
+ m.kept[4] = l20;
+ m.kept[5] = l21;
+ m.kept[6] = l22;
+ m.kept[7] = l23;
+ m.kept[8] = l24;
+ return exit;
+}
+
+static int f182(State m, long l0, long l1, long l2, int l3, int l4, long l5, long l6, long l7) {
+ final byte[] b = m.bytes;
+ long l8 = 0;
+ long l9 = 0;
+ long l10 = 0;
+ long l11 = 0;
+ long l12 = 0;
+ long l13 = 0;
+ long l14 = 0;
+ long l15 = 0;
+ long l16 = 0;
+ long l17 = 0;
+ long l18 = 0;
+ int l19 = 0;
+ int l20 = 0;
+ int l21 = 0;
+ int l22 = 0;
+ int l23 = 0;
+ int l24 = 0;
+ int l25 = 0;
+ m.g0 = l8 = m.g0 - 64L;
+ L1: {
+  if ((l8 = l8) < 16L) { break L1; }
+  l19 = 8;
+  l9 = 0L;
+  L2: {
+   if (l3 + Integer.MIN_VALUE > -2147483647) { break L2; }
+   if (l4 + Integer.MIN_VALUE > -2147483633) { break L2; }
+   L3: {
+    if (l1 == l2) { break L3; }
+    l19 = 5;
+    if (l1 + Long.MIN_VALUE < l2 + Long.MIN_VALUE) { break L2; }
+    if (((int) b[((int) (l0 + l2)) - 58912]) < -64) { break L2; }
+   }
+   l19 = 0;
+   if (l6 == 0L) { break L2; }
+   l10 = l0 + l2;
+   l2 = l1 - l2;
+   l11 = l8 + 24L;
+   l9 = 0L;
+   L4: while (true) {
+    Words.put64(b, ((int) l8) - 58856, 0L);
+    Words.put64(b, ((int) l8) - 58864, 0L);
+    Words.put64(b, ((int) l8) - 58872, 0L);
+    Words.put64(b, ((int) l8) - 58880, 0L);
+    Words.put64(b, ((int) l8) - 58888, 0L);
+    Words.put64(b, ((int) l8) - 58896, 0L);
+    Words.put64(b, ((int) l8) - 58904, 0L);
+    if (l2 == 0L) { break L2; }
+    f183(m, l8 + 8L, l3, l4, l0, l1, l10, l2);
+    if ((b[((int) l8) - 58904] & 0xff) != 1) { break L2; }
+    l12 = Words.get64(b, ((int) l8) - 58872);
+    l13 = Words.get64(b, ((int) l8) - 58880);
+    l14 = Words.get64(b, ((int) l8) - 58896);
+    l2 = Words.get64(b, ((int) l8) - 58856);
+    l10 = Words.get64(b, ((int) l8) - 58864);
+    f182_1(m, l8, l11, l14, l15, l16, l17, l18, l20, l21, l22, l23, l24);
+    l15 = m.kept[0];
+    l16 = m.kept[1];
+    l17 = m.kept[2];
+    l18 = m.kept[3];
+    l20 = (int) m.kept[4];
+    l21 = (int) m.kept[5];
+    l22 = (int) m.kept[6];
+    l23 = (int) m.kept[7];
+    l24 = (int) m.kept[8];
+    L52: {
+     L53: {
+      L54: {
+       L55: {
+        L56: {
+         L57: {
+          L58: {
+           L59: {
+            L60: {
+             L61: {
+              if (l2 + Long.MIN_VALUE < -9223372036854775805L) { break L61; }
+              if (((l23 = b[((int) l10) - 58912] & 0xff) & 240) != 224) { break L60; }
+              l21 = (((l24 = b[((int) l10) - 58911] & 0xff) << 8) | ((l25 = b[((int) l10) - 58910] & 0xff) << 16)) | l23;
+              l23 = (((l23 << 12) | l25) + (l24 << 6)) + -925824;
+              l17 = l2 + -3L;
+              l16 = l10 + 3L;
+              if (l21 != Words.get32(b, ((int) ((l18 = (((l21 & 0xffffffffL) * 953497L) >>> 22L) & 1016L) + 66852L)) - 58912)) { break L58; }
+              break L59;
+             }
+             if (l2 == 0L) { break L53; }
+             l23 = b[((int) l10) - 58912] & 0xff;
+            }
+            l16 = 1L;
+            L62: {
+             if (((int) (byte) l23) > -1) { break L62; }
+             l21 = (b[((int) l10) - 58911] & 0xff) & 63;
+             L63: {
+              if (l23 + Integer.MIN_VALUE > -2147483425) { break L63; }
+              l23 = ((l23 << 6) & 1984) | l21;
+              l16 = 2L;
+              break L62;
+             }
+             l24 = (b[((int) l10) - 58910] & 0xff) & 63;
+             L64: {
+              if (l23 + Integer.MIN_VALUE > -2147483409) { break L64; }
+              l23 = ((l21 << 6) | ((l23 << 12) & 61440)) | l24;
+              l16 = 3L;
+              break L62;
+             }
+             l23 = ((l24 << 6) | ((l21 << 12) | ((l23 << 18) & 1835008))) | ((b[((int) l10) - 58909] & 0xff) & 63);
+             l16 = 4L;
+            }
+            l17 = l2 - l16;
+            l16 = l10 + l16;
+            L65: {
+             if ((l23 + -2048) + Integer.MIN_VALUE > -2147420161) { break L65; }
+             if (Words.get32(b, ((int) ((l18 = ((((l21 = (((l23 >>> 12) | ((l23 << 2) & 16128)) | ((l23 << 16) & 4128768)) | 8421600) & 0xffffffffL) * 953497L) >>> 22L) & 1016L) + 66852L)) - 58912) == l21) { break L59; }
+             break L57;
+            }
+            if ((l23 + -48) + Integer.MIN_VALUE >= -2147483638) { break L58; }
+            break L55;
+           }
+           if ((b[((int) (l18 + 66856L)) - 58912] & 0xff) == 0) { break L55; }
+          }
+          if (l23 + Integer.MIN_VALUE > -2147483521) { break L57; }
+          l24 = 1;
+          l21 = 0;
+          if (l23 == 95) { break L52; }
+          if ((l23 + -44) + Integer.MIN_VALUE < -2147483645) { break L56; }
+          if ((l23 + -48) + Integer.MIN_VALUE < -2147483638) { break L52; }
+          if (((l23 & 95) + -65) + Integer.MIN_VALUE >= -2147483622) { break L53; }
+          break L52;
+         }
+         l24 = 0;
+         l21 = 1;
+         L66: {
+          L67: {
+           if (l23 > 24185) { break L67; }
+           L68: {
+            L69: {
+             if (l23 > 21316) { break L69; }
+             L70: {
+              if (l23 > 20959) { break L70; }
+              if (l23 == 20313) { break L52; }
+              if (l23 != 20358) { break L66; }
+              break L52;
+             }
+             if (l23 == 20960) { break L52; }
+             if (l23 == 20986) { break L68; }
+             break L66;
+            }
+            L71: {
+             switch (l23 + -21317) {
+             case 0: case 7: break L55;
+             case 1: case 2: case 3: case 4: case 5: case 6: break L66;
+             default: break L71;
+             }
+            }
+            if (l23 == 22810) { break L52; }
+            if (l23 != 22909) { break L66; }
+           }
+           l21 = Core3.f111(m, l23, l16, l17);
+           break L52;
+          }
+          L72: {
+           if (l23 > 26468) { break L72; }
+           L73: {
+            switch (l23 + -24186) {
+            case 0: break L55;
+            case 1: case 2: case 3: break L66;
+            case 4: break L52;
+            default: break L73;
+            }
+           }
+           L74: {
+            switch (l23 + -25968) {
+            case 0: case 8: break L53;
+            case 1: case 2: case 3: case 4: case 5: case 6: case 7: break L66;
+            default: break L74;
+            }
+           }
+           if (l23 == 24319) { break L55; }
+           break L66;
+          }
+          L75: {
+           if (l23 > 39191) { break L75; }
+           if (l23 == 26469) { break L52; }
+           if (l23 != 28857) { break L66; }
+           break L56;
+          }
+          if (l23 == 39192) { break L52; }
+          if (l23 == 40670) { break L56; }
+         }
+         if ((l23 + -65296) + Integer.MIN_VALUE > -2147483639) { break L53; }
+         break L55;
+        }
+        Words.put64(b, ((int) l8) - 58880, 0L);
+        Words.put64(b, ((int) l8) - 58888, 0L);
+        Words.put64(b, ((int) l8) - 58896, 0L);
+        Words.put64(b, ((int) l8) - 58904, 0L);
+        L76: {
+         L77: {
+          L78: {
+           L79: {
+            if (l17 + Long.MIN_VALUE < -9223372036854775805L) { break L79; }
+            if (((l23 = b[((int) l16) - 58912] & 0xff) & 240) != 224) { break L78; }
+            l21 = b[((int) l16) - 58910] & 0xff;
+            l24 = b[((int) l16) - 58911] & 0xff;
+            Words.put64(b, ((int) l8) - 58880, l17 + -3L);
+            Words.put64(b, ((int) l8) - 58888, l16 + 3L);
+            Words.put64(b, ((int) l8) - 58904, 1L);
+            Words.put32(b, ((int) l8) - 58896, ((l21 | (l23 << 12)) + (l24 << 6)) + -925824);
+            final int t80 = (int) l8;
+            final int t81 = b[((int) ((l16 = ((((l23 = ((l24 << 8) | (l21 << 16)) | l23) & 0xffffffffL) * 953497L) >>> 22L) & 1016L) + 66857L)) - 58912] & 0xff;
+            final int t82 = l23 = (Words.get32(b, State.far((int) l16, 66852)) == l23) ? 1 : 0;
+            b[t80 - 58891] = (byte) (t82 != 0 ? t81 : 0);
+            final int t83 = (int) l8;
+            final int t84 = b[((int) (l16 + 66856L)) - 58912] & 0xff;
+            final int t85 = l23;
+            b[t83 - 58892] = (byte) (t85 != 0 ? t84 : 2);
+            break L76;
+           }
+           if (l17 == 0L) { break L77; }
+           l23 = b[((int) l16) - 58912] & 0xff;
+          }
+          l18 = 1L;
+          L86: {
+           if (((int) (byte) l23) > -1) { break L86; }
+           l21 = (b[((int) l16) - 58911] & 0xff) & 63;
+           L87: {
+            if (l23 + Integer.MIN_VALUE > -2147483425) { break L87; }
+            l23 = ((l23 << 6) & 1984) | l21;
+            l18 = 2L;
+            break L86;
+           }
+           l24 = (b[((int) l16) - 58910] & 0xff) & 63;
+           L88: {
+            if (l23 + Integer.MIN_VALUE > -2147483409) { break L88; }
+            l23 = ((l21 << 6) | ((l23 << 12) & 61440)) | l24;
+            l18 = 3L;
+            break L86;
+           }
+           l23 = ((l24 << 6) | ((l21 << 12) | ((l23 << 18) & 1835008))) | ((b[((int) l16) - 58909] & 0xff) & 63);
+           l18 = 4L;
+          }
+          l17 = l17 - l18;
+          l16 = l16 + l18;
+          L89: {
+           L90: {
+            if ((l23 + -2048) + Integer.MIN_VALUE > -2147420161) { break L90; }
+            final int t91 = b[((int) ((l18 = ((((l21 = (((l23 >>> 12) | ((l23 << 2) & 16128)) | ((l23 << 16) & 4128768)) | 8421600) & 0xffffffffL) * 953497L) >>> 22L) & 1016L) + 66857L)) - 58912] & 0xff;
+            final int t92 = l24 = (Words.get32(b, State.far((int) l18, 66852)) == l21) ? 1 : 0;
+            l21 = t92 != 0 ? t91 : 0;
+            final int t93 = b[((int) (l18 + 66856L)) - 58912] & 0xff;
+            final int t94 = l24;
+            l24 = t94 != 0 ? t93 : 2;
+            break L89;
+           }
+           final int t95 = l21 = l23 + -48;
+           final int t96 = l24 = (l21 + Integer.MIN_VALUE < -2147483638) ? 1 : 0;
+           l21 = t96 != 0 ? t95 : 0;
+           l24 = l24 != 0 ? 0 : 2;
+          }
+          Words.put64(b, ((int) l8) - 58880, l17);
+          Words.put64(b, ((int) l8) - 58888, l16);
+          b[((int) l8) - 58891] = (byte) l21;
+          b[((int) l8) - 58892] = (byte) l24;
+          Words.put32(b, ((int) l8) - 58896, l23);
+          Words.put64(b, ((int) l8) - 58904, 1L);
+          break L76;
+         }
+         Words.put64(b, ((int) l11) - 58912, 0L);
+         Words.put64(b, ((int) l11) - 58904, 0L);
+         Words.put64(b, ((int) l8) - 58898, 0L);
+         Words.put64(b, ((int) l8) - 58904, 0L);
+        }
+        l24 = Core3.f112(m, l8 + 8L);
+        break L54;
+       }
+       l24 = 1;
+      }
+      l21 = 0;
+      break L52;
+     }
+     l21 = 0;
+     l24 = 0;
+    }
+    l16 = l12 + l15;
+    Words.put32(b, ((int) l8) - 58904, 0);
+    l23 = l22 | l24;
+    L97: {
+     L98: {
+      L99: {
+       L100: {
+        L101: {
+         L102: {
+          L103: {
+           L104: {
+            if ((l17 = l12 + -1L) + Long.MIN_VALUE > -9223372036854775806L) { break L104; }
+            L105: {
+             switch ((int) l17) {
+             case 1: break L104;
+             case 2: break L105;
+             default: break L101;
+             }
+            }
+            if ((l24 = (Words.get32(b, State.far((int) (l17 = ((((l22 = (((b[((int) l13) - 58911] & 0xff) << 8) | (l25 = b[((int) l13) - 58912] & 0xff)) | ((b[((int) l13) - 58910] & 0xff) << 16)) & 0xffffffffL) * 953497L) >>> 22L) & 1016L), 66852)) != l22) ? 1 : 0) != 0) { break L103; }
+            l22 = 1;
+            final int t106 = b[((int) (l17 + 66856L)) - 58912] & 0xff;
+            final int t107 = l24;
+            if (((l24 = t107 != 0 ? 0 : t106) & 255) == 2) { break L103; }
+            break L100;
+           }
+           if (l12 + Long.MIN_VALUE > -9223372036854775804L) { break L99; }
+           if (l12 == 0L) { break L102; }
+           l25 = b[((int) l13) - 58912] & 0xff;
+          }
+          if (((int) (byte) l25) > -1) { break L99; }
+         }
+         Core3.f113(m, l8 + 8L, l13, l12);
+         if ((b[((int) l8) - 58904] & 0xff) != 1) { break L99; }
+         l22 = b[((int) l8) - 58901] & 0xff;
+         l24 = b[((int) l8) - 58903] & 0xff;
+         break L100;
+        }
+        l24 = ((l22 = ((((b[((int) l13) - 58912] & 0xff) + -58) & 255) + Integer.MIN_VALUE < -2147483402) ? 1 : 0) != 0) ? 2 : 0;
+       }
+       l23 = (l23 != 0 ? 0 : 2) | (((l24 = l24 & 255) == 0) ? 1 : 0);
+       l22 = ((l22 & 1) != 0) ? 8 : 0;
+       if ((l21 | (l20 & ((l24 == 1) ? 1 : 0))) != 0) { break L98; }
+       break L97;
+      }
+      l24 = Core3.f114(m, l13, l12);
+      L108: {
+       L109: {
+        L110: {
+         if (l20 == 0) { break L110; }
+         if ((l21 | Core3.f115(m, l13, l12)) != 0) { break L109; }
+         break L108;
+        }
+        if (l21 == 0) { break L108; }
+       }
+       l22 = 0;
+       l23 = (l23 != 0 ? 0 : 2) | l24;
+       break L98;
+      }
+      l22 = 0;
+      l23 = (l23 != 0 ? 0 : 2) | l24;
+      if (Core3.f116(m, l13, l12) == 0) { break L97; }
+     }
+     l23 = l23 | 4;
+    }
+    Words.put64(b, ((int) l8) - 58864, l2);
+    Words.put64(b, ((int) l8) - 58872, l10);
+    Words.put64(b, ((int) l8) - 58880, l12);
+    Words.put64(b, ((int) l8) - 58888, l13);
+    Words.put64(b, ((int) l8) - 58896, l15);
+    Words.put64(b, ((int) l8) - 58904, l14);
+    Core4.f126(m, l8, l8 + 8L);
+    l20 = b[((int) l8) - 58911] & 0xff;
+    l21 = b[((int) l8) - 58912] & 0xff;
+    Words.put32(b, ((int) (l5 + 20L)) - 58912, 0);
+    Words.put64(b, ((int) (l5 + 8L)) - 58912, l16);
+    Words.put64(b, ((int) l5) - 58912, l15);
+    final int t111 = (int) (l5 + 16L);
+    final int t112 = l22 | l23;
+    final int t113 = ((l20 + 1) & 255) << 4;
+    final int t114 = l21 & 1;
+    Words.put32(b, t111 - 58912, t112 | (t114 != 0 ? t113 : 0));
+    l5 = l5 + 24L;
+    if (l6 != (l9 = l9 + 1L)) { continue L4; }
+    break L4;
+   }
+   l9 = l6;
+   l19 = 0;
+  }
+  Words.put64(b, ((int) l7) - 58912, l9);
+  m.g0 = l8 + 64L;
+  final int t115 = l19;
+  return t115;
+ }
+ throw State.trap();
+}
+
+static void f183(State m, long l0, int l1, int l2, long l3, long l4, long l5, long l6) {
+ final byte[] b = m.bytes;
+ long l7 = 0;
+ long l8 = 0;
+ long l9 = 0;
+ long l10 = 0;
+ int l11 = 0;
+ int l12 = 0;
+ int l13 = 0;
+ int l14 = 0;
+ int l15 = 0;
+ m.g0 = l7 = m.g0 - 16L;
+ L1: {
+  L2: {
+   L3: {
+    if ((l8 = l7) < 16L) { break L3; }
+    L4: while (true) {
+     l7 = l5;
+     l10 = l4 - (l9 = l6);
+     L5: {
+      L6: {
+       L7: {
+        L8: {
+         L9: {
+          if (l9 + Long.MIN_VALUE < -9223372036854775805L) { break L9; }
+          if (((l11 = b[((int) l7) - 58912] & 0xff) & 240) != 224) { break L8; }
+          final int t10 = b[((int) ((l6 = ((((l14 = (((l12 = b[((int) l7) - 58911] & 0xff) << 8) | ((l13 = b[((int) l7) - 58910] & 0xff) << 16)) | l11) & 0xffffffffL) * 953497L) >>> 22L) & 1016L) + 66857L)) - 58912] & 0xff;
+          final int t11 = l14 = (Words.get32(b, State.far((int) l6, 66852)) == l14) ? 1 : 0;
+          l15 = t11 != 0 ? t10 : 0;
+          final int t12 = b[((int) (l6 + 66856L)) - 58912] & 0xff;
+          final int t13 = l14;
+          l14 = t13 != 0 ? t12 : 2;
+          l12 = (l11 = ((l12 << 6) + l13) + (l11 << 12)) + -925824;
+          l6 = l9 + -3L;
+          l5 = l7 + 3L;
+          L14: {
+           L15: {
+            if (l11 == 947141) { break L15; }
+            if (l11 == 950143) { break L15; }
+            if ((l11 + -991120) + Integer.MIN_VALUE < -2147483638) { break L15; }
+            L16: {
+             L17: {
+              if (l11 > 946314) { break L17; }
+              L18: {
+               if (l11 > 945802) { break L18; }
+               L19: {
+                if (l11 > 934063) { break L19; }
+                L20: {
+                 switch (l11 + -925856) {
+                 case 0: case 5: break L15;
+                 case 1: case 2: case 3: case 4: break L16;
+                 default: break L20;
+                 }
+                }
+                if (l11 != 925989) { break L16; }
+                break L15;
+               }
+               if (l11 == 934064) { break L15; }
+               if (l11 != 934546) { break L16; }
+               break L15;
+              }
+              L21: {
+               if (l11 > 945866) { break L21; }
+               L22: {
+                switch (l11 + -945828) {
+                case 0: case 6: break L15;
+                case 1: case 2: case 3: case 4: case 5: break L16;
+                default: break L22;
+                }
+               }
+               if (l11 != 945803) { break L16; }
+               break L15;
+              }
+              if (l11 == 945867) { break L15; }
+              if (l11 != 946015) { break L16; }
+              break L15;
+             }
+             L23: {
+              if (l11 > 954680) { break L23; }
+              L24: {
+               if (l11 > 946821) { break L24; }
+               if (l11 == 946315) { break L15; }
+               if (l11 != 946665) { break L16; }
+               break L15;
+              }
+              if (l11 == 946822) { break L15; }
+              if (l11 == 947139) { break L15; }
+              if (l11 != 947272) { break L16; }
+              break L15;
+             }
+             L25: {
+              if (l11 > 966493) { break L25; }
+              if (l11 == 954681) { break L15; }
+              if (l11 == 961824) { break L15; }
+              if (l11 != 961951) { break L16; }
+              break L15;
+             }
+             if (l11 == 966494) { break L15; }
+             if (l11 == 991109) { break L15; }
+             if (l11 == 991333) { break L15; }
+            }
+            if (l12 + Integer.MIN_VALUE < -2147483604) { break L14; }
+            if (l12 + Integer.MIN_VALUE < -2147483601) { break L15; }
+            if ((l11 + -991116) + Integer.MIN_VALUE > -2147483646) { break L14; }
+           }
+           L26: {
+            L27: {
+             if ((l14 & 255) != 2) { break L27; }
+             if (l11 == 947141) { break L2; }
+             if (l11 == 950143) { break L2; }
+             if ((l11 + -991120) + Integer.MIN_VALUE >= -2147483638) { break L26; }
+             break L2;
+            }
+            if (Core5.f146(m, l1, l2, l12, l14, l15, l5, l6) == 0) { break L26; }
+            if (Core5.f147(m, l1, l2, l3, l10, l12, l5, l6) == 0) { break L2; }
+           }
+           if (Core5.f148(m, l1, l2, l3, l10, l12, l5, l6) == 0) { continue L4; }
+           break L2;
+          }
+          L28: {
+           L29: {
+            switch ((int) ((l14 & 0xffffffffL) & 255L)) {
+            case 1: break L29;
+            case 2: continue L4;
+            default: break L28;
+            }
+           }
+           if ((l2 & 255) + Integer.MIN_VALUE < (l15 & 255) + Integer.MIN_VALUE) { continue L4; }
+          }
+          L30: {
+           if ((l1 & 1) != 0) { break L30; }
+           L31: {
+            L32: {
+             if (l11 > 955413) { break L32; }
+             L33: {
+              if (l11 > 948600) { break L33; }
+              if (l11 == 946015) { continue L4; }
+              if (l11 == 946061) { continue L4; }
+              if (l11 == 946160) { continue L4; }
+              break L31;
+             }
+             L34: {
+              if (l11 > 951243) { break L34; }
+              if (l11 == 948601) { continue L4; }
+              if (l11 == 951166) { continue L4; }
+              break L31;
+             }
+             if (l11 == 951244) { continue L4; }
+             if (l11 == 952402) { continue L4; }
+             break L31;
+            }
+            L35: {
+             if (l11 > 961967) { break L35; }
+             L36: {
+              switch (l11 + -961838) {
+              case 0: case 5: continue L4;
+              case 1: case 2: case 3: case 4: break L31;
+              default: break L36;
+              }
+             }
+             if (l11 == 955414) { continue L4; }
+             if (l11 == 958726) { continue L4; }
+             break L31;
+            }
+            if (l11 == 961968) { continue L4; }
+            if (l11 == 964294) { continue L4; }
+            if (l11 == 964344) { continue L4; }
+           }
+           if ((l11 + -947265) + Integer.MIN_VALUE < -2147483644) { continue L4; }
+          }
+          if ((l14 & 255) != 1) { break L2; }
+          if ((l11 = l15 & 255) == 0) { break L7; }
+          if (l11 != 6) { break L2; }
+          if (Core3.f108(m, l5, l6) != 0) { continue L4; }
+          break L2;
+         }
+         if (l9 == 0L) { break L6; }
+         l11 = b[((int) l7) - 58912] & 0xff;
+        }
+        l12 = l11 & 255;
+        l5 = 1L;
+        L37: {
+         if (((int) (byte) l11) > -1) { break L37; }
+         l14 = (b[((int) l7) - 58911] & 0xff) & 63;
+         L38: {
+          if ((l11 & 255) + Integer.MIN_VALUE > -2147483425) { break L38; }
+          l12 = ((l12 << 6) & 1984) | l14;
+          l5 = 2L;
+          break L37;
+         }
+         l13 = (b[((int) l7) - 58910] & 0xff) & 63;
+         L39: {
+          if ((l11 & 255) + Integer.MIN_VALUE > -2147483409) { break L39; }
+          l12 = ((l14 << 6) | ((l12 << 12) & 61440)) | l13;
+          l5 = 3L;
+          break L37;
+         }
+         l12 = ((l13 << 6) | ((l14 << 12) | ((l12 << 18) & 1835008))) | ((b[((int) l7) - 58909] & 0xff) & 63);
+         l5 = 4L;
+        }
+        L40: {
+         L41: {
+          if ((l12 + -2048) + Integer.MIN_VALUE > -2147420161) { break L41; }
+          final int t42 = b[((int) ((l6 = ((((l11 = (((l12 >>> 12) | ((l12 << 2) & 16128)) | ((l12 << 16) & 4128768)) | 8421600) & 0xffffffffL) * 953497L) >>> 22L) & 1016L) + 66857L)) - 58912] & 0xff;
+          final int t43 = l11 = (Words.get32(b, State.far((int) l6, 66852)) == l11) ? 1 : 0;
+          l14 = t43 != 0 ? t42 : 0;
+          final int t44 = b[((int) (l6 + 66856L)) - 58912] & 0xff;
+          final int t45 = l11;
+          l11 = t45 != 0 ? t44 : 2;
+          break L40;
+         }
+         final int t46 = l11 = l12 + -48;
+         final int t47 = l11 = (l11 + Integer.MIN_VALUE < -2147483638) ? 1 : 0;
+         l14 = t47 != 0 ? t46 : 0;
+         l11 = l11 != 0 ? 0 : 2;
+        }
+        l6 = l9 - l5;
+        l5 = l7 + l5;
+        L48: {
+         L49: {
+          if (l12 == 21317) { break L49; }
+          if (l12 == 24319) { break L49; }
+          if ((l12 + -65296) + Integer.MIN_VALUE < -2147483638) { break L49; }
+          L50: {
+           L51: {
+            if (l12 > 20490) { break L51; }
+            L52: {
+             if (l12 > 19978) { break L52; }
+             L53: {
+              if (l12 > 8239) { break L53; }
+              L54: {
+               switch (l12 + -32) {
+               case 0: case 5: break L49;
+               case 1: case 2: case 3: case 4: break L50;
+               default: break L54;
+               }
+              }
+              if (l12 != 165) { break L50; }
+              break L49;
+             }
+             if (l12 == 8240) { break L49; }
+             if (l12 != 8722) { break L50; }
+             break L49;
+            }
+            L55: {
+             if (l12 > 20042) { break L55; }
+             L56: {
+              switch (l12 + -20004) {
+              case 0: case 6: break L49;
+              case 1: case 2: case 3: case 4: case 5: break L50;
+              default: break L56;
+              }
+             }
+             if (l12 != 19979) { break L50; }
+             break L49;
+            }
+            if (l12 == 20043) { break L49; }
+            if (l12 != 20191) { break L50; }
+            break L49;
+           }
+           L57: {
+            if (l12 > 28856) { break L57; }
+            L58: {
+             if (l12 > 20997) { break L58; }
+             if (l12 == 20491) { break L49; }
+             if (l12 != 20841) { break L50; }
+             break L49;
+            }
+            if (l12 == 20998) { break L49; }
+            if (l12 == 21315) { break L49; }
+            if (l12 != 21448) { break L50; }
+            break L49;
+           }
+           L59: {
+            if (l12 > 40669) { break L59; }
+            if (l12 == 28857) { break L49; }
+            if (l12 == 36000) { break L49; }
+            if (l12 != 36127) { break L50; }
+            break L49;
+           }
+           if (l12 == 40670) { break L49; }
+           if (l12 == 65285) { break L49; }
+           if (l12 == 65509) { break L49; }
+          }
+          if (l12 + Integer.MIN_VALUE < -2147483604) { break L48; }
+          if (l12 + Integer.MIN_VALUE < -2147483601) { break L49; }
+          if ((l12 + -65292) + Integer.MIN_VALUE > -2147483646) { break L48; }
+         }
+         L60: {
+          L61: {
+           if ((l11 & 255) != 2) { break L61; }
+           if (l12 == 21317) { break L2; }
+           if (l12 == 24319) { break L2; }
+           if ((l12 + -65296) + Integer.MIN_VALUE >= -2147483638) { break L60; }
+           break L2;
+          }
+          if (Core5.f146(m, l1, l2, l12, l11, l14, l5, l6) == 0) { break L60; }
+          if (Core5.f147(m, l1, l2, l3, l10, l12, l5, l6) == 0) { break L2; }
+         }
+         if (Core5.f148(m, l1, l2, l3, l10, l12, l5, l6) == 0) { continue L4; }
+         break L2;
+        }
+        L62: {
+         L63: {
+          switch ((int) ((l11 & 0xffffffffL) & 255L)) {
+          case 1: break L63;
+          case 2: continue L4;
+          default: break L62;
+          }
+         }
+         if ((l2 & 255) + Integer.MIN_VALUE < (l14 & 255) + Integer.MIN_VALUE) { continue L4; }
+        }
+        L64: {
+         if ((l1 & 1) != 0) { break L64; }
+         L65: {
+          L66: {
+           if (l12 > 29589) { break L66; }
+           L67: {
+            if (l12 > 22776) { break L67; }
+            if (l12 == 20191) { continue L4; }
+            if (l12 == 20237) { continue L4; }
+            if (l12 == 20336) { continue L4; }
+            break L65;
+           }
+           L68: {
+            if (l12 > 25419) { break L68; }
+            if (l12 == 22777) { continue L4; }
+            if (l12 == 25342) { continue L4; }
+            break L65;
+           }
+           if (l12 == 25420) { continue L4; }
+           if (l12 == 26578) { continue L4; }
+           break L65;
+          }
+          L69: {
+           if (l12 > 36143) { break L69; }
+           L70: {
+            switch (l12 + -36014) {
+            case 0: case 5: continue L4;
+            case 1: case 2: case 3: case 4: break L65;
+            default: break L70;
+            }
+           }
+           if (l12 == 29590) { continue L4; }
+           if (l12 == 32902) { continue L4; }
+           break L65;
+          }
+          if (l12 == 36144) { continue L4; }
+          if (l12 == 38470) { continue L4; }
+          if (l12 == 38520) { continue L4; }
+         }
+         if ((l12 + -21441) + Integer.MIN_VALUE < -2147483644) { continue L4; }
+        }
+        if ((l11 & 255) != 1) { break L2; }
+        if ((l11 = l14 & 255) == 0) { break L5; }
+        if (l11 != 6) { break L2; }
+        if (Core3.f108(m, l5, l6) != 0) { continue L4; }
+        break L2;
+       }
+       if (Core3.f109(m, l1, l2, l5, l6) == 0) { continue L4; }
+       break L2;
+      }
+      Words.put64(b, ((int) l0) - 58864, 0L);
+      Words.put64(b, ((int) l0) - 58872, 0L);
+      Words.put64(b, ((int) l0) - 58880, 0L);
+      Words.put64(b, ((int) l0) - 58888, 0L);
+      Words.put64(b, ((int) l0) - 58896, 0L);
+      Words.put64(b, ((int) l0) - 58904, 0L);
+      Words.put64(b, ((int) l0) - 58912, 0L);
+      break L1;
+     }
+     if (Core3.f109(m, l1, l2, l5, l6) == 0) { continue L4; }
+     break L2;
+    }
+   }
+   throw State.trap();
+  }
+  Core5.f149(m, l8, l1, l2, l3, l4, l12, l5, l6);
+  l6 = Words.get64(b, ((int) l8) - 58912);
+  Words.put64(b, ((int) (l0 + 48L)) - 58912, l5 = Words.get64(b, ((int) l8) - 58904));
+  Words.put64(b, ((int) (l0 + 40L)) - 58912, l6);
+  Words.put64(b, ((int) (l0 + 24L)) - 58912, l7);
+  Words.put64(b, ((int) (l0 + 16L)) - 58912, l10);
+  Words.put64(b, ((int) (l0 + 8L)) - 58912, l3);
+  Words.put64(b, ((int) l0) - 58912, 1L);
+  Words.put64(b, ((int) (l0 + 32L)) - 58912, l9 - l5);
+ }
+ m.g0 = l8 + 16L;
+}
+
+static void f184(State m, long l0, long l1, long l2, long l3, long l4) {
+ final byte[] b = m.bytes;
+ long l5 = 0;
+ long l6 = 0;
+ long l7 = 0;
+ long l8 = 0;
+ long l9 = 0;
+ long l10 = 0;
+ long l11 = 0;
+ long l12 = 0;
+ long l13 = 0;
+ int l14 = 0;
+ int l15 = 0;
+ int l16 = 0;
+ int l17 = 0;
+ int l18 = 0;
+ int l19 = 0;
+ int l20 = 0;
+ int l21 = 0;
+ m.g0 = l5 = m.g0 - 32L;
+ L1: {
+  if ((l5 = l5) < 16L) { break L1; }
+  Words.put64(b, ((int) l5) - 58896, 0L);
+  Words.put64(b, ((int) l5) - 58904, l4);
+  Words.put64(b, ((int) l5) - 58912, l3);
+  l3 = 0L;
+  L2: {
+   L3: {
+    if (l2 == 0L) { break L3; }
+    l6 = l2;
+    l3 = l1;
+    L4: while (true) {
+     l7 = l6;
+     l15 = (l14 = (int) b[((int) l3) - 58912]) & 255;
+     l8 = 1L;
+     L5: {
+      if (l14 > -1) { break L5; }
+      l16 = (b[((int) l3) - 58911] & 0xff) & 63;
+      L6: {
+       if (l14 + Integer.MIN_VALUE > 2147483615) { break L6; }
+       l15 = ((l15 << 6) & 1984) | l16;
+       l8 = 2L;
+       break L5;
+      }
+      l17 = (b[((int) l3) - 58910] & 0xff) & 63;
+      L7: {
+       if (l14 + Integer.MIN_VALUE > 2147483631) { break L7; }
+       l15 = ((l16 << 6) | ((l15 << 12) & 61440)) | l17;
+       l8 = 3L;
+       break L5;
+      }
+      l15 = ((l17 << 6) | ((l16 << 12) | ((l15 << 18) & 1835008))) | ((b[((int) l3) - 58909] & 0xff) & 63);
+      l8 = 4L;
+     }
+     l6 = l7 - l8;
+     l3 = l3 + l8;
+     l8 = l2 - l7;
+     l14 = 1;
+     L8: {
+      L9: {
+       L10: {
+        L11: {
+         L12: {
+          L13: {
+           L14: {
+            L15: {
+             L16: {
+              L17: {
+               L18: {
+                L19: {
+                 L20: {
+                  switch (l15 + -45) {
+                  case 0: break L17;
+                  case 1: case 2: case 3: case 4: case 5: case 6: case 7: case 8: case 9: case 10: case 11: case 12: break L18;
+                  case 13: break L19;
+                  default: break L20;
+                  }
+                 }
+                 L21: {
+                  switch (l15 + -65293) {
+                  case 0: break L17;
+                  case 1: case 2: case 3: case 4: case 5: case 6: case 7: case 8: case 9: case 10: case 11: case 12: break L18;
+                  case 13: break L19;
+                  default: break L21;
+                  }
+                 }
+                 if (l15 != 8722) { break L18; }
+                 break L17;
+                }
+                L22: {
+                 if (Core5.f172(m, l1, l8) != 0) { break L22; }
+                 L23: {
+                  if (l15 == 58) { break L23; }
+                  l15 = 65307;
+                  break L16;
+                 }
+                 l15 = 59;
+                 break L14;
+                }
+                if (l15 == 45) { break L17; }
+                if (l15 == 8722) { break L17; }
+                if (l15 == 65293) { break L17; }
+               }
+               l14 = 0;
+              }
+              if (l6 == 0L) { break L13; }
+              if (l14 == 0) { break L13; }
+              l14 = (l16 = (int) b[((int) l3) - 58912]) & 255;
+              L24: {
+               if (l16 > -1) { break L24; }
+               l17 = (b[((int) l3) - 58911] & 0xff) & 63;
+               L25: {
+                if (l16 + Integer.MIN_VALUE > 2147483615) { break L25; }
+                l14 = ((l14 << 6) & 1984) | l17;
+                break L24;
+               }
+               l18 = (b[((int) l3) - 58910] & 0xff) & 63;
+               L26: {
+                if (l16 + Integer.MIN_VALUE > 2147483631) { break L26; }
+                l14 = ((l17 << 6) | ((l14 << 12) & 61440)) | l18;
+                break L24;
+               }
+               l14 = ((l18 << 6) | ((l17 << 12) | ((l14 << 18) & 1835008))) | ((b[((int) l3) - 58909] & 0xff) & 63);
+              }
+              L27: {
+               if ((l14 + -48) + Integer.MIN_VALUE < -2147483638) { break L27; }
+               if ((l14 + -65296) + Integer.MIN_VALUE > -2147483639) { break L13; }
+              }
+              l9 = l1 + l8;
+              l10 = 0L;
+              L28: {
+               L29: {
+                if ((l14 = (l2 == l7) ? 1 : 0) != 0) { break L29; }
+                L30: {
+                 L31: {
+                  L32: {
+                   L33: {
+                    L34: {
+                     if ((l16 = (int) b[((int) (l1 + (l7 = l8 + -1L))) - 58912]) > -1) { break L34; }
+                     l11 = -2L;
+                     L35: {
+                      L36: {
+                       if ((l17 = b[((int) (l9 + -2L)) - 58912] & 0xff) + Integer.MIN_VALUE < -2147483456) { break L36; }
+                       l12 = l8 + -2L;
+                       break L35;
+                      }
+                      l12 = (l11 = ((b[((int) (l9 + -3L)) - 58912] & 0xff) + Integer.MIN_VALUE > -2147483457) ? -3L : -4L) + l8;
+                     }
+                     L37: {
+                      if ((l18 = (int) b[((int) (l11 = (l1 + l11) + l8)) - 58912]) > -1) { break L37; }
+                      if (l18 + Integer.MIN_VALUE < 2147483616) { break L37; }
+                      l19 = l18 & 255;
+                      l20 = (b[((int) l11) - 58911] & 0xff) & 63;
+                      l21 = (b[((int) l11) - 58910] & 0xff) & 63;
+                      L38: {
+                       L39: {
+                        if (l18 + Integer.MIN_VALUE > 2147483631) { break L39; }
+                        l18 = ((l20 << 6) | ((l19 << 12) & 61440)) | l21;
+                        break L38;
+                       }
+                       l18 = ((l21 << 6) | ((l20 << 12) | ((l19 << 18) & 1835008))) | ((b[((int) l11) - 58909] & 0xff) & 63);
+                      }
+                      if (l18 == 21040) { break L31; }
+                      if (l18 == 33267) { break L31; }
+                      if (f185(m, l1, l8) != 0) { break L28; }
+                      break L33;
+                     }
+                     if (f185(m, l1, l8) == 0) { break L33; }
+                     break L28;
+                    }
+                    l12 = l7;
+                    l17 = l16;
+                    if (f185(m, l1, l8) == 0) { break L32; }
+                    break L28;
+                   }
+                   l11 = -2L;
+                   L40: {
+                    if (l17 + Integer.MIN_VALUE > -2147483457) { break L40; }
+                    l11 = ((b[((int) (l9 + -3L)) - 58912] & 0xff) + Integer.MIN_VALUE > -2147483457) ? -3L : -4L;
+                   }
+                   l17 = (l18 = (int) b[((int) (l11 = (l1 + l11) + l8)) - 58912]) & 255;
+                   if (l18 > -1) { break L32; }
+                   l19 = (b[((int) l11) - 58911] & 0xff) & 63;
+                   L41: {
+                    if (l18 + Integer.MIN_VALUE > 2147483615) { break L41; }
+                    l17 = ((l17 << 6) & 1984) | l19;
+                    break L32;
+                   }
+                   l20 = (b[((int) l11) - 58910] & 0xff) & 63;
+                   L42: {
+                    if (l18 + Integer.MIN_VALUE > 2147483631) { break L42; }
+                    l17 = ((l19 << 6) | ((l17 << 12) & 61440)) | l20;
+                    break L32;
+                   }
+                   l17 = ((l20 << 6) | ((l19 << 12) | ((l17 << 18) & 1835008))) | ((b[((int) l11) - 58909] & 0xff) & 63);
+                  }
+                  L43: {
+                   if ((l17 + -19968) + Integer.MIN_VALUE > -2147462657) { break L43; }
+                   if (f185(m, l1, l12) != 0) { break L28; }
+                   if (l12 == 0L) { break L43; }
+                   if (((int) b[((int) ((l11 = l1 + l12) + -1L)) - 58912]) > -1) { break L43; }
+                   l13 = -2L;
+                   L44: {
+                    if ((l19 = b[((int) (l11 + -2L)) - 58912] & 0xff) + Integer.MIN_VALUE > -2147483457) { break L44; }
+                    l13 = ((b[((int) (l11 + -3L)) - 58912] & 0xff) + Integer.MIN_VALUE > -2147483457) ? -3L : -4L;
+                   }
+                   l17 = (l18 = (int) b[((int) (l13 = (l1 + l13) + l12)) - 58912]) & 255;
+                   L45: {
+                    if (l18 > -1) { break L45; }
+                    l20 = (b[((int) l13) - 58911] & 0xff) & 63;
+                    L46: {
+                     if (l18 + Integer.MIN_VALUE > 2147483615) { break L46; }
+                     l17 = ((l17 << 6) & 1984) | l20;
+                     break L45;
+                    }
+                    l21 = (b[((int) l13) - 58910] & 0xff) & 63;
+                    L47: {
+                     if (l18 + Integer.MIN_VALUE > 2147483631) { break L47; }
+                     l17 = ((l20 << 6) | ((l17 << 12) & 61440)) | l21;
+                     break L45;
+                    }
+                    l17 = ((l21 << 6) | ((l20 << 12) | ((l17 << 18) & 1835008))) | ((b[((int) l13) - 58909] & 0xff) & 63);
+                   }
+                   if ((l17 + -19968) + Integer.MIN_VALUE > -2147462657) { break L43; }
+                   l13 = -2L;
+                   L48: {
+                    if (l19 + Integer.MIN_VALUE > -2147483457) { break L48; }
+                    l13 = ((b[((int) (l11 + -3L)) - 58912] & 0xff) + Integer.MIN_VALUE > -2147483457) ? -3L : -4L;
+                   }
+                   if (f185(m, l1, l13 + l12) != 0) { break L28; }
+                  }
+                  if (l16 > -1) { break L30; }
+                  l17 = b[((int) (l9 + -2L)) - 58912] & 0xff;
+                 }
+                 l7 = -2L;
+                 L49: {
+                  if ((l17 & 255) + Integer.MIN_VALUE > -2147483457) { break L49; }
+                  l7 = ((b[((int) (l9 + -3L)) - 58912] & 0xff) + Integer.MIN_VALUE > -2147483457) ? -3L : -4L;
+                 }
+                 l7 = l7 + l8;
+                }
+                L50: {
+                 L51: {
+                  if (f186(m, l1, l7) != 0) { break L51; }
+                  l12 = l7;
+                  break L50;
+                 }
+                 if (l7 == 0L) { break L29; }
+                 if (((int) b[((int) (l1 + (l12 = l7 + -1L))) - 58912]) > -1) { break L50; }
+                 l12 = -2L;
+                 L52: {
+                  if ((b[((int) ((l11 = l1 + l7) + -2L)) - 58912] & 0xff) + Integer.MIN_VALUE > -2147483457) { break L52; }
+                  l12 = ((b[((int) (l11 + -3L)) - 58912] & 0xff) + Integer.MIN_VALUE > -2147483457) ? -3L : -4L;
+                 }
+                 l12 = l12 + l7;
+                }
+                L53: {
+                 if (f186(m, l1, l12) != 0) { break L53; }
+                 l10 = l12;
+                 break L29;
+                }
+                if (l12 == 0L) { break L29; }
+                if (((int) b[((int) (l1 + (l10 = l12 + -1L))) - 58912]) > -1) { break L29; }
+                l7 = -2L;
+                L54: {
+                 if ((b[((int) ((l10 = l1 + l12) + -2L)) - 58912] & 0xff) + Integer.MIN_VALUE > -2147483457) { break L54; }
+                 l7 = ((b[((int) (l10 + -3L)) - 58912] & 0xff) + Integer.MIN_VALUE > -2147483457) ? -3L : -4L;
+                }
+                l10 = l7 + l12;
+               }
+               L55: {
+                L56: {
+                 if (f186(m, l1, l10) != 0) { break L56; }
+                 l7 = l10;
+                 break L55;
+                }
+                L57: {
+                 if (!(l10 == 0L)) { break L57; }
+                 l7 = 0L;
+                 break L55;
+                }
+                if (((int) b[((int) (l1 + (l7 = l10 + -1L))) - 58912]) > -1) { break L55; }
+                l7 = -2L;
+                L58: {
+                 if ((b[((int) ((l12 = l1 + l10) + -2L)) - 58912] & 0xff) + Integer.MIN_VALUE > -2147483457) { break L58; }
+                 l7 = ((b[((int) (l12 + -3L)) - 58912] & 0xff) + Integer.MIN_VALUE > -2147483457) ? -3L : -4L;
+                }
+                l7 = l7 + l10;
+               }
+               L59: {
+                L60: {
+                 if (f186(m, l1, l8) == 0) { break L60; }
+                 l16 = f187(m, l1, l7);
+                 L61: {
+                  if (l14 != 0) { break L61; }
+                  if (l16 == 0) { break L59; }
+                 }
+                 if (l16 != 0) { break L28; }
+                 break L13;
+                }
+                if (l14 != 0) { break L13; }
+               }
+               L62: {
+                if ((l14 = (int) b[((int) (l1 + (l7 = l8 + -1L))) - 58912]) > -1) { break L62; }
+                l7 = -2L;
+                L63: {
+                 if ((b[((int) (l9 + -2L)) - 58912] & 0xff) + Integer.MIN_VALUE > -2147483457) { break L63; }
+                 l7 = ((b[((int) (l9 + -3L)) - 58912] & 0xff) + Integer.MIN_VALUE > -2147483457) ? -3L : -4L;
+                }
+                l7 = l7 + l8;
+               }
+               L64: {
+                L65: {
+                 if ((l16 = (l7 == 0L) ? 1 : 0) == 0) { break L65; }
+                 l10 = 0L;
+                 break L64;
+                }
+                if (((int) b[((int) (l1 + (l10 = l7 + -1L))) - 58912]) > -1) { break L64; }
+                l10 = -2L;
+                L66: {
+                 if ((b[((int) ((l12 = l1 + l7) + -2L)) - 58912] & 0xff) + Integer.MIN_VALUE > -2147483457) { break L66; }
+                 l10 = ((b[((int) (l12 + -3L)) - 58912] & 0xff) + Integer.MIN_VALUE > -2147483457) ? -3L : -4L;
+                }
+                l10 = l10 + l7;
+               }
+               L67: {
+                if (l14 >= 0) { break L67; }
+                l12 = -2L;
+                L68: {
+                 if ((b[((int) (l9 + -2L)) - 58912] & 0xff) + Integer.MIN_VALUE > -2147483457) { break L68; }
+                 l12 = ((b[((int) (l9 + -3L)) - 58912] & 0xff) + Integer.MIN_VALUE > -2147483457) ? -3L : -4L;
+                }
+                l14 = (l17 = (int) b[((int) (l8 = (l1 + l12) + l8)) - 58912]) & 255;
+                if (l17 > -1) { break L67; }
+                l18 = (b[((int) l8) - 58911] & 0xff) & 63;
+                L69: {
+                 if (l17 + Integer.MIN_VALUE > 2147483615) { break L69; }
+                 l14 = ((l14 << 6) & 1984) | l18;
+                 break L67;
+                }
+                l19 = (b[((int) l8) - 58910] & 0xff) & 63;
+                L70: {
+                 if (l17 + Integer.MIN_VALUE > 2147483631) { break L70; }
+                 l14 = ((l18 << 6) | ((l14 << 12) & 61440)) | l19;
+                 break L67;
+                }
+                l14 = ((l19 << 6) | ((l18 << 12) | ((l14 << 18) & 1835008))) | ((b[((int) l8) - 58909] & 0xff) & 63);
+               }
+               if (l16 != 0) { break L13; }
+               if (((l14 + -58) + Integer.MIN_VALUE < 2147483638) & ((l14 + -65306) + Integer.MIN_VALUE < 2147483638)) { break L13; }
+               L71: {
+                if ((l14 = (int) b[((int) ((l8 = l1 + l7) + -1L)) - 58912]) >= 0) { break L71; }
+                l9 = -2L;
+                L72: {
+                 if ((b[((int) (l8 + -2L)) - 58912] & 0xff) + Integer.MIN_VALUE > -2147483457) { break L72; }
+                 l9 = ((b[((int) (l8 + -3L)) - 58912] & 0xff) + Integer.MIN_VALUE > -2147483457) ? -3L : -4L;
+                }
+                l14 = (l16 = (int) b[((int) (l8 = (l1 + l9) + l7)) - 58912]) & 255;
+                if (l16 > -1) { break L71; }
+                l17 = (b[((int) l8) - 58911] & 0xff) & 63;
+                L73: {
+                 if (l16 + Integer.MIN_VALUE > 2147483615) { break L73; }
+                 l14 = ((l14 << 6) & 1984) | l17;
+                 break L71;
+                }
+                l18 = (b[((int) l8) - 58910] & 0xff) & 63;
+                L74: {
+                 if (l16 + Integer.MIN_VALUE > 2147483631) { break L74; }
+                 l14 = ((l17 << 6) | ((l14 << 12) & 61440)) | l18;
+                 break L71;
+                }
+                l14 = ((l18 << 6) | ((l17 << 12) | ((l14 << 18) & 1835008))) | ((b[((int) l8) - 58909] & 0xff) & 63);
+               }
+               if (l10 == 0L) { break L13; }
+               if (((l14 + -58) + Integer.MIN_VALUE < 2147483638) & ((l14 + -65306) + Integer.MIN_VALUE < 2147483638)) { break L13; }
+               l14 = l16 = (int) b[((int) ((l8 = l1 + l10) + -1L)) - 58912];
+               L75: {
+                if (l16 >= 0) { break L75; }
+                l7 = -2L;
+                L76: {
+                 if ((b[((int) (l8 + -2L)) - 58912] & 0xff) + Integer.MIN_VALUE > -2147483457) { break L76; }
+                 l7 = ((b[((int) (l8 + -3L)) - 58912] & 0xff) + Integer.MIN_VALUE > -2147483457) ? -3L : -4L;
+                }
+                l14 = (l17 = (int) b[((int) (l7 = (l1 + l7) + l10)) - 58912]) & 255;
+                if (l17 > -1) { break L75; }
+                l18 = (b[((int) l7) - 58911] & 0xff) & 63;
+                L77: {
+                 if (l17 + Integer.MIN_VALUE > 2147483615) { break L77; }
+                 l14 = ((l14 << 6) & 1984) | l18;
+                 break L75;
+                }
+                l19 = (b[((int) l7) - 58910] & 0xff) & 63;
+                L78: {
+                 if (l17 + Integer.MIN_VALUE > 2147483631) { break L78; }
+                 l14 = ((l18 << 6) | ((l14 << 12) & 61440)) | l19;
+                 break L75;
+                }
+                l14 = ((l19 << 6) | ((l18 << 12) | ((l14 << 18) & 1835008))) | ((b[((int) l7) - 58909] & 0xff) & 63);
+               }
+               L79: {
+                if (l14 == 65306) { break L79; }
+                if (l14 != 58) { break L13; }
+               }
+               L80: {
+                L81: {
+                 if (l16 <= -1) { break L81; }
+                 l8 = l10 + -1L;
+                 break L80;
+                }
+                l7 = -2L;
+                L82: {
+                 if ((b[((int) (l8 + -2L)) - 58912] & 0xff) + Integer.MIN_VALUE > -2147483457) { break L82; }
+                 l7 = ((b[((int) (l8 + -3L)) - 58912] & 0xff) + Integer.MIN_VALUE > -2147483457) ? -3L : -4L;
+                }
+                l8 = l7 + l10;
+               }
+               if (l8 == 0L) { break L13; }
+               L83: {
+                if ((l14 = (int) b[((int) ((l7 = l1 + l8) + -1L)) - 58912]) >= 0) { break L83; }
+                l10 = -2L;
+                L84: {
+                 if ((b[((int) (l7 + -2L)) - 58912] & 0xff) + Integer.MIN_VALUE > -2147483457) { break L84; }
+                 l10 = ((b[((int) (l7 + -3L)) - 58912] & 0xff) + Integer.MIN_VALUE > -2147483457) ? -3L : -4L;
+                }
+                l14 = (l16 = (int) b[((int) (l8 = (l1 + l10) + l8)) - 58912]) & 255;
+                if (l16 > -1) { break L83; }
+                l17 = (b[((int) l8) - 58911] & 0xff) & 63;
+                L85: {
+                 if (l16 + Integer.MIN_VALUE > 2147483615) { break L85; }
+                 l14 = ((l14 << 6) & 1984) | l17;
+                 break L83;
+                }
+                l18 = (b[((int) l8) - 58910] & 0xff) & 63;
+                L86: {
+                 if (l16 + Integer.MIN_VALUE > 2147483631) { break L86; }
+                 l14 = ((l17 << 6) | ((l14 << 12) & 61440)) | l18;
+                 break L83;
+                }
+                l14 = ((l18 << 6) | ((l17 << 12) | ((l14 << 18) & 1835008))) | ((b[((int) l8) - 58909] & 0xff) & 63);
+               }
+               if ((l14 + -48) + Integer.MIN_VALUE < -2147483638) { break L28; }
+               if ((l14 + -65296) + Integer.MIN_VALUE >= -2147483638) { break L13; }
+              }
+              if (l15 == 45) { break L15; }
+              l15 = 65374;
+             }
+             Words.put32(b, ((int) l5) - 58884, 0);
+             break L10;
+            }
+            l15 = 126;
+           }
+           Words.put32(b, ((int) l5) - 58884, 0);
+           break L12;
+          }
+          Words.put32(b, ((int) l5) - 58884, 0);
+          if (l15 + Integer.MIN_VALUE <= -2147483521) { break L12; }
+          if (l15 + Integer.MIN_VALUE > -2147481601) { break L11; }
+          b[((int) l5) - 58883] = (byte) ((l15 & 63) | 128);
+          b[((int) l5) - 58884] = (byte) ((l15 >>> 6) | 192);
+          l8 = 2L;
+          break L8;
+         }
+         b[((int) l5) - 58884] = (byte) l15;
+         l8 = 1L;
+         break L8;
+        }
+        if (l15 + Integer.MIN_VALUE > -2147418113) { break L9; }
+       }
+       b[((int) l5) - 58882] = (byte) ((l15 & 63) | 128);
+       b[((int) l5) - 58884] = (byte) ((l15 >>> 12) | 224);
+       b[((int) l5) - 58883] = (byte) (((l15 >>> 6) & 63) | 128);
+       l8 = 3L;
+       break L8;
+      }
+      b[((int) l5) - 58881] = (byte) ((l15 & 63) | 128);
+      b[((int) l5) - 58884] = (byte) ((l15 >>> 18) | 240);
+      b[((int) l5) - 58882] = (byte) (((l15 >>> 6) & 63) | 128);
+      b[((int) l5) - 58883] = (byte) (((l15 >>> 12) & 63) | 128);
+      l8 = 4L;
+     }
+     Core2.f53(m, l5, l5 + 28L, l8);
+     l8 = 0L;
+     if (l6 != 0L) { continue L4; }
+     break L4;
+    }
+    l6 = 0L;
+    l7 = 0L;
+    if ((l3 = Words.get64(b, ((int) l5) - 58896)) + Long.MIN_VALUE > l4 + Long.MIN_VALUE) { break L2; }
+   }
+   final long t87 = Words.get64(b, ((int) l5) - 58912);
+   final int t88 = l15 = (Words.get64(b, ((int) l5) - 58904) + Long.MIN_VALUE < l3 + Long.MIN_VALUE) ? 1 : 0;
+   l6 = t88 != 0 ? 83372L : t87;
+   l7 = l15 != 0 ? 0L : l3;
+   l8 = 1L;
+  }
+  Words.put64(b, ((int) l0) - 58912, l8);
+  Words.put64(b, ((int) (l0 + 16L)) - 58912, l7);
+  Words.put64(b, ((int) (l0 + 8L)) - 58912, l6);
+  m.g0 = l5 + 32L;
+  return;
+ }
+ throw State.trap();
+}
+
+static int f185(State m, long l0, long l1) {
+ final byte[] b = m.bytes;
+ long l2 = 0;
  long l3 = 0;
  long l4 = 0;
  int l5 = 0;
  int l6 = 0;
  int l7 = 0;
  int l8 = 0;
- m.g0 = l3 = m.g0 - 16L;
- L1: {
-  if ((l4 = l3) < 16L) { break L1; }
-  L2: {
-   if (l2 == 0L) { break L2; }
-   L3: while (true) {
-    l6 = (l5 = (int) b[((int) l1) - 60720]) & 255;
-    l3 = 1L;
-    L4: {
-     if (l5 > -1) { break L4; }
-     l7 = (b[((int) l1) - 60719] & 0xff) & 63;
-     L5: {
-      if (l5 + Integer.MIN_VALUE > 2147483615) { break L5; }
-      l6 = ((l6 << 6) & 1984) | l7;
-      l3 = 2L;
-      break L4;
-     }
-     l8 = (b[((int) l1) - 60718] & 0xff) & 63;
-     L6: {
-      if (l5 + Integer.MIN_VALUE > 2147483631) { break L6; }
-      l6 = ((l7 << 6) | ((l6 << 12) & 61440)) | l8;
-      l3 = 3L;
-      break L4;
-     }
-     l6 = ((l8 << 6) | ((l7 << 12) | ((l6 << 18) & 1835008))) | ((b[((int) l1) - 60717] & 0xff) & 63);
-     l3 = 4L;
-    }
-    Core2.f63(m, l4 + 8L, l6);
-    l2 = l2 - l3;
-    L7: {
-     L8: {
-      if ((b[((int) l4) - 60712] & 0xff) != 1) { break L8; }
-      Core2.f53(m, l0, Words.get64(b, State.far((int) ((((b[((int) l4) - 60711] & 0xff) & 0xffffffffL) & 255L) << 3L), 88216)), 1L);
-      break L7;
-     }
-     Core2.f53(m, l0, l1, l3);
-    }
-    l1 = l1 + l3;
-    if (l2 != 0L) { continue L3; }
-    break L3;
-   }
-  }
-  m.g0 = l4 + 16L;
-  return;
- }
- throw State.trap();
-}
-
-static void f190(State m, long l0, long l1, long l2, int l3) {
- final byte[] b = m.bytes;
- long l4 = 0;
- long l5 = 0;
- long l6 = 0;
- int l7 = 0;
- int l8 = 0;
  int l9 = 0;
- m.g0 = l4 = m.g0 - 240L;
  L1: {
+  if ((l2 = m.g0) < 16L) { break L1; }
+  l5 = 0;
   L2: {
-   if ((l4 = l4) < 16L) { break L2; }
-   Words.put64(b, ((int) l4) - 60664, 0L);
-   Words.put64(b, ((int) l4) - 60672, 0L);
-   Words.put64(b, ((int) l4) - 60680, 0L);
-   Words.put64(b, ((int) l4) - 60688, 0L);
-   Words.put64(b, ((int) l4) - 60696, 0L);
-   Words.put64(b, ((int) l4) - 60704, 0L);
-   Words.put64(b, ((int) l4) - 60712, 0L);
-   Words.put64(b, ((int) l4) - 60720, 0L);
-   Core2.f75(m, l4, l1, l2, l3);
-   l7 = 1;
+   if (l1 == 0L) { break L2; }
    L3: {
     L4: {
+     if ((l6 = (int) b[((int) ((l3 = l0 + l1) + -1L)) - 58912]) > -1) { break L4; }
+     l4 = -2L;
      L5: {
-      if ((b[((int) l4) - 60720] & 0xff) != 1) { break L5; }
-      l8 = 0;
-      l9 = 1;
-      L6: {
-       L7: {
-        switch ((int) (b[((int) l4) - 60712] & 0xffL)) {
-        case 1: break L4;
-        case 2: break L3;
-        case 3: break L7;
-        default: break L6;
-        }
-       }
-       l9 = 2;
-       break L3;
-      }
-      l8 = 0;
-      l9 = 0;
-      break L3;
+      if ((b[((int) (l3 + -2L)) - 58912] & 0xff) + Integer.MIN_VALUE > -2147483457) { break L5; }
+      l4 = ((b[((int) (l3 + -3L)) - 58912] & 0xff) + Integer.MIN_VALUE > -2147483457) ? -3L : -4L;
      }
-     Words.put16(b, ((int) l0) - 60720, (short) 0);
-     b[((int) (l0 + 2L)) - 60720] = (byte) 0;
-     break L1;
-    }
-    Words.put16(b, ((int) l4) - 60576, (short) 0);
-    b[((int) l4) - 60574] = (byte) 0;
-    Words.put64(b, ((int) l4) - 60608, 0L);
-    Words.put64(b, ((int) l4) - 60600, 0L);
-    Words.put64(b, ((int) l4) - 60592, 0L);
-    Words.put64(b, ((int) l4) - 60584, 0L);
-    Words.put64(b, ((int) l4) - 60656, 0L);
-    Words.put64(b, ((int) l4) - 60648, 0L);
-    Words.put64(b, ((int) l4) - 60640, 0L);
-    Words.put64(b, ((int) l4) - 60632, 0L);
-    Words.put64(b, ((int) l4) - 60624, 0L);
-    Words.put64(b, ((int) l4) - 60616, 0L);
-    Core2.f77(m, l4 + 112L, l1, l2);
-    l2 = Words.get64(b, ((int) l4) - 60584);
-    l1 = Words.get64(b, ((int) l4) - 60592);
-    L8: {
-     if ((b[((int) l4) - 60608] & 0xff) == 1) { break L8; }
-     Core2.f78(m, l4 + 64L, l1, l2);
-     if ((b[((int) l4) - 60656] & 0xff) != 1) { break L8; }
-     f191(m, l4 + 144L, l3, Words.get64(b, ((int) l4) - 60648), Words.get64(b, ((int) l4) - 60640), Words.get64(b, ((int) l4) - 60624), Words.get64(b, ((int) l4) - 60616));
-     l9 = b[((int) l4) - 60574] & 0xff;
-     l8 = b[((int) l4) - 60575] & 0xff;
-     l7 = b[((int) l4) - 60576] & 0xff;
-     break L3;
-    }
-    Words.put16(b, ((int) l4) - 60516, (short) 0);
-    b[((int) l4) - 60514] = (byte) 0;
-    Words.put64(b, ((int) l4) - 60568, 0L);
-    Words.put64(b, ((int) l4) - 60560, 0L);
-    Words.put64(b, ((int) l4) - 60552, 0L);
-    Words.put64(b, ((int) l4) - 60544, 0L);
-    Words.put64(b, ((int) l4) - 60536, 0L);
-    Words.put64(b, ((int) l4) - 60528, 0L);
-    Words.put16(b, ((int) l4) - 60572, (short) 0);
-    b[((int) l4) - 60570] = (byte) 0;
-    Core2.f81(m, l4 + 152L, l1, l2);
-    L9: {
-     L10: {
-      if ((b[((int) l4) - 60568] & 0xff) != 1) { break L10; }
-      f191(m, l4 + 204L, l3, Words.get64(b, ((int) l4) - 60560), Words.get64(b, ((int) l4) - 60552), Words.get64(b, ((int) l4) - 60536), Words.get64(b, ((int) l4) - 60528));
-      l2 = l4 + 204L;
-      l9 = b[((int) l4) - 60514] & 0xff;
-      l8 = b[((int) l4) - 60515] & 0xff;
-      break L9;
-     }
-     Words.put64(b, ((int) l4) - 60488, 0L);
-     Words.put64(b, ((int) l4) - 60496, 0L);
-     Words.put64(b, ((int) l4) - 60504, 0L);
-     Words.put64(b, ((int) l4) - 60512, 0L);
-     Core3.f85(m, l4 + 208L, l1, l2);
-     L11: {
-      L12: {
-       if ((b[((int) l4) - 60512] & 0xff) != 1) { break L12; }
-       l7 = Words.get32(b, ((int) l4) - 60504);
-       Core2.f80(m, l4 + 208L, l5 = Words.get64(b, ((int) l4) - 60496), l6 = Words.get64(b, ((int) l4) - 60488));
-       if ((b[((int) l4) - 60512] & 0xff) != 1) { break L12; }
-       L13: {
-        if (l7 == 37) { break L13; }
-        if (l7 == 65285) { break L13; }
-        if (l7 != 8240) { break L12; }
-       }
-       f192(m, l4 + 148L, l3, l5, l6);
-       break L11;
-      }
-      f192(m, l4 + 148L, l3, l1, l2);
-     }
-     l2 = l4 + 148L;
-     l9 = b[((int) l4) - 60570] & 0xff;
-     l8 = b[((int) l4) - 60571] & 0xff;
-    }
-    l7 = b[((int) l2) - 60720] & 0xff;
-   }
-   b[((int) l0) - 60720] = (byte) l7;
-   b[((int) (l0 + 2L)) - 60720] = (byte) l9;
-   b[((int) (l0 + 1L)) - 60720] = (byte) l8;
-   break L1;
-  }
-  throw State.trap();
- }
- m.g0 = l4 + 240L;
-}
-
-static void f191(State m, long l0, int l1, long l2, long l3, long l4, long l5) {
- final byte[] b = m.bytes;
- long l6 = 0;
- int l7 = 0;
- int l8 = 0;
- int l9 = 0;
- m.g0 = l6 = m.g0 - 96L;
- L1: {
-  if ((l6 = l6) < 16L) { break L1; }
-  Words.put64(b, ((int) l6) - 60696, 0L);
-  Words.put64(b, ((int) l6) - 60704, 0L);
-  Words.put64(b, ((int) l6) - 60712, 0L);
-  Words.put64(b, ((int) l6) - 60720, 0L);
-  Core3.f83(m, l6, l1, 0L, l2, l3);
-  l7 = 1;
-  L2: {
-   L3: {
-    if ((b[((int) l6) - 60720] & 0xff) != 1) { break L3; }
-    l8 = 0;
-    L4: {
-     L5: {
-      L6: {
-       L7: {
-        switch ((int) (b[((int) l6) - 60712] & 0xffL)) {
-        case 1: break L5;
-        case 2: break L4;
-        case 3: break L7;
-        default: break L6;
-        }
-       }
-       l7 = 2;
-       l9 = 1;
-       break L2;
-      }
-      l8 = 0;
-      l7 = 0;
-      l9 = 1;
-      break L2;
-     }
-     Words.put64(b, ((int) l6) - 60672, 0L);
-     Words.put64(b, ((int) l6) - 60664, 0L);
-     Words.put64(b, ((int) l6) - 60656, 0L);
-     Words.put64(b, ((int) l6) - 60648, 0L);
-     Words.put64(b, ((int) l6) - 60640, 0L);
-     Words.put64(b, ((int) l6) - 60632, 0L);
-     Words.put16(b, ((int) l6) - 60676, (short) 0);
-     b[((int) l6) - 60674] = (byte) 0;
-     Core3.f84(m, l6 + 48L, l1, 0L, l2, l3);
-     l7 = 1;
-     L8: {
-      if ((b[((int) l6) - 60672] & 0xff) == 1) { break L8; }
-      l8 = 2;
-      l7 = 0;
-      l9 = 1;
-      break L2;
-     }
-     L9: {
-      L10: {
-       L11: {
-        L12: {
-         switch ((int) (b[((int) l6) - 60664] & 0xffL)) {
-         case 1: break L9;
-         case 2: break L10;
-         case 3: break L12;
-         default: break L11;
-         }
-        }
-        l7 = 2;
-        l8 = 0;
-        l9 = 1;
-        break L2;
-       }
-       l7 = 0;
-      }
-      l8 = 0;
-      l9 = 1;
-      break L2;
-     }
-     f192(m, l6 + 44L, l1, l2, l3);
-     final int t13 = b[((int) l6) - 60674] & 0xff;
-     final int t14 = l1 = (((b[((int) l6) - 60676] & 0xff) & 255) == 1) ? 1 : 0;
-     l7 = t14 != 0 ? t13 : 0;
-     final int t15 = b[((int) l6) - 60675] & 0xff;
-     final int t16 = l1;
-     l8 = t16 != 0 ? t15 : 2;
-    }
-    l9 = 1;
-    break L2;
-   }
-   Words.put64(b, ((int) l6) - 60672, 0L);
-   Words.put64(b, ((int) l6) - 60664, 0L);
-   Words.put64(b, ((int) l6) - 60656, 0L);
-   Words.put64(b, ((int) l6) - 60648, 0L);
-   Words.put64(b, ((int) l6) - 60640, 0L);
-   Words.put64(b, ((int) l6) - 60632, 0L);
-   l8 = 0;
-   Words.put16(b, ((int) l6) - 60720, (short) 0);
-   b[((int) l6) - 60718] = (byte) 0;
-   Core3.f84(m, l6 + 48L, l1, 0L, l4, l5);
-   L17: {
-    if ((b[((int) l6) - 60672] & 0xff) == 1) { break L17; }
-    l9 = 0;
-    l7 = 0;
-    break L2;
-   }
-   l9 = 1;
-   l7 = 1;
-   L18: {
-    L19: {
-     L20: {
-      switch ((int) (b[((int) l6) - 60664] & 0xffL)) {
-      case 1: break L18;
-      case 2: break L2;
-      case 3: break L20;
-      default: break L19;
-      }
-     }
-     l7 = 2;
-     break L2;
-    }
-    l7 = 0;
-    break L2;
-   }
-   f192(m, l6, l1, l4, l5);
-   l7 = b[((int) l6) - 60718] & 0xff;
-   l8 = b[((int) l6) - 60719] & 0xff;
-   l9 = b[((int) l6) - 60720] & 0xff;
-  }
-  b[((int) l0) - 60720] = (byte) l9;
-  b[((int) (l0 + 2L)) - 60720] = (byte) l7;
-  b[((int) (l0 + 1L)) - 60720] = (byte) l8;
-  m.g0 = l6 + 96L;
-  return;
- }
- throw State.trap();
-}
-
-static void f192(State m, long l0, int l1, long l2, long l3) {
- final byte[] b = m.bytes;
- long l4 = 0;
- long l5 = 0;
- long l6 = 0;
- long l7 = 0;
- long l8 = 0;
- long l9 = 0;
- long l10 = 0;
- int l11 = 0;
- int l12 = 0;
- int l13 = 0;
- m.g0 = l4 = m.g0 - 256L;
- L1: {
-  L2: {
-   if ((l4 = l4) < 16L) { break L2; }
-   Words.put64(b, ((int) l4) - 60648, 0L);
-   Words.put64(b, ((int) l4) - 60656, 0L);
-   Words.put64(b, ((int) l4) - 60664, 0L);
-   Words.put64(b, ((int) l4) - 60672, 0L);
-   Words.put64(b, ((int) l4) - 60680, 0L);
-   Words.put64(b, ((int) l4) - 60688, 0L);
-   Core3.f86(m, l4 + 32L, l1, 0L, l2, l3);
-   l11 = 1;
-   L3: {
-    L4: {
-     L5: {
-      if ((b[((int) l4) - 60688] & 0xff) != 1) { break L5; }
-      l12 = 0;
-      l13 = 1;
-      L6: {
-       L7: {
-        switch ((int) (b[((int) l4) - 60680] & 0xffL)) {
-        case 1: break L4;
-        case 2: break L3;
-        case 3: break L7;
-        default: break L6;
-        }
-       }
-       l13 = 2;
-       break L3;
-      }
-      l12 = 0;
-      l13 = 0;
-      break L3;
-     }
-     Words.put16(b, ((int) l0) - 60720, (short) 0);
-     b[((int) (l0 + 2L)) - 60720] = (byte) 0;
-     break L1;
-    }
-    Words.put64(b, ((int) l4) - 60552, 0L);
-    Words.put64(b, ((int) l4) - 60560, 0L);
-    Words.put64(b, ((int) l4) - 60568, 0L);
-    Words.put64(b, ((int) l4) - 60576, 0L);
-    Words.put64(b, ((int) l4) - 60584, 0L);
-    Words.put64(b, ((int) l4) - 60592, 0L);
-    Core3.f92(m, l4 + 128L, l2, l3);
-    l5 = Words.get64(b, ((int) l4) - 60584);
-    l6 = Words.get64(b, ((int) l4) - 60576);
-    l11 = b[((int) l4) - 60592] & 0xff;
-    Words.put64(b, ((int) l4) - 60600, 0L);
-    Words.put64(b, ((int) l4) - 60608, 0L);
-    Words.put64(b, ((int) l4) - 60616, 0L);
-    Words.put64(b, ((int) l4) - 60624, 0L);
-    Words.put64(b, ((int) l4) - 60632, 0L);
-    Words.put64(b, ((int) l4) - 60640, 0L);
-    Core3.f93(m, l4 + 80L, l2 = ((l11 = (l11 == 1) ? 1 : 0) != 0) ? l5 : l2, l3 = l11 != 0 ? l6 : l3);
-    L8: {
-     if ((b[((int) l4) - 60640] & 0xff) != 0) { break L8; }
-     Words.put64(b, ((int) l4) - 60568, 0L);
-     Words.put64(b, ((int) l4) - 60576, 0L);
-     Words.put64(b, ((int) l4) - 60584, 0L);
-     Words.put64(b, ((int) l4) - 60592, 0L);
-     Core3.f94(m, l4 + 128L, l1, 0L, l2, l3);
-     l12 = 0;
-     l13 = 0;
-     if ((l11 = b[((int) l4) - 60592] & 0xff) == 0) { break L3; }
-     l13 = Core5.f165(m, l2, l3, b[((int) l4) - 60584] & 0xff, Words.get64(b, ((int) l4) - 60576)) & 255;
-     break L3;
-    }
-    l7 = b[((int) (l4 + 127L)) - 60720] & 0xffL;
-    l5 = Words.get64(b, ((int) l4) - 60608);
-    l6 = Words.get64(b, ((int) l4) - 60616);
-    l8 = Words.get64(b, ((int) l4) - 60624);
-    l9 = Words.get64(b, ((int) l4) - 60632);
-    l11 = b[((int) l4) - 60600] & 0xff;
-    l10 = Words.get32(b, ((int) l4) - 60597) & 0xffffffffL;
-    l12 = b[((int) l4) - 60599] & 0xff;
-    l13 = b[((int) l4) - 60598] & 0xff;
-    Words.put64(b, ((int) l4) - 60552, 0L);
-    Words.put64(b, ((int) l4) - 60560, 0L);
-    Words.put64(b, ((int) l4) - 60568, 0L);
-    Words.put64(b, ((int) l4) - 60576, 0L);
-    Words.put64(b, ((int) l4) - 60584, 0L);
-    Words.put64(b, ((int) l4) - 60592, 0L);
-    l7 = l10 | (l7 << 32L);
-    L9: {
-     L10: {
-      L11: {
-       L12: {
-        if (l11 != 1) { break L12; }
-        Core3.f93(m, l4 + 128L, l6, l5);
-        if ((b[((int) l4) - 60592] & 0xff) == 0) { break L11; }
-        Words.put64(b, ((int) l4) - 60496, 0L);
-        Words.put64(b, ((int) l4) - 60488, 0L);
-        Words.put64(b, ((int) l4) - 60480, 0L);
-        Words.put64(b, ((int) l4) - 60472, 0L);
-        Core3.f94(m, l4 + 224L, l1, 0L, l2, l3);
-        l11 = 1;
-        if ((b[((int) l4) - 60496] & 0xff) == 1) { break L10; }
-        l12 = 1;
-        break L3;
-       }
-       Words.put64(b, ((int) l4) - 60496, 0L);
-       Words.put64(b, ((int) l4) - 60488, 0L);
-       Words.put64(b, ((int) l4) - 60480, 0L);
-       Words.put64(b, ((int) l4) - 60472, 0L);
-       Core3.f94(m, l4 + 224L, l1, 0L, l2, l3);
-       l11 = 1;
-       L13: {
-        if ((b[((int) l4) - 60496] & 0xff) == 1) { break L13; }
-        l12 = 1;
-        break L3;
-       }
-       Words.put32(b, ((int) l4) - 60501, (int) l7);
-       b[((int) (l4 + 223L)) - 60720] = (byte) (l7 >>> 32L);
-       b[((int) l4) - 60502] = (byte) l13;
-       b[((int) l4) - 60503] = (byte) l12;
-       b[((int) l4) - 60504] = (byte) 0;
-       Words.put64(b, ((int) l4) - 60512, l5);
-       Words.put64(b, ((int) l4) - 60520, l6);
-       Words.put64(b, ((int) l4) - 60528, l8);
-       Words.put64(b, ((int) l4) - 60536, l9);
-       l5 = Words.get64(b, ((int) l4) - 60480);
-       l1 = b[((int) l4) - 60488] & 0xff;
-       Core3.f96(m, l4 + 16L, 0L, l4 + 184L);
-       l12 = 1;
-       L14: {
-        if (l1 != 1) { break L14; }
-        if (((b[((int) l4) - 60704] & 0xff) & 255) == 0) { break L14; }
-        if (Words.get64(b, ((int) l4) - 60696) + Long.MIN_VALUE >= l5 + Long.MIN_VALUE) { break L3; }
-       }
-       l13 = Core5.f165(m, l2, l3, l1, l5) & 255;
-       break L9;
-      }
-      Words.put16(b, ((int) l4) - 60540, (short) 0);
-      b[((int) l4) - 60538] = (byte) 0;
-      Words.put16(b, ((int) l4) - 60544, (short) 0);
-      b[((int) l4) - 60542] = (byte) 0;
-      Words.put64(b, ((int) l4) - 60496, 0L);
-      Words.put64(b, ((int) l4) - 60488, 0L);
-      Words.put64(b, ((int) l4) - 60480, 0L);
-      Words.put64(b, ((int) l4) - 60472, 0L);
-      f193(m, l4 + 180L, l1, l9, l8);
-      l11 = 1;
-      L15: {
-       if ((b[((int) l4) - 60540] & 0xff) != 1) { break L15; }
-       l13 = b[((int) l4) - 60538] & 0xff;
-       l12 = b[((int) l4) - 60539] & 0xff;
-       break L3;
-      }
-      f193(m, l4 + 176L, l1, l6, l5);
-      L16: {
-       if ((b[((int) l4) - 60544] & 0xff) != 1) { break L16; }
-       l11 = 1;
-       l13 = b[((int) l4) - 60542] & 0xff;
-       l12 = b[((int) l4) - 60543] & 0xff;
-       break L3;
-      }
-      Words.put64(b, ((int) l4) - 60504, (((((l12 & 0xffffffffL) & 255L) << 8L) | (((l13 & 0xffffffffL) & 255L) << 16L)) | (l7 << 24L)) | 1L);
-      Words.put64(b, ((int) l4) - 60512, l5);
-      Words.put64(b, ((int) l4) - 60520, l6);
-      Words.put64(b, ((int) l4) - 60528, l8);
-      Words.put64(b, ((int) l4) - 60536, l9);
-      Core3.f95(m, l4 + 224L, l1, 0L, l12, l4 + 184L);
-      l11 = 0;
-      l12 = 0;
-      l13 = 0;
-      if ((b[((int) l4) - 60496] & 0xff) != 1) { break L3; }
-      l13 = 33619968 >>> (l1 = (b[((int) l4) - 60488] & 0xff) << 3);
-      l12 = 256 >>> l1;
-      l11 = 1;
-      break L3;
-     }
-     Words.put32(b, ((int) l4) - 60501, (int) l7);
-     b[((int) (l4 + 223L)) - 60720] = (byte) (l7 >>> 32L);
-     b[((int) l4) - 60502] = (byte) l13;
-     b[((int) l4) - 60503] = (byte) l12;
-     l12 = 1;
-     b[((int) l4) - 60504] = (byte) 1;
-     Words.put64(b, ((int) l4) - 60512, l5);
-     Words.put64(b, ((int) l4) - 60520, l6);
-     Words.put64(b, ((int) l4) - 60528, l8);
-     Words.put64(b, ((int) l4) - 60536, l9);
-     l5 = Words.get64(b, ((int) l4) - 60480);
-     l1 = b[((int) l4) - 60488] & 0xff;
-     Core3.f96(m, l4, 0L, l4 + 184L);
-     L17: {
-      if (l1 != 1) { break L17; }
-      if (((b[((int) l4) - 60720] & 0xff) & 255) == 0) { break L17; }
-      if (Words.get64(b, ((int) l4) - 60712) + Long.MIN_VALUE >= l5 + Long.MIN_VALUE) { break L3; }
-     }
-     l13 = Core5.f165(m, l2, l3, l1, l5) & 255;
-    }
-    l12 = 0;
-   }
-   b[((int) l0) - 60720] = (byte) l11;
-   b[((int) (l0 + 2L)) - 60720] = (byte) l13;
-   b[((int) (l0 + 1L)) - 60720] = (byte) l12;
-   break L1;
-  }
-  throw State.trap();
- }
- m.g0 = l4 + 256L;
-}
-
-static void f193(State m, long l0, int l1, long l2, long l3) {
- final byte[] b = m.bytes;
- long l4 = 0;
- long l5 = 0;
- long l6 = 0;
- long l7 = 0;
- long l8 = 0;
- long l9 = 0;
- long l10 = 0;
- int l11 = 0;
- int l12 = 0;
- int l13 = 0;
- int l14 = 0;
- int l15 = 0;
- int l16 = 0;
- m.g0 = l4 = m.g0 - 128L;
- L1: {
-  L2: {
-   L3: {
-    L4: {
-     L5: {
-      L6: {
-       L7: {
-        L8: {
-         L9: {
-          if ((l5 = l4) < 16L) { break L9; }
-          l4 = 0L;
-          Words.put64(b, ((int) l5) - 60656, 0L);
-          Words.put64(b, ((int) l5) - 60648, 0L);
-          Words.put64(b, ((int) l5) - 60640, 0L);
-          Words.put64(b, ((int) l5) - 60632, 0L);
-          Words.put64(b, ((int) l5) - 60688, 0L);
-          Words.put64(b, ((int) l5) - 60680, 0L);
-          Words.put64(b, ((int) l5) - 60672, 0L);
-          Words.put64(b, ((int) l5) - 60664, 0L);
-          Words.put64(b, ((int) l5) - 60720, 0L);
-          Words.put64(b, ((int) l5) - 60712, 0L);
-          Words.put64(b, ((int) l5) - 60704, 0L);
-          Words.put64(b, ((int) l5) - 60696, 0L);
-          l11 = 0;
-          if (l3 == 0L) { break L3; }
-          l6 = 0L;
-          l7 = l3;
-          l4 = l2;
-          L10: while (true) {
-           L11: {
-            L12: {
-             if ((l12 = b[((int) l4) - 60720] & 0xff) + Integer.MIN_VALUE > -2147483616) { break L12; }
-             if (((1L << (l12 & 0xffffffffL)) & 4294983168L) == 0L) { break L12; }
-             l8 = 1L;
-             break L11;
-            }
-            L13: {
-             L14: {
-              L15: {
-               if (l12 == 194) { break L15; }
-               if (l7 + Long.MIN_VALUE < -9223372036854775805L) { break L14; }
-               if (((l12 + 28) & 255) + Integer.MIN_VALUE < -2147483395) { break L14; }
-               l13 = b[((int) (l4 + 1L)) - 60720] & 0xff;
-               l15 = (int) (byte) (l14 = b[((int) (l4 + 2L)) - 60720] & 0xff);
-               if (l12 != 226) { break L13; }
-               if ((l13 & 255) != 128) { break L13; }
-               l8 = 3L;
-               if (l15 < -117) { break L11; }
-               if ((l14 + -168) + Integer.MIN_VALUE < -2147483646) { break L11; }
-               if (l14 != 175) { break L8; }
-               break L11;
-              }
-              l8 = 1L;
-              l12 = b[((int) l4) - 60719] & 0xff;
-              L16: {
-               if (l7 != 1L) { break L16; }
-               l15 = l12 & 63;
-               l12 = 194;
-               break L6;
-              }
-              l8 = 2L;
-              if (l12 == 133) { break L11; }
-              if (l12 == 160) { break L11; }
-             }
-             if (l7 + Long.MIN_VALUE >= -9223372036854775805L) { break L8; }
-             l13 = b[((int) l4) - 60720] & 0xff;
-             break L7;
-            }
-            L17: {
-             L18: {
-              L19: {
-               L20: {
-                switch (l12 + -225) {
-                case 1: break L19;
-                case 2: break L18;
-                default: break L20;
-                }
-               }
-               if ((l13 & 255) != 154) { break L8; }
-               if (l15 != -128) { break L8; }
-               break L17;
-              }
-              if ((l13 & 255) != 129) { break L8; }
-              if (l15 == -97) { break L17; }
-              break L8;
-             }
-             if ((l13 & 255) != 128) { break L8; }
-             if (l15 != -128) { break L8; }
-            }
-            l8 = 3L;
-           }
-           l6 = l6 + 1L;
-           l4 = l4 + l8;
-           if (!((l7 = l7 - l8) == 0L)) { continue L10; }
-           break L10;
-          }
-          l4 = 0L;
-          break L3;
-         }
-         throw State.trap();
-        }
-        if (((l13 = b[((int) l4) - 60720] & 0xff) & 240) != 224) { break L7; }
-        l12 = (((b[((int) l4) - 60718] & 0xff) + ((b[((int) l4) - 60719] & 0xff) << 6)) + (l13 << 12)) + -925824;
-        l8 = l7 + -3L;
-        l4 = l4 + 3L;
-        break L4;
-       }
-       l12 = l13 & 255;
-       l9 = 1L;
-       L21: {
-        if (((int) (byte) l13) > -1) { break L21; }
-        l15 = (b[((int) l4) - 60719] & 0xff) & 63;
-        L22: {
-         if ((l13 & 255) + Integer.MIN_VALUE > -2147483425) { break L22; }
-         l8 = l7;
-         break L6;
-        }
-        l14 = (b[((int) l4) - 60718] & 0xff) & 63;
-        L23: {
-         if ((l13 & 255) + Integer.MIN_VALUE > -2147483409) { break L23; }
-         l12 = ((l15 << 6) | ((l12 << 12) & 61440)) | l14;
-         l9 = 3L;
-         break L21;
-        }
-        l12 = ((l14 << 6) | ((l15 << 12) | ((l12 << 18) & 1835008))) | ((b[((int) l4) - 60717] & 0xff) & 63);
-        l9 = 4L;
-       }
-       l8 = l7;
-       break L5;
-      }
-      l12 = ((l12 << 6) & 1984) | l15;
-      l9 = 2L;
-     }
-     l8 = l8 - l9;
-     l4 = l4 + l9;
-    }
-    Words.put64(b, ((int) l5) - 60600, 0L);
-    Words.put64(b, ((int) l5) - 60608, 0L);
-    Words.put64(b, ((int) l5) - 60616, 0L);
-    Words.put64(b, ((int) l5) - 60624, 0L);
-    L24: {
-     L25: {
-      L26: {
-       L27: {
-        L28: {
-         L29: {
-          L30: {
-           if (l8 + Long.MIN_VALUE < -9223372036854775804L) { break L30; }
-           if (Words.get32(b, ((int) ((l10 = ((((l13 = Words.get32(b, ((int) ((l4 + l8) + -4L)) - 60720) >>> 8) & 0xffffffffL) * 953497L) >>> 22L) & 1016L) + 66852L)) - 60720) != l13) { break L28; }
-           l7 = l8 + -3L;
-           l9 = l4;
-           break L29;
-          }
-          if (l8 != 3L) { break L28; }
-          if (Words.get32(b, ((int) ((l10 = ((((l13 = (Words.get16(b, ((int) l4) - 60720) & 0xffff) | ((b[((int) l4) - 60718] & 0xff) << 16)) & 0xffffffffL) * 953497L) >>> 22L) & 1016L) + 66852L)) - 60720) != l13) { break L28; }
-          l9 = l4 + 3L;
-          l7 = 0L;
-         }
-         l14 = b[((int) (l10 + 66856L)) - 60720] & 0xff;
-         l11 = b[((int) (l10 + 66857L)) - 60720] & 0xff;
-         break L27;
-        }
-        Core2.f41(m, l5 + 96L, l4, l8);
-        if ((b[((int) l5) - 60624] & 0xff) != 1) { break L26; }
-        l7 = Words.get64(b, ((int) l5) - 60600);
-        l9 = Words.get64(b, ((int) l5) - 60608);
-        l11 = b[((int) l5) - 60615] & 0xff;
-        l14 = b[((int) l5) - 60616] & 0xff;
-       }
-       Words.put64(b, ((int) l5) - 60600, 0L);
-       Words.put64(b, ((int) l5) - 60608, 0L);
-       Words.put64(b, ((int) l5) - 60616, 0L);
-       Words.put64(b, ((int) l5) - 60624, 0L);
-       L31: {
-        L32: {
-         L33: {
-          if (l7 + Long.MIN_VALUE < -9223372036854775804L) { break L33; }
-          if (Words.get32(b, ((int) ((l10 = ((((l13 = Words.get32(b, ((int) ((l9 + l7) + -4L)) - 60720) >>> 8) & 0xffffffffL) * 953497L) >>> 22L) & 1016L) + 66852L)) - 60720) != l13) { break L32; }
-          l15 = b[((int) (l10 + 66856L)) - 60720] & 0xff;
-          l16 = b[((int) (l10 + 66857L)) - 60720] & 0xff;
-          l13 = 1;
-          break L31;
-         }
-         if (l7 != 3L) { break L32; }
-         if (Words.get32(b, ((int) ((l10 = ((((l13 = (Words.get16(b, ((int) l9) - 60720) & 0xffff) | ((b[((int) l9) - 60718] & 0xff) << 16)) & 0xffffffffL) * 953497L) >>> 22L) & 1016L) + 66852L)) - 60720) != l13) { break L32; }
-         l15 = b[((int) (l10 + 66856L)) - 60720] & 0xff;
-         l16 = b[((int) (l10 + 66857L)) - 60720] & 0xff;
-         l13 = 1;
-         break L31;
-        }
-        Core2.f41(m, l5 + 96L, l9, l7);
-        l13 = ((b[((int) l5) - 60624] & 0xff) == 1) ? 1 : 0;
-        l16 = b[((int) l5) - 60615] & 0xff;
-        l15 = b[((int) l5) - 60616] & 0xff;
-       }
-       if (l13 == 0) { break L26; }
-       if ((l15 & 255) != 1) { break L26; }
-       if (((((l14 & 255) != 1) | ((l11 & 255) == 0)) ? 1 : 0) != 1) { break L26; }
-       if ((l16 & 255) + Integer.MIN_VALUE < -2147483646) { break L26; }
-       Core2.f42(m, l5 + 32L, l1, l6, l12, l9, l7);
-       l4 = Words.get64(b, ((int) l5) - 60672);
-       if ((b[((int) l5) - 60688] & 0xff) != 0) { break L24; }
-       L34: {
-        if ((l14 & 255) != 0) { break L34; }
-        Core2.f43(m, l5, l1, l4, Words.get64(b, ((int) l5) - 60664), l16, l11);
-        final long t35 = Words.get64(b, ((int) l5) - 60704);
-        final int t36 = l12 = ((b[((int) l5) - 60720] & 0xff) != 1) ? 1 : 0;
-        l4 = t36 != 0 ? 0L : t35;
-        l11 = l12 != 0 ? 2 : 0;
-        break L25;
-       }
-       l4 = (Core2.f44(m, l9, l7) + l6) + 1L;
-       l11 = 1;
-       break L3;
-      }
-      Core2.f42(m, l5 + 64L, l1, l6, l12, l4, l8);
-      l12 = b[((int) l5) - 60656] & 0xff;
-      l4 = Words.get64(b, ((int) l5) - 60640);
-      l11 = b[((int) l5) - 60648] & 0xff;
-     }
-     if ((l12 & 255) != 0) { break L2; }
-     l12 = 0;
-     l13 = 0;
-     break L1;
-    }
-    l11 = b[((int) l5) - 60680] & 0xff;
-   }
-   l12 = 1;
-  }
-  l13 = Core5.f165(m, l2, l3, l11, l4) & 255;
- }
- b[((int) l0) - 60720] = (byte) l12;
- b[((int) (l0 + 2L)) - 60720] = (byte) l13;
- b[((int) (l0 + 1L)) - 60720] = (byte) 0;
- m.g0 = l5 + 128L;
-}
-
-static int f194(State m, long l0, long l1, long l2) {
- final byte[] b = m.bytes;
- long l3 = 0;
- long l4 = 0;
- long l5 = 0;
- int l6 = 0;
- int l7 = 0;
- int l8 = 0;
- int l9 = 0;
- int l10 = 0;
- m.g0 = l3 = m.g0 - 16L;
- L1: {
-  if ((l4 = l3) < 16L) { break L1; }
-  l3 = 0L;
-  L2: {
-   if (l2 + Long.MIN_VALUE < -9223372036854775792L) { break L2; }
-   Core1.f25(m, l4, l0, l1, l2);
-   l2 = Words.get64(b, ((int) l4) - 60712);
-   l3 = Words.get64(b, ((int) l4) - 60720);
-  }
-  L3: {
-   if (l2 + Long.MIN_VALUE < -9223372036854775805L) { break L3; }
-   L4: while (true) {
-    if ((l1 - l3) + Long.MIN_VALUE < -9223372036854775800L) { break L3; }
-    L5: {
+     l6 = (l7 = (int) b[((int) (l4 = (l0 + l4) + l1)) - 58912]) & 255;
      L6: {
-      if (((l5 = Words.get64(b, ((int) (l0 + l3)) - 60720)) & 67553998437089520L) != 63050398541283552L) { break L6; }
-      l2 = l2 + -3L;
-      l3 = l3 + 9L;
-      break L5;
-     }
-     if (l2 + Long.MIN_VALUE < -9223372036854775800L) { break L3; }
-     if ((l5 & -9187201950435737472L) != 0L) { break L3; }
-     l2 = l2 + -8L;
-     l3 = l3 + 8L;
-    }
-    if (l2 + Long.MIN_VALUE > -9223372036854775806L) { continue L4; }
-    break L4;
-   }
-  }
-  L7: {
-   if (l2 == 0L) { break L7; }
-   if (l1 + Long.MIN_VALUE <= l3 + Long.MIN_VALUE) { break L7; }
-   l2 = l2 + -1L;
-   L8: while (true) {
-    l3 = Words.get64(b, ((int) (((((b[((int) (l0 + l3)) - 60720] & 0xff) >>> 1) & 0xffffffffL) & 120L) + 66680L)) - 60720) + l3;
-    if (l2 == 0L) { break L7; }
-    l2 = l2 + -1L;
-    if (l1 + Long.MIN_VALUE > l3 + Long.MIN_VALUE) { continue L8; }
-    break L8;
-   }
-  }
-  l2 = 83372L;
-  l5 = 0L;
-  L9: {
-   if (l1 + Long.MIN_VALUE < l3 + Long.MIN_VALUE) { break L9; }
-   L10: {
-    if (l1 == 0L) { break L10; }
-    if (((int) b[((int) l0) - 60720]) < -64) { break L9; }
-   }
-   L11: {
-    if (l3 == l1) { break L11; }
-    if (((int) b[((int) (l0 + l3)) - 60720]) < -64) { break L9; }
-   }
-   l5 = l3;
-   l2 = l0;
-  }
-  L12: {
-   L13: while (true) {
-    if ((l6 = (l5 == 0L) ? 1 : 0) != 0) { break L12; }
-    l8 = (l7 = (int) b[((int) l2) - 60720]) & 255;
-    l3 = 1L;
-    L14: {
-     if (l7 > -1) { break L14; }
-     l9 = (b[((int) l2) - 60719] & 0xff) & 63;
-     L15: {
-      if (l7 + Integer.MIN_VALUE > 2147483615) { break L15; }
-      l8 = ((l8 << 6) & 1984) | l9;
-      l3 = 2L;
-      break L14;
-     }
-     l10 = (b[((int) l2) - 60718] & 0xff) & 63;
-     L16: {
-      if (l7 + Integer.MIN_VALUE > 2147483631) { break L16; }
-      l8 = ((l9 << 6) | ((l8 << 12) & 61440)) | l10;
-      l3 = 3L;
-      break L14;
-     }
-     l8 = ((l10 << 6) | ((l9 << 12) | ((l8 << 18) & 1835008))) | ((b[((int) l2) - 60717] & 0xff) & 63);
-     l3 = 4L;
-    }
-    l5 = l5 - l3;
-    l2 = l2 + l3;
-    L17: {
-     if (l8 > 40669) { break L17; }
-     if (l8 == 46) { break L12; }
-     if (l8 != 28857) { continue L13; }
-     break L12;
-    }
-    if (l8 == 65294) { break L12; }
-    if (l8 != 40670) { continue L13; }
-    break L13;
-   }
-  }
-  m.g0 = l4 + 16L;
-  final int t18 = l6;
-  return t18;
- }
- throw State.trap();
-}
-
-static int f195(State m, long l0, long l1, long l2, long l3, long l4) {
- final byte[] b = m.bytes;
- long l5 = 0;
- long l6 = 0;
- long l7 = 0;
- long l8 = 0;
- long l9 = 0;
- long l10 = 0;
- int l11 = 0;
- int l12 = 0;
- int l13 = 0;
- int l14 = 0;
- int l15 = 0;
- int l16 = 0;
- int l17 = 0;
- int l18 = 0;
- m.g0 = l5 = m.g0 - 416L;
- L1: {
-  if ((l5 = l5) < 16L) { break L1; }
-  L2: {
-   L3: {
-    if ((b[((int) l4) - 60720] & 0xff) != 0) { break L3; }
-    l11 = 0;
-    break L2;
-   }
-   l6 = l4 + 18L;
-   l12 = b[((int) (l4 + 17L)) - 60720] & 0xff;
-   l7 = Words.get64(b, ((int) (l4 + 32L)) - 60720);
-   l13 = b[((int) (l4 + 16L)) - 60720] & 0xff;
-   l8 = Words.get64(b, ((int) l3) - 60712);
-   l14 = b[((int) l0) - 60713] & 0xff;
-   l15 = b[((int) l0) - 60714] & 0xff;
-   l16 = b[((int) l0) - 60715] & 0xff;
-   l17 = Words.get16(b, ((int) l0) - 60717) & 0xffff;
-   l9 = Words.get64(b, ((int) l3) - 60720);
-   L4: {
-    L5: {
-     L6: {
-      switch (b[((int) (l4 + 8L)) - 60720] & 0xff) {
-      case 1: break L5;
-      case 2: break L4;
-      default: break L6;
-      }
-     }
-     b[((int) l5) - 60601] = (byte) (l18 = b[((int) l0) - 60712] & 0xff);
-     b[((int) l5) - 60602] = (byte) l14;
-     b[((int) l5) - 60603] = (byte) l15;
-     b[((int) l5) - 60604] = (byte) l16;
-     Words.put16(b, ((int) l5) - 60606, (short) l17);
-     b[((int) l5) - 60647] = (byte) l12;
-     b[((int) l5) - 60648] = (byte) l13;
-     Words.put64(b, ((int) l5) - 60632, l7);
-     Words.put64(b, ((int) l5) - 60624, l4 = Words.get64(b, ((int) l6) - 60720));
-     Words.put64(b, ((int) l5) - 60618, l0 = Words.get64(b, ((int) l6) - 60714));
-     Words.put64(b, ((int) l5) - 60646, l4);
-     Words.put64(b, ((int) l5) - 60640, l0);
-     if ((l11 = f196(m, l5 + 114L, l9, l8, l5 + 72L, l4 = l1 + l8, l0 = l2 - l8)) == 0) { break L2; }
-     L7: {
-      if ((l18 & 1) == 0) { break L7; }
-      b[((int) l5) - 60463] = (byte) l12;
-      b[((int) l5) - 60464] = (byte) l13;
-      Words.put64(b, ((int) l5) - 60462, Words.get64(b, ((int) l5) - 60624));
-      Words.put64(b, ((int) l5) - 60456, Words.get64(b, ((int) l5) - 60618));
-      Words.put64(b, ((int) l5) - 60448, l7);
-      if ((f197(m, l9, l8, l5 + 256L, l4, l0) & 1) == 0) { break L7; }
-      b[((int) l5) - 60463] = (byte) l12;
-      b[((int) l5) - 60464] = (byte) l13;
-      Words.put64(b, ((int) l5) - 60462, Words.get64(b, ((int) l5) - 60624));
-      Words.put64(b, ((int) l5) - 60456, Words.get64(b, ((int) l5) - 60618));
-      Words.put64(b, ((int) l5) - 60448, l7);
-      final int t8 = f197(m, l9, l8, l5 + 256L, l4, l0);
-      break L2;
-     }
-     l6 = 0L;
-     Words.put64(b, ((int) l5) - 60584, 0L);
-     Words.put64(b, ((int) l5) - 60592, 0L);
-     Words.put64(b, ((int) l5) - 60600, 0L);
-     Core4.f129(m, l5 + 120L, l13, l4, l0);
-     if ((b[((int) l5) - 60600] & 0xff) != 1) { break L2; }
-     l8 = Words.get64(b, ((int) l5) - 60584);
-     l7 = Words.get64(b, ((int) l5) - 60592);
-     Words.put64(b, ((int) l5) - 60576, 0L);
-     Words.put64(b, ((int) l5) - 60568, 0L);
-     Words.put64(b, ((int) l5) - 60560, 0L);
-     Words.put64(b, ((int) l5) - 60552, 0L);
-     l1 = Words.get64(b, State.far((int) (l4 = ((l12 & 0xffffffffL) & 255L) << 3L), 88568));
-     l9 = Words.get64(b, State.far((int) l4, 88312));
-     l12 = 0;
-     l4 = 0L;
-     l14 = 0;
-     L9: while (true) {
-      Words.put64(b, ((int) l5) - 60336, l3 = l8);
-      Words.put64(b, ((int) l5) - 60344, l2 = l7);
-      b[((int) l5) - 60345] = (byte) l14;
-      b[((int) l5) - 60346] = (byte) (l16 = l12);
-      Words.put32(b, ((int) l5) - 60352, (int) l4);
-      Words.put16(b, ((int) l5) - 60348, (short) (l4 >>> 32L));
-      Core4.f130(m, l5 + 144L, b[((int) (l4 = l1 + (l6 << 1L))) - 60720] & 0xff, b[((int) (l0 = l4 + 1L)) - 60720] & 0xff, l5 + 368L);
-      if ((b[((int) l5) - 60576] & 0xff) != 1) { break L2; }
-      l8 = Words.get64(b, ((int) l5) - 60552);
-      l7 = Words.get64(b, ((int) l5) - 60560);
-      l14 = b[((int) l5) - 60561] & 0xff;
-      l12 = b[((int) l5) - 60562] & 0xff;
-      L10: {
-       if ((b[((int) l4) - 60720] & 0xff) != 0) { break L10; }
-       if (((b[((int) l0) - 60720] & 0xff) & 255) == 9) { break L10; }
-       Words.put64(b, ((int) l5) - 60440, 0L);
-       Words.put64(b, ((int) l5) - 60448, 0L);
-       Words.put64(b, ((int) l5) - 60456, 0L);
-       Words.put64(b, ((int) l5) - 60464, 0L);
-       Core4.f121(m, l5, l16 & 1, l2, l3);
-       Core4.f120(m, l5 + 256L, Words.get64(b, ((int) l5) - 60720), Words.get64(b, ((int) l5) - 60712));
-       l4 = l2 = Words.get64(b, ((int) l5) - 60464);
-       l3 = l10 = Words.get64(b, ((int) l5) - 60456);
-       L11: {
-        L12: while (true) {
-         if (l3 == 0L) { break L11; }
-         l16 = (l17 = (int) b[((int) l4) - 60720]) & 255;
-         l0 = 1L;
-         L13: {
-          if (l17 > -1) { break L13; }
-          l13 = (b[((int) l4) - 60719] & 0xff) & 63;
-          L14: {
-           if (l17 + Integer.MIN_VALUE > 2147483615) { break L14; }
-           l16 = ((l16 << 6) & 1984) | l13;
-           l0 = 2L;
-           break L13;
-          }
-          l15 = (b[((int) l4) - 60718] & 0xff) & 63;
-          L15: {
-           if (l17 + Integer.MIN_VALUE > 2147483631) { break L15; }
-           l16 = ((l13 << 6) | ((l16 << 12) & 61440)) | l15;
-           l0 = 3L;
-           break L13;
-          }
-          l16 = ((l15 << 6) | ((l13 << 12) | ((l16 << 18) & 1835008))) | ((b[((int) l4) - 60717] & 0xff) & 63);
-          l0 = 4L;
-         }
-         if ((l16 + -48) + Integer.MIN_VALUE < -2147483638) { break L10; }
-         l3 = l3 - l0;
-         l4 = l4 + l0;
-         if ((l16 + -65296) + Integer.MIN_VALUE >= -2147483638) { continue L12; }
-         break L10;
-        }
-       }
-       if ((f198(m, 1, l2, l10) & 1) == 0) { break L10; }
-       final int t16 = f198(m, 1, l2, l10);
-      }
-      l4 = (Words.get32(b, ((int) l5) - 60568) & 0xffffffffL) | ((Words.get16(b, ((int) (l5 + 156L)) - 60720) & 0xffffL) << 32L);
-      if ((l6 = l6 + 1L) != l9) { continue L9; }
-      break L2;
-     }
-    }
-    l8 = Words.get64(b, ((int) (l4 + 96L)) - 60720);
-    l2 = Words.get64(b, ((int) (l4 + 88L)) - 60720);
-    l3 = Words.get64(b, ((int) (l4 + 40L)) - 60720);
-    Words.put64(b, ((int) l5) - 60642, Words.get64(b, ((int) l6) - 60714));
-    Words.put64(b, ((int) l5) - 60648, Words.get64(b, ((int) l6) - 60720));
-    Words.put64(b, ((int) l5) - 60320, Words.get64(b, ((int) (l0 = l4 + 48L)) - 60688));
-    Words.put64(b, ((int) l5) - 60328, Words.get64(b, ((int) l0) - 60696));
-    Words.put64(b, ((int) l5) - 60336, Words.get64(b, ((int) l0) - 60704));
-    Words.put64(b, ((int) l5) - 60344, Words.get64(b, ((int) l0) - 60712));
-    Words.put64(b, ((int) l5) - 60352, Words.get64(b, ((int) l0) - 60720));
-    Words.put64(b, ((int) l5) - 60592, Words.get64(b, ((int) (l4 = l4 + 104L)) - 60712));
-    Words.put64(b, ((int) l5) - 60600, Words.get64(b, ((int) l4) - 60720));
-    l11 = 0;
-    m.fill((int) (l5 + 256L), 0, (int) 112L);
-    Core2.f72(m, l5 + 256L, l7, l3, l2, l8);
-    if ((b[((int) l5) - 60464] & 0xff) != 1) { break L2; }
-    L17: {
-     if ((l16 & 1) != 0) { break L17; }
-     b[((int) l5) - 60575] = (byte) l12;
-     b[((int) l5) - 60576] = (byte) l13;
-     Words.put64(b, ((int) l5) - 60574, Words.get64(b, ((int) l5) - 60648));
-     Words.put64(b, ((int) l5) - 60568, Words.get64(b, ((int) l5) - 60642));
-     Words.put64(b, ((int) l5) - 60552, l3);
-     Words.put64(b, ((int) l5) - 60560, l7);
-     Words.put64(b, ((int) l5) - 60544, Words.get64(b, ((int) l5) - 60352));
-     Words.put64(b, ((int) l5) - 60536, Words.get64(b, ((int) l5) - 60344));
-     Words.put64(b, ((int) l5) - 60528, Words.get64(b, ((int) l5) - 60336));
-     Words.put64(b, ((int) l5) - 60520, Words.get64(b, ((int) l5) - 60328));
-     Words.put64(b, ((int) l5) - 60512, Words.get64(b, ((int) l5) - 60320));
-     Words.put64(b, ((int) l5) - 60496, l8);
-     Words.put64(b, ((int) l5) - 60504, l2);
-     Words.put64(b, ((int) l5) - 60488, Words.get64(b, ((int) l5) - 60600));
-     Words.put64(b, ((int) l5) - 60480, Words.get64(b, ((int) l5) - 60592));
-     if (Core3.f116(m, l5 + 144L) != 0) { break L2; }
-    }
-    L18: {
-     if (f199(m, l7, l3, l2, l8) == 0) { break L18; }
-     if (f200(m, l15, l7, l3, l2, l8) == 0) { break L2; }
-    }
-    Core2.f73(m, l5 + 16L, l7, l3, l2, l8);
-    if ((f201(m, l15, l7, l3, Words.get64(b, ((int) l5) - 60704), Words.get64(b, ((int) l5) - 60696)) & 1) == 0) { break L2; }
-    l4 = 0L;
-    Words.put64(b, ((int) l5) - 60408, 0L);
-    Words.put64(b, ((int) l5) - 60416, 0L);
-    Words.put64(b, ((int) l5) - 60424, 0L);
-    Words.put64(b, ((int) l5) - 60432, 0L);
-    Words.put64(b, ((int) l5) - 60440, 0L);
-    Words.put64(b, ((int) l5) - 60448, 0L);
-    Words.put64(b, ((int) l5) - 60456, 0L);
-    Words.put64(b, ((int) l5) - 60464, 0L);
-    Core2.f75(m, l5 + 256L, l7, l3, 1);
-    l0 = 83372L;
-    L19: {
-     if ((b[((int) l5) - 60464] & 0xff) != 0) { break L19; }
-     if (((b[((int) l5) - 60416] & 0xff) & 255) != 2) { break L19; }
-     Words.put64(b, ((int) l5) - 60408, 0L);
-     Words.put64(b, ((int) l5) - 60416, 0L);
-     Words.put64(b, ((int) l5) - 60424, 0L);
-     Words.put64(b, ((int) l5) - 60432, 0L);
-     Words.put64(b, ((int) l5) - 60440, 0L);
-     Words.put64(b, ((int) l5) - 60448, 0L);
-     Words.put64(b, ((int) l5) - 60456, 0L);
-     Words.put64(b, ((int) l5) - 60464, 0L);
-     Core2.f75(m, l5 + 256L, l2, l8, 1);
-     l0 = ((l16 = ((((b[((int) l5) - 60464] & 0xff) & 255) != 0) | (((b[((int) l5) - 60416] & 0xff) & 255) != 2)) ? 1 : 0) != 0) ? 77254L : 83372L;
-     l4 = l16 & 0xffffffffL;
-    }
-    l11 = f201(m, l15, l2, l8, l0, l4);
-    break L2;
-   }
-   l6 = Words.get64(b, ((int) l3) - 60696);
-   l4 = Words.get64(b, ((int) l3) - 60704);
-   l13 = b[((int) l0) - 60718] & 0xff;
-   b[((int) l5) - 60598] = (byte) l16;
-   Words.put16(b, ((int) l5) - 60600, (short) l17);
-   Words.put64(b, ((int) l5) - 60328, l6);
-   Words.put64(b, ((int) l5) - 60336, l4);
-   Words.put64(b, ((int) l5) - 60344, l8);
-   Words.put64(b, ((int) l5) - 60352, l9);
-   Words.put64(b, ((int) l5) - 60320, Words.get64(b, ((int) (l0 = l3 + 32L)) - 60720));
-   Words.put64(b, ((int) l5) - 60312, Words.get64(b, ((int) l0) - 60712));
-   l11 = 0;
-   if (f174(m, l13, l5 + 120L, l5 + 368L) == 0) { break L2; }
-   L20: {
-    if (f175(m, l4, l6) != 0) { break L20; }
-    l16 = f176(m, l4, l6);
-    L21: {
-     if ((l15 & 255) != 0) { break L21; }
-     if (l16 != 0) { break L2; }
-     l0 = l4;
-     l8 = l6;
-     L22: {
-      L23: while (true) {
-       if (l8 == 0L) { break L22; }
-       l16 = (l17 = (int) b[((int) l0) - 60720]) & 255;
-       l3 = 1L;
-       L24: {
-        if (l17 > -1) { break L24; }
-        l15 = (b[((int) l0) - 60719] & 0xff) & 63;
-        L25: {
-         if (l17 + Integer.MIN_VALUE > 2147483615) { break L25; }
-         l16 = ((l16 << 6) & 1984) | l15;
-         l3 = 2L;
-         break L24;
-        }
-        l12 = (b[((int) l0) - 60718] & 0xff) & 63;
-        L26: {
-         if (l17 + Integer.MIN_VALUE > 2147483631) { break L26; }
-         l16 = ((l15 << 6) | ((l16 << 12) & 61440)) | l12;
-         l3 = 3L;
-         break L24;
-        }
-        l16 = ((l12 << 6) | ((l15 << 12) | ((l16 << 18) & 1835008))) | ((b[((int) l0) - 60717] & 0xff) & 63);
-        l3 = 4L;
-       }
-       l8 = l8 - l3;
-       l0 = l0 + l3;
-       if (l16 != 21448) { continue L23; }
-       break L2;
-      }
-     }
-     l11 = f198(m, l13, l4, l6);
-     break L2;
-    }
-    L27: {
-     if (l16 == 0) { break L27; }
-     l0 = l4;
-     l8 = l6;
-     L28: while (true) {
-      if (l8 == 0L) { break L2; }
-      l16 = (l17 = (int) b[((int) l0) - 60720]) & 255;
-      l3 = 1L;
-      L29: {
-       if (l17 > -1) { break L29; }
-       l15 = (b[((int) l0) - 60719] & 0xff) & 63;
-       L30: {
-        if (l17 + Integer.MIN_VALUE > 2147483615) { break L30; }
-        l16 = ((l16 << 6) & 1984) | l15;
-        l3 = 2L;
-        break L29;
-       }
-       l12 = (b[((int) l0) - 60718] & 0xff) & 63;
-       L31: {
-        if (l17 + Integer.MIN_VALUE > 2147483631) { break L31; }
-        l16 = ((l15 << 6) | ((l16 << 12) & 61440)) | l12;
-        l3 = 3L;
-        break L29;
-       }
-       l16 = ((l12 << 6) | ((l15 << 12) | ((l16 << 18) & 1835008))) | ((b[((int) l0) - 60717] & 0xff) & 63);
-       l3 = 4L;
-      }
-      Core2.f61(m, l5 + 64L, l16);
-      L32: {
-       if ((b[((int) l5) - 60656] & 0xff) != 1) { break L32; }
-       if (((b[((int) l5) - 60655] & 0xff) & 255) != 0) { break L27; }
-      }
-      if (l16 == 38646) { break L27; }
-      l0 = l0 + l3;
-      l8 = l8 - l3;
-      if (l16 != 12295) { continue L28; }
-      break L28;
-     }
-    }
-    Words.put64(b, ((int) l5) - 60408, 0L);
-    Words.put64(b, ((int) l5) - 60416, 0L);
-    Words.put64(b, ((int) l5) - 60424, 0L);
-    Words.put64(b, ((int) l5) - 60432, 0L);
-    Words.put64(b, ((int) l5) - 60440, 0L);
-    Words.put64(b, ((int) l5) - 60448, 0L);
-    Words.put64(b, ((int) l5) - 60456, 0L);
-    Words.put64(b, ((int) l5) - 60464, 0L);
-    Core2.f75(m, l5 + 256L, l4, l6, l13);
-    Words.put64(b, ((int) l5) - 60576, Words.get64(b, ((int) l5) - 60448));
-    Words.put64(b, ((int) l5) - 60568, Words.get64(b, ((int) l5) - 60440));
-    Words.put64(b, ((int) l5) - 60560, Words.get64(b, ((int) l5) - 60432));
-    Words.put64(b, ((int) l5) - 60552, Words.get64(b, ((int) l5) - 60424));
-    Words.put64(b, ((int) l5) - 60544, Words.get64(b, ((int) l5) - 60416));
-    Words.put64(b, ((int) l5) - 60536, Words.get64(b, ((int) l5) - 60408));
-    L33: {
-     if ((l16 = b[((int) l5) - 60464] & 0xff) != 0) { break L33; }
-     m.fill((int) (l5 + 256L), 0, (int) 80L);
-     Core2.f52(m, l5 + 48L, l5 + 256L, l5 + 144L);
-    }
-    l11 = (l16 == 0) ? 1 : 0;
-    break L2;
-   }
-   if ((l14 & 1) == 0) { break L2; }
-   l11 = 1;
-   if (l6 == 0L) { break L2; }
-   l13 = 0;
-   L34: while (true) {
-    l16 = (l17 = (int) b[((int) l4) - 60720]) & 255;
-    l0 = 1L;
-    L35: {
-     if (l17 > -1) { break L35; }
-     l11 = (b[((int) l4) - 60719] & 0xff) & 63;
-     L36: {
-      if (l17 + Integer.MIN_VALUE > 2147483615) { break L36; }
-      l16 = ((l16 << 6) & 1984) | l11;
-      l0 = 2L;
-      break L35;
-     }
-     l15 = (b[((int) l4) - 60718] & 0xff) & 63;
-     L37: {
-      if (l17 + Integer.MIN_VALUE > 2147483631) { break L37; }
-      l16 = ((l11 << 6) | ((l16 << 12) & 61440)) | l15;
-      l0 = 3L;
-      break L35;
-     }
-     l16 = ((l15 << 6) | ((l11 << 12) | ((l16 << 18) & 1835008))) | ((b[((int) l4) - 60717] & 0xff) & 63);
-     l0 = 4L;
-    }
-    l6 = l6 - l0;
-    l4 = l4 + l0;
-    l17 = 0;
-    L38: {
-     if ((l13 & 1) != 0) { break L38; }
-     L39: {
-      if (l16 == 65296) { break L39; }
-      if (l16 != 48) { break L38; }
-     }
-     if (l6 == 0L) { break L38; }
-     l17 = (l11 = (int) b[((int) l4) - 60720]) & 255;
-     L40: {
-      if (l11 > -1) { break L40; }
-      l15 = (b[((int) l4) - 60719] & 0xff) & 63;
-      L41: {
-       if (l11 + Integer.MIN_VALUE > 2147483615) { break L41; }
-       l17 = ((l17 << 6) & 1984) | l15;
-       break L40;
-      }
-      l12 = (b[((int) l4) - 60718] & 0xff) & 63;
-      L42: {
-       if (l11 + Integer.MIN_VALUE > 2147483631) { break L42; }
-       l17 = ((l15 << 6) | ((l17 << 12) & 61440)) | l12;
-       break L40;
-      }
-      l17 = ((l12 << 6) | ((l15 << 12) | ((l17 << 18) & 1835008))) | ((b[((int) l4) - 60717] & 0xff) & 63);
-     }
-     l17 = (((l17 + -48) + Integer.MIN_VALUE < -2147483638) | ((l17 + -65296) + Integer.MIN_VALUE < -2147483638)) ? 1 : 0;
-    }
-    f179(m, l5 + 32L, l17, l16);
-    L43: {
-     L44: {
-      if (((l13 | l17) & 1) == 0) { break L44; }
-      l13 = l13 & (l17 ^ 1);
-      break L43;
-     }
-     l13 = (((l16 + -48) + Integer.MIN_VALUE < -2147483638) | ((l16 + -65296) + Integer.MIN_VALUE < -2147483638)) ? 1 : 0;
-    }
-    if (l6 != 0L) { continue L34; }
-    break L34;
-   }
-   l11 = 1;
-  }
-  m.g0 = l5 + 416L;
-  final int t45 = l11 & 1;
-  return t45;
- }
- throw State.trap();
-}
-
-static int f196(State m, long l0, long l1, long l2, long l3, long l4, long l5) {
- final byte[] b = m.bytes;
- long l6 = 0;
- int l7 = 0;
- int l8 = 0;
- int l9 = 0;
- int l10 = 0;
- int l11 = 0;
- int l12 = 0;
- m.g0 = l6 = m.g0 - 96L;
- L1: {
-  if ((l6 = l6) < 16L) { break L1; }
-  l7 = b[((int) l3) - 60719] & 0xff;
-  l8 = b[((int) l3) - 60720] & 0xff;
-  l9 = b[((int) l0) - 60715] & 0xff;
-  l10 = b[((int) l0) - 60718] & 0xff;
-  l11 = b[((int) l0) - 60719] & 0xff;
-  l12 = 0;
-  Words.put32(b, ((int) l6) - 60672, 0);
-  Words.put64(b, ((int) l6) - 60680, 0L);
-  Words.put32(b, ((int) l6) - 60688, Words.get32(b, ((int) (l0 = l3 + 2L)) - 60720));
-  Words.put16(b, ((int) l6) - 60684, (short) (Words.get16(b, ((int) l0) - 60716) & 0xffff));
-  Core3.f113(m, l6 + 40L, l7, l6 + 32L);
-  L2: {
-   if ((b[((int) l6) - 60680] & 0xff) != 1) { break L2; }
-   L3: {
-    if ((l10 & 1) != 0) { break L3; }
-    b[((int) l6) - 60711] = (byte) l7;
-    b[((int) l6) - 60712] = (byte) l8;
-    Words.put32(b, ((int) l6) - 60710, Words.get32(b, ((int) l0) - 60720));
-    Words.put16(b, ((int) l6) - 60706, (short) (Words.get16(b, ((int) l0) - 60716) & 0xffff));
-    Words.put64(b, ((int) l6) - 60704, Words.get64(b, ((int) (l3 = l3 + 8L)) - 60720));
-    Words.put64(b, ((int) l6) - 60696, Words.get64(b, ((int) l3) - 60712));
-    if (Core3.f114(m, l1, l2, l6 + 8L, l4, l5) != 0) { break L2; }
-   }
-   l12 = 1;
-   if ((l9 & 1) != 0) { break L2; }
-   l10 = 1;
-   if ((l11 & 1) != 0) { break L2; }
-   Words.put64(b, ((int) l6) - 60640, 0L);
-   Words.put64(b, ((int) l6) - 60648, 0L);
-   Words.put64(b, ((int) l6) - 60656, 0L);
-   Words.put64(b, ((int) l6) - 60664, 0L);
-   Core4.f120(m, l6 + 56L, l4, l5);
-   L4: {
-    if ((l7 & 254) != 26) { break L4; }
-    l3 = Words.get64(b, ((int) l6) - 60656);
-    l0 = Words.get64(b, ((int) l6) - 60664);
-    l12 = 0;
-    Words.put32(b, ((int) l6) - 60628, 0);
-    L5: {
-     L6: {
+      if (l7 > -1) { break L6; }
+      l8 = (b[((int) l4) - 58911] & 0xff) & 63;
       L7: {
-       L8: {
-        if ((l5 = l3 + -1L) + Long.MIN_VALUE > -9223372036854775806L) { break L8; }
-        L9: {
-         L10: {
-          switch ((int) l5) {
-          case 1: break L8;
-          case 2: break L10;
-          default: break L9;
-          }
-         }
-         if (Words.get32(b, State.far((int) (l5 = ((((l7 = (((b[((int) l0) - 60719] & 0xff) << 8) | (l12 = b[((int) l0) - 60720] & 0xff)) | ((b[((int) l0) - 60718] & 0xff) << 16)) & 0xffffffffL) * 953497L) >>> 22L) & 1016L), 66852)) != l7) { break L7; }
-         if (((b[((int) (l5 + 66856L)) - 60720] & 0xff) & 255) == 2) { break L7; }
-         l12 = 1;
-         break L5;
-        }
-        l12 = ((((b[((int) l0) - 60720] & 0xff) + -58) & 255) + Integer.MIN_VALUE < -2147483402) ? 1 : 0;
-        break L5;
-       }
-       if (l3 + Long.MIN_VALUE > -9223372036854775804L) { break L5; }
-       if (l3 == 0L) { break L6; }
-       l12 = b[((int) l0) - 60720] & 0xff;
+       if (l7 + Integer.MIN_VALUE > 2147483615) { break L7; }
+       l6 = ((l6 << 6) & 1984) | l8;
+       break L6;
       }
-      if (((int) (byte) l12) <= -1) { break L6; }
-      l12 = 0;
-      break L5;
-     }
-     Core3.f106(m, l6 + 92L, l0, l3);
-     l12 = (((b[((int) l6) - 60628] & 0xff) == 1) ? 1 : 0) & (b[((int) l6) - 60625] & 0xff);
-    }
-    l10 = l12 ^ 1;
-   }
-   l12 = l10;
-  }
-  m.g0 = l6 + 96L;
-  final int t11 = l12;
-  return t11;
- }
- throw State.trap();
-}
-
-static int f197(State m, long l0, long l1, long l2, long l3, long l4) {
- final byte[] b = m.bytes;
- long l5 = 0;
- long l6 = 0;
- long l7 = 0;
- int l8 = 0;
- int l9 = 0;
- int l10 = 0;
- m.g0 = l5 = m.g0 - 288L;
- L1: {
-  if ((l5 = l5) < 16L) { break L1; }
-  l6 = Words.get64(b, ((int) l2) - 60704);
-  l7 = Words.get64(b, ((int) l2) - 60712);
-  l8 = b[((int) l2) - 60719] & 0xff;
-  l9 = b[((int) l2) - 60720] & 0xff;
-  l10 = 0;
-  Words.put32(b, ((int) l5) - 60568, 0);
-  Words.put64(b, ((int) l5) - 60576, 0L);
-  Words.put32(b, ((int) l5) - 60584, Words.get32(b, ((int) l2) - 60718));
-  Words.put16(b, ((int) l5) - 60580, (short) (Words.get16(b, ((int) l2) - 60714) & 0xffff));
-  Core3.f113(m, l5 + 144L, l8, l5 + 136L);
-  L2: {
-   if ((b[((int) l5) - 60576] & 0xff) != 1) { break L2; }
-   l2 = Words.get64(b, ((int) l5) - 60572);
-   L3: {
-    L4: {
-     L5: {
-      switch ((int) (b[((int) l5) - 60574] & 0xffL)) {
-      case 1: case 2: case 3: case 5: case 7: case 8: break L2;
-      case 4: break L4;
-      case 6: break L3;
-      default: break L5;
+      l9 = (b[((int) l4) - 58910] & 0xff) & 63;
+      L8: {
+       if (l7 + Integer.MIN_VALUE > 2147483631) { break L8; }
+       l6 = ((l8 << 6) | ((l6 << 12) & 61440)) | l9;
+       break L6;
       }
+      l6 = ((l9 << 6) | ((l8 << 12) | ((l6 << 18) & 1835008))) | ((b[((int) l4) - 58909] & 0xff) & 63);
      }
-     if (f202(m, l7, l6) != 0) { break L2; }
-     if ((l2 & 71777214277878015L) != 281479271677953L) { break L2; }
-     if (((((int) (l4 = l2 >>> 16L)) + -10000) & 65535) + Integer.MIN_VALUE < -2147427112) { break L2; }
-     Words.put64(b, ((int) l5) - 60440, 0L);
-     Words.put64(b, ((int) l5) - 60447, 0L);
-     Words.put64(b, ((int) l5) - 60456, 0L);
-     Words.put64(b, ((int) l5) - 60464, 1L);
-     Words.put64(b, ((int) l5) - 60472, 0L);
-     b[((int) l5) - 60448] = (byte) 0;
-     Words.put64(b, ((int) l5) - 60480, l4 & 65535L);
-     m.fill((int) (l5 + 160L), 0, (int) 80L);
-     Core2.f52(m, l5 + 32L, l5 + 160L, l5 + 240L);
-     Words.put64(b, ((int) l5) - 60440, 0L);
-     Words.put64(b, ((int) l5) - 60447, 0L);
-     Words.put64(b, ((int) l5) - 60456, 0L);
-     Words.put64(b, ((int) l5) - 60464, 1L);
-     Words.put64(b, ((int) l5) - 60472, 0L);
-     Words.put64(b, ((int) l5) - 60480, (l2 >>> 40L) & 255L);
-     b[((int) l5) - 60448] = (byte) 0;
-     m.fill((int) (l5 + 160L), 0, (int) 80L);
-     Core2.f52(m, l5 + 16L, l5 + 160L, l5 + 240L);
-     Words.put64(b, ((int) l5) - 60440, 0L);
-     Words.put64(b, ((int) l5) - 60447, 0L);
-     Words.put64(b, ((int) l5) - 60456, 0L);
-     Words.put64(b, ((int) l5) - 60464, 1L);
-     Words.put64(b, ((int) l5) - 60472, 0L);
-     Words.put64(b, ((int) l5) - 60480, l2 >>> 56L);
-     b[((int) l5) - 60448] = (byte) 0;
-     m.fill((int) (l5 + 160L), 0, (int) 80L);
-     Core2.f52(m, l5, l5 + 160L, l5 + 240L);
-     L6: {
-      if (Core4.f119(m, l7, l6) != 0) { break L6; }
-      Core4.f123(m, l5 + 160L, 21, l7, l6);
+     if (f188(m, l6) == 0) { break L2; }
+     l4 = -2L;
+     L9: {
+      if ((b[((int) (l3 + -2L)) - 58912] & 0xff) + Integer.MIN_VALUE > -2147483457) { break L9; }
+      l4 = ((b[((int) (l3 + -3L)) - 58912] & 0xff) + Integer.MIN_VALUE > -2147483457) ? -3L : -4L;
      }
-     l10 = 1;
-     break L2;
+     l1 = l4 + l1;
+     break L3;
     }
-    b[((int) l5) - 60563] = (byte) (b[((int) l5) - 60573] & 0xff);
-    Words.put16(b, ((int) l5) - 60562, (short) l2);
-    if (f203(m, l9, l0, l1, l3, l4, l7, l6) != 0) { break L2; }
-    if (f204(m, l7, l6) != 0) { break L2; }
-    Core3.f115(m, l5 + 96L, l9, l3, l4, l5 + 157L);
-    if ((b[((int) l5) - 60624] & 0xff) != 1) { break L2; }
-    l10 = b[((int) l5) - 60623] & 0xff;
-    L7: {
-     if ((l9 & 255) != 2) { break L7; }
-     Core4.f123(m, l5 + 160L, 22, l3, l4);
-    }
-    l4 = l2 >>> 8L;
-    Words.put64(b, ((int) l5) - 60440, 0L);
-    Words.put64(b, ((int) l5) - 60447, 0L);
-    Words.put64(b, ((int) l5) - 60456, 0L);
-    Words.put64(b, ((int) l5) - 60464, 1L);
-    Words.put64(b, ((int) l5) - 60472, 0L);
-    b[((int) l5) - 60448] = (byte) 0;
-    Words.put64(b, ((int) l5) - 60480, (l10 & 0xffffffffL) & 255L);
-    m.fill((int) (l5 + 160L), 0, (int) 80L);
-    Core2.f52(m, l5 + 80L, l5 + 160L, l5 + 240L);
-    Words.put64(b, ((int) l5) - 60440, 0L);
-    Words.put64(b, ((int) l5) - 60447, 0L);
-    Words.put64(b, ((int) l5) - 60456, 0L);
-    Words.put64(b, ((int) l5) - 60464, 1L);
-    Words.put64(b, ((int) l5) - 60472, 0L);
-    Words.put64(b, ((int) l5) - 60480, l2 & 255L);
-    b[((int) l5) - 60448] = (byte) 0;
-    m.fill((int) (l5 + 160L), 0, (int) 80L);
-    Core2.f52(m, l5 + 64L, l5 + 160L, l5 + 240L);
-    L8: {
-     if (((1 << l8) & -1064961) != 0) { break L8; }
-     Words.put64(b, ((int) l5) - 60440, 0L);
-     Words.put64(b, ((int) l5) - 60447, 0L);
-     Words.put64(b, ((int) l5) - 60456, 0L);
-     Words.put64(b, ((int) l5) - 60464, 1L);
-     Words.put64(b, ((int) l5) - 60472, 0L);
-     b[((int) l5) - 60448] = (byte) 0;
-     Words.put64(b, ((int) l5) - 60480, l4 & 255L);
-     m.fill((int) (l5 + 160L), 0, (int) 80L);
-     Core2.f52(m, l5 + 48L, l5 + 160L, l5 + 240L);
-    }
-    L9: {
-     if (Core4.f119(m, l7, l6) != 0) { break L9; }
-     Core4.f123(m, l5 + 160L, 21, l7, l6);
-    }
-    l10 = 1;
-    break L2;
+    if (f188(m, l6) == 0) { break L2; }
+    l1 = l1 + -1L;
    }
-   Words.put64(b, ((int) l5) - 60440, 0L);
-   Words.put64(b, ((int) l5) - 60447, 0L);
-   Words.put64(b, ((int) l5) - 60456, 0L);
-   Words.put64(b, ((int) l5) - 60472, 0L);
-   l10 = 1;
-   b[((int) l5) - 60448] = (byte) 1;
-   Words.put64(b, ((int) l5) - 60464, 10L);
-   Words.put64(b, ((int) l5) - 60480, ((l2 & 65535L) * 10L) + 5L);
-   m.fill((int) (l5 + 160L), 0, (int) 80L);
-   Core2.f52(m, l5 + 120L, l5 + 160L, l5 + 240L);
-   f205(m, l5 + 104L, l3, l4);
-   l2 = Words.get64(b, ((int) l5) - 60608);
-   l6 = Words.get64(b, ((int) l5) - 60616);
-   Words.put64(b, ((int) l5) - 60464, 0L);
-   Words.put64(b, ((int) l5) - 60472, 0L);
-   Words.put64(b, ((int) l5) - 60480, 0L);
-   if (l8 != 26) { break L2; }
-   Core4.f133(m, l5 + 240L, 83608L, 2L, 83568L, 1L, l6, l2);
-   if ((b[((int) l5) - 60480] & 0xff) != 1) { break L2; }
-   Core4.f135(m, l5 + 160L, Words.get64(b, ((int) l5) - 60472), Words.get64(b, ((int) l5) - 60464));
+   l5 = f187(m, l0, l1);
   }
-  m.g0 = l5 + 288L;
-  final int t10 = l10;
+  m.g0 = l2;
+  final int t10 = l5;
   return t10;
  }
  throw State.trap();
 }
 
-static int f198(State m, int l0, long l1, long l2) {
+static int f186(State m, long l0, long l1) {
  final byte[] b = m.bytes;
+ long l2 = 0;
  long l3 = 0;
- long l4 = 0;
- int l5 = 0;
- int l6 = 0;
- int l7 = 0;
- int l8 = 0;
- m.g0 = l3 = m.g0 - 48L;
- L1: {
-  L2: {
-   L3: {
-    if ((l3 = l3) < 16L) { break L3; }
-    Words.put64(b, ((int) l3) - 60680, 0L);
-    Words.put64(b, ((int) l3) - 60688, 0L);
-    Words.put64(b, ((int) l3) - 60696, 0L);
-    f177(m, l3 + 24L, l1, l2);
-    L4: {
-     if ((b[((int) l3) - 60696] & 0xff) != 1) { break L4; }
-     f206(m, l3, l0, Words.get64(b, ((int) l3) - 60688), Words.get64(b, ((int) l3) - 60680));
-     l0 = b[((int) l3) - 60719] & 0xff;
-     break L1;
-    }
-    if (l2 == 0L) { break L2; }
-    l6 = (l5 = (int) b[((int) l1) - 60720]) & 255;
-    l4 = 1L;
-    L5: {
-     if (l5 > -1) { break L5; }
-     l7 = (b[((int) l1) - 60719] & 0xff) & 63;
-     L6: {
-      if (l5 + Integer.MIN_VALUE > 2147483615) { break L6; }
-      l6 = ((l6 << 6) & 1984) | l7;
-      l4 = 2L;
-      break L5;
-     }
-     l8 = (b[((int) l1) - 60718] & 0xff) & 63;
-     L7: {
-      if (l5 + Integer.MIN_VALUE > 2147483631) { break L7; }
-      l6 = ((l7 << 6) | ((l6 << 12) & 61440)) | l8;
-      l4 = 3L;
-      break L5;
-     }
-     l6 = ((l8 << 6) | ((l7 << 12) | ((l6 << 18) & 1835008))) | ((b[((int) l1) - 60717] & 0xff) & 63);
-     l4 = 4L;
-    }
-    L8: {
-     L9: {
-      if (l6 > 35999) { break L9; }
-      if (l6 == 45) { break L8; }
-      if (l6 == 8722) { break L8; }
-      break L2;
-     }
-     if (l6 == 36000) { break L8; }
-     if (l6 == 65293) { break L8; }
-     if (l6 != 36127) { break L2; }
-    }
-    f206(m, l3 + 16L, l0, l1 + l4, l2 - l4);
-    l0 = b[((int) l3) - 60703] & 0xff;
-    break L1;
-   }
-   throw State.trap();
-  }
-  f206(m, l3 + 8L, l0, l1, l2);
-  l0 = b[((int) l3) - 60711] & 0xff;
- }
- m.g0 = l3 + 48L;
- return l0;
-}
-
-static int f199(State m, long l0, long l1, long l2, long l3) {
- final byte[] b = m.bytes;
  int l4 = 0;
  int l5 = 0;
  int l6 = 0;
  int l7 = 0;
- int l8 = 0;
- long l9 = 0;
  L1: {
   if (m.g0 < 16L) { break L1; }
-  L2: while (true) {
-   L3: {
-    if (!(l1 == 0L)) { break L3; }
-    return 0;
-   }
-   l5 = (l4 = (int) b[((int) l0) - 60720]) & 255;
-   l9 = 1L;
-   L4: {
-    if (l4 > -1) { break L4; }
-    l6 = (b[((int) l0) - 60719] & 0xff) & 63;
-    L5: {
-     if (l4 + Integer.MIN_VALUE > 2147483615) { break L5; }
-     l5 = ((l5 << 6) & 1984) | l6;
-     l9 = 2L;
-     break L4;
-    }
-    l7 = (b[((int) l0) - 60718] & 0xff) & 63;
-    L6: {
-     if (l4 + Integer.MIN_VALUE > 2147483631) { break L6; }
-     l5 = ((l6 << 6) | ((l5 << 12) & 61440)) | l7;
-     l9 = 3L;
-     break L4;
-    }
-    l5 = ((l7 << 6) | ((l6 << 12) | ((l5 << 18) & 1835008))) | ((b[((int) l0) - 60717] & 0xff) & 63);
-    l9 = 4L;
-   }
-   L7: {
-    if ((l5 + -48) + Integer.MIN_VALUE < -2147483638) { break L7; }
-    l1 = l1 - l9;
-    l0 = l0 + l9;
-    if ((l5 + -65296) + Integer.MIN_VALUE > -2147483639) { continue L2; }
-   }
-   break L2;
-  }
-  L8: {
-   L9: while (true) {
-    l6 = (l3 != 0L) ? 1 : 0;
-    if (l3 == 0L) { break L8; }
-    l5 = (l4 = (int) b[((int) l2) - 60720]) & 255;
-    l0 = 1L;
-    L10: {
-     if (l4 > -1) { break L10; }
-     l7 = (b[((int) l2) - 60719] & 0xff) & 63;
-     L11: {
-      if (l4 + Integer.MIN_VALUE > 2147483615) { break L11; }
-      l5 = ((l5 << 6) & 1984) | l7;
-      l0 = 2L;
-      break L10;
-     }
-     l8 = (b[((int) l2) - 60718] & 0xff) & 63;
-     L12: {
-      if (l4 + Integer.MIN_VALUE > 2147483631) { break L12; }
-      l5 = ((l7 << 6) | ((l5 << 12) & 61440)) | l8;
-      l0 = 3L;
-      break L10;
-     }
-     l5 = ((l8 << 6) | ((l7 << 12) | ((l5 << 18) & 1835008))) | ((b[((int) l2) - 60717] & 0xff) & 63);
-     l0 = 4L;
-    }
-    if ((l5 + -48) + Integer.MIN_VALUE < -2147483638) { break L8; }
-    l3 = l3 - l0;
-    l2 = l2 + l0;
-    if ((l5 + -65296) + Integer.MIN_VALUE > -2147483639) { continue L9; }
-    break L9;
-   }
-  }
-  final int t13 = l6;
-  return t13;
- }
- throw State.trap();
-}
-
-static int f200(State m, int l0, long l1, long l2, long l3, long l4) {
- final byte[] b = m.bytes;
- long l5 = 0;
- long l6 = 0;
- int l7 = 0;
- int l8 = 0;
- int l9 = 0;
- int l10 = 0;
- m.g0 = l5 = m.g0 - 16L;
- L1: {
-  if ((l5 = l5) < 16L) { break L1; }
   L2: {
    L3: {
-    if ((l0 & 255) != 0) { break L3; }
-    l0 = 0;
-    break L2;
-   }
-   L4: {
-    L5: while (true) {
-     if (l2 == 0L) { break L4; }
-     l0 = (l7 = (int) b[((int) l1) - 60720]) & 255;
-     l6 = 1L;
-     L6: {
-      if (l7 > -1) { break L6; }
-      l8 = (b[((int) l1) - 60719] & 0xff) & 63;
-      L7: {
-       if (l7 + Integer.MIN_VALUE > 2147483615) { break L7; }
-       l0 = ((l0 << 6) & 1984) | l8;
-       l6 = 2L;
-       break L6;
-      }
-      l9 = (b[((int) l1) - 60718] & 0xff) & 63;
-      L8: {
-       if (l7 + Integer.MIN_VALUE > 2147483631) { break L8; }
-       l0 = ((l8 << 6) | ((l0 << 12) & 61440)) | l9;
-       l6 = 3L;
-       break L6;
-      }
-      l0 = ((l9 << 6) | ((l8 << 12) | ((l0 << 18) & 1835008))) | ((b[((int) l1) - 60717] & 0xff) & 63);
-      l6 = 4L;
-     }
-     Core2.f61(m, l5 + 8L, l0);
-     l2 = l2 - l6;
-     l1 = l1 + l6;
-     l0 = 1;
-     if ((b[((int) l5) - 60712] & 0xff) != 1) { continue L5; }
-     if (((b[((int) l5) - 60711] & 0xff) & 255) + Integer.MIN_VALUE <= -2147483647) { continue L5; }
-     break L2;
-    }
-   }
-   L9: while (true) {
-    l0 = (l4 != 0L) ? 1 : 0;
-    if (l4 == 0L) { break L2; }
-    l7 = (l8 = (int) b[((int) l3) - 60720]) & 255;
-    l1 = 1L;
-    L10: {
-     if (l8 > -1) { break L10; }
-     l9 = (b[((int) l3) - 60719] & 0xff) & 63;
-     L11: {
-      if (l8 + Integer.MIN_VALUE > 2147483615) { break L11; }
-      l7 = ((l7 << 6) & 1984) | l9;
-      l1 = 2L;
-      break L10;
-     }
-     l10 = (b[((int) l3) - 60718] & 0xff) & 63;
-     L12: {
-      if (l8 + Integer.MIN_VALUE > 2147483631) { break L12; }
-      l7 = ((l9 << 6) | ((l7 << 12) & 61440)) | l10;
-      l1 = 3L;
-      break L10;
-     }
-     l7 = ((l10 << 6) | ((l9 << 12) | ((l7 << 18) & 1835008))) | ((b[((int) l3) - 60717] & 0xff) & 63);
-     l1 = 4L;
-    }
-    Core2.f61(m, l5, l7);
-    l4 = l4 - l1;
-    l3 = l3 + l1;
-    if ((b[((int) l5) - 60720] & 0xff) != 1) { continue L9; }
-    if (((b[((int) l5) - 60719] & 0xff) & 255) + Integer.MIN_VALUE < -2147483646) { continue L9; }
-    break L9;
-   }
-  }
-  m.g0 = l5 + 16L;
-  final int t13 = l0;
-  return t13;
- }
- throw State.trap();
-}
-
-static int f201(State m, int l0, long l1, long l2, long l3, long l4) {
- final byte[] b = m.bytes;
- long l5 = 0;
- int l6 = 0;
- int l7 = 0;
- m.g0 = l5 = m.g0 - 240L;
- L1: {
-  if ((l5 = l5) < 16L) { break L1; }
-  l6 = 0;
-  L2: {
-   if (l2 + Long.MIN_VALUE > -9223372036854775760L) { break L2; }
-   if (l4 + Long.MIN_VALUE > -9223372036854775760L) { break L2; }
-   l6 = 0;
-   m.fill((int) (l5 + 16L), 0, (int) 96L);
-   Words.put64(b, ((int) l5) - 60552, 96L);
-   Words.put64(b, ((int) l5) - 60560, l5 + 16L);
-   Words.put64(b, ((int) l5) - 60544, 0L);
-   Core2.f53(m, l5 + 160L, l1, l2);
-   Core2.f53(m, l5 + 160L, l3, l4);
-   final long t3 = Words.get64(b, ((int) l5) - 60560);
-   final int t4 = l7 = (Words.get64(b, ((int) l5) - 60552) + Long.MIN_VALUE < (l2 = Words.get64(b, ((int) l5) - 60544)) + Long.MIN_VALUE) ? 1 : 0;
-   l4 = t4 != 0 ? 83372L : t3;
-   l2 = l7 != 0 ? 0L : l2;
-   L5: {
-    if ((l0 & 255) != 0) { break L5; }
-    l6 = f198(m, 1, l4, l2);
-    break L2;
-   }
-   Words.put64(b, ((int) l5) - 60504, 0L);
-   Words.put64(b, ((int) l5) - 60512, 0L);
-   Words.put64(b, ((int) l5) - 60520, 0L);
-   Words.put64(b, ((int) l5) - 60528, 0L);
-   Words.put64(b, ((int) l5) - 60536, 0L);
-   Words.put64(b, ((int) l5) - 60544, 0L);
-   Words.put64(b, ((int) l5) - 60552, 0L);
-   Words.put64(b, ((int) l5) - 60560, 0L);
-   Core2.f75(m, l5 + 160L, l4, l2, 1);
-   Words.put64(b, ((int) l5) - 60608, Words.get64(b, ((int) l5) - 60544));
-   Words.put64(b, ((int) l5) - 60600, Words.get64(b, ((int) l5) - 60536));
-   Words.put64(b, ((int) l5) - 60592, Words.get64(b, ((int) l5) - 60528));
-   Words.put64(b, ((int) l5) - 60584, Words.get64(b, ((int) l5) - 60520));
-   Words.put64(b, ((int) l5) - 60576, Words.get64(b, ((int) l5) - 60512));
-   Words.put64(b, ((int) l5) - 60568, Words.get64(b, ((int) l5) - 60504));
-   if ((b[((int) l5) - 60560] & 0xff) != 0) { break L2; }
-   m.fill((int) (l5 + 160L), 0, (int) 80L);
-   Core2.f52(m, l5, l5 + 160L, l5 + 112L);
-   l6 = 1;
-  }
-  m.g0 = l5 + 240L;
-  final int t6 = l6;
-  return t6;
- }
- throw State.trap();
-}
-
-static int f202(State m, long l0, long l1) {
- final byte[] b = m.bytes;
- long l2 = 0;
- long l3 = 0;
- long l4 = 0;
- int l5 = 0;
- int l6 = 0;
- int l7 = 0;
- int l8 = 0;
- int l9 = 0;
- m.g0 = l2 = m.g0 - 16L;
- L1: {
-  if ((l3 = l2) < 16L) { break L1; }
-  l5 = 0;
-  L2: {
-   if (l1 == 0L) { break L2; }
-   l7 = (l6 = (int) b[((int) l0) - 60720]) & 255;
-   l4 = 1L;
-   L3: {
-    if (l6 > -1) { break L3; }
-    l8 = (b[((int) l0) - 60719] & 0xff) & 63;
+    if (l1 == 0L) { break L3; }
     L4: {
-     if (l6 + Integer.MIN_VALUE > 2147483615) { break L4; }
-     l7 = ((l7 << 6) & 1984) | l8;
-     l4 = 2L;
-     break L3;
-    }
-    l9 = (b[((int) l0) - 60718] & 0xff) & 63;
-    L5: {
-     if (l6 + Integer.MIN_VALUE > 2147483631) { break L5; }
-     l7 = ((l8 << 6) | ((l7 << 12) & 61440)) | l9;
-     l4 = 3L;
-     break L3;
-    }
-    l7 = ((l9 << 6) | ((l8 << 12) | ((l7 << 18) & 1835008))) | ((b[((int) l0) - 60717] & 0xff) & 63);
-    l4 = 4L;
-   }
-   l2 = -68L;
-   L6: {
-    L7: while (true) {
-     if ((l8 = Words.get32(b, ((int) (l2 + 85812L)) - 60720)) == l7) { break L6; }
-     l6 = (l2 != 0L) ? 1 : 0;
-     l2 = l2 + 4L;
-     if (l6 != 0) { continue L7; }
-     break L7;
-    }
-   }
-   if (l8 != l7) { break L2; }
-   if (Core4.f119(m, l2 = l0 + l4, l0 = l1 - l4) == 0) { break L2; }
-   f205(m, l3, l2, l0);
-   if (Words.get64(b, ((int) l3) - 60712) == 0L) { break L2; }
-   l6 = (l7 = (int) b[((int) (l2 = Words.get64(b, ((int) l3) - 60720))) - 60720]) & 255;
-   L8: {
-    if (l7 > -1) { break L8; }
-    l8 = (b[((int) l2) - 60719] & 0xff) & 63;
-    L9: {
-     if (l7 + Integer.MIN_VALUE > 2147483615) { break L9; }
-     l6 = ((l6 << 6) & 1984) | l8;
-     break L8;
-    }
-    l5 = (b[((int) l2) - 60718] & 0xff) & 63;
-    L10: {
-     L11: {
-      if (l7 + Integer.MIN_VALUE > 2147483631) { break L11; }
-      l6 = ((l8 << 6) | ((l6 << 12) & 61440)) | l5;
-      break L10;
+     if ((l4 = (int) b[((int) ((l2 = l0 + l1) + -1L)) - 58912]) >= 0) { break L4; }
+     l3 = -2L;
+     L5: {
+      if ((b[((int) (l2 + -2L)) - 58912] & 0xff) + Integer.MIN_VALUE > -2147483457) { break L5; }
+      l3 = ((b[((int) (l2 + -3L)) - 58912] & 0xff) + Integer.MIN_VALUE > -2147483457) ? -3L : -4L;
      }
-     l6 = ((l5 << 6) | ((l8 << 12) | ((l6 << 18) & 1835008))) | ((b[((int) l2) - 60717] & 0xff) & 63);
+     l4 = (l5 = (int) b[((int) (l1 = (l0 + l3) + l1)) - 58912]) & 255;
+     if (l5 > -1) { break L4; }
+     l6 = (b[((int) l1) - 58911] & 0xff) & 63;
+     L6: {
+      if (l5 + Integer.MIN_VALUE > 2147483615) { break L6; }
+      l4 = ((l4 << 6) & 1984) | l6;
+      break L4;
+     }
+     l7 = (b[((int) l1) - 58910] & 0xff) & 63;
+     L7: {
+      if (l5 + Integer.MIN_VALUE > 2147483631) { break L7; }
+      l4 = ((l6 << 6) | ((l4 << 12) & 61440)) | l7;
+      break L4;
+     }
+     l4 = ((l7 << 6) | ((l6 << 12) | ((l4 << 18) & 1835008))) | ((b[((int) l1) - 58909] & 0xff) & 63);
     }
     l5 = 1;
-    L12: {
-     if (l6 > 26375) { break L12; }
-     L13: {
-      switch (l6 + -26085) {
-      case 0: case 17: break L2;
-      case 1: case 2: case 3: case 4: case 5: case 6: case 7: case 8: case 9: case 10: case 11: case 12: case 13: case 14: case 15: case 16: break L8;
-      default: break L13;
-      }
-     }
-     if (l6 == 21495) { break L2; }
-     if (l6 != 26178) { break L8; }
+    if (((l4 & -33) + -65) + Integer.MIN_VALUE < -2147483622) { break L2; }
+    L8: {
+     if (l4 > 8450) { break L8; }
+     if (l4 == 176) { break L2; }
+     if (l4 == 956) { break L2; }
+     if (l4 != 8240) { break L3; }
      break L2;
     }
-    L14: {
-     if (l6 > 34398) { break L14; }
-     if (l6 == 26376) { break L2; }
-     if (l6 != 28857) { break L8; }
-     break L2;
-    }
-    if (l6 == 34399) { break L2; }
-    if (l6 == 40670) { break L2; }
+    if (l4 == 8451) { break L2; }
+    if (l4 == 13217) { break L2; }
+    if (l4 == 21322) { break L2; }
    }
-   l5 = ((l6 == 58) | (l6 == 65306)) ? 1 : 0;
+   l5 = 0;
   }
-  m.g0 = l3 + 16L;
-  final int t15 = l5;
-  return t15;
+  final int t9 = l5;
+  return t9;
  }
  throw State.trap();
 }
 
-static int f203(State m, int l0, long l1, long l2, long l3, long l4, long l5, long l6) {
+static int f187(State m, long l0, long l1) {
  final byte[] b = m.bytes;
- long l7 = 0;
- int l8 = 0;
- int l9 = 0;
- int l10 = 0;
- L1: {
-  L2: {
-   L3: {
-    L4: {
-     if ((l7 = m.g0) < 16L) { break L4; }
-     l8 = 0;
-     if ((l0 & 255) != 1) { break L1; }
-     L5: {
-      if (l4 == 0L) { break L5; }
-      if ((l8 = (int) b[((int) l3) - 60720]) > -1) { break L5; }
-      if (l8 + Integer.MIN_VALUE < 2147483616) { break L5; }
-      l0 = l8 & 255;
-      l9 = (b[((int) l3) - 60719] & 0xff) & 63;
-      l10 = (b[((int) l3) - 60718] & 0xff) & 63;
-      L6: {
-       L7: {
-        if (l8 + Integer.MIN_VALUE > 2147483631) { break L7; }
-        l0 = ((l9 << 6) | ((l0 << 12) & 61440)) | l10;
-        break L6;
-       }
-       l0 = ((l10 << 6) | ((l9 << 12) | ((l0 << 18) & 1835008))) | ((b[((int) l3) - 60717] & 0xff) & 63);
-      }
-      l8 = 1;
-      L8: {
-       if (l0 > 26125) { break L8; }
-       if (l0 == 20170) { break L1; }
-       if (l0 != 24403) { break L5; }
-       break L1;
-      }
-      if (l0 == 26126) { break L1; }
-      if (l0 == 26152) { break L1; }
-      if (l0 == 30070) { break L1; }
-     }
-     if (l2 == 0L) { break L2; }
-     L9: {
-      if ((l0 = (int) b[((int) ((l4 = l1 + l2) + -1L)) - 60720]) > -1) { break L9; }
-      l3 = -2L;
-      L10: {
-       if ((b[((int) (l4 + -2L)) - 60720] & 0xff) + Integer.MIN_VALUE > -2147483457) { break L10; }
-       l3 = ((b[((int) (l4 + -3L)) - 60720] & 0xff) + Integer.MIN_VALUE > -2147483457) ? -3L : -4L;
-      }
-      L11: {
-       if ((l8 = (int) b[((int) (l3 = (l1 + l3) + l2)) - 60720]) > -1) { break L11; }
-       if (l8 + Integer.MIN_VALUE < 2147483616) { break L11; }
-       l0 = l8 & 255;
-       l9 = (b[((int) l3) - 60719] & 0xff) & 63;
-       l10 = (b[((int) l3) - 60718] & 0xff) & 63;
-       L12: {
-        L13: {
-         if (l8 + Integer.MIN_VALUE > 2147483631) { break L13; }
-         l0 = ((l9 << 6) | ((l0 << 12) & 61440)) | l10;
-         break L12;
-        }
-        l0 = ((l10 << 6) | ((l9 << 12) | ((l0 << 18) & 1835008))) | ((b[((int) l3) - 60717] & 0xff) & 63);
-       }
-       l8 = 1;
-       L14: {
-        if (l0 > 27598) { break L14; }
-        L15: {
-         if (l0 > 24459) { break L15; }
-         L16: {
-          switch (l0 + -21516) {
-          case 0: case 2: break L1;
-          case 1: break L11;
-          default: break L16;
-          }
-         }
-         L17: {
-          switch (l0 + -22812) {
-          case 0: case 11: break L1;
-          case 1: case 2: case 3: case 4: case 5: case 6: case 7: case 8: case 9: case 10: break L11;
-          default: break L17;
-          }
-         }
-         if (l0 != 21069) { break L11; }
-         break L1;
-        }
-        if (l0 == 24460) { break L1; }
-        if (l0 == 26089) { break L1; }
-        if (l0 != 27425) { break L11; }
-        break L1;
-       }
-       L18: {
-        if (l0 > 36888) { break L18; }
-        L19: {
-         if (l0 > 32715) { break L19; }
-         if (l0 == 27599) { break L1; }
-         if (l0 != 28165) { break L11; }
-         break L1;
-        }
-        if (l0 == 32716) { break L1; }
-        if (l0 != 36825) { break L11; }
-        break L1;
-       }
-       L20: {
-        if (l0 > 38547) { break L20; }
-        if (l0 == 36889) { break L1; }
-        if (l0 != 37027) { break L11; }
-        break L1;
-       }
-       if (l0 == 38548) { break L1; }
-       if (l0 == 39318) { break L1; }
-      }
-      l3 = -2L;
-      L21: {
-       if ((b[((int) (l4 + -2L)) - 60720] & 0xff) + Integer.MIN_VALUE > -2147483457) { break L21; }
-       l3 = ((b[((int) (l4 + -3L)) - 60720] & 0xff) + Integer.MIN_VALUE > -2147483457) ? -3L : -4L;
-      }
-      l0 = (l8 = (int) b[((int) (l2 = (l1 + l3) + l2)) - 60720]) & 255;
-      if (l8 > -1) { break L9; }
-      l9 = (b[((int) l2) - 60719] & 0xff) & 63;
-      L22: {
-       if (l8 + Integer.MIN_VALUE > 2147483615) { break L22; }
-       l0 = ((l0 << 6) & 1984) | l9;
-       break L9;
-      }
-      l10 = (b[((int) l2) - 60718] & 0xff) & 63;
-      L23: {
-       if (l8 + Integer.MIN_VALUE > 2147483631) { break L23; }
-       l0 = ((l9 << 6) | ((l0 << 12) & 61440)) | l10;
-       break L9;
-      }
-      l0 = ((l10 << 6) | ((l9 << 12) | ((l0 << 18) & 1835008))) | ((b[((int) l2) - 60717] & 0xff) & 63);
-     }
-     l8 = 1;
-     if ((l0 + -48) + Integer.MIN_VALUE < -2147483638) { break L1; }
-     if ((l0 + -65296) + Integer.MIN_VALUE < -2147483638) { break L1; }
-     L24: {
-      if (l0 > 20840) { break L24; }
-      L25: {
-       if (l0 > 20060) { break L25; }
-       if ((l9 = l0 + -19968) + Integer.MIN_VALUE > -2147483612) { break L3; }
-       if (((1L << (l9 & 0xffffffffL)) & 68719477257L) == 0L) { break L3; }
-       break L1;
-      }
-      L26: {
-       switch (l0 + -20108) {
-       case 0: case 8: break L1;
-       case 1: case 2: case 3: case 4: case 5: case 6: case 7: break L2;
-       default: break L26;
-       }
-      }
-      if (l0 != 20061) { break L2; }
-      break L1;
-     }
-     L27: {
-      if (l0 > 21312) { break L27; }
-      if ((l0 = l0 + -20841) + Integer.MIN_VALUE > -2147483644) { break L2; }
-      if (((1 << l0) & 21) == 0) { break L2; }
-      break L1;
-     }
-     L28: {
-      if (l0 > 30333) { break L28; }
-      if (l0 == 21313) { break L1; }
-      if (l0 != 22235) { break L2; }
-      break L1;
-     }
-     if (l0 == 30334) { break L1; }
-     if (l0 == 38646) { break L1; }
-     break L2;
-    }
-    throw State.trap();
-   }
-   if (l0 == 12295) { break L1; }
-  }
-  l8 = f202(m, l5, l6);
- }
- m.g0 = l7;
- return l8;
-}
-
-static int f204(State m, long l0, long l1) {
- final byte[] b = m.bytes;
- long l2 = 0;
+ int l2 = 0;
  int l3 = 0;
  int l4 = 0;
  int l5 = 0;
  int l6 = 0;
- L1: {
-  if ((l2 = m.g0) < 16L) { break L1; }
-  L2: {
-   L3: {
-    if (l1 == 0L) { break L3; }
-    if ((l3 = (int) b[((int) l0) - 60720]) > -1) { break L3; }
-    if (l3 + Integer.MIN_VALUE < 2147483616) { break L3; }
-    l4 = l3 & 255;
-    l5 = (b[((int) l0) - 60719] & 0xff) & 63;
-    l6 = (b[((int) l0) - 60718] & 0xff) & 63;
-    L4: {
-     L5: {
-      if (l3 + Integer.MIN_VALUE > 2147483631) { break L5; }
-      l4 = ((l5 << 6) | ((l4 << 12) & 61440)) | l6;
-      break L4;
-     }
-     l4 = ((l6 << 6) | ((l5 << 12) | ((l4 << 18) & 1835008))) | ((b[((int) l0) - 60717] & 0xff) & 63);
-    }
-    l3 = 1;
-    L6: {
-     if (l4 > 26722) { break L6; }
-     L7: {
-      if (l4 > 20728) { break L7; }
-      if (l4 == 20215) { break L2; }
-      if (l4 == 20313) { break L2; }
-      if (l4 != 20358) { break L3; }
-      break L2;
-     }
-     L8: {
-      if (l4 > 25971) { break L8; }
-      if (l4 == 20729) { break L2; }
-      if (l4 != 22810) { break L3; }
-      break L2;
-     }
-     if (l4 == 25972) { break L2; }
-     if (l4 != 26469) { break L3; }
-     break L2;
-    }
-    L9: {
-     if (l4 > 35767) { break L9; }
-     if (l4 == 26723) { break L2; }
-     if (l4 == 27284) { break L2; }
-     if (l4 != 35377) { break L3; }
-     break L2;
-    }
-    L10: {
-     if (l4 > 38046) { break L10; }
-     if (l4 == 35768) { break L2; }
-     if (l4 != 37912) { break L3; }
-     break L2;
-    }
-    if (l4 == 38047) { break L2; }
-    if (l4 == 39192) { break L2; }
-   }
-   l3 = Core4.f131(m, 85816L, 1L, 85820L, 1L, l0, l1);
-  }
-  m.g0 = l2;
-  final int t11 = l3;
-  return t11;
- }
- throw State.trap();
-}
-
-static void f205(State m, long l0, long l1, long l2) {
- final byte[] b = m.bytes;
- long l3 = 0;
- long l4 = 0;
- long l5 = 0;
- int l6 = 0;
- int l7 = 0;
- int l8 = 0;
- int l9 = 0;
- m.g0 = l3 = m.g0 - 48L;
- L1: {
-  if ((l3 = l3) < 16L) { break L1; }
-  Words.put64(b, ((int) l3) - 60680, 0L);
-  Words.put64(b, ((int) l3) - 60688, 0L);
-  Words.put64(b, ((int) l3) - 60696, 0L);
-  Words.put64(b, ((int) l3) - 60704, 0L);
-  Core4.f120(m, l3 + 16L, l1, l2);
-  l4 = Words.get64(b, ((int) l3) - 60680);
-  l5 = Words.get64(b, ((int) l3) - 60688);
-  L2: {
-   L3: {
-    if (!(l2 == 0L)) { break L3; }
-    l6 = 0;
-    break L2;
-   }
-   l6 = (l7 = (int) b[((int) l1) - 60720]) & 255;
-   L4: {
-    if (l7 > -1) { break L4; }
-    l8 = (b[((int) l1) - 60719] & 0xff) & 63;
-    L5: {
-     if (l7 + Integer.MIN_VALUE > 2147483615) { break L5; }
-     l6 = ((l6 << 6) & 1984) | l8;
-     break L4;
-    }
-    l9 = (b[((int) l1) - 60718] & 0xff) & 63;
-    L6: {
-     if (l7 + Integer.MIN_VALUE > 2147483631) { break L6; }
-     l6 = ((l8 << 6) | ((l6 << 12) & 61440)) | l9;
-     break L4;
-    }
-    l6 = ((l9 << 6) | ((l8 << 12) | ((l6 << 18) & 1835008))) | ((b[((int) l1) - 60717] & 0xff) & 63);
-   }
-   l6 = (((l6 + -48) + Integer.MIN_VALUE < -2147483638) | ((l6 + -65296) + Integer.MIN_VALUE < -2147483638)) ? 1 : 0;
-  }
-  Core4.f121(m, l3, l6, l5, l4);
-  l1 = Words.get64(b, ((int) l3) - 60720);
-  Words.put64(b, ((int) l0) - 60712, Words.get64(b, ((int) l3) - 60712));
-  Words.put64(b, ((int) l0) - 60720, l1);
-  m.g0 = l3 + 48L;
-  return;
- }
- throw State.trap();
-}
-
-static void f206(State m, long l0, int l1, long l2, long l3) {
- final byte[] b = m.bytes;
- long l4 = 0;
- long l5 = 0;
- long l6 = 0;
  long l7 = 0;
  long l8 = 0;
- long l9 = 0;
- long l10 = 0;
- long l11 = 0;
- int l12 = 0;
- int l13 = 0;
- int l14 = 0;
- int l15 = 0;
- int l16 = 0;
- int l17 = 0;
- m.g0 = l4 = m.g0 - 240L;
  L1: {
-  L2: {
-   L3: {
-    L4: {
-     L5: {
-      L6: {
-       if ((l4 = l4) < 16L) { break L6; }
-       Words.put64(b, ((int) l4) - 60616, 0L);
-       Words.put64(b, ((int) l4) - 60624, 0L);
-       Words.put64(b, ((int) l4) - 60632, 0L);
-       Words.put64(b, ((int) l4) - 60640, 0L);
-       Words.put64(b, ((int) l4) - 60648, 0L);
-       f180(m, l4 + 72L, l2, l3);
-       if ((b[((int) l4) - 60648] & 0xff) != 1) { break L2; }
-       l5 = Words.get64(b, ((int) l4) - 60616);
-       l6 = Words.get64(b, ((int) l4) - 60624);
-       l7 = Words.get64(b, ((int) l4) - 60632);
-       l8 = Words.get64(b, ((int) l4) - 60640);
-       Words.put64(b, ((int) l4) - 60552, 0L);
-       Words.put64(b, ((int) l4) - 60560, 0L);
-       Words.put64(b, ((int) l4) - 60568, 0L);
-       Words.put64(b, ((int) l4) - 60576, 0L);
-       Words.put64(b, ((int) l4) - 60584, 0L);
-       Words.put64(b, ((int) l4) - 60592, 0L);
-       Words.put64(b, ((int) l4) - 60600, 0L);
-       Words.put64(b, ((int) l4) - 60608, 0L);
-       Core2.f75(m, l4 + 112L, l2, l3, l1);
-       l12 = 0;
-       if ((b[((int) l4) - 60608] & 0xff) != 0) { break L1; }
-       l9 = Words.get64(b, ((int) l4) - 60584);
-       l10 = Words.get64(b, ((int) l4) - 60592);
-       l13 = b[((int) l4) - 60560] & 0xff;
-       l3 = l6;
-       l11 = l5;
-       L7: {
-        L8: while (true) {
-         if (l11 == 0L) { break L7; }
-         l15 = (l14 = (int) b[((int) l3) - 60720]) & 255;
-         l2 = 1L;
-         L9: {
-          if (l14 > -1) { break L9; }
-          l16 = (b[((int) l3) - 60719] & 0xff) & 63;
-          L10: {
-           if (l14 + Integer.MIN_VALUE > 2147483615) { break L10; }
-           l15 = ((l15 << 6) & 1984) | l16;
-           l2 = 2L;
-           break L9;
-          }
-          l17 = (b[((int) l3) - 60718] & 0xff) & 63;
-          L11: {
-           if (l14 + Integer.MIN_VALUE > 2147483631) { break L11; }
-           l15 = ((l16 << 6) | ((l15 << 12) & 61440)) | l17;
-           l2 = 3L;
-           break L9;
-          }
-          l15 = ((l17 << 6) | ((l16 << 12) | ((l15 << 18) & 1835008))) | ((b[((int) l3) - 60717] & 0xff) & 63);
-          l2 = 4L;
-         }
-         Core2.f61(m, l4 + 48L, l15);
-         L12: {
-          if ((b[((int) l4) - 60672] & 0xff) != 1) { break L12; }
-          l11 = l11 - l2;
-          l3 = l3 + l2;
-          if (((b[((int) l4) - 60671] & 0xff) & 255) + Integer.MIN_VALUE > -2147483647) { continue L8; }
-         }
-         break L8;
-        }
-        if (l5 == 0L) { break L5; }
-        l15 = (l14 = (int) b[((int) l6) - 60720]) & 255;
-        l3 = 1L;
-        L13: {
-         if (l14 > -1) { break L13; }
-         l16 = (b[((int) l6) - 60719] & 0xff) & 63;
-         L14: {
-          if (l14 + Integer.MIN_VALUE > 2147483615) { break L14; }
-          l15 = ((l15 << 6) & 1984) | l16;
-          l3 = 2L;
-          break L13;
-         }
-         l17 = (b[((int) l6) - 60718] & 0xff) & 63;
-         L15: {
-          if (l14 + Integer.MIN_VALUE > 2147483631) { break L15; }
-          l15 = ((l16 << 6) | ((l15 << 12) & 61440)) | l17;
-          l3 = 3L;
-          break L13;
-         }
-         l15 = ((l17 << 6) | ((l16 << 12) | ((l15 << 18) & 1835008))) | ((b[((int) l6) - 60717] & 0xff) & 63);
-         l3 = 4L;
-        }
-        L16: {
-         L17: {
-          if (l15 > 35999) { break L17; }
-          if (l15 == 45) { break L16; }
-          if (l15 == 8722) { break L16; }
-          break L5;
-         }
-         if (l15 == 36000) { break L16; }
-         if (l15 == 65293) { break L16; }
-         if (l15 != 36127) { break L5; }
-        }
-        f207(m, l4 + 40L, l1, l6 + l3, l5 - l3);
-        l15 = b[((int) l4) - 60679] & 0xff;
-        break L4;
-       }
-       Words.put64(b, ((int) l4) - 60504, 0L);
-       Words.put64(b, ((int) l4) - 60512, 1L);
-       Words.put64(b, ((int) l4) - 60528, l10);
-       Words.put64(b, ((int) l4) - 60496, 0L);
-       Words.put64(b, ((int) l4) - 60488, 0L);
-       Words.put64(b, ((int) l4) - 60520, l9);
-       m.fill((int) (l4 + 112L), 0, (int) 80L);
-       Core2.f52(m, l4 + 16L, l4 + 112L, l4 + 192L);
-       break L3;
-      }
-      throw State.trap();
-     }
-     f207(m, l4 + 32L, l1, l6, l5);
-     l15 = b[((int) l4) - 60687] & 0xff;
-    }
-    if ((l15 & 1) == 0) { break L1; }
-   }
-   L18: {
-    if ((l13 & 255) != 2) { break L18; }
-    l12 = 1;
-    break L1;
-   }
-   Words.put64(b, ((int) l4) - 60552, 0L);
-   Words.put64(b, ((int) l4) - 60560, 0L);
-   Words.put64(b, ((int) l4) - 60568, 0L);
-   Words.put64(b, ((int) l4) - 60576, 0L);
-   Words.put64(b, ((int) l4) - 60584, 0L);
-   Words.put64(b, ((int) l4) - 60592, 0L);
-   Words.put64(b, ((int) l4) - 60600, 0L);
-   Words.put64(b, ((int) l4) - 60608, 0L);
-   Core2.f75(m, l4 + 112L, l8, l7, l1);
-   if ((b[((int) l4) - 60608] & 0xff) != 0) { break L1; }
-   final int t19 = (Words.get64(b, ((int) l4) - 60592) + Long.MIN_VALUE > -9223372036854774809L) ? 1 : 0;
-   final int t20 = ((l3 = Words.get64(b, ((int) l4) - 60584)) > 0L) ? 1 : 0;
-   final int t21 = (l3 == 0L) ? 1 : 0;
-   if ((t21 != 0 ? t19 : t20) != 0) { break L1; }
-   f207(m, l4 + 8L, l1, l8, l7);
-   l12 = b[((int) l4) - 60711] & 0xff;
-   break L1;
-  }
-  L22: {
-   if (!(l3 == 0L)) { break L22; }
-   l12 = 0;
-   break L1;
-  }
-  L23: {
-   if ((l15 = (int) b[((int) (l2 + (l11 = l3 + -1L))) - 60720]) >= 0) { break L23; }
-   l11 = -2L;
-   L24: {
-    if ((b[((int) ((l6 = l2 + l3) + -2L)) - 60720] & 0xff) + Integer.MIN_VALUE > -2147483457) { break L24; }
-    l11 = ((b[((int) (l6 + -3L)) - 60720] & 0xff) + Integer.MIN_VALUE > -2147483457) ? -3L : -4L;
-   }
-   l15 = (l14 = (int) b[((int) (l6 = l2 + (l11 = l11 + l3))) - 60720]) & 255;
-   if (l14 > -1) { break L23; }
-   l16 = (b[((int) l6) - 60719] & 0xff) & 63;
-   L25: {
-    if (l14 + Integer.MIN_VALUE > 2147483615) { break L25; }
-    l15 = ((l15 << 6) & 1984) | l16;
-    break L23;
-   }
-   l12 = (b[((int) l6) - 60718] & 0xff) & 63;
-   L26: {
-    if (l14 + Integer.MIN_VALUE > 2147483631) { break L26; }
-    l15 = ((l16 << 6) | ((l15 << 12) & 61440)) | l12;
-    break L23;
-   }
-   l15 = ((l12 << 6) | ((l16 << 12) | ((l15 << 18) & 1835008))) | ((b[((int) l6) - 60717] & 0xff) & 63);
-  }
-  L27: {
-   L28: {
-    if (l15 == 37) { break L28; }
-    if (l15 == 65285) { break L28; }
-    if (l15 != 8240) { break L27; }
-   }
-   f207(m, l4 + 64L, l1, l2, l11);
-   l12 = (b[((int) l4) - 60655] & 0xff) & 1;
-   break L1;
-  }
-  f207(m, l4 + 56L, l1, l2, l3);
-  l12 = b[((int) l4) - 60663] & 0xff;
- }
- b[((int) l0) - 60719] = (byte) l12;
- b[((int) l0) - 60720] = (byte) 0;
- m.g0 = l4 + 240L;
-}
-
-static void f207(State m, long l0, int l1, long l2, long l3) {
- final byte[] b = m.bytes;
- long l4 = 0;
- long l5 = 0;
- long l6 = 0;
- long l7 = 0;
- long l8 = 0;
- long l9 = 0;
- long l10 = 0;
- int l11 = 0;
- int l12 = 0;
- int l13 = 0;
- int l14 = 0;
- int l15 = 0;
- int l16 = 0;
- m.g0 = l4 = m.g0 - 336L;
- L1: {
-  L2: {
-   L3: {
-    if ((l4 = l4) < 16L) { break L3; }
-    Words.put64(b, ((int) l4) - 60584, 0L);
-    Words.put64(b, ((int) l4) - 60592, 0L);
-    Words.put64(b, ((int) l4) - 60600, 0L);
-    Words.put64(b, ((int) l4) - 60608, 0L);
-    Words.put64(b, ((int) l4) - 60616, 0L);
-    L4: {
-     if ((l11 = (l3 == 0L) ? 1 : 0) != 0) { break L4; }
-     l13 = (l12 = (int) b[((int) l2) - 60720]) & 255;
-     L5: {
-      if (l12 > -1) { break L5; }
-      l14 = (b[((int) l2) - 60719] & 0xff) & 63;
-      L6: {
-       if (l12 + Integer.MIN_VALUE > 2147483615) { break L6; }
-       l13 = ((l13 << 6) & 1984) | l14;
-       break L5;
-      }
-      l15 = (b[((int) l2) - 60718] & 0xff) & 63;
-      L7: {
-       if (l12 + Integer.MIN_VALUE > 2147483631) { break L7; }
-       l13 = ((l14 << 6) | ((l13 << 12) & 61440)) | l15;
-       break L5;
-      }
-      l13 = ((l15 << 6) | ((l14 << 12) | ((l13 << 18) & 1835008))) | ((b[((int) l2) - 60717] & 0xff) & 63);
-     }
-     l16 = 1;
-     if ((l13 + -48) + Integer.MIN_VALUE < -2147483638) { break L1; }
-     if ((l13 + -65296) + Integer.MIN_VALUE < -2147483638) { break L1; }
-    }
-    l5 = l2;
-    l6 = l3;
-    L8: {
-     L9: {
-      L10: {
-       L11: while (true) {
-        if (l6 == 0L) { break L10; }
-        l13 = (l12 = (int) b[((int) l5) - 60720]) & 255;
-        l7 = 1L;
-        L12: {
-         if (l12 > -1) { break L12; }
-         l14 = (b[((int) l5) - 60719] & 0xff) & 63;
-         L13: {
-          if (l12 + Integer.MIN_VALUE > 2147483615) { break L13; }
-          l13 = ((l13 << 6) & 1984) | l14;
-          l7 = 2L;
-          break L12;
-         }
-         l15 = (b[((int) l5) - 60718] & 0xff) & 63;
-         L14: {
-          if (l12 + Integer.MIN_VALUE > 2147483631) { break L14; }
-          l13 = ((l14 << 6) | ((l13 << 12) & 61440)) | l15;
-          l7 = 3L;
-          break L12;
-         }
-         l13 = ((l15 << 6) | ((l14 << 12) | ((l13 << 18) & 1835008))) | ((b[((int) l5) - 60717] & 0xff) & 63);
-         l7 = 4L;
-        }
-        Core2.f63(m, l4 + 96L, l13);
-        L15: {
-         if ((l13 + -58) + Integer.MIN_VALUE > 2147483637) { break L15; }
-         l6 = l6 - l7;
-         l5 = l5 + l7;
-         if (((b[((int) l4) - 60624] & 0xff) & 255) == 1) { continue L11; }
-        }
-        break L11;
-       }
-       f182(m, l4 + 104L, l2, l3);
-       if ((b[((int) l4) - 60616] & 0xff) != 1) { break L8; }
-       l7 = Words.get64(b, ((int) l4) - 60584);
-       l2 = Words.get64(b, ((int) l4) - 60592);
-       l5 = Words.get64(b, ((int) l4) - 60600);
-       l6 = Words.get64(b, ((int) l4) - 60608);
-       Words.put64(b, ((int) l4) - 60408, 0L);
-       Words.put64(b, ((int) l4) - 60416, 0L);
-       Words.put64(b, ((int) l4) - 60424, 0L);
-       Words.put64(b, ((int) l4) - 60432, 0L);
-       Words.put64(b, ((int) l4) - 60440, 0L);
-       Words.put64(b, ((int) l4) - 60448, 0L);
-       Words.put64(b, ((int) l4) - 60456, 0L);
-       Words.put64(b, ((int) l4) - 60464, 0L);
-       Core2.f75(m, l4 + 256L, l6, l5, l1);
-       Words.put64(b, ((int) l4) - 60576, Words.get64(b, ((int) l4) - 60448));
-       Words.put64(b, ((int) l4) - 60568, Words.get64(b, ((int) l4) - 60440));
-       Words.put64(b, ((int) l4) - 60560, Words.get64(b, ((int) l4) - 60432));
-       Words.put64(b, ((int) l4) - 60552, Words.get64(b, ((int) l4) - 60424));
-       Words.put64(b, ((int) l4) - 60544, Words.get64(b, ((int) l4) - 60416));
-       Words.put64(b, ((int) l4) - 60536, Words.get64(b, ((int) l4) - 60408));
-       if ((b[((int) l4) - 60464] & 0xff) == 0) { break L9; }
-       l16 = 0;
-       break L1;
-      }
-      l16 = 1;
-      if (l11 != 0) { break L1; }
-      L16: while (true) {
-       l13 = (l12 = (int) b[((int) l2) - 60720]) & 255;
-       l5 = 1L;
-       L17: {
-        if (l12 > -1) { break L17; }
-        l14 = (b[((int) l2) - 60719] & 0xff) & 63;
-        L18: {
-         if (l12 + Integer.MIN_VALUE > 2147483615) { break L18; }
-         l13 = ((l13 << 6) & 1984) | l14;
-         l5 = 2L;
-         break L17;
-        }
-        l15 = (b[((int) l2) - 60718] & 0xff) & 63;
-        L19: {
-         if (l12 + Integer.MIN_VALUE > 2147483631) { break L19; }
-         l13 = ((l14 << 6) | ((l13 << 12) & 61440)) | l15;
-         l5 = 3L;
-         break L17;
-        }
-        l13 = ((l15 << 6) | ((l14 << 12) | ((l13 << 18) & 1835008))) | ((b[((int) l2) - 60717] & 0xff) & 63);
-        l5 = 4L;
-       }
-       Core2.f63(m, l4 + 8L, l13);
-       l2 = l2 + l5;
-       if (!((l3 = l3 - l5) == 0L)) { continue L16; }
-       break L1;
-      }
-     }
-     m.fill((int) (l4 + 256L), 0, (int) 80L);
-     Core2.f52(m, l4 + 24L, l4 + 256L, l4 + 144L);
-     l16 = 1;
-     if (l7 == 0L) { break L1; }
-     L20: while (true) {
-      l13 = (l12 = (int) b[((int) l2) - 60720]) & 255;
-      l5 = 1L;
-      L21: {
-       if (l12 > -1) { break L21; }
-       l14 = (b[((int) l2) - 60719] & 0xff) & 63;
-       L22: {
-        if (l12 + Integer.MIN_VALUE > 2147483615) { break L22; }
-        l13 = ((l13 << 6) & 1984) | l14;
-        l5 = 2L;
-        break L21;
-       }
-       l15 = (b[((int) l2) - 60718] & 0xff) & 63;
-       L23: {
-        if (l12 + Integer.MIN_VALUE > 2147483631) { break L23; }
-        l13 = ((l14 << 6) | ((l13 << 12) & 61440)) | l15;
-        l5 = 3L;
-        break L21;
-       }
-       l13 = ((l15 << 6) | ((l14 << 12) | ((l13 << 18) & 1835008))) | ((b[((int) l2) - 60717] & 0xff) & 63);
-       l5 = 4L;
-      }
-      Core2.f63(m, l4 + 16L, l13);
-      l2 = l2 + l5;
-      if (!((l7 = l7 - l5) == 0L)) { continue L20; }
-      break L1;
-     }
-    }
-    L24: {
-     if (f183(m, l2, l3) == 0) { break L24; }
-     l16 = 1;
-     if (l11 != 0) { break L1; }
-     l8 = l4 + 272L;
-     l9 = l2;
-     l10 = l3;
-     L25: while (true) {
-      l13 = (l12 = (int) b[((int) l9) - 60720]) & 255;
-      l5 = 1L;
-      L26: {
-       if (l12 > -1) { break L26; }
-       l14 = (b[((int) l9) - 60719] & 0xff) & 63;
-       L27: {
-        if (l12 + Integer.MIN_VALUE > 2147483615) { break L27; }
-        l13 = ((l13 << 6) & 1984) | l14;
-        l5 = 2L;
-        break L26;
-       }
-       l15 = (b[((int) l9) - 60718] & 0xff) & 63;
-       L28: {
-        if (l12 + Integer.MIN_VALUE > 2147483631) { break L28; }
-        l13 = ((l14 << 6) | ((l13 << 12) & 61440)) | l15;
-        l5 = 3L;
-        break L26;
-       }
-       l13 = ((l15 << 6) | ((l14 << 12) | ((l13 << 18) & 1835008))) | ((b[((int) l9) - 60717] & 0xff) & 63);
-       l5 = 4L;
-      }
-      L29: {
-       if (f184(m, l13, l9 = l9 + l5, l10 = l10 - l5) == 0) { break L29; }
-       L30: {
-        L31: {
-         if (!((l7 = l3 - l10) == 0L)) { break L31; }
-         l6 = 0L;
-         break L30;
-        }
-        L32: while (true) {
-         l13 = (l12 = (int) b[((int) l2) - 60720]) & 255;
-         l5 = 1L;
-         L33: {
-          if (l12 > -1) { break L33; }
-          l14 = (b[((int) l2) - 60719] & 0xff) & 63;
-          L34: {
-           if (l12 + Integer.MIN_VALUE > 2147483615) { break L34; }
-           l13 = ((l13 << 6) & 1984) | l14;
-           l5 = 2L;
-           break L33;
-          }
-          l15 = (b[((int) l2) - 60718] & 0xff) & 63;
-          L35: {
-           if (l12 + Integer.MIN_VALUE > 2147483631) { break L35; }
-           l13 = ((l14 << 6) | ((l13 << 12) & 61440)) | l15;
-           l5 = 3L;
-           break L33;
-          }
-          l13 = ((l15 << 6) | ((l14 << 12) | ((l13 << 18) & 1835008))) | ((b[((int) l2) - 60717] & 0xff) & 63);
-          l5 = 4L;
-         }
-         L36: {
-          if (l13 == 38646) { break L36; }
-          if (l13 == 12295) { break L36; }
-          l6 = l7;
-          break L30;
-         }
-         l2 = l2 + l5;
-         l6 = 0L;
-         if ((l7 = l7 - l5) != 0L) { continue L32; }
-         break L32;
-        }
-       }
-       Words.put64(b, ((int) l4) - 60488, 0L);
-       Words.put64(b, ((int) l4) - 60496, 0L);
-       Words.put64(b, ((int) l4) - 60504, 0L);
-       Words.put64(b, ((int) l4) - 60512, 0L);
-       f185(m, l4 + 208L, l2, l6);
-       l2 = Words.get64(b, ((int) l4) - 60504);
-       l5 = Words.get64(b, ((int) l4) - 60512);
-       Words.put64(b, ((int) l4) - 60408, 0L);
-       Words.put64(b, ((int) l4) - 60416, 0L);
-       Words.put64(b, ((int) l4) - 60424, 0L);
-       Words.put64(b, ((int) l4) - 60432, 0L);
-       Words.put64(b, ((int) l4) - 60440, 0L);
-       Words.put64(b, ((int) l4) - 60448, 0L);
-       Words.put64(b, ((int) l4) - 60456, 0L);
-       Words.put64(b, ((int) l4) - 60464, 0L);
-       Core2.f75(m, l4 + 256L, l5, l2, l1);
-       Words.put64(b, ((int) l4) - 60576, Words.get64(b, ((int) l8) - 60720));
-       Words.put64(b, ((int) l4) - 60568, Words.get64(b, ((int) l8) - 60712));
-       Words.put64(b, ((int) l4) - 60560, Words.get64(b, ((int) l8) - 60704));
-       Words.put64(b, ((int) l4) - 60552, Words.get64(b, ((int) l8) - 60696));
-       Words.put64(b, ((int) l4) - 60544, Words.get64(b, ((int) l8) - 60688));
-       Words.put64(b, ((int) l4) - 60536, Words.get64(b, ((int) l8) - 60680));
-       if ((b[((int) l4) - 60464] & 0xff) != 0) { break L2; }
-       m.fill((int) (l4 + 256L), 0, (int) 80L);
-       Core2.f52(m, l4 + 40L, l4 + 256L, l4 + 144L);
-       l3 = l10;
-       l2 = l9;
-      }
-      if (!(l10 == 0L)) { continue L25; }
-      break L1;
-     }
-    }
-    Words.put64(b, ((int) l4) - 60520, 0L);
-    Words.put64(b, ((int) l4) - 60528, 0L);
-    Words.put64(b, ((int) l4) - 60536, 0L);
-    Words.put64(b, ((int) l4) - 60544, 0L);
-    Words.put64(b, ((int) l4) - 60552, 0L);
-    Words.put64(b, ((int) l4) - 60560, 0L);
-    Words.put64(b, ((int) l4) - 60568, 0L);
-    Words.put64(b, ((int) l4) - 60576, 0L);
-    f186(m, l4 + 144L, l2, l3);
-    L37: {
-     L38: {
-      L39: {
-       if ((b[((int) l4) - 60576] & 0xff) != 1) { break L39; }
-       l13 = Words.get32(b, ((int) l4) - 60552);
-       l2 = Words.get64(b, ((int) l4) - 60560);
-       l5 = Words.get64(b, ((int) l4) - 60568);
-       Words.put64(b, ((int) l4) - 60408, 0L);
-       Words.put64(b, ((int) l4) - 60416, 0L);
-       Words.put64(b, ((int) l4) - 60424, 0L);
-       Words.put64(b, ((int) l4) - 60432, 0L);
-       Words.put64(b, ((int) l4) - 60440, 0L);
-       Words.put64(b, ((int) l4) - 60448, 0L);
-       Words.put64(b, ((int) l4) - 60456, 0L);
-       Words.put64(b, ((int) l4) - 60464, 0L);
-       Core2.f75(m, l4 + 256L, l5, l2, l1);
-       Words.put64(b, ((int) l4) - 60512, Words.get64(b, ((int) l4) - 60448));
-       Words.put64(b, ((int) l4) - 60504, Words.get64(b, ((int) l4) - 60440));
-       Words.put64(b, ((int) l4) - 60496, Words.get64(b, ((int) l4) - 60432));
-       Words.put64(b, ((int) l4) - 60488, Words.get64(b, ((int) l4) - 60424));
-       Words.put64(b, ((int) l4) - 60480, Words.get64(b, ((int) l4) - 60416));
-       Words.put64(b, ((int) l4) - 60472, Words.get64(b, ((int) l4) - 60408));
-       if ((b[((int) l4) - 60464] & 0xff) == 0) { break L38; }
-       l16 = 0;
-       break L1;
-      }
-      Words.put64(b, ((int) l4) - 60408, 0L);
-      Words.put64(b, ((int) l4) - 60416, 0L);
-      Words.put64(b, ((int) l4) - 60424, 0L);
-      Words.put64(b, ((int) l4) - 60432, 0L);
-      Words.put64(b, ((int) l4) - 60440, 0L);
-      Words.put64(b, ((int) l4) - 60448, 0L);
-      Words.put64(b, ((int) l4) - 60456, 0L);
-      Words.put64(b, ((int) l4) - 60464, 0L);
-      Core2.f75(m, l4 + 256L, l2, l3, l1);
-      Words.put64(b, ((int) l4) - 60512, Words.get64(b, ((int) l4) - 60448));
-      Words.put64(b, ((int) l4) - 60504, Words.get64(b, ((int) l4) - 60440));
-      Words.put64(b, ((int) l4) - 60496, Words.get64(b, ((int) l4) - 60432));
-      Words.put64(b, ((int) l4) - 60488, Words.get64(b, ((int) l4) - 60424));
-      Words.put64(b, ((int) l4) - 60480, Words.get64(b, ((int) l4) - 60416));
-      Words.put64(b, ((int) l4) - 60472, Words.get64(b, ((int) l4) - 60408));
-      l16 = 0;
-      if ((b[((int) l4) - 60464] & 0xff) != 0) { break L1; }
-      m.fill((int) (l4 + 256L), 0, (int) 80L);
-      Core2.f52(m, l4 + 80L, l4 + 256L, l4 + 208L);
-      break L37;
-     }
-     m.fill((int) (l4 + 256L), 0, (int) 80L);
-     Core2.f52(m, l4 + 64L, l4 + 256L, l4 + 208L);
-     Core2.f63(m, l4 + 56L, l13);
-    }
-    l16 = 1;
-    break L1;
-   }
-   throw State.trap();
-  }
-  l16 = 0;
- }
- b[((int) l0) - 60719] = (byte) l16;
- b[((int) l0) - 60720] = (byte) 0;
- m.g0 = l4 + 336L;
-}
-
-static void f208(State m, long l0, int l1) {
- final byte[] b = m.bytes;
- long l2 = 0;
- m.g0 = l2 = m.g0 - 144L;
- L1: {
-  if ((l2 = l2) < 16L) { break L1; }
-  Core2.f53(m, l0, 77252L, 1L);
-  L2: {
-   L3: {
-    if ((l1 & 255) + Integer.MIN_VALUE > -2147483639) { break L3; }
-    Core2.f53(m, l0, 85708L, 1L);
-    break L2;
-   }
-   Core2.f53(m, l0, 83372L, 0L);
-  }
-  Words.put64(b, ((int) l2) - 60584, 0L);
-  Words.put64(b, ((int) l2) - 60591, 0L);
-  Words.put64(b, ((int) l2) - 60600, 0L);
-  Words.put64(b, ((int) l2) - 60608, 1L);
-  Words.put64(b, ((int) l2) - 60616, 0L);
-  b[((int) l2) - 60592] = (byte) 0;
-  Words.put64(b, ((int) l2) - 60624, (l1 & 0xffffffffL) & 255L);
-  m.fill((int) (l2 + 16L), 0, (int) 80L);
-  Core2.f52(m, l2, l2 + 16L, l2 + 96L);
-  Core2.f53(m, l0, Words.get64(b, ((int) l2) - 60720), Words.get64(b, ((int) l2) - 60712));
-  m.g0 = l2 + 144L;
-  return;
- }
- throw State.trap();
-}
-
-static void f209(State m, long l0, int l1) {
- final byte[] b = m.bytes;
- long l2 = 0;
- m.g0 = l2 = m.g0 - 144L;
- L1: {
-  if ((l2 = l2) < 16L) { break L1; }
-  Core2.f53(m, l0, 85824L, 1L);
-  L2: {
-   L3: {
-    if ((l1 & 255) + Integer.MIN_VALUE > -2147483639) { break L3; }
-    Core2.f53(m, l0, 85708L, 1L);
-    break L2;
-   }
-   Core2.f53(m, l0, 83372L, 0L);
-  }
-  Words.put64(b, ((int) l2) - 60584, 0L);
-  Words.put64(b, ((int) l2) - 60591, 0L);
-  Words.put64(b, ((int) l2) - 60600, 0L);
-  Words.put64(b, ((int) l2) - 60608, 1L);
-  Words.put64(b, ((int) l2) - 60616, 0L);
-  b[((int) l2) - 60592] = (byte) 0;
-  Words.put64(b, ((int) l2) - 60624, (l1 & 0xffffffffL) & 255L);
-  m.fill((int) (l2 + 16L), 0, (int) 80L);
-  Core2.f52(m, l2, l2 + 16L, l2 + 96L);
-  Core2.f53(m, l0, Words.get64(b, ((int) l2) - 60720), Words.get64(b, ((int) l2) - 60712));
-  m.g0 = l2 + 144L;
-  return;
- }
- throw State.trap();
-}
-
-static int f210(State m, long l0, int l1, long l2, long l3) {
- final byte[] b = m.bytes;
- long l4 = 0;
- long l5 = 0;
- long l6 = 0;
- int l7 = 0;
- int l8 = 0;
- int l9 = 0;
- int l10 = 0;
- m.g0 = l4 = m.g0 - 48L;
- L1: {
-  L2: {
-   L3: {
-    if ((l4 = l4) < 16L) { break L3; }
-    Words.put64(b, ((int) l4) - 60680, 0L);
-    Words.put64(b, ((int) l4) - 60688, 0L);
-    Words.put64(b, ((int) l4) - 60696, 0L);
-    f177(m, l4 + 24L, l2, l3);
-    L4: {
-     if ((b[((int) l4) - 60696] & 0xff) != 1) { break L4; }
-     l5 = Words.get64(b, ((int) l4) - 60688);
-     Core2.f53(m, l0, l2, l3 - (l6 = Words.get64(b, ((int) l4) - 60680)));
-     f211(m, l4, l0, l1, l5, l6);
-     l1 = b[((int) l4) - 60719] & 0xff;
-     break L1;
-    }
-    if (l3 == 0L) { break L2; }
-    l8 = (l7 = (int) b[((int) l2) - 60720]) & 255;
-    l5 = 1L;
-    L5: {
-     if (l7 > -1) { break L5; }
-     l9 = (b[((int) l2) - 60719] & 0xff) & 63;
-     L6: {
-      if (l7 + Integer.MIN_VALUE > 2147483615) { break L6; }
-      l8 = ((l8 << 6) & 1984) | l9;
-      l5 = 2L;
-      break L5;
-     }
-     l10 = (b[((int) l2) - 60718] & 0xff) & 63;
-     L7: {
-      if (l7 + Integer.MIN_VALUE > 2147483631) { break L7; }
-      l8 = ((l9 << 6) | ((l8 << 12) & 61440)) | l10;
-      l5 = 3L;
-      break L5;
-     }
-     l8 = ((l10 << 6) | ((l9 << 12) | ((l8 << 18) & 1835008))) | ((b[((int) l2) - 60717] & 0xff) & 63);
-     l5 = 4L;
-    }
-    L8: {
-     L9: {
-      if (l8 > 35999) { break L9; }
-      if (l8 == 45) { break L8; }
-      if (l8 == 8722) { break L8; }
-      break L2;
-     }
-     if (l8 == 36000) { break L8; }
-     if (l8 == 65293) { break L8; }
-     if (l8 != 36127) { break L2; }
-    }
-    Core2.f53(m, l0, 77252L, 1L);
-    f211(m, l4 + 16L, l0, l1, l2 + l5, l3 - l5);
-    l1 = b[((int) l4) - 60703] & 0xff;
-    break L1;
-   }
-   throw State.trap();
-  }
-  f211(m, l4 + 8L, l0, l1, l2, l3);
-  l1 = b[((int) l4) - 60711] & 0xff;
- }
- m.g0 = l4 + 48L;
- return l1;
-}
-
-static void f211(State m, long l0, long l1, int l2, long l3, long l4) {
- final byte[] b = m.bytes;
- long l5 = 0;
- long l6 = 0;
- long l7 = 0;
- long l8 = 0;
- long l9 = 0;
- long l10 = 0;
- long l11 = 0;
- long l12 = 0;
- int l13 = 0;
- int l14 = 0;
- int l15 = 0;
- int l16 = 0;
- int l17 = 0;
- int l18 = 0;
- m.g0 = l5 = m.g0 - 240L;
- L1: {
-  L2: {
-   L3: {
-    L4: {
-     L5: {
-      L6: {
-       if ((l5 = l5) < 16L) { break L6; }
-       Words.put64(b, ((int) l5) - 60616, 0L);
-       Words.put64(b, ((int) l5) - 60624, 0L);
-       Words.put64(b, ((int) l5) - 60632, 0L);
-       Words.put64(b, ((int) l5) - 60640, 0L);
-       Words.put64(b, ((int) l5) - 60648, 0L);
-       f180(m, l5 + 72L, l3, l4);
-       if ((b[((int) l5) - 60648] & 0xff) != 1) { break L2; }
-       l6 = Words.get64(b, ((int) l5) - 60616);
-       l7 = Words.get64(b, ((int) l5) - 60624);
-       l8 = Words.get64(b, ((int) l5) - 60632);
-       l9 = Words.get64(b, ((int) l5) - 60640);
-       Words.put64(b, ((int) l5) - 60552, 0L);
-       Words.put64(b, ((int) l5) - 60560, 0L);
-       Words.put64(b, ((int) l5) - 60568, 0L);
-       Words.put64(b, ((int) l5) - 60576, 0L);
-       Words.put64(b, ((int) l5) - 60584, 0L);
-       Words.put64(b, ((int) l5) - 60592, 0L);
-       Words.put64(b, ((int) l5) - 60600, 0L);
-       Words.put64(b, ((int) l5) - 60608, 0L);
-       Core2.f75(m, l5 + 112L, l3, l4, l2);
-       l13 = 0;
-       if ((b[((int) l5) - 60608] & 0xff) != 0) { break L1; }
-       l10 = Words.get64(b, ((int) l5) - 60584);
-       l11 = Words.get64(b, ((int) l5) - 60592);
-       l14 = b[((int) l5) - 60560] & 0xff;
-       l4 = l7;
-       l12 = l6;
-       L7: {
-        L8: while (true) {
-         if (l12 == 0L) { break L7; }
-         l16 = (l15 = (int) b[((int) l4) - 60720]) & 255;
-         l3 = 1L;
-         L9: {
-          if (l15 > -1) { break L9; }
-          l17 = (b[((int) l4) - 60719] & 0xff) & 63;
-          L10: {
-           if (l15 + Integer.MIN_VALUE > 2147483615) { break L10; }
-           l16 = ((l16 << 6) & 1984) | l17;
-           l3 = 2L;
-           break L9;
-          }
-          l18 = (b[((int) l4) - 60718] & 0xff) & 63;
-          L11: {
-           if (l15 + Integer.MIN_VALUE > 2147483631) { break L11; }
-           l16 = ((l17 << 6) | ((l16 << 12) & 61440)) | l18;
-           l3 = 3L;
-           break L9;
-          }
-          l16 = ((l18 << 6) | ((l17 << 12) | ((l16 << 18) & 1835008))) | ((b[((int) l4) - 60717] & 0xff) & 63);
-          l3 = 4L;
-         }
-         Core2.f61(m, l5 + 48L, l16);
-         L12: {
-          if ((b[((int) l5) - 60672] & 0xff) != 1) { break L12; }
-          l12 = l12 - l3;
-          l4 = l4 + l3;
-          if (((b[((int) l5) - 60671] & 0xff) & 255) + Integer.MIN_VALUE > -2147483647) { continue L8; }
-         }
-         break L8;
-        }
-        if (l6 == 0L) { break L5; }
-        l16 = (l15 = (int) b[((int) l7) - 60720]) & 255;
-        l4 = 1L;
-        L13: {
-         if (l15 > -1) { break L13; }
-         l17 = (b[((int) l7) - 60719] & 0xff) & 63;
-         L14: {
-          if (l15 + Integer.MIN_VALUE > 2147483615) { break L14; }
-          l16 = ((l16 << 6) & 1984) | l17;
-          l4 = 2L;
-          break L13;
-         }
-         l18 = (b[((int) l7) - 60718] & 0xff) & 63;
-         L15: {
-          if (l15 + Integer.MIN_VALUE > 2147483631) { break L15; }
-          l16 = ((l17 << 6) | ((l16 << 12) & 61440)) | l18;
-          l4 = 3L;
-          break L13;
-         }
-         l16 = ((l18 << 6) | ((l17 << 12) | ((l16 << 18) & 1835008))) | ((b[((int) l7) - 60717] & 0xff) & 63);
-         l4 = 4L;
-        }
-        L16: {
-         L17: {
-          if (l16 > 35999) { break L17; }
-          if (l16 == 45) { break L16; }
-          if (l16 == 8722) { break L16; }
-          break L5;
-         }
-         if (l16 == 36000) { break L16; }
-         if (l16 == 65293) { break L16; }
-         if (l16 != 36127) { break L5; }
-        }
-        Core2.f53(m, l1, 77252L, 1L);
-        f212(m, l5 + 40L, l1, l2, l7 + l4, l6 - l4);
-        l16 = b[((int) l5) - 60679] & 0xff;
-        break L4;
-       }
-       Words.put64(b, ((int) l5) - 60504, 0L);
-       Words.put64(b, ((int) l5) - 60512, 1L);
-       Words.put64(b, ((int) l5) - 60528, l11);
-       Words.put64(b, ((int) l5) - 60496, 0L);
-       Words.put64(b, ((int) l5) - 60488, 0L);
-       Words.put64(b, ((int) l5) - 60520, l10);
-       m.fill((int) (l5 + 112L), 0, (int) 80L);
-       Core2.f52(m, l5 + 16L, l5 + 112L, l5 + 192L);
-       Core2.f53(m, l1, Words.get64(b, ((int) l5) - 60704), Words.get64(b, ((int) l5) - 60696));
-       break L3;
-      }
-      throw State.trap();
-     }
-     f212(m, l5 + 32L, l1, l2, l7, l6);
-     l16 = b[((int) l5) - 60687] & 0xff;
-    }
-    if ((l16 & 1) == 0) { break L1; }
-   }
-   L18: {
-    if ((l14 & 255) != 2) { break L18; }
-    Core2.f53(m, l1, 77254L, 1L);
-    l13 = 1;
-    break L1;
-   }
-   Words.put64(b, ((int) l5) - 60552, 0L);
-   Words.put64(b, ((int) l5) - 60560, 0L);
-   Words.put64(b, ((int) l5) - 60568, 0L);
-   Words.put64(b, ((int) l5) - 60576, 0L);
-   Words.put64(b, ((int) l5) - 60584, 0L);
-   Words.put64(b, ((int) l5) - 60592, 0L);
-   Words.put64(b, ((int) l5) - 60600, 0L);
-   Words.put64(b, ((int) l5) - 60608, 0L);
-   Core2.f75(m, l5 + 112L, l9, l8, l2);
-   if ((b[((int) l5) - 60608] & 0xff) != 0) { break L1; }
-   final int t19 = (Words.get64(b, ((int) l5) - 60592) + Long.MIN_VALUE > -9223372036854774809L) ? 1 : 0;
-   final int t20 = ((l4 = Words.get64(b, ((int) l5) - 60584)) > 0L) ? 1 : 0;
-   final int t21 = (l4 == 0L) ? 1 : 0;
-   if ((t21 != 0 ? t19 : t20) != 0) { break L1; }
-   Core2.f53(m, l1, 77253L, 1L);
-   f212(m, l5 + 8L, l1, l2, l9, l8);
-   l13 = b[((int) l5) - 60711] & 0xff;
-   break L1;
-  }
-  L22: {
-   if (!(l4 == 0L)) { break L22; }
-   l13 = 0;
-   break L1;
-  }
-  L23: {
-   if ((l16 = (int) b[((int) (l3 + (l12 = l4 + -1L))) - 60720]) >= 0) { break L23; }
-   l12 = -2L;
-   L24: {
-    if ((b[((int) ((l7 = l3 + l4) + -2L)) - 60720] & 0xff) + Integer.MIN_VALUE > -2147483457) { break L24; }
-    l12 = ((b[((int) (l7 + -3L)) - 60720] & 0xff) + Integer.MIN_VALUE > -2147483457) ? -3L : -4L;
-   }
-   l16 = (l15 = (int) b[((int) (l7 = l3 + (l12 = l12 + l4))) - 60720]) & 255;
-   if (l15 > -1) { break L23; }
-   l13 = (b[((int) l7) - 60719] & 0xff) & 63;
-   L25: {
-    if (l15 + Integer.MIN_VALUE > 2147483615) { break L25; }
-    l16 = ((l16 << 6) & 1984) | l13;
-    break L23;
-   }
-   l17 = (b[((int) l7) - 60718] & 0xff) & 63;
-   L26: {
-    if (l15 + Integer.MIN_VALUE > 2147483631) { break L26; }
-    l16 = ((l13 << 6) | ((l16 << 12) & 61440)) | l17;
-    break L23;
-   }
-   l16 = ((l17 << 6) | ((l13 << 12) | ((l16 << 18) & 1835008))) | ((b[((int) l7) - 60717] & 0xff) & 63);
-  }
-  L27: {
-   L28: {
-    if (l16 == 37) { break L28; }
-    if (l16 == 65285) { break L28; }
-    if (l16 != 8240) { break L27; }
-   }
-   f212(m, l5 + 64L, l1, l2, l3, l12);
-   l13 = 1;
-   L29: {
-    if (((b[((int) l5) - 60655] & 0xff) & 1) != 0) { break L29; }
-    l13 = 0;
-    break L1;
-   }
-   Core2.f53(m, l1, l3 + l12, l4 - l12);
-   break L1;
-  }
-  f212(m, l5 + 56L, l1, l2, l3, l4);
-  l13 = b[((int) l5) - 60663] & 0xff;
- }
- b[((int) l0) - 60719] = (byte) l13;
- b[((int) l0) - 60720] = (byte) 0;
- m.g0 = l5 + 240L;
-}
-
-static void f212(State m, long l0, long l1, int l2, long l3, long l4) {
- final byte[] b = m.bytes;
- long l5 = 0;
- long l6 = 0;
- long l7 = 0;
- long l8 = 0;
- long l9 = 0;
- long l10 = 0;
- long l11 = 0;
- long l12 = 0;
- int l13 = 0;
- int l14 = 0;
- int l15 = 0;
- int l16 = 0;
- int l17 = 0;
- int l18 = 0;
- m.g0 = l5 = m.g0 - 320L;
- L1: {
-  L2: {
-   L3: {
-    L4: {
-     L5: {
-      if ((l5 = l5) < 16L) { break L5; }
-      Words.put64(b, ((int) l5) - 60600, 0L);
-      Words.put64(b, ((int) l5) - 60608, 0L);
-      Words.put64(b, ((int) l5) - 60616, 0L);
-      Words.put64(b, ((int) l5) - 60624, 0L);
-      Words.put64(b, ((int) l5) - 60632, 0L);
-      l6 = l3;
-      l7 = l4;
-      L6: {
-       if ((l13 = (l4 == 0L) ? 1 : 0) != 0) { break L6; }
-       l15 = (l14 = (int) b[((int) l3) - 60720]) & 255;
-       L7: {
-        if (l14 > -1) { break L7; }
-        l16 = (b[((int) l3) - 60719] & 0xff) & 63;
-        L8: {
-         if (l14 + Integer.MIN_VALUE > 2147483615) { break L8; }
-         l15 = ((l15 << 6) & 1984) | l16;
-         break L7;
-        }
-        l17 = (b[((int) l3) - 60718] & 0xff) & 63;
-        L9: {
-         if (l14 + Integer.MIN_VALUE > 2147483631) { break L9; }
-         l15 = ((l16 << 6) | ((l15 << 12) & 61440)) | l17;
-         break L7;
-        }
-        l15 = ((l17 << 6) | ((l16 << 12) | ((l15 << 18) & 1835008))) | ((b[((int) l3) - 60717] & 0xff) & 63);
-       }
-       L10: {
-        if ((l15 + -48) + Integer.MIN_VALUE < -2147483638) { break L10; }
-        l6 = l3;
-        l7 = l4;
-        if ((l15 + -65296) + Integer.MIN_VALUE >= -2147483638) { break L6; }
-       }
-       Core2.f53(m, l1, l3, l4);
-       break L2;
-      }
-      L11: while (true) {
-       if (l7 == 0L) { break L4; }
-       l15 = (l14 = (int) b[((int) l6) - 60720]) & 255;
-       l8 = 1L;
-       L12: {
-        if (l14 > -1) { break L12; }
-        l16 = (b[((int) l6) - 60719] & 0xff) & 63;
-        L13: {
-         if (l14 + Integer.MIN_VALUE > 2147483615) { break L13; }
-         l15 = ((l15 << 6) & 1984) | l16;
-         l8 = 2L;
-         break L12;
-        }
-        l17 = (b[((int) l6) - 60718] & 0xff) & 63;
-        L14: {
-         if (l14 + Integer.MIN_VALUE > 2147483631) { break L14; }
-         l15 = ((l16 << 6) | ((l15 << 12) & 61440)) | l17;
-         l8 = 3L;
-         break L12;
-        }
-        l15 = ((l17 << 6) | ((l16 << 12) | ((l15 << 18) & 1835008))) | ((b[((int) l6) - 60717] & 0xff) & 63);
-        l8 = 4L;
-       }
-       Core2.f63(m, l5 + 80L, l15);
-       L15: {
-        if ((l15 + -58) + Integer.MIN_VALUE > 2147483637) { break L15; }
-        l7 = l7 - l8;
-        l6 = l6 + l8;
-        if (((b[((int) l5) - 60640] & 0xff) & 255) == 1) { continue L11; }
-       }
-       break L11;
-      }
-      f182(m, l5 + 88L, l3, l4);
-      L16: {
-       if ((b[((int) l5) - 60632] & 0xff) != 1) { break L16; }
-       l7 = Words.get64(b, ((int) l5) - 60600);
-       l9 = Words.get64(b, ((int) l5) - 60608);
-       l6 = Words.get64(b, ((int) l5) - 60616);
-       l8 = Words.get64(b, ((int) l5) - 60624);
-       Words.put64(b, ((int) l5) - 60424, 0L);
-       Words.put64(b, ((int) l5) - 60432, 0L);
-       Words.put64(b, ((int) l5) - 60440, 0L);
-       Words.put64(b, ((int) l5) - 60448, 0L);
-       Words.put64(b, ((int) l5) - 60456, 0L);
-       Words.put64(b, ((int) l5) - 60464, 0L);
-       Words.put64(b, ((int) l5) - 60472, 0L);
-       Words.put64(b, ((int) l5) - 60480, 0L);
-       Core2.f75(m, l5 + 240L, l8, l6, l2);
-       Words.put64(b, ((int) l5) - 60592, Words.get64(b, ((int) l5) - 60464));
-       Words.put64(b, ((int) l5) - 60584, Words.get64(b, ((int) l5) - 60456));
-       Words.put64(b, ((int) l5) - 60576, Words.get64(b, ((int) l5) - 60448));
-       Words.put64(b, ((int) l5) - 60568, Words.get64(b, ((int) l5) - 60440));
-       Words.put64(b, ((int) l5) - 60560, Words.get64(b, ((int) l5) - 60432));
-       Words.put64(b, ((int) l5) - 60552, Words.get64(b, ((int) l5) - 60424));
-       L17: {
-        if ((b[((int) l5) - 60480] & 0xff) == 0) { break L17; }
-        l18 = 0;
-        break L1;
-       }
-       m.fill((int) (l5 + 240L), 0, (int) 80L);
-       Core2.f52(m, l5 + 8L, l5 + 240L, l5 + 128L);
-       Core2.f53(m, l1, Words.get64(b, ((int) l5) - 60712), Words.get64(b, ((int) l5) - 60704));
-       Core2.f53(m, l1, 85718L, 1L);
-       f213(m, l1, l9, l7);
-       break L2;
-      }
-      L18: {
-       if (f183(m, l3, l4) == 0) { break L18; }
-       l18 = 1;
-       if (l13 != 0) { break L1; }
-       l10 = l5 + 256L;
-       l11 = l3;
-       l12 = l4;
-       L19: while (true) {
-        l15 = (l14 = (int) b[((int) l11) - 60720]) & 255;
-        l6 = 1L;
-        L20: {
-         if (l14 > -1) { break L20; }
-         l16 = (b[((int) l11) - 60719] & 0xff) & 63;
-         L21: {
-          if (l14 + Integer.MIN_VALUE > 2147483615) { break L21; }
-          l15 = ((l15 << 6) & 1984) | l16;
-          l6 = 2L;
-          break L20;
-         }
-         l17 = (b[((int) l11) - 60718] & 0xff) & 63;
-         L22: {
-          if (l14 + Integer.MIN_VALUE > 2147483631) { break L22; }
-          l15 = ((l16 << 6) | ((l15 << 12) & 61440)) | l17;
-          l6 = 3L;
-          break L20;
-         }
-         l15 = ((l17 << 6) | ((l16 << 12) | ((l15 << 18) & 1835008))) | ((b[((int) l11) - 60717] & 0xff) & 63);
-         l6 = 4L;
-        }
-        L23: {
-         if (f184(m, l15, l11 = l11 + l6, l12 = l12 - l6) == 0) { break L23; }
-         l6 = l3;
-         l9 = 0L;
-         L24: {
-          if ((l4 = l4 - l12) == 0L) { break L24; }
-          l7 = l4;
-          l6 = l3;
-          L25: while (true) {
-           l15 = (l14 = (int) b[((int) l6) - 60720]) & 255;
-           l8 = 1L;
-           L26: {
-            if (l14 > -1) { break L26; }
-            l16 = (b[((int) l6) - 60719] & 0xff) & 63;
-            L27: {
-             if (l14 + Integer.MIN_VALUE > 2147483615) { break L27; }
-             l15 = ((l15 << 6) & 1984) | l16;
-             l8 = 2L;
-             break L26;
-            }
-            l17 = (b[((int) l6) - 60718] & 0xff) & 63;
-            L28: {
-             if (l14 + Integer.MIN_VALUE > 2147483631) { break L28; }
-             l15 = ((l16 << 6) | ((l15 << 12) & 61440)) | l17;
-             l8 = 3L;
-             break L26;
-            }
-            l15 = ((l17 << 6) | ((l16 << 12) | ((l15 << 18) & 1835008))) | ((b[((int) l6) - 60717] & 0xff) & 63);
-            l8 = 4L;
-           }
-           L29: {
-            if (l15 == 38646) { break L29; }
-            if (l15 == 12295) { break L29; }
-            l9 = l7;
-            break L24;
-           }
-           l6 = l6 + l8;
-           l9 = 0L;
-           if ((l7 = l7 - l8) != 0L) { continue L25; }
-           break L25;
-          }
-         }
-         Core2.f53(m, l1, l3, l4 - l9);
-         Words.put64(b, ((int) l5) - 60504, 0L);
-         Words.put64(b, ((int) l5) - 60512, 0L);
-         Words.put64(b, ((int) l5) - 60520, 0L);
-         Words.put64(b, ((int) l5) - 60528, 0L);
-         f185(m, l5 + 192L, l6, l9);
-         l7 = Words.get64(b, ((int) l5) - 60504);
-         l9 = Words.get64(b, ((int) l5) - 60512);
-         l6 = Words.get64(b, ((int) l5) - 60520);
-         l8 = Words.get64(b, ((int) l5) - 60528);
-         Words.put64(b, ((int) l5) - 60424, 0L);
-         Words.put64(b, ((int) l5) - 60432, 0L);
-         Words.put64(b, ((int) l5) - 60440, 0L);
-         Words.put64(b, ((int) l5) - 60448, 0L);
-         Words.put64(b, ((int) l5) - 60456, 0L);
-         Words.put64(b, ((int) l5) - 60464, 0L);
-         Words.put64(b, ((int) l5) - 60472, 0L);
-         Words.put64(b, ((int) l5) - 60480, 0L);
-         Core2.f75(m, l5 + 240L, l8, l6, l2);
-         Words.put64(b, ((int) l5) - 60592, Words.get64(b, ((int) l10) - 60720));
-         Words.put64(b, ((int) l5) - 60584, Words.get64(b, ((int) l10) - 60712));
-         Words.put64(b, ((int) l5) - 60576, Words.get64(b, ((int) l10) - 60704));
-         Words.put64(b, ((int) l5) - 60568, Words.get64(b, ((int) l10) - 60696));
-         Words.put64(b, ((int) l5) - 60560, Words.get64(b, ((int) l10) - 60688));
-         Words.put64(b, ((int) l5) - 60552, Words.get64(b, ((int) l10) - 60680));
-         if ((b[((int) l5) - 60480] & 0xff) != 0) { break L3; }
-         m.fill((int) (l5 + 240L), 0, (int) 80L);
-         Core2.f52(m, l5 + 24L, l5 + 240L, l5 + 128L);
-         Core2.f53(m, l1, Words.get64(b, ((int) l5) - 60696), Words.get64(b, ((int) l5) - 60688));
-         Core2.f53(m, l1, l9, l7);
-         l4 = l12;
-         l3 = l11;
-        }
-        if (!(l12 == 0L)) { continue L19; }
-        break L1;
-       }
-      }
-      Words.put64(b, ((int) l5) - 60536, 0L);
-      Words.put64(b, ((int) l5) - 60544, 0L);
-      Words.put64(b, ((int) l5) - 60552, 0L);
-      Words.put64(b, ((int) l5) - 60560, 0L);
-      Words.put64(b, ((int) l5) - 60568, 0L);
-      Words.put64(b, ((int) l5) - 60576, 0L);
-      Words.put64(b, ((int) l5) - 60584, 0L);
-      Words.put64(b, ((int) l5) - 60592, 0L);
-      f186(m, l5 + 128L, l3, l4);
-      L30: {
-       L31: {
-        if ((b[((int) l5) - 60592] & 0xff) != 1) { break L31; }
-        l7 = Words.get64(b, ((int) l5) - 60536);
-        l9 = Words.get64(b, ((int) l5) - 60544);
-        l3 = Words.get64(b, ((int) l5) - 60552);
-        l4 = Words.get64(b, ((int) l5) - 60560);
-        l15 = Words.get32(b, ((int) l5) - 60568);
-        l6 = Words.get64(b, ((int) l5) - 60576);
-        l8 = Words.get64(b, ((int) l5) - 60584);
-        Words.put64(b, ((int) l5) - 60424, 0L);
-        Words.put64(b, ((int) l5) - 60432, 0L);
-        Words.put64(b, ((int) l5) - 60440, 0L);
-        Words.put64(b, ((int) l5) - 60448, 0L);
-        Words.put64(b, ((int) l5) - 60456, 0L);
-        Words.put64(b, ((int) l5) - 60464, 0L);
-        Words.put64(b, ((int) l5) - 60472, 0L);
-        Words.put64(b, ((int) l5) - 60480, 0L);
-        Core2.f75(m, l5 + 240L, l8, l6, l2);
-        Words.put64(b, ((int) l5) - 60528, Words.get64(b, ((int) l5) - 60464));
-        Words.put64(b, ((int) l5) - 60520, Words.get64(b, ((int) l5) - 60456));
-        Words.put64(b, ((int) l5) - 60512, Words.get64(b, ((int) l5) - 60448));
-        Words.put64(b, ((int) l5) - 60504, Words.get64(b, ((int) l5) - 60440));
-        Words.put64(b, ((int) l5) - 60496, Words.get64(b, ((int) l5) - 60432));
-        Words.put64(b, ((int) l5) - 60488, Words.get64(b, ((int) l5) - 60424));
-        if ((b[((int) l5) - 60480] & 0xff) == 0) { break L30; }
-        l18 = 0;
-        break L1;
-       }
-       Words.put64(b, ((int) l5) - 60424, 0L);
-       Words.put64(b, ((int) l5) - 60432, 0L);
-       Words.put64(b, ((int) l5) - 60440, 0L);
-       Words.put64(b, ((int) l5) - 60448, 0L);
-       Words.put64(b, ((int) l5) - 60456, 0L);
-       Words.put64(b, ((int) l5) - 60464, 0L);
-       Words.put64(b, ((int) l5) - 60472, 0L);
-       Words.put64(b, ((int) l5) - 60480, 0L);
-       Core2.f75(m, l5 + 240L, l3, l4, l2);
-       Words.put64(b, ((int) l5) - 60528, Words.get64(b, ((int) l5) - 60464));
-       Words.put64(b, ((int) l5) - 60520, Words.get64(b, ((int) l5) - 60456));
-       Words.put64(b, ((int) l5) - 60512, Words.get64(b, ((int) l5) - 60448));
-       Words.put64(b, ((int) l5) - 60504, Words.get64(b, ((int) l5) - 60440));
-       Words.put64(b, ((int) l5) - 60496, Words.get64(b, ((int) l5) - 60432));
-       Words.put64(b, ((int) l5) - 60488, Words.get64(b, ((int) l5) - 60424));
-       l18 = 0;
-       if ((b[((int) l5) - 60480] & 0xff) != 0) { break L1; }
-       m.fill((int) (l5 + 240L), 0, (int) 80L);
-       Core2.f52(m, l5 + 64L, l5 + 240L, l5 + 192L);
-       Core2.f53(m, l1, Words.get64(b, ((int) l5) - 60656), Words.get64(b, ((int) l5) - 60648));
-       break L2;
-      }
-      m.fill((int) (l5 + 240L), 0, (int) 80L);
-      Core2.f52(m, l5 + 48L, l5 + 240L, l5 + 192L);
-      Core2.f53(m, l1, Words.get64(b, ((int) l5) - 60672), Words.get64(b, ((int) l5) - 60664));
-      Core2.f53(m, l1, 85718L, 1L);
-      Core2.f63(m, l5 + 40L, l15);
-      L32: {
-       L33: {
-        if ((b[((int) l5) - 60680] & 0xff) != 1) { break L33; }
-        Core2.f53(m, l1, Words.get64(b, State.far((int) ((((b[((int) l5) - 60679] & 0xff) & 0xffffffffL) & 255L) << 3L), 88216)), 1L);
-        break L32;
-       }
-       Core2.f53(m, l1, l4, l3);
-      }
-      Core2.f53(m, l1, l9, l7);
-      break L2;
-     }
-     throw State.trap();
-    }
-    f213(m, l1, l3, l4);
-    break L2;
-   }
-   l18 = 0;
-   break L1;
-  }
-  l18 = 1;
- }
- b[((int) l0) - 60719] = (byte) l18;
- b[((int) l0) - 60720] = (byte) 0;
- m.g0 = l5 + 320L;
-}
-
-static void f213(State m, long l0, long l1, long l2) {
- final byte[] b = m.bytes;
- long l3 = 0;
- long l4 = 0;
- int l5 = 0;
- int l6 = 0;
- int l7 = 0;
- int l8 = 0;
- m.g0 = l3 = m.g0 - 16L;
- L1: {
-  if ((l4 = l3) < 16L) { break L1; }
-  L2: {
-   if (l2 == 0L) { break L2; }
-   L3: while (true) {
-    l6 = (l5 = (int) b[((int) l1) - 60720]) & 255;
-    l3 = 1L;
-    L4: {
-     if (l5 > -1) { break L4; }
-     l7 = (b[((int) l1) - 60719] & 0xff) & 63;
-     L5: {
-      if (l5 + Integer.MIN_VALUE > 2147483615) { break L5; }
-      l6 = ((l6 << 6) & 1984) | l7;
-      l3 = 2L;
-      break L4;
-     }
-     l8 = (b[((int) l1) - 60718] & 0xff) & 63;
-     L6: {
-      if (l5 + Integer.MIN_VALUE > 2147483631) { break L6; }
-      l6 = ((l7 << 6) | ((l6 << 12) & 61440)) | l8;
-      l3 = 3L;
-      break L4;
-     }
-     l6 = ((l8 << 6) | ((l7 << 12) | ((l6 << 18) & 1835008))) | ((b[((int) l1) - 60717] & 0xff) & 63);
-     l3 = 4L;
-    }
-    Core2.f63(m, l4 + 8L, l6);
-    l2 = l2 - l3;
-    L7: {
-     L8: {
-      if ((b[((int) l4) - 60712] & 0xff) != 1) { break L8; }
-      Core2.f53(m, l0, Words.get64(b, State.far((int) ((((b[((int) l4) - 60711] & 0xff) & 0xffffffffL) & 255L) << 3L), 88216)), 1L);
-      break L7;
-     }
-     Core2.f53(m, l0, l1, l3);
-    }
-    l1 = l1 + l3;
-    if (l2 != 0L) { continue L3; }
-    break L3;
-   }
-  }
-  m.g0 = l4 + 16L;
-  return;
- }
- throw State.trap();
-}
-
-static int f214(State m, long l0, int l1, long l2, long l3, long l4, long l5) {
- final byte[] b = m.bytes;
- long l6 = 0;
- int l7 = 0;
- int l8 = 0;
- m.g0 = l6 = m.g0 - 240L;
- L1: {
-  if ((l6 = l6) < 16L) { break L1; }
-  l7 = 0;
-  L2: {
-   if (l3 + Long.MIN_VALUE > -9223372036854775760L) { break L2; }
-   if (l5 + Long.MIN_VALUE > -9223372036854775760L) { break L2; }
-   l7 = 0;
-   m.fill((int) (l6 + 16L), 0, (int) 96L);
-   Words.put64(b, ((int) l6) - 60552, 96L);
-   Words.put64(b, ((int) l6) - 60560, l6 + 16L);
-   Words.put64(b, ((int) l6) - 60544, 0L);
-   Core2.f53(m, l6 + 160L, l2, l3);
-   Core2.f53(m, l6 + 160L, l4, l5);
-   final long t3 = Words.get64(b, ((int) l6) - 60560);
-   final int t4 = l8 = (Words.get64(b, ((int) l6) - 60552) + Long.MIN_VALUE < (l3 = Words.get64(b, ((int) l6) - 60544)) + Long.MIN_VALUE) ? 1 : 0;
-   l5 = t4 != 0 ? 83372L : t3;
-   l3 = l8 != 0 ? 0L : l3;
-   L5: {
-    if ((l1 & 255) != 0) { break L5; }
-    l7 = f210(m, l0, 1, l5, l3);
-    break L2;
-   }
-   Words.put64(b, ((int) l6) - 60504, 0L);
-   Words.put64(b, ((int) l6) - 60512, 0L);
-   Words.put64(b, ((int) l6) - 60520, 0L);
-   Words.put64(b, ((int) l6) - 60528, 0L);
-   Words.put64(b, ((int) l6) - 60536, 0L);
-   Words.put64(b, ((int) l6) - 60544, 0L);
-   Words.put64(b, ((int) l6) - 60552, 0L);
-   Words.put64(b, ((int) l6) - 60560, 0L);
-   Core2.f75(m, l6 + 160L, l5, l3, 1);
-   Words.put64(b, ((int) l6) - 60608, Words.get64(b, ((int) l6) - 60544));
-   Words.put64(b, ((int) l6) - 60600, Words.get64(b, ((int) l6) - 60536));
-   Words.put64(b, ((int) l6) - 60592, Words.get64(b, ((int) l6) - 60528));
-   Words.put64(b, ((int) l6) - 60584, Words.get64(b, ((int) l6) - 60520));
-   Words.put64(b, ((int) l6) - 60576, Words.get64(b, ((int) l6) - 60512));
-   Words.put64(b, ((int) l6) - 60568, Words.get64(b, ((int) l6) - 60504));
-   if ((b[((int) l6) - 60560] & 0xff) != 0) { break L2; }
-   m.fill((int) (l6 + 160L), 0, (int) 80L);
-   Core2.f52(m, l6, l6 + 160L, l6 + 112L);
-   Core2.f53(m, l0, Words.get64(b, ((int) l6) - 60720), Words.get64(b, ((int) l6) - 60712));
-   l7 = 1;
-  }
-  m.g0 = l6 + 240L;
-  final int t6 = l7;
-  return t6;
- }
- throw State.trap();
-}
-
-static int f215(State m, long l0, long l1, int l2, int l3, long l4) {
- final byte[] b = m.bytes;
- long l5 = 0;
- long l6 = 0;
- long l7 = 0;
- long l8 = 0;
- long l9 = 0;
- long l10 = 0;
- long l11 = 0;
- int l12 = 0;
- int l13 = 0;
- L1: {
-  if ((l5 = m.g0) < 16L) { break L1; }
+  if (m.g0 < 16L) { break L1; }
+  l2 = 0;
   L2: {
    if (l1 == 0L) { break L2; }
-   l6 = l0;
-   l7 = l1;
-   L3: while (true) {
+   L3: {
     L4: {
      L5: {
-      if (l7 + Long.MIN_VALUE < -9223372036854775804L) { break L5; }
-      l12 = Words.get32(b, ((int) l6) - 60720);
-      break L4;
-     }
-     L6: {
-      L7: {
-       if ((l8 = l7 + -1L) + Long.MIN_VALUE > -9223372036854775806L) { break L7; }
+      L6: {
+       if ((l3 = (int) b[((int) ((l7 = l0 + l1) + -1L)) - 58912]) > -1) { break L6; }
+       l8 = -2L;
+       L7: {
+        if ((b[((int) (l7 + -2L)) - 58912] & 0xff) + Integer.MIN_VALUE > -2147483457) { break L7; }
+        l8 = ((b[((int) (l7 + -3L)) - 58912] & 0xff) + Integer.MIN_VALUE > -2147483457) ? -3L : -4L;
+       }
+       l3 = (l4 = (int) b[((int) (l8 = (l0 + l8) + l1)) - 58912]) & 255;
        L8: {
-        switch ((int) l8) {
-        case 1: break L7;
-        case 2: break L6;
-        default: break L8;
+        if (l4 > -1) { break L8; }
+        l5 = (b[((int) l8) - 58911] & 0xff) & 63;
+        L9: {
+         if (l4 + Integer.MIN_VALUE > 2147483615) { break L9; }
+         l3 = ((l3 << 6) & 1984) | l5;
+         break L8;
         }
-       }
-       l12 = b[((int) l6) - 60720] & 0xff;
-       break L4;
-      }
-      l12 = Words.get16(b, ((int) l6) - 60720) & 0xffff;
-      break L4;
-     }
-     l12 = (Words.get16(b, ((int) l6) - 60720) & 0xffff) | ((b[((int) (l6 + 2L)) - 60720] & 0xff) << 16);
-    }
-    l8 = 3L;
-    L9: {
-     if (((l12 + 16776990) & 12632312) == 8421376) { break L9; }
-     L10: {
-      L11: {
-       L12: {
-        if ((l12 & -2139062144) == 0) { break L12; }
-        if ((l12 & 128) != 0) { break L11; }
-        final long t13 = ((l12 & 8388608) != 0) ? 2L : 3L;
-        final int t14 = l12 & 32768;
-        l9 = t14 != 0 ? 1L : t13;
-        break L10;
-       }
-       l9 = 4L;
-       if (l7 + Long.MIN_VALUE < -9223372036854775800L) { break L10; }
-       if ((Words.get64(b, ((int) l6) - 60720) & -9187201950435737472L) != 0L) { break L10; }
-       L15: {
-        if (l7 + Long.MIN_VALUE >= -9223372036854775784L) { break L15; }
-        l8 = 8L;
-        break L9;
-       }
-       l10 = l7 + -16L;
-       l8 = 8L;
-       L16: {
-        L17: while (true) {
-         if (l10 + Long.MIN_VALUE < -9223372036854775800L) { break L16; }
-         if (((Words.get64(b, ((int) ((l11 = l6 + l8) + 8L)) - 60720) | Words.get64(b, ((int) l11) - 60720)) & -9187201950435737472L) != 0L) { break L16; }
-         l8 = l8 + 16L;
-         l11 = l10 + -8L;
-         l10 = l10 + -16L;
-         if (l11 + Long.MIN_VALUE > -9223372036854775793L) { continue L17; }
-         break L17;
+        l6 = (b[((int) l8) - 58910] & 0xff) & 63;
+        L10: {
+         if (l4 + Integer.MIN_VALUE > 2147483631) { break L10; }
+         l3 = ((l5 << 6) | ((l3 << 12) & 61440)) | l6;
+         break L8;
         }
+        l3 = ((l6 << 6) | ((l5 << 12) | ((l3 << 18) & 1835008))) | ((b[((int) l8) - 58909] & 0xff) & 63);
        }
-       if (l8 == 0L) { break L10; }
-       break L9;
+       l8 = -2L;
+       l4 = b[((int) (l7 + -2L)) - 58912] & 0xff;
+       if (l3 != 32) { break L4; }
+       l8 = -2L;
+       L11: {
+        if ((l4 & 255) + Integer.MIN_VALUE > -2147483457) { break L11; }
+        l8 = ((b[((int) (l7 + -3L)) - 58912] & 0xff) + Integer.MIN_VALUE > -2147483457) ? -3L : -4L;
+       }
+       l1 = l8 + l1;
+       break L5;
       }
-      L18: {
-       L19: {
-        if ((l12 & 224) == 224) { break L19; }
-        if ((l12 & 49376) != 32960) { break L18; }
-        if ((l12 & 222) + Integer.MIN_VALUE <= -2147483455) { break L18; }
-        l8 = 2L;
-        break L9;
-       }
-       L20: {
-        if ((l12 & 12632304) != 8421600) { break L20; }
-        if ((l13 = l12 & 8431) == 8429) { break L20; }
-        if (l13 != 224) { break L9; }
-       }
-       if ((l12 & -1061109760) != -2139062272) { break L18; }
-       if (((((l12 >>> 8) & 240) + ((l12 << 6) & 16320)) + -15504) + Integer.MIN_VALUE >= -2147483392) { break L18; }
-       l8 = 4L;
-       break L9;
-      }
-      Words.put64(b, ((int) l4) - 60696, 0L);
-      Words.put64(b, ((int) l4) - 60704, 0L);
-      Words.put64(b, ((int) l4) - 60712, 0L);
-      Words.put64(b, ((int) l4) - 60720, 0L);
-      m.g0 = l5;
-      return 5;
+      if (l3 != 32) { break L3; }
+      l1 = l1 + -1L;
      }
-     l8 = (l7 + Long.MIN_VALUE < l9 + Long.MIN_VALUE) ? l7 : l9;
+     if (l1 == 0L) { break L2; }
+     L12: {
+      if ((l2 = (int) b[((int) ((l7 = l0 + l1) + -1L)) - 58912]) >= 0) { break L12; }
+      l8 = -2L;
+      L13: {
+       if ((b[((int) (l7 + -2L)) - 58912] & 0xff) + Integer.MIN_VALUE > -2147483457) { break L13; }
+       l8 = ((b[((int) (l7 + -3L)) - 58912] & 0xff) + Integer.MIN_VALUE > -2147483457) ? -3L : -4L;
+      }
+      l2 = (l3 = (int) b[((int) (l1 = (l0 + l8) + l1)) - 58912]) & 255;
+      if (l3 > -1) { break L12; }
+      l4 = (b[((int) l1) - 58911] & 0xff) & 63;
+      L14: {
+       if (l3 + Integer.MIN_VALUE > 2147483615) { break L14; }
+       l2 = ((l2 << 6) & 1984) | l4;
+       break L12;
+      }
+      l5 = (b[((int) l1) - 58910] & 0xff) & 63;
+      L15: {
+       if (l3 + Integer.MIN_VALUE > 2147483631) { break L15; }
+       l2 = ((l4 << 6) | ((l2 << 12) & 61440)) | l5;
+       break L12;
+      }
+      l2 = ((l5 << 6) | ((l4 << 12) | ((l2 << 18) & 1835008))) | ((b[((int) l1) - 58909] & 0xff) & 63);
+     }
+     final int t16 = (((l2 + -48) + Integer.MIN_VALUE < -2147483638) | ((l2 + -65296) + Integer.MIN_VALUE < -2147483638)) ? 1 : 0;
+     return t16;
     }
-    l6 = l6 + l8;
-    if (!((l7 = l7 - l8) == 0L)) { continue L3; }
+    L17: {
+     if ((l4 & 255) + Integer.MIN_VALUE > -2147483457) { break L17; }
+     l8 = ((b[((int) (l7 + -3L)) - 58912] & 0xff) + Integer.MIN_VALUE > -2147483457) ? -3L : -4L;
+    }
+    l3 = (l2 = (int) b[((int) (l1 = (l0 + l8) + l1)) - 58912]) & 255;
+    if (l2 > -1) { break L3; }
+    l4 = (b[((int) l1) - 58911] & 0xff) & 63;
+    L18: {
+     if (l2 + Integer.MIN_VALUE > 2147483615) { break L18; }
+     l3 = ((l3 << 6) & 1984) | l4;
+     break L3;
+    }
+    l5 = (b[((int) l1) - 58910] & 0xff) & 63;
+    L19: {
+     if (l2 + Integer.MIN_VALUE > 2147483631) { break L19; }
+     l3 = ((l4 << 6) | ((l3 << 12) & 61440)) | l5;
+     break L3;
+    }
+    l3 = ((l5 << 6) | ((l4 << 12) | ((l3 << 18) & 1835008))) | ((b[((int) l1) - 58909] & 0xff) & 63);
+   }
+   l2 = (((l3 + -48) + Integer.MIN_VALUE < -2147483638) | ((l3 + -65296) + Integer.MIN_VALUE < -2147483638)) ? 1 : 0;
+  }
+  final int t20 = l2;
+  return t20;
+ }
+ throw State.trap();
+}
+
+static int f188(State m, int l0) {
+ final byte[] b = m.bytes;
+ long l1 = 0;
+ int l2 = 0;
+ int l3 = 0;
+ L1: {
+  if (m.g0 < 16L) { break L1; }
+  l1 = -668L;
+  L2: {
+   L3: while (true) {
+    if ((l2 = (Words.get32(b, ((int) (l1 + 87276L)) - 58912) == l0) ? 1 : 0) != 0) { break L2; }
+    l3 = (l1 != 0L) ? 1 : 0;
+    l1 = l1 + 4L;
+    if (l3 != 0) { continue L3; }
     break L3;
    }
   }
-  L21: {
-   L22: {
-    L23: {
-     if (l3 + Integer.MIN_VALUE < -2147483643) { break L23; }
-     if (l2 + Integer.MIN_VALUE > -2147483639) { break L22; }
-     if (l3 != 5) { break L22; }
-     l12 = Core5.f169(m, l0, l1, l2, l4);
-     m.g0 = l5;
-     final int t24 = l12;
-     return t24;
-    }
-    if (l2 + Integer.MIN_VALUE < -2147483638) { break L21; }
-   }
-   Words.put64(b, ((int) l4) - 60696, 0L);
-   Words.put64(b, ((int) l4) - 60704, 0L);
-   Words.put64(b, ((int) l4) - 60712, 0L);
-   Words.put64(b, ((int) l4) - 60720, 0L);
-   m.g0 = l5;
-   return 8;
-  }
-  l12 = b[((int) ((l7 = (l3 & 0xffffffffL) << 1L) + 85585L)) - 60720] & 0xff;
-  l3 = b[((int) (l7 + 85584L)) - 60720] & 0xff;
-  L25: {
-   if (l2 + Integer.MIN_VALUE < -2147483643) { break L25; }
-   l12 = Core5.f167(m, l0, l1, l2, l3, l12, l4);
-   m.g0 = l5;
-   final int t26 = l12;
-   return t26;
-  }
-  l12 = Core5.f168(m, l0, l1, l2, l3, l12, l4);
-  m.g0 = l5;
-  final int t27 = l12;
-  return t27;
- }
- throw State.trap();
-}
-
-static void f217(State m) {
- L1: {
-  if (m.g0 > 15L) { break L1; }
-  throw State.trap();
- }
-}
-
-static int f219(State m, long l0, long l1, int l2, long l3) {
- final byte[] b = m.bytes;
- long l4 = 0;
- long l5 = 0;
- long l6 = 0;
- long l7 = 0;
- long l8 = 0;
- long l9 = 0;
- int l10 = 0;
- int l11 = 0;
- m.g0 = l4 = m.g0 - 640L;
- L1: {
-  if ((l5 = l4) < 16L) { break L1; }
-  m.fill((int) l3, 0, (int) 224L);
-  L2: {
-   L3: {
-    if (l2 + Integer.MIN_VALUE <= -2147483643) { break L3; }
-    l2 = 8;
-    break L2;
-   }
-   l6 = l1;
-   l4 = l0 = l0 + ((l0 == 0L) ? 4096L : 0L);
-   L4: {
-    L5: {
-     L6: {
-      if (l1 + Long.MIN_VALUE < -9223372036854775804L) { break L6; }
-      l4 = l0;
-      l6 = l1;
-      L7: while (true) {
-       if (((Words.get32(b, ((int) l4) - 60720) + 16776990) & 12632312) != 8421376) { break L5; }
-       l4 = l4 + 3L;
-       if ((l6 = l6 + -3L) + Long.MIN_VALUE > -9223372036854775805L) { continue L7; }
-       break L7;
-      }
-     }
-     if (l6 + Long.MIN_VALUE > -9223372036854775805L) { break L5; }
-     L8: {
-      switch ((int) l6) {
-      case 1: case 2: break L5;
-      case 3: break L8;
-      default: break L4;
-      }
-     }
-     if (((((Words.get16(b, ((int) l4) - 60720) & 0xffff) | ((b[((int) (l4 + 2L)) - 60720] & 0xff) << 16)) + 16776990) & 12632312) == 8421376) { break L4; }
-    }
-    if (Core1.f6(m, l0, l1) != 0) { break L4; }
-    l2 = 5;
-    break L2;
-   }
-   m.fill((int) (l5 + 16L), 0, (int) 224L);
-   Core1.f7(m, l5 + 16L, (l2 + Integer.MIN_VALUE < -2147483642) ? l2 : 0, l0, l1);
-   l10 = b[((int) l5) - 60696] & 0xff;
-   l7 = Words.get64(b, ((int) l5) - 60704);
-   m.copy((int) (l5 + 240L), (int) ((l5 + 16L) + 16L), (int) 208L);
-   l8 = Words.get64(b, ((int) l5) - 60288);
-   L9: {
-    L10: {
-     if (l7 + Long.MIN_VALUE >= -9223372036854775792L) { break L10; }
-     l4 = 0L;
-     l6 = l7;
-     break L9;
-    }
-    Core1.f25(m, l5, l0, l1, l7);
-    l6 = Words.get64(b, ((int) l5) - 60712);
-    l4 = Words.get64(b, ((int) l5) - 60720);
-   }
-   L11: {
-    if (l6 + Long.MIN_VALUE < -9223372036854775805L) { break L11; }
-    L12: while (true) {
-     if ((l1 - l4) + Long.MIN_VALUE < -9223372036854775800L) { break L11; }
-     L13: {
-      L14: {
-       if (((l9 = Words.get64(b, ((int) (l0 + l4)) - 60720)) & 67553998437089520L) != 63050398541283552L) { break L14; }
-       l6 = l6 + -3L;
-       l4 = l4 + 9L;
-       break L13;
-      }
-      if (l6 + Long.MIN_VALUE < -9223372036854775800L) { break L11; }
-      if ((l9 & -9187201950435737472L) != 0L) { break L11; }
-      l6 = l6 + -8L;
-      l4 = l4 + 8L;
-     }
-     if (l6 + Long.MIN_VALUE > -9223372036854775806L) { continue L12; }
-     break L12;
-    }
-   }
-   L15: {
-    if (l6 == 0L) { break L15; }
-    if (l1 + Long.MIN_VALUE <= l4 + Long.MIN_VALUE) { break L15; }
-    l6 = l6 + -1L;
-    L16: while (true) {
-     l4 = Words.get64(b, ((int) (((((b[((int) (l0 + l4)) - 60720] & 0xff) >>> 1) & 0xffffffffL) & 120L) + 66680L)) - 60720) + l4;
-     if (l6 == 0L) { break L15; }
-     l6 = l6 + -1L;
-     if (l1 + Long.MIN_VALUE > l4 + Long.MIN_VALUE) { continue L16; }
-     break L16;
-    }
-   }
-   l6 = l3 + 28L;
-   l11 = b[((int) l5) - 60280] & 0xff;
-   l2 = 0;
-   m.fill((int) (l5 + 448L), 0, (int) 192L);
-   L17: {
-    if (l8 == 0L) { break L17; }
-    if ((l1 = l8 << 2L) == 0L) { break L17; }
-    m.copy((int) (l5 + 448L), (int) (l5 + 240L), (int) l1);
-   }
-   Words.put32(b, ((int) l3) - 60696, (int) l8);
-   Words.put32(b, ((int) l3) - 60700, l11);
-   Words.put32(b, ((int) l3) - 60704, l10);
-   Words.put64(b, ((int) l3) - 60712, l4);
-   Words.put64(b, ((int) l3) - 60720, l7);
-   m.copy((int) l6, (int) (l5 + 448L), (int) 192L);
-   Words.put32(b, ((int) l3) - 60500, 0);
-  }
-  m.g0 = l5 + 640L;
-  final int t18 = l2;
-  return t18;
- }
- throw State.trap();
-}
-
-static int f221(State m, long l0, long l1, int l2, long l3) {
- final byte[] b = m.bytes;
- long l4 = 0;
- long l5 = 0;
- long l6 = 0;
- long l7 = 0;
- long l8 = 0;
- int l9 = 0;
- int l10 = 0;
- m.g0 = l4 = m.g0 - 48L;
- L1: {
-  if ((l5 = l4) < 16L) { break L1; }
-  Words.put64(b, ((int) l3) - 60720, 0L);
-  Words.put64(b, ((int) l3) - 60712, 0L);
-  Words.put64(b, ((int) l3) - 60704, 0L);
-  Words.put64(b, ((int) l5) - 60680, 0L);
-  Words.put64(b, ((int) l5) - 60688, 0L);
-  Words.put64(b, ((int) l5) - 60696, 0L);
-  L2: {
-   L3: {
-    if (l2 + Integer.MIN_VALUE <= -2147483643) { break L3; }
-    l2 = 8;
-    break L2;
-   }
-   l6 = l1;
-   l4 = l0 = l0 + ((l0 == 0L) ? 4096L : 0L);
-   L4: {
-    L5: {
-     L6: {
-      if (l1 + Long.MIN_VALUE < -9223372036854775804L) { break L6; }
-      l4 = l0;
-      l6 = l1;
-      L7: while (true) {
-       if (((Words.get32(b, ((int) l4) - 60720) + 16776990) & 12632312) != 8421376) { break L5; }
-       l4 = l4 + 3L;
-       if ((l6 = l6 + -3L) + Long.MIN_VALUE > -9223372036854775805L) { continue L7; }
-       break L7;
-      }
-     }
-     if (l6 + Long.MIN_VALUE > -9223372036854775805L) { break L5; }
-     L8: {
-      switch ((int) l6) {
-      case 1: case 2: break L5;
-      case 3: break L8;
-      default: break L4;
-      }
-     }
-     if (((((Words.get16(b, ((int) l4) - 60720) & 0xffff) | ((b[((int) (l4 + 2L)) - 60720] & 0xff) << 16)) + 16776990) & 12632312) == 8421376) { break L4; }
-    }
-    if (Core1.f6(m, l0, l1) != 0) { break L4; }
-    l2 = 5;
-    break L2;
-   }
-   Core1.f26(m, l5 + 24L, (l2 + Integer.MIN_VALUE < -2147483642) ? l2 : 0, l0, l1);
-   l9 = 1;
-   l2 = 0;
-   if ((b[((int) l5) - 60696] & 0xff) != 1) { break L2; }
-   l10 = Words.get32(b, ((int) l5) - 60676);
-   l7 = Words.get64(b, ((int) l5) - 60688);
-   L9: {
-    L10: {
-     L11: {
-      switch ((int) (b[((int) l5) - 60680] & 0xffL)) {
-      case 1: break L11;
-      case 2: break L10;
-      default: break L9;
-      }
-     }
-     l9 = 2;
-     break L9;
-    }
-    l10 = 0;
-    l9 = 3;
-   }
-   l4 = 0L;
-   l6 = l7;
-   L12: {
-    if (l7 + Long.MIN_VALUE < -9223372036854775792L) { break L12; }
-    Core1.f25(m, l5 + 8L, l0, l1, l7);
-    l6 = Words.get64(b, ((int) l5) - 60704);
-    l4 = Words.get64(b, ((int) l5) - 60712);
-   }
-   L13: {
-    if (l6 + Long.MIN_VALUE < -9223372036854775805L) { break L13; }
-    L14: while (true) {
-     if ((l1 - l4) + Long.MIN_VALUE < -9223372036854775800L) { break L13; }
-     L15: {
-      L16: {
-       if (((l8 = Words.get64(b, ((int) (l0 + l4)) - 60720)) & 67553998437089520L) != 63050398541283552L) { break L16; }
-       l6 = l6 + -3L;
-       l4 = l4 + 9L;
-       break L15;
-      }
-      if (l6 + Long.MIN_VALUE < -9223372036854775800L) { break L13; }
-      if ((l8 & -9187201950435737472L) != 0L) { break L13; }
-      l6 = l6 + -8L;
-      l4 = l4 + 8L;
-     }
-     if (l6 + Long.MIN_VALUE > -9223372036854775806L) { continue L14; }
-     break L14;
-    }
-   }
-   L17: {
-    if (l6 == 0L) { break L17; }
-    if (l1 + Long.MIN_VALUE <= l4 + Long.MIN_VALUE) { break L17; }
-    l6 = l6 + -1L;
-    L18: while (true) {
-     l4 = Words.get64(b, ((int) (((((b[((int) (l0 + l4)) - 60720] & 0xff) >>> 1) & 0xffffffffL) & 120L) + 66680L)) - 60720) + l4;
-     if (l6 == 0L) { break L17; }
-     l6 = l6 + -1L;
-     if (l1 + Long.MIN_VALUE > l4 + Long.MIN_VALUE) { continue L18; }
-     break L18;
-    }
-   }
-   Words.put32(b, ((int) l3) - 60700, l10);
-   Words.put32(b, ((int) l3) - 60704, l9);
-   Words.put64(b, ((int) l3) - 60712, l4);
-   Words.put64(b, ((int) l3) - 60720, l7);
-  }
-  m.g0 = l5 + 48L;
-  final int t19 = l2;
-  return t19;
- }
- throw State.trap();
-}
-
-static int f223(State m, long l0, long l1, long l2, long l3, long l4) {
- final byte[] b = m.bytes;
- long l5 = 0;
- long l6 = 0;
- long l7 = 0;
- long l8 = 0;
- long l9 = 0;
- int l10 = 0;
- m.g0 = l5 = m.g0 - 288L;
- L1: {
-  L2: {
-   L3: {
-    if ((l6 = l5) < 16L) { break L3; }
-    m.fill((int) (l6 + 32L), 0, (int) 256L);
-    l7 = 66814L;
-    l8 = 8L;
-    L4: {
-     if (l1 == 0L) { break L4; }
-     l5 = l0 + ((l0 == 0L) ? 4096L : 0L);
-     l0 = 0L;
-     L5: {
-      L6: while (true) {
-       if ((b[((int) (l9 = l5 + l0)) - 60720] & 0xff) == 32) { break L5; }
-       if (l1 != (l0 = l0 + 1L)) { continue L6; }
+  l3 = 1;
+  L4: {
+   if (l2 != 0) { break L4; }
+   L5: {
+    L6: {
+     if (l0 > 26846) { break L6; }
+     L7: {
+      if (l0 > 25162) { break L7; }
+      L8: {
+       if (l0 > 23382) { break L8; }
+       L9: {
+        if (l0 > 20739) { break L9; }
+        if (l0 == 19975) { break L4; }
+        if (l0 != 20159) { break L5; }
+        break L4;
+       }
+       if (l0 == 20740) { break L4; }
+       if (l0 != 21495) { break L5; }
        break L4;
       }
-     }
-     if (l0 + Long.MIN_VALUE < -9223372036854775804L) { break L4; }
-     l1 = (l0 ^ -1L) + l1;
-     l9 = l9 + 1L;
-     L7: {
-      if (l0 != 4L) { break L7; }
-      if ((b[((int) l5) - 60720] & 0xff) != 114) { break L4; }
-      if ((b[((int) l5) - 60719] & 0xff) != 101) { break L4; }
-      if ((b[((int) l5) - 60718] & 0xff) != 97) { break L4; }
-      if ((b[((int) l5) - 60717] & 0xff) != 100) { break L4; }
-      Core1.f36(m, l6, l6 + 32L, l9, l1);
-      l8 = Words.get64(b, ((int) l6) - 60712);
-      l7 = Words.get64(b, ((int) l6) - 60720);
+      L10: {
+       if (l0 > 23651) { break L10; }
+       if (l0 == 23383) { break L4; }
+       if (l0 != 23618) { break L5; }
+       break L4;
+      }
+      if (l0 == 23652) { break L4; }
+      if (l0 != 24162) { break L5; }
       break L4;
      }
-     if (l0 + Long.MIN_VALUE > -9223372036854775803L) { break L4; }
-     if ((b[((int) l5) - 60720] & 0xff) != 112) { break L4; }
-     if ((b[((int) l5) - 60719] & 0xff) != 114) { break L4; }
-     if ((b[((int) l5) - 60718] & 0xff) != 105) { break L4; }
-     if ((b[((int) l5) - 60717] & 0xff) != 110) { break L4; }
-     if ((b[((int) l5) - 60716] & 0xff) != 116) { break L4; }
-     Core2.f45(m, l6 + 16L, l6 + 32L, l9, l1);
-     l8 = Words.get64(b, ((int) l6) - 60696);
-     l7 = Words.get64(b, ((int) l6) - 60704);
-    }
-    Words.put64(b, ((int) l4) - 60720, l8);
-    L8: {
-     if (l3 + Long.MIN_VALUE >= l8 + Long.MIN_VALUE) { break L8; }
-     l10 = 6;
-     break L1;
-    }
-    L9: {
-     if (((l4 = l2 + (l3 = (l2 == 0L) ? 4096L : 0L)) - l7) + Long.MIN_VALUE >= l8 + Long.MIN_VALUE) { break L9; }
-     l9 = l8 & 3L;
-     l1 = 0L;
-     L10: {
-      if (l8 + Long.MIN_VALUE < -9223372036854775804L) { break L10; }
-      l8 = l8 & -4L;
-      l1 = 0L;
-      L11: while (true) {
-       b[((int) (l0 = l4 + l1)) - 60720] = (byte) (b[((int) (l5 = l7 + l1)) - 60720] & 0xff);
-       b[((int) (l0 + 1L)) - 60720] = (byte) (b[((int) (l5 + 1L)) - 60720] & 0xff);
-       b[((int) (l0 + 2L)) - 60720] = (byte) (b[((int) (l5 + 2L)) - 60720] & 0xff);
-       b[((int) (l0 + 3L)) - 60720] = (byte) (b[((int) (l5 + 3L)) - 60720] & 0xff);
-       if (l8 != (l1 = l1 + 4L)) { continue L11; }
-       break L11;
+     L11: {
+      if (l0 > 26177) { break L11; }
+      L12: {
+       switch (l0 + -26085) {
+       case 0: case 17: break L4;
+       case 1: case 2: case 3: case 4: case 5: case 6: case 7: case 8: case 9: case 10: case 11: case 12: case 13: case 14: case 15: case 16: break L5;
+       default: break L12;
+       }
       }
-      if (l9 == 0L) { break L2; }
+      if (l0 == 25163) { break L4; }
+      if (l0 != 25240) { break L5; }
+      break L4;
      }
-     l0 = l7 + l1;
-     l1 = l2 + (l3 + l1);
-     L12: while (true) {
-      b[((int) l1) - 60720] = (byte) (b[((int) l0) - 60720] & 0xff);
-      l1 = l1 + 1L;
-      l0 = l0 + 1L;
-      if ((l9 = l9 + -1L) != 0L) { continue L12; }
-      break L2;
+     L13: {
+      if (l0 > 26398) { break L13; }
+      if (l0 == 26178) { break L4; }
+      if (l0 != 26376) { break L5; }
+      break L4;
      }
+     if (l0 == 26399) { break L4; }
+     if (l0 != 26635) { break L5; }
+     break L4;
     }
-    if (l8 == 0L) { break L2; }
-    m.copy((int) l4, (int) l7, (int) l8);
-    l10 = 0;
-    break L1;
+    L14: {
+     if (l0 > 32025) { break L14; }
+     L15: {
+      if (l0 > 27572) { break L15; }
+      if (l0 == 26847) { break L4; }
+      if (l0 == 27004) { break L4; }
+      if (l0 != 27155) { break L5; }
+      break L4;
+     }
+     L16: {
+      if (l0 > 30333) { break L16; }
+      if (l0 == 27573) { break L4; }
+      if (l0 != 29677) { break L5; }
+      break L4;
+     }
+     if (l0 == 30334) { break L4; }
+     if (l0 != 31456) { break L5; }
+     break L4;
+    }
+    L17: {
+     if (l0 > 33835) { break L17; }
+     L18: {
+      if (l0 > 32422) { break L18; }
+      if (l0 == 32026) { break L4; }
+      if (l0 != 32218) { break L5; }
+      break L4;
+     }
+     if (l0 == 32423) { break L4; }
+     if (l0 != 32447) { break L5; }
+     break L4;
+    }
+    L19: {
+     if (l0 > 34891) { break L19; }
+     if (l0 == 33836) { break L4; }
+     if (l0 != 34399) { break L5; }
+     break L4;
+    }
+    if (l0 == 34892) { break L4; }
+    if (l0 == 36335) { break L4; }
    }
-   throw State.trap();
+   l3 = 0;
   }
-  l10 = 0;
+  final int t20 = l3;
+  return t20;
  }
- m.g0 = l6 + 288L;
- return l10;
+ throw State.trap();
 }
 
-static int f225_1(State m, long l0, long l1, int l2, int l3, long l6, long l7, long l8, long l9, long l10, long l11, long l12, long l13, long l14, long l15, long l16, long l17, long l18, int l24, int l25, int l26, int l27, int l28, int l29) {
+static int f189_1(State m, long l1, long l2, long l3, long l4, int l5, int l6, long l7, long l8, long l9, long l10, long l11, long l12, long l13, long l14, long l15, long l16, long l17, long l18, long l19, long l20, long l21, long l22, long l23, long l24, long l25, long l26, long l27, long l28, long l29, long l30, int l31, int l32, int l33) {
  final byte[] b = m.bytes;
  int exit = 0;
  PART: {
-  L7: {
-   L8: {
-    L9: {
-     L10: {
-      if ((l7 = l7) < 16L) { break L10; }
-      m.fill((int) (l7 + 176L), 0, (int) 512L);
-      Words.put64(b, ((int) l6) - 60720, 0L);
-      Words.put64(b, ((int) l7) - 60552, 0L);
-      Words.put64(b, ((int) l7) - 60560, 0L);
-      Words.put64(b, ((int) l7) - 60568, 0L);
-      l24 = 8;
-      if (l2 + Integer.MIN_VALUE > -2147483643) { exit = 1; break PART; }
-      if (l3 + Integer.MIN_VALUE > -2147483646) { exit = 1; break PART; }
-      l8 = l1;
-      l11 = l10 = l0 + (l9 = (l0 == 0L) ? 4096L : 0L);
-      L11: {
-       L12: {
-        L13: {
-         if (l1 + Long.MIN_VALUE < -9223372036854775804L) { break L13; }
-         l11 = l10;
-         l8 = l1;
-         L14: while (true) {
-          if (((Words.get32(b, ((int) l11) - 60720) + 16776990) & 12632312) != 8421376) { break L12; }
-          l11 = l11 + 3L;
-          if ((l8 = l8 + -3L) + Long.MIN_VALUE > -9223372036854775805L) { continue L14; }
-          break L14;
-         }
-        }
-        if (l8 + Long.MIN_VALUE > -9223372036854775805L) { break L12; }
-        L15: {
-         switch ((int) l8) {
-         case 1: case 2: break L12;
-         case 3: break L15;
-         default: break L11;
-         }
-        }
-        if (((((Words.get16(b, ((int) l11) - 60720) & 0xffff) | ((b[((int) (l11 + 2L)) - 60720] & 0xff) << 16)) + 16776990) & 12632312) == 8421376) { break L11; }
-       }
-       if (Core1.f6(m, l10, l1) != 0) { break L11; }
-       l24 = 5;
-       exit = 1; break PART;
-      }
-      l25 = (l3 + Integer.MIN_VALUE < -2147483645) ? l3 : 0;
-      m.fill((int) (l7 + 176L), 0, (int) 512L);
-      l8 = 0L;
-      Words.put64(b, ((int) l7) - 60552, 0L);
-      Words.put64(b, ((int) l7) - 60560, 512L);
-      Words.put64(b, ((int) l7) - 60568, l7 + 176L);
-      m.fill((int) (l7 + 1008L), 0, (int) 224L);
-      Words.put64(b, ((int) l7) - 59808, 0L);
-      Words.put64(b, ((int) l7) - 59784, 0L);
-      Words.put64(b, ((int) l7) - 59800, 0L);
-      Words.put64(b, ((int) l7) - 59792, 0L);
-      m.fill((int) (l7 + 688L), 0, (int) 224L);
-      Core1.f26(m, l7 + 912L, l3 = (l2 + Integer.MIN_VALUE < -2147483642) ? l2 : 0, l10, l1);
-      L16: {
-       if ((b[((int) l7) - 59808] & 0xff) != 1) { break L16; }
-       l24 = Words.get32(b, ((int) l7) - 59788);
-       l2 = b[((int) l7) - 59792] & 0xff;
-       l12 = Words.get64(b, ((int) l7) - 59800);
-       Words.put64(b, ((int) l7) - 59488, 0L);
-       Words.put64(b, ((int) l7) - 59424, 0L);
-       Words.put64(b, ((int) l7) - 59432, 83372L);
-       Words.put64(b, ((int) l7) - 59440, 0L);
-       Words.put64(b, ((int) l7) - 59448, 83372L);
-       Words.put64(b, ((int) l7) - 59464, l12);
-       Words.put64(b, ((int) l7) - 59480, l10);
-       b[((int) l7) - 59488] = (byte) l25;
-       Words.put32(b, ((int) l7) - 59456, l3 = (l2 != 2) ? 1 : 0);
-       Words.put32(b, ((int) l7) - 59452, l3 != 0 ? l24 : 0);
-       Words.put64(b, ((int) l7) - 59472, l1);
-       l11 = 0L;
-       L17: {
-        if (l1 + Long.MIN_VALUE < -9223372036854775776L) { break L17; }
-        Core1.f25(m, l7 + 24L, l10, l1, l1);
-        l8 = l1 - Words.get64(b, ((int) l7) - 60688);
-        l11 = Words.get64(b, ((int) l7) - 60696);
-       }
-       if ((l1 - l11) + Long.MIN_VALUE < -9223372036854775800L) { exit = 2; break PART; }
-       L18: while (true) {
-        L19: {
-         L20: {
-          if (((l0 = Words.get64(b, ((int) (l10 + l11)) - 60720)) & 67553998437089520L) != 63050398541283552L) { break L20; }
-          l8 = l8 + 3L;
-          l11 = l11 + 9L;
-          break L19;
-         }
-         if ((l0 & -9187201950435737472L) != 0L) { exit = 2; break PART; }
-         l8 = l8 + 8L;
-         l11 = l11 + 8L;
-        }
-        if ((l1 - l11) + Long.MIN_VALUE <= -9223372036854775801L) { exit = 2; break PART; }
-        continue L18;
-       }
-      }
-      Core1.f7(m, l7 + 688L, l3, l10, l1);
-      m.copy((int) (l7 + 1008L), (int) (l7 + 688L), (int) 224L);
-      Core1.f30(m, l7 + 136L, l10, l1, l13 = Words.get64(b, ((int) l7) - 59712));
-      l26 = b[((int) l7) - 59704] & 0xff;
-      l14 = Words.get64(b, ((int) l7) - 60584);
-      L21: {
-       if ((l15 = Words.get64(b, ((int) l7) - 60576)) != 0L) { break L21; }
-       if ((l26 & 1) == 0) { break L21; }
-       Words.put64(b, ((int) l7) - 59416, 0L);
-       Words.put64(b, ((int) l7) - 59408, 0L);
-       Words.put64(b, ((int) l7) - 59400, 0L);
-       Core2.f60(m, l7 + 1304L, l10, l1);
-       if ((l3 & 255) != 5) { exit = 3; break PART; }
-       if (((b[((int) l7) - 59416] & 0xff) & 255) != 1) { exit = 3; break PART; }
-       if (((b[((int) l7) - 59408] & 0xff) & 255) != 2) { exit = 3; break PART; }
-       Words.put32(b, ((int) l7) - 59487, 0);
-       b[((int) l7) - 59488] = (byte) l25;
-       Words.put32(b, ((int) l7) - 59484, 0);
-       Words.put64(b, ((int) l7) - 59464, 0L);
-       Words.put64(b, ((int) l7) - 59472, l1);
-       Words.put64(b, ((int) l7) - 59480, l10);
-       Words.put64(b, ((int) l7) - 59456, 0L);
-       Words.put64(b, ((int) l7) - 59424, 0L);
-       Words.put64(b, ((int) l7) - 59432, 83372L);
-       Words.put64(b, ((int) l7) - 59440, 0L);
-       Words.put64(b, ((int) l7) - 59448, 83372L);
-       Core2.f50(m, l7 + 1232L, l7 + 152L, 22);
-       exit = 3; break PART;
-      }
-      l16 = l7 + 1024L;
-      l17 = Words.get64(b, ((int) l7) - 59504);
-      l12 = l1;
-      l11 = l10;
-      L22: {
-       L23: while (true) {
-        if ((l27 = (l12 == 0L) ? 1 : 0) != 0) { break L22; }
-        l2 = (l24 = (int) b[((int) l11) - 60720]) & 255;
-        l8 = 1L;
-        L24: {
-         if (l24 > -1) { break L24; }
-         l28 = (b[((int) l11) - 60719] & 0xff) & 63;
-         L25: {
-          if (l24 + Integer.MIN_VALUE > 2147483615) { break L25; }
-          l2 = ((l2 << 6) & 1984) | l28;
-          l8 = 2L;
-          break L24;
-         }
-         l29 = (b[((int) l11) - 60718] & 0xff) & 63;
-         L26: {
-          if (l24 + Integer.MIN_VALUE > 2147483631) { break L26; }
-          l2 = ((l28 << 6) | ((l2 << 12) & 61440)) | l29;
-          l8 = 3L;
-          break L24;
-         }
-         l2 = ((l29 << 6) | ((l28 << 12) | ((l2 << 18) & 1835008))) | ((b[((int) l11) - 60717] & 0xff) & 63);
-         l8 = 4L;
-        }
-        l12 = l12 - l8;
-        l11 = l11 + l8;
+  L21: {
+   L22: {
+    L23: {
+     if ((b[((int) l7) - 58000] & 0xff) != 1) { break L23; }
+     l24 = Words.get64(b, ((int) l7) - 57880);
+     l25 = Words.get64(b, ((int) l7) - 57968);
+     l23 = Words.get64(b, ((int) l7) - 57976);
+     l3 = l26 = Words.get64(b, ((int) l7) - 57888);
+     L24: {
+      L25: {
+       L26: {
         L27: {
-         if (l2 > 35999) { break L27; }
-         L28: {
-          switch (l2 + -40) {
-          case 0: case 5: break L22;
-          case 1: case 2: case 3: case 4: continue L23;
-          default: break L28;
-          }
-         }
-         if (l2 != 8722) { continue L23; }
-         break L22;
-        }
-        L29: {
-         switch (l2 + -65288) {
-         case 0: case 5: break L22;
-         case 1: case 2: case 3: case 4: continue L23;
-         default: break L29;
+         switch (l33 = b[((int) l7) - 57992] & 0xff) {
+         case 1: break L26;
+         case 2: break L24;
+         case 3: break L25;
+         default: break L27;
          }
         }
-        if (l2 == 36127) { break L22; }
-        if (l2 != 36000) { continue L23; }
-        break L23;
+        l3 = l25;
+        break L24;
        }
+       l3 = l24;
+       break L24;
       }
-      l11 = 83334L;
-      l8 = 8L;
-      L30: {
-       L31: {
-        L32: {
-         L33: {
-          L34: {
-           switch ((int) ((l3 & 0xffffffffL) & 255L)) {
-           case 1: break L34;
-           case 3: break L33;
-           case 4: break L32;
-           case 5: break L30;
-           default: break L31;
-           }
-          }
-          if (l27 != 0) { break L31; }
-          final long t35 = l27 != 0 ? 83145L : 83112L;
-          final int t36 = ((l25 & 255) != 2) ? 1 : 0;
-          l11 = t36 != 0 ? 83145L : t35;
-          l8 = 33L;
-          break L30;
-         }
-         if (l27 != 0) { break L31; }
-         final long t37 = l27 != 0 ? 83220L : 83178L;
-         final int t38 = ((l25 & 255) != 2) ? 1 : 0;
-         l11 = t38 != 0 ? 83220L : t37;
-         l8 = 42L;
+      l3 = l23;
+     }
+     l27 = l33 & 0xffffffffL;
+     l28 = l2 - l19;
+     l29 = Words.get64(b, ((int) l7) - 57896);
+     l30 = Words.get64(b, ((int) l7) - 57984);
+     l22 = l7 + 952L;
+     l18 = l20;
+     l4 = l8 = l19 - l3;
+     L28: {
+      L29: while (true) {
+       if (l4 == 0L) { break L28; }
+       l6 = (l5 = (int) b[((int) l18) - 58912]) & 255;
+       l3 = 1L;
+       L30: {
+        if (l5 > -1) { break L30; }
+        l32 = (b[((int) l18) - 58911] & 0xff) & 63;
+        L31: {
+         if (l5 + Integer.MIN_VALUE > 2147483615) { break L31; }
+         l6 = ((l6 << 6) & 1984) | l32;
+         l3 = 2L;
          break L30;
         }
-        l11 = ((l25 & 255) == 2) ? 83262L : 83298L;
-        l8 = 36L;
-        break L30;
-       }
-       l11 = 83342L;
-       l8 = 30L;
-      }
-      Words.put64(b, ((int) l7) - 59720, l8);
-      Words.put64(b, ((int) l7) - 59728, l11);
-      Words.put64(b, ((int) l7) - 59736, l17);
-      Words.put64(b, ((int) l7) - 59744, l16);
-      Words.put64(b, ((int) l7) - 59752, 0L);
-      Words.put64(b, ((int) l7) - 59760, l13);
-      Words.put64(b, ((int) l7) - 59768, l1);
-      Words.put64(b, ((int) l7) - 59776, l10);
-      b[((int) l7) - 59784] = (byte) l25;
-      L39: {
-       if (Core1.f31(m, l14, l15, 83372L, 3L) != 0) { break L39; }
-       if (Core1.f31(m, l14, l15, 83375L, 3L) != 0) { break L39; }
-       if (Core1.f31(m, l14, l15, 77252L, 1L) != 0) { break L39; }
-       if (Core1.f31(m, l14, l15, 83378L, 3L) != 0) { break L39; }
-       if (Core1.f31(m, l14, l15, 83381L, 3L) == 0) { break L7; }
-      }
-      l2 = 1;
-      l24 = 19;
-      if (((l25 = 1 << (l3 & 255)) & 26) != 0) { break L8; }
-      if ((l25 & 5) != 0) { exit = 4; break PART; }
-      l18 = l13 + 1L;
-      l8 = 0L;
-      l11 = 0L;
-      L40: {
-       if (l1 + Long.MIN_VALUE < -9223372036854775776L) { break L40; }
-       Core1.f25(m, l7 + 120L, l10, l1, l1);
-       l8 = l1 - Words.get64(b, ((int) l7) - 60592);
-       l11 = Words.get64(b, ((int) l7) - 60600);
-      }
-      l2 = (l18 == 0L) ? 1 : 0;
-      if ((l1 - l11) + Long.MIN_VALUE < -9223372036854775800L) { break L9; }
-      L41: while (true) {
-       L42: {
-        L43: {
-         if (((l12 = Words.get64(b, ((int) (l10 + l11)) - 60720)) & 67553998437089520L) != 63050398541283552L) { break L43; }
-         l8 = l8 + 3L;
-         l11 = l11 + 9L;
-         break L42;
+        l31 = (b[((int) l18) - 58910] & 0xff) & 63;
+        L32: {
+         if (l5 + Integer.MIN_VALUE > 2147483631) { break L32; }
+         l6 = ((l32 << 6) | ((l6 << 12) & 61440)) | l31;
+         l3 = 3L;
+         break L30;
         }
-        if ((l12 & -9187201950435737472L) != 0L) { break L9; }
-        l8 = l8 + 8L;
-        l11 = l11 + 8L;
+        l6 = ((l31 << 6) | ((l32 << 12) | ((l6 << 18) & 1835008))) | ((b[((int) l18) - 58909] & 0xff) & 63);
+        l3 = 4L;
        }
-       if ((l1 - l11) + Long.MIN_VALUE <= -9223372036854775801L) { break L9; }
-       continue L41;
+       L33: {
+        if ((l6 + -48) + Integer.MIN_VALUE < -2147483638) { break L33; }
+        l4 = l4 - l3;
+        l18 = l18 + l3;
+        if ((l6 + -65296) + Integer.MIN_VALUE > -2147483639) { continue L29; }
+       }
+       break L29;
       }
+      if (l8 == 0L) { break L28; }
+      L34: {
+       L35: {
+        if ((l6 = (int) b[((int) l20) - 58912]) <= -1) { break L35; }
+        l18 = 1L;
+        break L34;
+       }
+       L36: {
+        if (l6 + Integer.MIN_VALUE >= 2147483616) { break L36; }
+        l18 = 2L;
+        break L34;
+       }
+       l18 = (l6 + Integer.MIN_VALUE < 2147483632) ? 3L : 4L;
+      }
+      if (l8 == l18) { break L28; }
+      if (l2 == l19) { break L22; }
+      L37: {
+       if (((int) b[((int) (l1 + (l18 = l28 + -1L))) - 58912]) > -1) { break L37; }
+       l18 = -2L;
+       L38: {
+        if ((b[((int) ((l3 = l1 + l28) + -2L)) - 58912] & 0xff) + Integer.MIN_VALUE > -2147483457) { break L38; }
+        l18 = ((b[((int) (l3 + -3L)) - 58912] & 0xff) + Integer.MIN_VALUE > -2147483457) ? -3L : -4L;
+       }
+       l18 = l18 + l28;
+      }
+      if (l18 == 0L) { break L22; }
+      L39: {
+       if ((l6 = (int) b[((int) ((l3 = l1 + l18) + -1L)) - 58912]) >= 0) { break L39; }
+       l4 = -2L;
+       L40: {
+        if ((b[((int) (l3 + -2L)) - 58912] & 0xff) + Integer.MIN_VALUE > -2147483457) { break L40; }
+        l4 = ((b[((int) (l3 + -3L)) - 58912] & 0xff) + Integer.MIN_VALUE > -2147483457) ? -3L : -4L;
+       }
+       l6 = (l5 = (int) b[((int) (l18 = (l1 + l4) + l18)) - 58912]) & 255;
+       if (l5 > -1) { break L39; }
+       l32 = (b[((int) l18) - 58911] & 0xff) & 63;
+       L41: {
+        if (l5 + Integer.MIN_VALUE > 2147483615) { break L41; }
+        l6 = ((l6 << 6) & 1984) | l32;
+        break L39;
+       }
+       l31 = (b[((int) l18) - 58910] & 0xff) & 63;
+       L42: {
+        if (l5 + Integer.MIN_VALUE > 2147483631) { break L42; }
+        l6 = ((l32 << 6) | ((l6 << 12) & 61440)) | l31;
+        break L39;
+       }
+       l6 = ((l31 << 6) | ((l32 << 12) | ((l6 << 18) & 1835008))) | ((b[((int) l18) - 58909] & 0xff) & 63);
+      }
+      if (((l6 & -33) + -91) + Integer.MIN_VALUE < 2147483622) { break L22; }
      }
-     throw State.trap();
+     l17 = 0L;
+     l16 = 0L;
+     l15 = 0L;
+     l14 = 0L;
+     l13 = 0L;
+     l12 = 0L;
+     l11 = 0L;
+     l10 = 0L;
+     l9 = 0L;
+     l8 = 0L;
+     l4 = 0L;
+     l3 = 0L;
+     l18 = 0L;
+     break L21;
     }
-    l12 = l2 != 0 ? -1L : l18;
-    L44: {
-     if (l11 + Long.MIN_VALUE >= l1 + Long.MIN_VALUE) { break L44; }
-     L45: while (true) {
-      l8 = l8 + 1L;
-      if ((l11 = Words.get64(b, ((int) (((((b[((int) (l10 + l11)) - 60720] & 0xff) >>> 1) & 0xffffffffL) & 120L) + 66680L)) - 60720) + l11) + Long.MIN_VALUE < l1 + Long.MIN_VALUE) { continue L45; }
-      break L45;
-     }
-    }
-    if (l12 + Long.MIN_VALUE < l8 + Long.MIN_VALUE) { break L7; }
+    Words.put64(b, ((int) l7) - 58464, 0L);
+    Words.put64(b, ((int) l7) - 58472, 0L);
+    Words.put64(b, ((int) l7) - 58480, 0L);
+    Words.put64(b, ((int) l7) - 58488, 0L);
+    Words.put64(b, ((int) l7) - 58496, 0L);
+    Words.put64(b, ((int) l7) - 58504, 0L);
+    Words.put64(b, ((int) l7) - 58512, 0L);
+    Words.put64(b, ((int) l7) - 58520, 0L);
+    Words.put64(b, ((int) l7) - 58568, 0L);
+    Words.put64(b, ((int) l7) - 58560, 0L);
+    Words.put64(b, ((int) l7) - 58552, 0L);
+    Words.put64(b, ((int) l7) - 58544, 0L);
+    Words.put64(b, ((int) l7) - 58536, 0L);
+    Words.put64(b, ((int) l7) - 58528, 0L);
+    l17 = 0L;
+    l16 = 0L;
+    l15 = 0L;
+    l14 = 0L;
+    l13 = 0L;
+    l12 = 0L;
+    l11 = 0L;
+    l10 = 0L;
+    l9 = 0L;
+    l8 = 0L;
+    l4 = 0L;
+    l3 = 0L;
+    exit = 1; break PART;
    }
-   l24 = 18;
-   l2 = 1;
-   exit = 4; break PART;
+   Words.put64(b, ((int) l7) - 57848, l25);
+   Words.put64(b, ((int) l7) - 57856, l23);
+   Words.put64(b, ((int) l7) - 57864, l30);
+   Words.put64(b, ((int) l7) - 57872, l27);
+   Words.put64(b, ((int) l7) - 57840, Words.get64(b, ((int) l22) - 58912));
+   Words.put64(b, ((int) l7) - 57832, Words.get64(b, ((int) l22) - 58904));
+   Words.put64(b, ((int) l7) - 57824, Words.get64(b, ((int) l22) - 58896));
+   Words.put64(b, ((int) l7) - 57816, Words.get64(b, ((int) l22) - 58888));
+   Words.put64(b, ((int) l7) - 57808, Words.get64(b, ((int) l22) - 58880));
+   Words.put64(b, ((int) l7) - 57800, Words.get64(b, ((int) l22) - 58872));
+   Words.put64(b, ((int) l7) - 57792, Words.get64(b, ((int) l22) - 58864));
+   Words.put64(b, ((int) l7) - 57784, Words.get64(b, ((int) l22) - 58856));
+   Words.put64(b, ((int) l7) - 57760, l24);
+   Words.put64(b, ((int) l7) - 57768, l26);
+   Words.put64(b, ((int) l7) - 57776, l29);
+   l17 = 0L;
+   l16 = 0L;
+   l15 = 0L;
+   l14 = 0L;
+   l13 = 0L;
+   l12 = 0L;
+   l11 = 0L;
+   l10 = 0L;
+   l9 = 0L;
+   l8 = 0L;
+   l4 = 0L;
+   l3 = 0L;
+   l18 = 0L;
+   if (f191(m, l1, l28, l20, l19, l7 + 1040L) == 0) { break L21; }
+   Words.put64(b, ((int) l7) - 57824, 0L);
+   Words.put64(b, ((int) l7) - 57832, 0L);
+   Words.put64(b, ((int) l7) - 57840, 0L);
+   Words.put64(b, ((int) l7) - 57848, 0L);
+   Words.put64(b, ((int) l7) - 57856, 0L);
+   Words.put64(b, ((int) l7) - 57864, 0L);
+   Words.put64(b, ((int) l7) - 57872, 0L);
+   L43: {
+    L44: {
+     L45: {
+      L46: {
+       L47: {
+        switch (l33) {
+        case 1: break L46;
+        case 2: break L45;
+        case 3: break L44;
+        default: break L47;
+        }
+       }
+       l18 = l23;
+       l3 = l25;
+       break L43;
+      }
+      l18 = l26;
+      l3 = l24;
+      break L43;
+     }
+     Words.put64(b, ((int) l7) - 57720, 0L);
+     Words.put64(b, ((int) l7) - 57728, 0L);
+     Words.put64(b, ((int) l7) - 57736, 0L);
+     Words.put64(b, ((int) l7) - 57744, 0L);
+     Words.put64(b, ((int) l7) - 57752, 0L);
+     f192(m, l7 + 1160L, l29, l26);
+     final long t48 = Words.get64(b, ((int) l7) - 57720);
+     final long t49 = l26;
+     final int t50 = l6 = ((b[((int) l7) - 57752] & 0xff) == 1) ? 1 : 0;
+     l3 = t50 != 0 ? t48 : t49;
+     final long t51 = Words.get64(b, ((int) l7) - 57728);
+     final long t52 = l29;
+     final int t53 = l6;
+     l18 = t53 != 0 ? t51 : t52;
+     break L43;
+    }
+    Words.put64(b, ((int) l7) - 57720, 0L);
+    Words.put64(b, ((int) l7) - 57728, 0L);
+    Words.put64(b, ((int) l7) - 57736, 0L);
+    Words.put64(b, ((int) l7) - 57744, 0L);
+    Words.put64(b, ((int) l7) - 57752, 0L);
+    f192(m, l7 + 1160L, l30, l23);
+    final long t54 = Words.get64(b, ((int) l7) - 57720);
+    final long t55 = l23;
+    final int t56 = l6 = ((b[((int) l7) - 57752] & 0xff) == 1) ? 1 : 0;
+    l3 = t56 != 0 ? t54 : t55;
+    final long t57 = Words.get64(b, ((int) l7) - 57728);
+    final long t58 = l30;
+    final int t59 = l6;
+    l18 = t59 != 0 ? t57 : t58;
+   }
+   f193(m, l7 + 1040L, 0, 1, l18, l3);
+   Words.put64(b, ((int) l7) - 58112, Words.get64(b, ((int) l7) - 57864));
+   Words.put64(b, ((int) l7) - 58104, Words.get64(b, ((int) l7) - 57856));
+   Words.put64(b, ((int) l7) - 58096, Words.get64(b, ((int) l7) - 57848));
+   Words.put64(b, ((int) l7) - 58088, Words.get64(b, ((int) l7) - 57840));
+   Words.put64(b, ((int) l7) - 58080, Words.get64(b, ((int) l7) - 57832));
+   Words.put64(b, ((int) l7) - 58072, Words.get64(b, ((int) l7) - 57824));
+   l3 = b[((int) l7) - 57872] & 0xffL;
+   Words.put64(b, ((int) l7) - 58064, Words.get64(b, ((int) l22) - 58912));
+   Words.put64(b, ((int) l7) - 58056, Words.get64(b, ((int) l22) - 58904));
+   Words.put64(b, ((int) l7) - 58048, Words.get64(b, ((int) l22) - 58896));
+   Words.put64(b, ((int) l7) - 58040, Words.get64(b, ((int) l22) - 58888));
+   Words.put64(b, ((int) l7) - 58032, Words.get64(b, ((int) l22) - 58880));
+   Words.put64(b, ((int) l7) - 58024, Words.get64(b, ((int) l22) - 58872));
+   Words.put64(b, ((int) l7) - 58016, Words.get64(b, ((int) l22) - 58864));
+   Words.put64(b, ((int) l7) - 58008, Words.get64(b, ((int) l22) - 58856));
+   l18 = 1L;
+   l4 = 6L;
+   l16 = 2L;
+   l17 = 83372L;
+   l15 = l27;
+   l14 = l30;
+   l13 = l23;
+   l12 = l25;
+   l11 = l29;
+   l10 = l26;
+   l9 = l24;
+   l8 = l21;
   }
  }
- m.kept[0] = l0;
- m.kept[1] = l2;
- m.kept[2] = l3;
- m.kept[3] = l7;
+ m.kept[0] = l3;
+ m.kept[1] = l4;
+ m.kept[2] = l5;
+ m.kept[3] = l6;
  m.kept[4] = l8;
  m.kept[5] = l9;
  m.kept[6] = l10;
@@ -6742,339 +2521,22 @@ static int f225_1(State m, long l0, long l1, int l2, int l3, long l6, long l7, l
  m.kept[12] = l16;
  m.kept[13] = l17;
  m.kept[14] = l18;
- m.kept[15] = l24;
- m.kept[16] = l25;
- m.kept[17] = l26;
- m.kept[18] = l27;
- m.kept[19] = l28;
- m.kept[20] = l29;
+ m.kept[15] = l22;
+ m.kept[16] = l23;
+ m.kept[17] = l24;
+ m.kept[18] = l25;
+ m.kept[19] = l26;
+ m.kept[20] = l27;
+ m.kept[21] = l28;
+ m.kept[22] = l29;
+ m.kept[23] = l30;
+ m.kept[24] = l31;
+ m.kept[25] = l32;
+ m.kept[26] = l33;
  return exit;
 }
 
-static int f225_2(State m, long l0, int l3, long l7, long l8, long l9, long l10, long l11, long l12, long l13, long l14, long l17, long l18, long l19, long l20, long l21, long l22, long l23, int l24) {
- final byte[] b = m.bytes;
- int exit = 0;
- PART: {
-  L108: {
-   if ((l18 = Words.get64(b, ((int) l7) - 59480)) + Long.MIN_VALUE < -9223372036854775799L) { break L108; }
-   Words.put32(b, ((int) l7) - 59470, 0);
-   Words.put16(b, ((int) l7) - 59472, (short) 48869);
-   Words.put16(b, ((int) l7) - 59466, (short) 0);
-   Words.put64(b, ((int) l7) - 59464, 8L);
-   Words.put64(b, ((int) l7) - 59480, l18);
-   l12 = l18 + -8L;
-   Words.put64(b, ((int) l7) - 59488, l10);
-   l20 = l10 + (l19 = l18 + -16L);
-   l11 = 0L;
-   l21 = 0L;
-   L109: {
-    L110: while (true) {
-     L111: {
-      L112: {
-       if ((l12 - l11) + Long.MIN_VALUE > -9223372036854775801L) { break L112; }
-       if (l12 + Long.MIN_VALUE <= l11 + Long.MIN_VALUE) { break L108; }
-       L113: while (true) {
-        L114: {
-         if ((b[((int) (l8 = l10 + l11)) - 60720] & 0xff) != 229) { break L114; }
-         if (((b[((int) (l8 + 8L)) - 60720] & 0xff) & 255) != 190) { break L114; }
-         l8 = l11;
-         break L111;
-        }
-        if (l12 != (l11 = l11 + 1L)) { continue L113; }
-        break L108;
-       }
-      }
-      final long t115 = ((long) Long.numberOfTrailingZeros((l8 = ((((l8 = (Words.get64(b, ((int) ((l8 = l10 + l11) + 8L)) - 60720) ^ -4702111234474983746L) | (Words.get64(b, ((int) l8) - 60720) ^ -1880844493789993499L)) & 9187201950435737471L) + 9187201950435737471L) | l8) & -9187201950435737472L) ^ -9187201950435737472L)) >>> 3L;
-      final int t116 = (l8 == -9187201950435737472L) ? 1 : 0;
-      if ((l8 = (t116 != 0 ? 8L : t115) + l11) + Long.MIN_VALUE < (l11 + 8L) + Long.MIN_VALUE) { break L111; }
-      L117: {
-       if ((l12 - l8) + Long.MIN_VALUE < -9223372036854775776L) { break L117; }
-       L118: while (true) {
-        if (((((((((l17 = ((l14 = Words.get64(b, ((int) ((l11 = l10 + l8) + 8L)) - 60720)) ^ -4702111234474983746L) | (Words.get64(b, ((int) l11) - 60720) ^ -1880844493789993499L)) & 9187201950435737471L) + 9187201950435737471L) | l17) & ((((l14 = ((l17 = Words.get64(b, ((int) (l11 + 16L)) - 60720)) ^ -4702111234474983746L) | (l14 ^ -1880844493789993499L)) & 9187201950435737471L) + 9187201950435737471L) | l14)) & ((((l17 = ((l14 = Words.get64(b, ((int) (l11 + 24L)) - 60720)) ^ -4702111234474983746L) | (l17 ^ -1880844493789993499L)) & 9187201950435737471L) + 9187201950435737471L) | l17)) & ((((l11 = (Words.get64(b, ((int) (l11 + 32L)) - 60720) ^ -4702111234474983746L) | (l14 ^ -1880844493789993499L)) & 9187201950435737471L) + 9187201950435737471L) | l11)) & -9187201950435737472L) != -9187201950435737472L) { break L117; }
-        if ((l12 - (l8 = Core2.f62(m, l7 + 1232L, l8 + 32L, l12))) + Long.MIN_VALUE > -9223372036854775777L) { continue L118; }
-        break L118;
-       }
-      }
-      l11 = l12 - l8;
-      L119: {
-       L120: while (true) {
-        if (l11 + Long.MIN_VALUE < -9223372036854775799L) { break L119; }
-        l11 = l11 + -8L;
-        final long t121 = ((long) Long.numberOfTrailingZeros((l14 = ((((l14 = (Words.get64(b, ((int) ((l14 = l10 + l8) + 8L)) - 60720) ^ -4702111234474983746L) | (Words.get64(b, ((int) l14) - 60720) ^ -1880844493789993499L)) & 9187201950435737471L) + 9187201950435737471L) | l14) & -9187201950435737472L) ^ -9187201950435737472L)) >>> 3L;
-        final int t122 = (l14 == -9187201950435737472L) ? 1 : 0;
-        if (((l14 = t122 != 0 ? 8L : t121) + l8) + Long.MIN_VALUE >= (l8 = l8 + 8L) + Long.MIN_VALUE) { continue L120; }
-        break L120;
-       }
-       l8 = (l14 + l8) + -8L;
-       break L111;
-      }
-      final long t123 = ((long) Long.numberOfTrailingZeros((l11 = ((((l11 = (Words.get64(b, ((int) (l20 + 8L)) - 60720) ^ -4702111234474983746L) | (Words.get64(b, ((int) l20) - 60720) ^ -1880844493789993499L)) & 9187201950435737471L) + 9187201950435737471L) | l11) & -9187201950435737472L) ^ -9187201950435737472L)) >>> 3L;
-      final int t124 = (l11 == -9187201950435737472L) ? 1 : 0;
-      l8 = (t124 != 0 ? 8L : t123) + l19;
-     }
-     if (l8 == l12) { break L108; }
-     L125: {
-      if ((l18 - l8) + Long.MIN_VALUE < -9223372036854775799L) { break L125; }
-      if (Words.get64(b, ((int) (l11 = l10 + l8)) - 60720) != -8365795144209483291L) { break L125; }
-      if (Words.get64(b, ((int) l11) - 60719) == -4716422499747384135L) { break L109; }
-     }
-     l22 = 1L;
-     final long t126 = l14 = l8 + 129L;
-     final int t127 = (l14 + Long.MIN_VALUE < (l11 = l8 + 1L) + Long.MIN_VALUE) ? 1 : 0;
-     final long t128 = t127 != 0 ? -1L : t126;
-     final long t129 = l14 = l21 + 25L;
-     final int t130 = (l14 + Long.MIN_VALUE < l21 + Long.MIN_VALUE) ? 1 : 0;
-     if (t128 + Long.MIN_VALUE >= ((l21 = t130 != 0 ? -1L : t129) >>> 3L) + Long.MIN_VALUE) { continue L110; }
-     break L110;
-    }
-    l19 = 0L;
-    l21 = 1L;
-    l14 = 1L;
-    l12 = 0L;
-    L131: while (true) {
-     l17 = l14;
-     L132: {
-      L133: {
-       if ((l24 = b[State.far((int) l21, 83482)] & 0xff) + Integer.MIN_VALUE < (l3 = b[((int) ((l19 + l12) + 83482L)) - 60720] & 0xff) + Integer.MIN_VALUE) { break L133; }
-       l12 = l12 + 1L;
-       L134: {
-        if (l3 + Integer.MIN_VALUE >= l24 + Integer.MIN_VALUE) { break L134; }
-        l22 = (l14 = l12 + l17) - l19;
-        l12 = 0L;
-        break L132;
-       }
-       l12 = ((l24 = (l12 == l22) ? 1 : 0) != 0) ? 0L : l12;
-       l14 = (l24 != 0 ? l22 : 0L) + l17;
-       break L132;
-      }
-      l22 = 1L;
-      l14 = l17 + 1L;
-      l12 = 0L;
-      l19 = l17;
-     }
-     if ((l21 = l14 + l12) + Long.MIN_VALUE < -9223372036854775799L) { continue L131; }
-     break L131;
-    }
-    l21 = 0L;
-    l23 = 1L;
-    l20 = 1L;
-    l14 = 1L;
-    l12 = 0L;
-    L135: while (true) {
-     l17 = l14;
-     L136: {
-      L137: {
-       if ((l24 = b[((int) ((l21 + l12) + 83482L)) - 60720] & 0xff) + Integer.MIN_VALUE < (l3 = b[State.far((int) l20, 83482)] & 0xff) + Integer.MIN_VALUE) { break L137; }
-       l12 = l12 + 1L;
-       L138: {
-        if (l3 + Integer.MIN_VALUE < l24 + Integer.MIN_VALUE) { break L138; }
-        l12 = ((l24 = (l12 == l23) ? 1 : 0) != 0) ? 0L : l12;
-        l14 = (l24 != 0 ? l23 : 0L) + l17;
-        break L136;
-       }
-       l23 = (l14 = l12 + l17) - l21;
-       l12 = 0L;
-       break L136;
-      }
-      l23 = 1L;
-      l14 = l17 + 1L;
-      l12 = 0L;
-      l21 = l17;
-     }
-     if ((l20 = l14 + l12) + Long.MIN_VALUE < -9223372036854775799L) { continue L135; }
-     break L135;
-    }
-    L139: {
-     L140: {
-      L141: {
-       L142: {
-        if (l21 + Long.MIN_VALUE >= l19 + Long.MIN_VALUE) { break L142; }
-        final long t143 = l12 = 9L - l19;
-        final long t144 = l19;
-        final int t145 = (l12 + Long.MIN_VALUE > l19 + Long.MIN_VALUE) ? 1 : 0;
-        l17 = t145 != 0 ? t143 : t144;
-        if ((l19 << 1L) + Long.MIN_VALUE > -9223372036854775800L) { break L140; }
-        l12 = 0L;
-        L146: while (true) {
-         if ((b[((int) (l14 = l12 + 83482L)) - 60720] & 0xff) != (b[((int) (l14 + l22)) - 60720] & 0xff)) { break L140; }
-         if (l19 != (l12 = l12 + 1L)) { continue L146; }
-         break L146;
-        }
-        l21 = l19;
-        l23 = l22;
-        break L141;
-       }
-       final long t147 = l12 = 9L - l21;
-       final long t148 = l21;
-       final int t149 = (l12 + Long.MIN_VALUE > l21 + Long.MIN_VALUE) ? 1 : 0;
-       l17 = t149 != 0 ? t147 : t148;
-       if ((l21 << 1L) + Long.MIN_VALUE > -9223372036854775800L) { break L139; }
-       L150: {
-        if (!(l21 == 0L)) { break L150; }
-        l21 = 0L;
-        break L141;
-       }
-       l12 = 0L;
-       L151: while (true) {
-        if ((b[((int) (l14 = l12 + 83482L)) - 60720] & 0xff) != (b[((int) (l14 + l23)) - 60720] & 0xff)) { break L139; }
-        if (l21 != (l12 = l12 + 1L)) { continue L151; }
-        break L151;
-       }
-      }
-      if ((l18 - l11) + Long.MIN_VALUE < -9223372036854775799L) { break L108; }
-      l17 = l21 + -1L;
-      l20 = 1L - l21;
-      l22 = 9L - l23;
-      l9 = 0L;
-      L152: while (true) {
-       L153: {
-        L154: {
-         L155: {
-          if ((l8 = (l9 + Long.MIN_VALUE > l21 + Long.MIN_VALUE) ? l9 : l21) + Long.MIN_VALUE > -9223372036854775800L) { break L155; }
-          l0 = l10 + l11;
-          L156: while (true) {
-           if ((b[((int) (l8 + 83482L)) - 60720] & 0xff) != (b[((int) (l0 + l8)) - 60720] & 0xff)) { break L154; }
-           if ((l8 = l8 + 1L) != 9L) { continue L156; }
-           break L156;
-          }
-         }
-         l14 = l10 + l11;
-         l8 = l17;
-         L157: while (true) {
-          if (l9 + Long.MIN_VALUE >= (l8 + 1L) + Long.MIN_VALUE) { break L109; }
-          l0 = l14 + l8;
-          l12 = l8 + 83482L;
-          l8 = l8 + -1L;
-          if ((b[((int) l12) - 60720] & 0xff) == (b[((int) l0) - 60720] & 0xff)) { continue L157; }
-          break L157;
-         }
-         l11 = l11 + l23;
-         l9 = l22;
-         break L153;
-        }
-        l11 = (l20 + l11) + l8;
-        l9 = 0L;
-       }
-       if ((l18 - l11) + Long.MIN_VALUE < -9223372036854775799L) { break L108; }
-       continue L152;
-      }
-     }
-     l21 = l19;
-    }
-    if ((l18 - l11) + Long.MIN_VALUE < -9223372036854775799L) { break L108; }
-    L158: {
-     if (l21 + Long.MIN_VALUE < -9223372036854775799L) { break L158; }
-     l9 = (l0 + (l9 + l21)) + l8;
-     L159: while (true) {
-      l0 = l9;
-      l8 = l21;
-      L160: while (true) {
-       if (l8 == 0L) { break L109; }
-       l12 = l8 + 83481L;
-       l24 = b[((int) l0) - 60720] & 0xff;
-       l0 = l0 + -1L;
-       l8 = l8 + -1L;
-       if (l24 == (b[((int) l12) - 60720] & 0xff)) { continue L160; }
-       break L160;
-      }
-      l9 = l9 + l17;
-      if ((l18 - (l11 = l11 + l17)) + Long.MIN_VALUE <= -9223372036854775800L) { break L108; }
-      continue L159;
-     }
-    }
-    l9 = ((l9 + l21) + l0) + -1L;
-    L161: while (true) {
-     l0 = l11 ^ -1L;
-     l12 = l10 + l11;
-     l8 = l21;
-     L162: {
-      L163: while (true) {
-       L164: {
-        if ((b[((int) (l8 + 83482L)) - 60720] & 0xff) == (b[((int) (l12 + l8)) - 60720] & 0xff)) { break L164; }
-        l11 = 0L - l0;
-        break L162;
-       }
-       l0 = l0 + -1L;
-       if ((l8 = l8 + 1L) != 9L) { continue L163; }
-       break L163;
-      }
-      l0 = l9 + l11;
-      l8 = l21;
-      L165: while (true) {
-       if (l8 == 0L) { break L109; }
-       l12 = l8 + 83481L;
-       l24 = b[((int) l0) - 60720] & 0xff;
-       l0 = l0 + -1L;
-       l8 = l8 + -1L;
-       if (l24 == (b[((int) l12) - 60720] & 0xff)) { continue L165; }
-       break L165;
-      }
-      l11 = l11 + l17;
-     }
-     if ((l18 - l11) + Long.MIN_VALUE < -9223372036854775799L) { break L108; }
-     continue L161;
-    }
-   }
-   l8 = 0L;
-   l11 = 0L;
-   L166: {
-    if (l18 + Long.MIN_VALUE < -9223372036854775776L) { break L166; }
-    Core1.f25(m, l7 + 48L, l10, l18, l18);
-    l8 = l18 - Words.get64(b, ((int) l7) - 60664);
-    l11 = Words.get64(b, ((int) l7) - 60672);
-   }
-   L167: {
-    if ((l18 - l11) + Long.MIN_VALUE < -9223372036854775800L) { break L167; }
-    L168: while (true) {
-     L169: {
-      L170: {
-       if (((l0 = Words.get64(b, ((int) (l10 + l11)) - 60720)) & 67553998437089520L) != 63050398541283552L) { break L170; }
-       l8 = l8 + 3L;
-       l11 = l11 + 9L;
-       break L169;
-      }
-      if ((l0 & -9187201950435737472L) != 0L) { break L167; }
-      l8 = l8 + 8L;
-      l11 = l11 + 8L;
-     }
-     if ((l18 - l11) + Long.MIN_VALUE > -9223372036854775801L) { continue L168; }
-     break L168;
-    }
-   }
-   L171: {
-    if (l11 + Long.MIN_VALUE >= l18 + Long.MIN_VALUE) { break L171; }
-    L172: while (true) {
-     l8 = l8 + 1L;
-     if ((l11 = Words.get64(b, ((int) (((((b[((int) (l10 + l11)) - 60720] & 0xff) >>> 1) & 0xffffffffL) & 120L) + 66680L)) - 60720) + l11) + Long.MIN_VALUE < l18 + Long.MIN_VALUE) { continue L172; }
-     break L172;
-    }
-   }
-   final long t173 = l8;
-   final long t174 = l11 = l13 + 1L;
-   final int t175 = (l11 == 0L) ? 1 : 0;
-   l24 = (t173 == (t175 != 0 ? -1L : t174)) ? 16 : 11;
-   exit = 1; break PART;
-  }
- }
- m.kept[0] = l0;
- m.kept[1] = l3;
- m.kept[2] = l8;
- m.kept[3] = l9;
- m.kept[4] = l11;
- m.kept[5] = l12;
- m.kept[6] = l14;
- m.kept[7] = l17;
- m.kept[8] = l18;
- m.kept[9] = l19;
- m.kept[10] = l20;
- m.kept[11] = l21;
- m.kept[12] = l22;
- m.kept[13] = l23;
- m.kept[14] = l24;
- return exit;
-}
-
-static int f225(State m, long l0, long l1, int l2, int l3, long l4, long l5, long l6) {
+static void f189(State m, long l0, long l1, long l2, long l3, long l4, int l5, int l6) {
  final byte[] b = m.bytes;
  long l7 = 0;
  long l8 = 0;
@@ -7093,625 +2555,3740 @@ static int f225(State m, long l0, long l1, int l2, int l3, long l4, long l5, lon
  long l21 = 0;
  long l22 = 0;
  long l23 = 0;
+ long l24 = 0;
+ long l25 = 0;
+ long l26 = 0;
+ long l27 = 0;
+ long l28 = 0;
+ long l29 = 0;
+ long l30 = 0;
+ int l31 = 0;
+ int l32 = 0;
+ int l33 = 0;
+ int l34 = 0;
+ m.g0 = l7 = m.g0 - 1200L;
+ L1: {
+  if ((l7 = l7) < 16L) { break L1; }
+  m.fill((int) (l7 + 112L), 0, (int) 232L);
+  f190(m, l7 + 112L, l1, l2, l3, l4, l5, l6);
+  L2: {
+   L3: {
+    if ((b[((int) l7) - 58800] & 0xff) != 1) { break L3; }
+    Words.put64(b, ((int) l7) - 58864, Words.get64(b, ((int) l7) - 58728));
+    Words.put64(b, ((int) l7) - 58856, Words.get64(b, ((int) l7) - 58720));
+    Words.put64(b, ((int) l7) - 58848, Words.get64(b, ((int) l7) - 58712));
+    Words.put64(b, ((int) l7) - 58840, Words.get64(b, ((int) l7) - 58704));
+    Words.put64(b, ((int) l7) - 58832, Words.get64(b, ((int) l7) - 58696));
+    Words.put64(b, ((int) l7) - 58824, Words.get64(b, ((int) l7) - 58688));
+    Words.put64(b, ((int) l7) - 58816, Words.get64(b, ((int) l7) - 58680));
+    Words.put64(b, ((int) l7) - 58808, Words.get64(b, ((int) l7) - 58672));
+    l3 = Words.get64(b, ((int) l7) - 58624);
+    l4 = Words.get64(b, ((int) l7) - 58632);
+    l8 = Words.get64(b, ((int) l7) - 58640);
+    l9 = Words.get64(b, ((int) l7) - 58648);
+    l10 = Words.get64(b, ((int) l7) - 58656);
+    l11 = Words.get64(b, ((int) l7) - 58664);
+    l12 = Words.get64(b, ((int) l7) - 58736);
+    l13 = Words.get64(b, ((int) l7) - 58744);
+    l14 = Words.get64(b, ((int) l7) - 58752);
+    l15 = Words.get64(b, ((int) l7) - 58760);
+    l16 = Words.get64(b, ((int) l7) - 58768);
+    l2 = Words.get64(b, ((int) l7) - 58776);
+    l17 = Words.get64(b, ((int) l7) - 58784);
+    l18 = b[((int) l7) - 58792] & 0xffL;
+    Words.put64(b, ((int) l7) - 58872, Words.get64(b, ((int) l7) - 58576));
+    Words.put64(b, ((int) l7) - 58880, Words.get64(b, ((int) l7) - 58584));
+    Words.put64(b, ((int) l7) - 58888, Words.get64(b, ((int) l7) - 58592));
+    Words.put64(b, ((int) l7) - 58896, Words.get64(b, ((int) l7) - 58600));
+    Words.put64(b, ((int) l7) - 58904, Words.get64(b, ((int) l7) - 58608));
+    Words.put64(b, ((int) l7) - 58912, Words.get64(b, ((int) l7) - 58616));
+    l1 = 1L;
+    break L2;
+   }
+   m.fill((int) (l7 + 456L), 0, (int) 232L);
+   l18 = 0L;
+   Words.put64(b, ((int) l7) - 58464, 0L);
+   Words.put64(b, ((int) l7) - 58472, 0L);
+   Words.put64(b, ((int) l7) - 58480, 0L);
+   Words.put64(b, ((int) l7) - 58488, 0L);
+   Words.put64(b, ((int) l7) - 58496, 0L);
+   Words.put64(b, ((int) l7) - 58504, 0L);
+   Words.put64(b, ((int) l7) - 58512, 0L);
+   Words.put64(b, ((int) l7) - 58520, 0L);
+   Words.put64(b, ((int) l7) - 58568, 0L);
+   Words.put64(b, ((int) l7) - 58560, 0L);
+   Words.put64(b, ((int) l7) - 58552, 0L);
+   Words.put64(b, ((int) l7) - 58544, 0L);
+   Words.put64(b, ((int) l7) - 58536, 0L);
+   Words.put64(b, ((int) l7) - 58528, 0L);
+   L4: {
+    L5: {
+     L6: {
+      L7: {
+       L8: {
+        L9: {
+         L10: {
+          if (l4 == 0L) { break L10; }
+          l32 = (l31 = (int) b[((int) l3) - 58912]) & 255;
+          l18 = 1L;
+          L11: {
+           if (l31 > -1) { break L11; }
+           l33 = (b[((int) l3) - 58911] & 0xff) & 63;
+           L12: {
+            if (l31 + Integer.MIN_VALUE > 2147483615) { break L12; }
+            l32 = ((l32 << 6) & 1984) | l33;
+            l18 = 2L;
+            break L11;
+           }
+           l34 = (b[((int) l3) - 58910] & 0xff) & 63;
+           L13: {
+            if (l31 + Integer.MIN_VALUE > 2147483631) { break L13; }
+            l32 = ((l33 << 6) | ((l32 << 12) & 61440)) | l34;
+            l18 = 3L;
+            break L11;
+           }
+           l32 = ((l34 << 6) | ((l33 << 12) | ((l32 << 18) & 1835008))) | ((b[((int) l3) - 58909] & 0xff) & 63);
+           l18 = 4L;
+          }
+          l19 = l4 - l18;
+          l20 = l3 + l18;
+          l21 = 98015L;
+          l18 = 0L;
+          L14: {
+           L15: {
+            L16: {
+             if (l32 > 8775) { break L16; }
+             l17 = 0L;
+             l16 = 0L;
+             l15 = 0L;
+             l14 = 0L;
+             l13 = 0L;
+             l12 = 0L;
+             l11 = 0L;
+             l10 = 0L;
+             l9 = 0L;
+             l8 = 0L;
+             l4 = 0L;
+             l3 = 0L;
+             L17: {
+              switch (l32 + -163) {
+              case 0: break L7;
+              case 1: case 2: case 3: case 4: case 5: case 6: case 7: case 8: case 9: case 10: case 11: case 12: case 13: break L5;
+              case 14: break L15;
+              default: break L17;
+              }
+             }
+             if (l32 == 36) { break L6; }
+             l17 = 0L;
+             l16 = 0L;
+             l15 = 0L;
+             l14 = 0L;
+             l13 = 0L;
+             l12 = 0L;
+             l11 = 0L;
+             l10 = 0L;
+             l9 = 0L;
+             l8 = 0L;
+             l4 = 0L;
+             l3 = 0L;
+             if (l32 != 8364) { break L5; }
+             l21 = 98021L;
+             break L6;
+            }
+            l22 = 97976L;
+            l23 = 12L;
+            l17 = 0L;
+            l16 = 0L;
+            l15 = 0L;
+            l14 = 0L;
+            l13 = 0L;
+            l12 = 0L;
+            l11 = 0L;
+            l10 = 0L;
+            l9 = 0L;
+            l8 = 0L;
+            l4 = 0L;
+            l3 = 0L;
+            L18: {
+             switch (l32 + -8776) {
+             case 0: break L14;
+             case 1: case 2: case 3: case 4: case 5: case 6: case 7: case 8: case 9: case 10: case 11: case 12: case 13: case 14: case 15: case 16: case 17: case 18: case 19: case 20: case 21: case 22: case 23: case 24: case 25: case 26: case 27: break L5;
+             case 28: break L9;
+             case 29: break L8;
+             default: break L18;
+             }
+            }
+            l17 = 0L;
+            l16 = 0L;
+            l15 = 0L;
+            l14 = 0L;
+            l13 = 0L;
+            l12 = 0L;
+            l11 = 0L;
+            l10 = 0L;
+            l9 = 0L;
+            l8 = 0L;
+            l4 = 0L;
+            l3 = 0L;
+            if (l32 == 65284) { break L6; }
+            break L5;
+           }
+           l22 = 98000L;
+           l23 = 6L;
+           break L8;
+          }
+          l22 = 98006L;
+          l23 = 9L;
+          break L8;
+         }
+         Words.put64(b, ((int) l7) - 58808, 0L);
+         Words.put64(b, ((int) l7) - 58816, 0L);
+         Words.put64(b, ((int) l7) - 58824, 0L);
+         Words.put64(b, ((int) l7) - 58832, 0L);
+         Words.put64(b, ((int) l7) - 58840, 0L);
+         Words.put64(b, ((int) l7) - 58848, 0L);
+         Words.put64(b, ((int) l7) - 58856, 0L);
+         Words.put64(b, ((int) l7) - 58864, 0L);
+         Words.put64(b, ((int) l7) - 58912, 0L);
+         Words.put64(b, ((int) l7) - 58904, 0L);
+         Words.put64(b, ((int) l7) - 58896, 0L);
+         Words.put64(b, ((int) l7) - 58888, 0L);
+         Words.put64(b, ((int) l7) - 58880, 0L);
+         Words.put64(b, ((int) l7) - 58872, 0L);
+         l17 = 0L;
+         l2 = 0L;
+         l16 = 0L;
+         l15 = 0L;
+         l14 = 0L;
+         l13 = 0L;
+         l12 = 0L;
+         l11 = 0L;
+         l10 = 0L;
+         l9 = 0L;
+         l8 = 0L;
+         l4 = 0L;
+         l3 = 0L;
+         break L4;
+        }
+        l22 = 97988L;
+       }
+       f190(m, l7 + 456L, l1, l2, l20, l19, l5, l6);
+       l16 = 0L;
+       Words.put64(b, ((int) l7) - 58176, 0L);
+       Words.put64(b, ((int) l7) - 58168, 0L);
+       Words.put64(b, ((int) l7) - 58160, 0L);
+       Words.put64(b, ((int) l7) - 58152, 0L);
+       Words.put64(b, ((int) l7) - 58144, 0L);
+       Words.put64(b, ((int) l7) - 58136, 0L);
+       Words.put64(b, ((int) l7) - 58128, 0L);
+       Words.put64(b, ((int) l7) - 58120, 0L);
+       Words.put64(b, ((int) l7) - 58224, 0L);
+       Words.put64(b, ((int) l7) - 58216, 0L);
+       Words.put64(b, ((int) l7) - 58208, 0L);
+       Words.put64(b, ((int) l7) - 58200, 0L);
+       Words.put64(b, ((int) l7) - 58192, 0L);
+       Words.put64(b, ((int) l7) - 58184, 0L);
+       L19: {
+        L20: {
+         if ((b[((int) l7) - 58456] & 0xff) == 1) { break L20; }
+         l15 = 0L;
+         l14 = 0L;
+         l13 = 0L;
+         l12 = 0L;
+         l11 = 0L;
+         l10 = 0L;
+         l9 = 0L;
+         l8 = 0L;
+         l4 = 0L;
+         l3 = 0L;
+         l17 = 0L;
+         l2 = 0L;
+         l18 = 0L;
+         break L19;
+        }
+        l15 = 0L;
+        l14 = 0L;
+        l13 = 0L;
+        l12 = 0L;
+        l11 = 0L;
+        l10 = 0L;
+        l9 = 0L;
+        l8 = 0L;
+        l4 = 0L;
+        l3 = 0L;
+        l17 = 0L;
+        l2 = 0L;
+        l18 = 0L;
+        if (((b[((int) l7) - 58448] & 0xff) & 255) != 0) { break L19; }
+        Words.put64(b, ((int) l7) - 58176, Words.get64(b, ((int) l7) - 58400));
+        Words.put64(b, ((int) l7) - 58168, Words.get64(b, ((int) l7) - 58392));
+        Words.put64(b, ((int) l7) - 58160, Words.get64(b, ((int) l7) - 58384));
+        Words.put64(b, ((int) l7) - 58152, Words.get64(b, ((int) l7) - 58376));
+        Words.put64(b, ((int) l7) - 58144, Words.get64(b, ((int) l7) - 58368));
+        Words.put64(b, ((int) l7) - 58136, Words.get64(b, ((int) l7) - 58360));
+        Words.put64(b, ((int) l7) - 58128, Words.get64(b, ((int) l7) - 58352));
+        Words.put64(b, ((int) l7) - 58120, Words.get64(b, ((int) l7) - 58344));
+        l12 = Words.get64(b, ((int) l7) - 58408);
+        l13 = Words.get64(b, ((int) l7) - 58416);
+        l14 = Words.get64(b, ((int) l7) - 58424);
+        l15 = Words.get64(b, ((int) l7) - 58432);
+        l16 = Words.get64(b, ((int) l7) - 58440);
+        Words.put64(b, ((int) l7) - 58184, Words.get64(b, ((int) l7) - 58248));
+        Words.put64(b, ((int) l7) - 58192, Words.get64(b, ((int) l7) - 58256));
+        Words.put64(b, ((int) l7) - 58200, Words.get64(b, ((int) l7) - 58264));
+        Words.put64(b, ((int) l7) - 58208, Words.get64(b, ((int) l7) - 58272));
+        Words.put64(b, ((int) l7) - 58216, Words.get64(b, ((int) l7) - 58280));
+        Words.put64(b, ((int) l7) - 58224, Words.get64(b, ((int) l7) - 58288));
+        l18 = 1L;
+        l3 = Words.get64(b, ((int) l7) - 58296);
+        l4 = Words.get64(b, ((int) l7) - 58304);
+        l8 = Words.get64(b, ((int) l7) - 58312);
+        l9 = Words.get64(b, ((int) l7) - 58320);
+        l10 = Words.get64(b, ((int) l7) - 58328);
+        l11 = Words.get64(b, ((int) l7) - 58336);
+        l17 = l22;
+        l2 = l23;
+       }
+       Words.put64(b, ((int) l7) - 58808, Words.get64(b, ((int) l7) - 58120));
+       Words.put64(b, ((int) l7) - 58816, Words.get64(b, ((int) l7) - 58128));
+       Words.put64(b, ((int) l7) - 58824, Words.get64(b, ((int) l7) - 58136));
+       Words.put64(b, ((int) l7) - 58832, Words.get64(b, ((int) l7) - 58144));
+       Words.put64(b, ((int) l7) - 58840, Words.get64(b, ((int) l7) - 58152));
+       Words.put64(b, ((int) l7) - 58848, Words.get64(b, ((int) l7) - 58160));
+       Words.put64(b, ((int) l7) - 58856, Words.get64(b, ((int) l7) - 58168));
+       Words.put64(b, ((int) l7) - 58864, Words.get64(b, ((int) l7) - 58176));
+       Words.put64(b, ((int) l7) - 58912, Words.get64(b, ((int) l7) - 58224));
+       Words.put64(b, ((int) l7) - 58904, Words.get64(b, ((int) l7) - 58216));
+       Words.put64(b, ((int) l7) - 58896, Words.get64(b, ((int) l7) - 58208));
+       Words.put64(b, ((int) l7) - 58888, Words.get64(b, ((int) l7) - 58200));
+       Words.put64(b, ((int) l7) - 58880, Words.get64(b, ((int) l7) - 58192));
+       Words.put64(b, ((int) l7) - 58872, Words.get64(b, ((int) l7) - 58184));
+       break L4;
+      }
+      l21 = 98027L;
+     }
+     m.fill((int) (l7 + 912L), 0, (int) 128L);
+     l18 = 0L;
+     Words.put64(b, ((int) l7) - 58008, 0L);
+     Words.put64(b, ((int) l7) - 58016, 0L);
+     Words.put64(b, ((int) l7) - 58024, 0L);
+     Words.put64(b, ((int) l7) - 58032, 0L);
+     Words.put64(b, ((int) l7) - 58040, 0L);
+     Words.put64(b, ((int) l7) - 58048, 0L);
+     Words.put64(b, ((int) l7) - 58056, 0L);
+     Words.put64(b, ((int) l7) - 58064, 0L);
+     Words.put64(b, ((int) l7) - 58112, 0L);
+     Words.put64(b, ((int) l7) - 58104, 0L);
+     Words.put64(b, ((int) l7) - 58096, 0L);
+     Words.put64(b, ((int) l7) - 58088, 0L);
+     Words.put64(b, ((int) l7) - 58080, 0L);
+     Words.put64(b, ((int) l7) - 58072, 0L);
+     Core4.f119(m, l7 + 912L, l1, l2, l20, l19, l5, l6);
+     final int x60 = f189_1(m, l1, l2, l3, l4, l5, l6, l7, l8, l9, l10, l11, l12, l13, l14, l15, l16, l17, l18, l19, l20, l21, l22, l23, l24, l25, l26, l27, l28, l29, l30, l31, l32, l33);
+     l3 = m.kept[0];
+     l4 = m.kept[1];
+     l5 = (int) m.kept[2];
+     l6 = (int) m.kept[3];
+     l8 = m.kept[4];
+     l9 = m.kept[5];
+     l10 = m.kept[6];
+     l11 = m.kept[7];
+     l12 = m.kept[8];
+     l13 = m.kept[9];
+     l14 = m.kept[10];
+     l15 = m.kept[11];
+     l16 = m.kept[12];
+     l17 = m.kept[13];
+     l18 = m.kept[14];
+     l22 = m.kept[15];
+     l23 = m.kept[16];
+     l24 = m.kept[17];
+     l25 = m.kept[18];
+     l26 = m.kept[19];
+     l27 = m.kept[20];
+     l28 = m.kept[21];
+     l29 = m.kept[22];
+     l30 = m.kept[23];
+     l31 = (int) m.kept[24];
+     l32 = (int) m.kept[25];
+     l33 = (int) m.kept[26];
+     switch (x60) {
+     case 1: break L5;
+     }
+     Words.put64(b, ((int) l7) - 58464, Words.get64(b, ((int) l7) - 58008));
+     Words.put64(b, ((int) l7) - 58472, Words.get64(b, ((int) l7) - 58016));
+     Words.put64(b, ((int) l7) - 58480, Words.get64(b, ((int) l7) - 58024));
+     Words.put64(b, ((int) l7) - 58488, Words.get64(b, ((int) l7) - 58032));
+     Words.put64(b, ((int) l7) - 58496, Words.get64(b, ((int) l7) - 58040));
+     Words.put64(b, ((int) l7) - 58504, Words.get64(b, ((int) l7) - 58048));
+     Words.put64(b, ((int) l7) - 58512, Words.get64(b, ((int) l7) - 58056));
+     Words.put64(b, ((int) l7) - 58520, Words.get64(b, ((int) l7) - 58064));
+     Words.put64(b, ((int) l7) - 58568, Words.get64(b, ((int) l7) - 58112));
+     Words.put64(b, ((int) l7) - 58560, Words.get64(b, ((int) l7) - 58104));
+     Words.put64(b, ((int) l7) - 58552, Words.get64(b, ((int) l7) - 58096));
+     Words.put64(b, ((int) l7) - 58544, Words.get64(b, ((int) l7) - 58088));
+     Words.put64(b, ((int) l7) - 58536, Words.get64(b, ((int) l7) - 58080));
+     Words.put64(b, ((int) l7) - 58528, Words.get64(b, ((int) l7) - 58072));
+    }
+    Words.put64(b, ((int) l7) - 58808, Words.get64(b, ((int) l7) - 58464));
+    Words.put64(b, ((int) l7) - 58816, Words.get64(b, ((int) l7) - 58472));
+    Words.put64(b, ((int) l7) - 58824, Words.get64(b, ((int) l7) - 58480));
+    Words.put64(b, ((int) l7) - 58832, Words.get64(b, ((int) l7) - 58488));
+    Words.put64(b, ((int) l7) - 58840, Words.get64(b, ((int) l7) - 58496));
+    Words.put64(b, ((int) l7) - 58848, Words.get64(b, ((int) l7) - 58504));
+    Words.put64(b, ((int) l7) - 58856, Words.get64(b, ((int) l7) - 58512));
+    Words.put64(b, ((int) l7) - 58864, Words.get64(b, ((int) l7) - 58520));
+    Words.put64(b, ((int) l7) - 58912, Words.get64(b, ((int) l7) - 58568));
+    Words.put64(b, ((int) l7) - 58904, Words.get64(b, ((int) l7) - 58560));
+    Words.put64(b, ((int) l7) - 58896, Words.get64(b, ((int) l7) - 58552));
+    Words.put64(b, ((int) l7) - 58888, Words.get64(b, ((int) l7) - 58544));
+    Words.put64(b, ((int) l7) - 58880, Words.get64(b, ((int) l7) - 58536));
+    Words.put64(b, ((int) l7) - 58872, Words.get64(b, ((int) l7) - 58528));
+    l2 = 0L;
+   }
+   l1 = l18;
+  }
+  Words.put64(b, ((int) l0) - 58912, l1);
+  Words.put64(b, ((int) (l0 + 64L)) - 58912, l12);
+  Words.put64(b, ((int) (l0 + 56L)) - 58912, l13);
+  Words.put64(b, ((int) (l0 + 48L)) - 58912, l14);
+  Words.put64(b, ((int) (l0 + 40L)) - 58912, l15);
+  Words.put64(b, ((int) (l0 + 32L)) - 58912, l16);
+  Words.put64(b, ((int) (l0 + 24L)) - 58912, l2);
+  Words.put64(b, ((int) (l0 + 16L)) - 58912, l17);
+  Words.put64(b, ((int) (l0 + 8L)) - 58912, l18);
+  Words.put64(b, ((int) (l0 + 72L)) - 58912, Words.get64(b, ((int) l7) - 58864));
+  Words.put64(b, ((int) (l0 + 80L)) - 58912, Words.get64(b, ((int) l7) - 58856));
+  Words.put64(b, ((int) (l0 + 88L)) - 58912, Words.get64(b, ((int) l7) - 58848));
+  Words.put64(b, ((int) (l0 + 96L)) - 58912, Words.get64(b, ((int) l7) - 58840));
+  Words.put64(b, ((int) (l0 + 104L)) - 58912, Words.get64(b, ((int) l7) - 58832));
+  Words.put64(b, ((int) (l0 + 112L)) - 58912, Words.get64(b, ((int) l7) - 58824));
+  Words.put64(b, ((int) (l0 + 120L)) - 58912, Words.get64(b, ((int) l7) - 58816));
+  Words.put64(b, ((int) (l0 + 128L)) - 58912, Words.get64(b, ((int) l7) - 58808));
+  Words.put64(b, ((int) (l0 + 176L)) - 58912, l3);
+  Words.put64(b, ((int) (l0 + 168L)) - 58912, l4);
+  Words.put64(b, ((int) (l0 + 160L)) - 58912, l8);
+  Words.put64(b, ((int) (l0 + 152L)) - 58912, l9);
+  Words.put64(b, ((int) (l0 + 144L)) - 58912, l10);
+  Words.put64(b, ((int) (l0 + 136L)) - 58912, l11);
+  Words.put64(b, ((int) (l0 + 184L)) - 58912, Words.get64(b, ((int) l7) - 58912));
+  Words.put64(b, ((int) (l0 + 192L)) - 58912, Words.get64(b, ((int) l7) - 58904));
+  Words.put64(b, ((int) (l0 + 200L)) - 58912, Words.get64(b, ((int) l7) - 58896));
+  Words.put64(b, ((int) (l0 + 208L)) - 58912, Words.get64(b, ((int) l7) - 58888));
+  Words.put64(b, ((int) (l0 + 216L)) - 58912, Words.get64(b, ((int) l7) - 58880));
+  Words.put64(b, ((int) (l0 + 224L)) - 58912, Words.get64(b, ((int) l7) - 58872));
+  m.g0 = l7 + 1200L;
+  return;
+ }
+ throw State.trap();
+}
+
+static int f190_1(State m, long l1, long l2, long l3, long l4, long l7, long l8, long l9, long l10, long l11, long l12, long l13, long l14, long l15, long l16, int l23, int l24, int l25, int l26) {
+ final byte[] b = m.bytes;
+ int exit = 0;
+ PART: {
+  L46: {
+   L47: {
+    if (f195(m, l11, l10) == 0) { break L47; }
+    if (l24 != 47) { exit = 1; break PART; }
+    Words.put64(b, ((int) l7) - 58280, 0L);
+    Words.put64(b, ((int) l7) - 58288, 0L);
+    Words.put64(b, ((int) l7) - 58296, 0L);
+    f196(m, l7 + 616L, 87448L, 4L, l11, l10);
+    if ((b[((int) l7) - 58296] & 0xff) == 1) { break L46; }
+    f196(m, l7 + 616L, 87452L, 12L, l11, l10);
+    if ((b[((int) l7) - 58296] & 0xff) != 1) { exit = 1; break PART; }
+    break L46;
+   }
+   L48: {
+    L49: {
+     switch (l24 + -45) {
+     case 0: break L48;
+     case 2: break L46;
+     default: break L49;
+     }
+    }
+    Words.put64(b, ((int) l7) - 58248, l10);
+    Words.put64(b, ((int) l7) - 58256, l11);
+    Words.put64(b, ((int) l7) - 58264, l9);
+    Words.put64(b, ((int) l7) - 58272, l14);
+    Words.put32(b, ((int) l7) - 58276, 0);
+    Words.put32(b, ((int) l7) - 58280, l24);
+    Words.put64(b, ((int) l7) - 58288, l13);
+    Words.put64(b, ((int) l7) - 58296, l3);
+    if (f197(m, l1, l8, l7 + 616L) == 0) { exit = 1; break PART; }
+    l12 = 4L;
+    exit = 2; break PART;
+   }
+   L50: {
+    if (f198(m, 1899, l3, l13) != 0) { break L50; }
+    if (f198(m, 2099, l3, l13) == 0) { break L50; }
+    L51: {
+     L52: {
+      if (l25 <= -1) { break L52; }
+      l12 = 1L;
+      break L51;
+     }
+     L53: {
+      if (l25 + Integer.MIN_VALUE >= 2147483616) { break L53; }
+      l12 = 2L;
+      break L51;
+     }
+     l12 = (l25 + Integer.MIN_VALUE < 2147483632) ? 3L : 4L;
+    }
+    L54: {
+     L55: {
+      if (l9 == l12) { break L55; }
+      L56: {
+       L57: {
+        if ((l23 = (int) b[((int) (l14 + l12)) - 58912]) <= -1) { break L57; }
+        l16 = 1L;
+        break L56;
+       }
+       L58: {
+        if (l23 + Integer.MIN_VALUE >= 2147483616) { break L58; }
+        l16 = 2L;
+        break L56;
+       }
+       l16 = (l23 + Integer.MIN_VALUE < 2147483632) ? 3L : 4L;
+      }
+      if (l9 == (l16 + l12)) { break L54; }
+     }
+     L59: {
+      L60: {
+       if (l25 <= -1) { break L60; }
+       l12 = 1L;
+       break L59;
+      }
+      L61: {
+       if (l25 + Integer.MIN_VALUE >= 2147483616) { break L61; }
+       l12 = 2L;
+       break L59;
+      }
+      l12 = (l25 + Integer.MIN_VALUE < 2147483632) ? 3L : 4L;
+     }
+     if (l9 == l12) { break L50; }
+     L62: {
+      L63: {
+       if ((l25 = (int) b[((int) (l15 = l14 + l12)) - 58912]) <= -1) { break L63; }
+       l16 = 1L;
+       break L62;
+      }
+      L64: {
+       if (l25 + Integer.MIN_VALUE >= 2147483616) { break L64; }
+       l16 = 2L;
+       break L62;
+      }
+      l16 = (l25 + Integer.MIN_VALUE < 2147483632) ? 3L : 4L;
+     }
+     if (l9 == (l12 = l16 + l12)) { break L50; }
+     L65: {
+      L66: {
+       if ((l25 = (int) b[((int) (l15 = l15 + l16)) - 58912]) <= -1) { break L66; }
+       l16 = 1L;
+       break L65;
+      }
+      L67: {
+       if (l25 + Integer.MIN_VALUE >= 2147483616) { break L67; }
+       l16 = 2L;
+       break L65;
+      }
+      l16 = (l25 + Integer.MIN_VALUE < 2147483632) ? 3L : 4L;
+     }
+     if (l9 == (l12 = l16 + l12)) { break L50; }
+     L68: {
+      L69: {
+       if ((l25 = (int) b[((int) (l15 + l16)) - 58912]) <= -1) { break L69; }
+       l16 = 1L;
+       break L68;
+      }
+      L70: {
+       if (l25 + Integer.MIN_VALUE >= 2147483616) { break L70; }
+       l16 = 2L;
+       break L68;
+      }
+      l16 = (l25 + Integer.MIN_VALUE < 2147483632) ? 3L : 4L;
+     }
+     if (l9 != (l16 + l12)) { break L50; }
+    }
+    Words.put64(b, ((int) l7) - 58120, 0L);
+    Words.put64(b, ((int) l7) - 58128, 0L);
+    Words.put64(b, ((int) l7) - 58136, 0L);
+    f196(m, l7 + 776L, 87624L, 6L, l11, l10);
+    l12 = 3L;
+    if ((b[((int) l7) - 58136] & 0xff) == 1) { exit = 2; break PART; }
+    Words.put64(b, ((int) l7) - 58120, 0L);
+    Words.put64(b, ((int) l7) - 58128, 0L);
+    Words.put64(b, ((int) l7) - 58136, 0L);
+    f196(m, l7 + 776L, 87630L, 6L, l11, l10);
+    if ((b[((int) l7) - 58136] & 0xff) == 1) { exit = 2; break PART; }
+    Words.put64(b, ((int) l7) - 58120, 0L);
+    Words.put64(b, ((int) l7) - 58128, 0L);
+    Words.put64(b, ((int) l7) - 58136, 0L);
+    f196(m, l7 + 776L, 87636L, 6L, l11, l10);
+    if ((b[((int) l7) - 58136] & 0xff) == 1) { exit = 2; break PART; }
+    Words.put64(b, ((int) l7) - 58120, 0L);
+    Words.put64(b, ((int) l7) - 58128, 0L);
+    Words.put64(b, ((int) l7) - 58136, 0L);
+    f196(m, l7 + 776L, 87642L, 6L, l11, l10);
+    if ((b[((int) l7) - 58136] & 0xff) == 1) { exit = 2; break PART; }
+    Words.put64(b, ((int) l7) - 58120, 0L);
+    Words.put64(b, ((int) l7) - 58128, 0L);
+    Words.put64(b, ((int) l7) - 58136, 0L);
+    f196(m, l7 + 776L, 87648L, 6L, l11, l10);
+    if ((b[((int) l7) - 58136] & 0xff) == 1) { exit = 2; break PART; }
+    Words.put64(b, ((int) l7) - 58120, 0L);
+    Words.put64(b, ((int) l7) - 58128, 0L);
+    Words.put64(b, ((int) l7) - 58136, 0L);
+    f196(m, l7 + 776L, 87654L, 6L, l11, l10);
+    if ((b[((int) l7) - 58136] & 0xff) == 1) { exit = 2; break PART; }
+    Words.put64(b, ((int) l7) - 58120, 0L);
+    Words.put64(b, ((int) l7) - 58128, 0L);
+    Words.put64(b, ((int) l7) - 58136, 0L);
+    f196(m, l7 + 776L, 87660L, 6L, l11, l10);
+    if ((b[((int) l7) - 58136] & 0xff) == 1) { exit = 2; break PART; }
+   }
+   Words.put64(b, ((int) l7) - 58248, l10);
+   Words.put64(b, ((int) l7) - 58256, l11);
+   Words.put64(b, ((int) l7) - 58264, l9);
+   Words.put64(b, ((int) l7) - 58272, l14);
+   Words.put64(b, ((int) l7) - 58280, 45L);
+   Words.put64(b, ((int) l7) - 58288, l13);
+   Words.put64(b, ((int) l7) - 58296, l3);
+   L71: {
+    if (f197(m, l1, l8, l7 + 616L) == 0) { break L71; }
+    l12 = 4L;
+    exit = 2; break PART;
+   }
+   if (l2 == l4) { exit = 1; break PART; }
+   if (((int) b[((int) ((l12 = l1 + l8) + -1L)) - 58912]) > -1) { exit = 1; break PART; }
+   l16 = -2L;
+   L72: {
+    if ((b[((int) (l12 + -2L)) - 58912] & 0xff) + Integer.MIN_VALUE > -2147483457) { break L72; }
+    l16 = ((b[((int) (l12 + -3L)) - 58912] & 0xff) + Integer.MIN_VALUE > -2147483457) ? -3L : -4L;
+   }
+   if ((l25 = (int) b[((int) (l12 = (l1 + l16) + l8)) - 58912]) > -1) { exit = 1; break PART; }
+   if (l25 + Integer.MIN_VALUE < 2147483616) { exit = 1; break PART; }
+   l23 = l25 & 255;
+   l24 = (b[((int) l12) - 58911] & 0xff) & 63;
+   l26 = (b[((int) l12) - 58910] & 0xff) & 63;
+   L73: {
+    L74: {
+     if (l25 + Integer.MIN_VALUE > 2147483631) { break L74; }
+     l25 = ((l24 << 6) | ((l23 << 12) & 61440)) | l26;
+     break L73;
+    }
+    l25 = ((l26 << 6) | ((l24 << 12) | ((l23 << 18) & 1835008))) | ((b[((int) l12) - 58909] & 0xff) & 63);
+   }
+   L75: {
+    if (l25 == 22270) { break L75; }
+    if (l25 == 34920) { break L75; }
+    if (l25 != 22294) { exit = 1; break PART; }
+   }
+   Words.put64(b, ((int) l7) - 58400, l10);
+   Words.put64(b, ((int) l7) - 58408, l11);
+   Words.put64(b, ((int) l7) - 58416, l9);
+   Words.put64(b, ((int) l7) - 58424, l14);
+   Words.put64(b, ((int) l7) - 58432, 45L);
+   Words.put64(b, ((int) l7) - 58440, l13);
+   Words.put64(b, ((int) l7) - 58448, l3);
+   if (f199(m, l7 + 464L) == 0) { exit = 1; break PART; }
+   l12 = 5L;
+   exit = 2; break PART;
+  }
+ }
+ m.kept[0] = l12;
+ m.kept[1] = l15;
+ m.kept[2] = l16;
+ m.kept[3] = l23;
+ m.kept[4] = l24;
+ m.kept[5] = l25;
+ m.kept[6] = l26;
+ return exit;
+}
+
+static int f190_2(State m, long l1, long l2, long l3, long l4, long l7, long l8, long l9, long l10, long l11, long l12, long l13, long l14, long l15, long l16, int l23, int l24, int l25, int l26, int l27, int l28) {
+ final byte[] b = m.bytes;
+ int exit = 0;
+ PART: {
+  L78: {
+   if ((b[((int) l7) - 58296] & 0xff) == 1) { break L78; }
+   f196(m, l7 + 616L, 87452L, 12L, l11, l10);
+   if ((b[((int) l7) - 58296] & 0xff) == 1) { break L78; }
+   f200(m, l7 + 16L, l14, l9);
+   l12 = Words.get64(b, ((int) l7) - 58888);
+   l25 = b[((int) l7) - 58896] & 0xff;
+   f200(m, l7, l3, l13);
+   if (((l25 & (b[((int) l7) - 58912] & 0xff)) & 255) == 0) { exit = 1; break PART; }
+   if (l12 + Long.MIN_VALUE > -9223372036854775798L) { exit = 1; break PART; }
+   if ((l16 = Words.get64(b, ((int) l7) - 58904)) == 0L) { exit = 1; break PART; }
+   if (l16 + Long.MIN_VALUE >= l12 + Long.MIN_VALUE) { exit = 1; break PART; }
+   L79: {
+    if ((l25 = (l2 == l4) ? 1 : 0) != 0) { break L79; }
+    if (((int) b[((int) ((l12 = l1 + l8) + -1L)) - 58912]) > -1) { break L79; }
+    l16 = -2L;
+    L80: {
+     if ((b[((int) (l12 + -2L)) - 58912] & 0xff) + Integer.MIN_VALUE > -2147483457) { break L80; }
+     l16 = ((b[((int) (l12 + -3L)) - 58912] & 0xff) + Integer.MIN_VALUE > -2147483457) ? -3L : -4L;
+    }
+    if ((l23 = (int) b[((int) (l12 = (l1 + l16) + l8)) - 58912]) > -1) { break L79; }
+    if (l23 + Integer.MIN_VALUE < 2147483616) { break L79; }
+    l24 = l23 & 255;
+    l27 = (b[((int) l12) - 58911] & 0xff) & 63;
+    l28 = (b[((int) l12) - 58910] & 0xff) & 63;
+    L81: {
+     L82: {
+      if (l23 + Integer.MIN_VALUE > 2147483631) { break L82; }
+      l23 = ((l27 << 6) | ((l24 << 12) & 61440)) | l28;
+      break L81;
+     }
+     l23 = ((l28 << 6) | ((l27 << 12) | ((l24 << 18) & 1835008))) | ((b[((int) l12) - 58909] & 0xff) & 63);
+    }
+    if (l23 == 31532) { exit = 1; break PART; }
+   }
+   L83: {
+    if (l26 != 0) { break L83; }
+    if ((l23 = (int) b[((int) l11) - 58912]) > -1) { break L83; }
+    if (l23 + Integer.MIN_VALUE < 2147483616) { break L83; }
+    l24 = l23 & 255;
+    l26 = (b[((int) l11) - 58911] & 0xff) & 63;
+    l27 = (b[((int) l11) - 58910] & 0xff) & 63;
+    L84: {
+     L85: {
+      if (l23 + Integer.MIN_VALUE > 2147483631) { break L85; }
+      l23 = ((l26 << 6) | ((l24 << 12) & 61440)) | l27;
+      break L84;
+     }
+     l23 = ((l27 << 6) | ((l26 << 12) | ((l24 << 18) & 1835008))) | ((b[((int) l11) - 58909] & 0xff) & 63);
+    }
+    l12 = 2L;
+    L86: {
+     if (l23 > 24037) { break L86; }
+     L87: {
+      if (l23 > 21241) { break L87; }
+      if (l23 == 20010) { exit = 2; break PART; }
+      if (l23 == 20197) { exit = 2; break PART; }
+      if (l23 != 20491) { break L83; }
+      exit = 2; break PART;
+     }
+     L88: {
+      switch (l23 + -21242) {
+      case 0: case 11: exit = 2; break PART;
+      case 1: case 2: case 3: case 4: case 5: case 6: case 7: case 8: case 9: case 10: break L83;
+      default: break L88;
+      }
+     }
+     if (l23 != 22810) { break L83; }
+     exit = 2; break PART;
+    }
+    L89: {
+     if (l23 > 30339) { break L89; }
+     if (l23 == 24038) { exit = 2; break PART; }
+     if (l23 == 26479) { exit = 2; break PART; }
+     if (l23 != 29255) { break L83; }
+     exit = 2; break PART;
+    }
+    if (l23 == 30340) { exit = 2; break PART; }
+    if (l23 == 31890) { exit = 2; break PART; }
+    if (l23 == 34955) { exit = 2; break PART; }
+   }
+   if (l25 != 0) { exit = 1; break PART; }
+   if (((int) b[((int) ((l16 = l1 + l8) + -1L)) - 58912]) > -1) { exit = 1; break PART; }
+   l12 = -2L;
+   L90: {
+    if ((l25 = b[((int) (l16 + -2L)) - 58912] & 0xff) + Integer.MIN_VALUE > -2147483457) { break L90; }
+    l12 = ((b[((int) (l16 + -3L)) - 58912] & 0xff) + Integer.MIN_VALUE > -2147483457) ? -3L : -4L;
+   }
+   L91: {
+    if ((l23 = (int) b[((int) (l12 = (l1 + l12) + l8)) - 58912]) > -1) { break L91; }
+    if (l23 + Integer.MIN_VALUE < 2147483616) { break L91; }
+    l24 = l23 & 255;
+    l26 = (b[((int) l12) - 58911] & 0xff) & 63;
+    l27 = (b[((int) l12) - 58910] & 0xff) & 63;
+    L92: {
+     L93: {
+      if (l23 + Integer.MIN_VALUE > 2147483631) { break L93; }
+      l23 = ((l26 << 6) | ((l24 << 12) & 61440)) | l27;
+      break L92;
+     }
+     l23 = ((l27 << 6) | ((l26 << 12) | ((l24 << 18) & 1835008))) | ((b[((int) l12) - 58909] & 0xff) & 63);
+    }
+    l12 = 2L;
+    L94: {
+     if (l23 > 36228) { break L94; }
+     L95: {
+      if (l23 > 32003) { break L95; }
+      if (l23 == 20013) { exit = 2; break PART; }
+      if (l23 != 26377) { break L91; }
+      exit = 2; break PART;
+     }
+     if (l23 == 32004) { exit = 2; break PART; }
+     if (l23 != 32422) { break L91; }
+     exit = 2; break PART;
+    }
+    L96: {
+     switch (l23 + -36807) {
+     case 0: case 10: exit = 2; break PART;
+     case 1: case 2: case 3: case 4: case 5: case 6: case 7: case 8: case 9: break L91;
+     default: break L96;
+     }
+    }
+    if (l23 == 36229) { exit = 2; break PART; }
+    if (l23 == 36942) { exit = 2; break PART; }
+   }
+   l12 = -2L;
+   L97: {
+    if (l25 + Integer.MIN_VALUE > -2147483457) { break L97; }
+    l12 = ((b[((int) (l16 + -3L)) - 58912] & 0xff) + Integer.MIN_VALUE > -2147483457) ? -3L : -4L;
+   }
+   if ((l23 = (int) b[((int) (l12 = (l1 + l12) + l8)) - 58912]) > -1) { exit = 1; break PART; }
+   if (l23 + Integer.MIN_VALUE < 2147483616) { exit = 1; break PART; }
+   l24 = l23 & 255;
+   l26 = (b[((int) l12) - 58911] & 0xff) & 63;
+   l27 = (b[((int) l12) - 58910] & 0xff) & 63;
+   L98: {
+    L99: {
+     if (l23 + Integer.MIN_VALUE > 2147483631) { break L99; }
+     l23 = ((l26 << 6) | ((l24 << 12) & 61440)) | l27;
+     break L98;
+    }
+    l23 = ((l27 << 6) | ((l26 << 12) | ((l24 << 18) & 1835008))) | ((b[((int) l12) - 58909] & 0xff) & 63);
+   }
+   L100: {
+    if (l23 == 36275) { break L100; }
+    if (l23 != 21040) { exit = 1; break PART; }
+   }
+   l12 = -2L;
+   L101: {
+    if (l25 + Integer.MIN_VALUE > -2147483457) { break L101; }
+    l12 = ((b[((int) (l16 + -3L)) - 58912] & 0xff) + Integer.MIN_VALUE > -2147483457) ? -3L : -4L;
+   }
+   if ((l12 = l12 + l8) == 0L) { exit = 1; break PART; }
+   if (((int) b[((int) ((l16 = l1 + l12) + -1L)) - 58912]) > -1) { exit = 1; break PART; }
+   l15 = -2L;
+   L102: {
+    if ((b[((int) (l16 + -2L)) - 58912] & 0xff) + Integer.MIN_VALUE > -2147483457) { break L102; }
+    l15 = ((b[((int) (l16 + -3L)) - 58912] & 0xff) + Integer.MIN_VALUE > -2147483457) ? -3L : -4L;
+   }
+   if ((l25 = (int) b[((int) (l12 = (l1 + l15) + l12)) - 58912]) > -1) { exit = 1; break PART; }
+   if (l25 + Integer.MIN_VALUE < 2147483616) { exit = 1; break PART; }
+   l23 = l25 & 255;
+   l24 = (b[((int) l12) - 58911] & 0xff) & 63;
+   l26 = (b[((int) l12) - 58910] & 0xff) & 63;
+   L103: {
+    L104: {
+     if (l25 + Integer.MIN_VALUE > 2147483631) { break L104; }
+     l25 = ((l24 << 6) | ((l23 << 12) & 61440)) | l26;
+     break L103;
+    }
+    l25 = ((l26 << 6) | ((l24 << 12) | ((l23 << 18) & 1835008))) | ((b[((int) l12) - 58909] & 0xff) & 63);
+   }
+   if (l25 != 19981) { exit = 1; break PART; }
+   l12 = 2L;
+   exit = 2; break PART;
+  }
+ }
+ m.kept[0] = l12;
+ m.kept[1] = l15;
+ m.kept[2] = l16;
+ m.kept[3] = l23;
+ m.kept[4] = l24;
+ m.kept[5] = l25;
+ m.kept[6] = l26;
+ m.kept[7] = l27;
+ m.kept[8] = l28;
+ return exit;
+}
+
+static int f190_3(State m, long l1, long l2, long l3, long l4, long l7, long l8, long l9, long l10, long l11, long l12, long l13, long l14, long l15, long l16, long l17, long l18, long l19, long l20, long l21, long l22, int l23, int l24, int l25, int l26, int l27) {
+ final byte[] b = m.bytes;
+ int exit = 0;
+ PART: {
+  L113: {
+   if ((l22 = b[((int) l7) - 58672] & 0xffL) != 1L) { break L113; }
+   l15 = Words.get64(b, ((int) l7) - 58552);
+   l10 = Words.get64(b, ((int) l7) - 58560);
+   l16 = Words.get64(b, ((int) l7) - 58568);
+   l19 = Words.get64(b, ((int) l7) - 58616);
+   l18 = Words.get64(b, ((int) l7) - 58624);
+   l17 = Words.get64(b, ((int) l7) - 58632);
+   l13 = Words.get64(b, ((int) l7) - 58640);
+   l2 = Words.get64(b, ((int) l7) - 58648);
+   l14 = Words.get64(b, ((int) l7) - 58656);
+   l27 = b[((int) l7) - 58664] & 0xff;
+   Words.put64(b, ((int) l7) - 58336, Words.get64(b, ((int) l7) - 58608));
+   Words.put64(b, ((int) l7) - 58328, Words.get64(b, ((int) l7) - 58600));
+   Words.put64(b, ((int) l7) - 58320, Words.get64(b, ((int) l7) - 58592));
+   Words.put64(b, ((int) l7) - 58312, Words.get64(b, ((int) l7) - 58584));
+   Words.put64(b, ((int) l7) - 58304, Words.get64(b, ((int) l7) - 58576));
+   Words.put64(b, ((int) l7) - 58376, 0L);
+   Words.put64(b, ((int) l7) - 58368, 0L);
+   Words.put64(b, ((int) l7) - 58360, 0L);
+   Words.put64(b, ((int) l7) - 58352, 0L);
+   Words.put64(b, ((int) l7) - 58344, 0L);
+   Words.put64(b, ((int) l7) - 58448, 0L);
+   Words.put64(b, ((int) l7) - 58440, 0L);
+   Words.put64(b, ((int) l7) - 58432, 0L);
+   Words.put64(b, ((int) l7) - 58424, 0L);
+   Words.put64(b, ((int) l7) - 58416, 0L);
+   Words.put64(b, ((int) l7) - 58408, 0L);
+   Words.put64(b, ((int) l7) - 58384, 0L);
+   Words.put64(b, ((int) l7) - 58392, 0L);
+   l11 = l10;
+   L114: {
+    L115: {
+     L116: {
+      L117: {
+       switch (l27) {
+       case 1: break L116;
+       case 2: break L114;
+       case 3: break L115;
+       default: break L117;
+       }
+      }
+      l11 = l13;
+      break L114;
+     }
+     l11 = l15;
+     break L114;
+    }
+    l11 = l2;
+   }
+   l21 = l7 + 304L;
+   l20 = l27 & 0xffffffffL;
+   l12 = l4 - l11;
+   l11 = l3;
+   L118: {
+    L119: {
+     L120: while (true) {
+      if (l12 == 0L) { break L119; }
+      l25 = (l23 = (int) b[((int) l11) - 58912]) & 255;
+      l9 = 1L;
+      L121: {
+       if (l23 > -1) { break L121; }
+       l24 = (b[((int) l11) - 58911] & 0xff) & 63;
+       L122: {
+        if (l23 + Integer.MIN_VALUE > 2147483615) { break L122; }
+        l25 = ((l25 << 6) & 1984) | l24;
+        l9 = 2L;
+        break L121;
+       }
+       l26 = (b[((int) l11) - 58910] & 0xff) & 63;
+       L123: {
+        if (l23 + Integer.MIN_VALUE > 2147483631) { break L123; }
+        l25 = ((l24 << 6) | ((l25 << 12) & 61440)) | l26;
+        l9 = 3L;
+        break L121;
+       }
+       l25 = ((l26 << 6) | ((l24 << 12) | ((l25 << 18) & 1835008))) | ((b[((int) l11) - 58909] & 0xff) & 63);
+       l9 = 4L;
+      }
+      L124: {
+       if ((l25 + -48) + Integer.MIN_VALUE < -2147483638) { break L124; }
+       l12 = l12 - l9;
+       l11 = l11 + l9;
+       if ((l25 + -65296) + Integer.MIN_VALUE > -2147483639) { continue L120; }
+      }
+      break L120;
+     }
+     if (f202(m, l1, l8) != 0) { break L119; }
+     Words.put64(b, ((int) l7) - 58248, l19);
+     Words.put64(b, ((int) l7) - 58256, l18);
+     Words.put64(b, ((int) l7) - 58264, l17);
+     Words.put64(b, ((int) l7) - 58272, l13);
+     Words.put64(b, ((int) l7) - 58280, l2);
+     Words.put64(b, ((int) l7) - 58288, l14);
+     Words.put64(b, ((int) l7) - 58296, l20);
+     Words.put64(b, ((int) l7) - 58184, l15);
+     Words.put64(b, ((int) l7) - 58192, l10);
+     Words.put64(b, ((int) l7) - 58200, l16);
+     Words.put64(b, ((int) l7) - 58240, Words.get64(b, ((int) l21) - 58912));
+     Words.put64(b, ((int) l7) - 58232, Words.get64(b, ((int) l21) - 58904));
+     Words.put64(b, ((int) l7) - 58224, Words.get64(b, ((int) l21) - 58896));
+     Words.put64(b, ((int) l7) - 58216, Words.get64(b, ((int) l21) - 58888));
+     Words.put64(b, ((int) l7) - 58208, Words.get64(b, ((int) l21) - 58880));
+     if (f191(m, l1, l8, l3, l4, l7 + 616L) == 0) { break L119; }
+     Words.put64(b, ((int) l7) - 58248, 0L);
+     Words.put64(b, ((int) l7) - 58256, 0L);
+     Words.put64(b, ((int) l7) - 58264, 0L);
+     Words.put64(b, ((int) l7) - 58272, 0L);
+     Words.put64(b, ((int) l7) - 58280, 0L);
+     Words.put64(b, ((int) l7) - 58288, 0L);
+     Words.put64(b, ((int) l7) - 58296, 0L);
+     L125: {
+      L126: {
+       if (l27 != 0) { break L126; }
+       l25 = 8384639 >>> ((((int) l14) >>> 8) & 255);
+       l23 = 0;
+       l11 = l2;
+       l9 = l13;
+       break L125;
+      }
+      Words.put64(b, ((int) l7) - 58136, 0L);
+      Words.put64(b, ((int) l7) - 58128, 0L);
+      Words.put64(b, ((int) l7) - 58120, 0L);
+      Words.put64(b, ((int) l7) - 58112, 0L);
+      Words.put64(b, ((int) l7) - 58104, 0L);
+      Words.put64(b, ((int) l7) - 58176, 0L);
+      Words.put64(b, ((int) l7) - 58168, 0L);
+      Words.put64(b, ((int) l7) - 58160, 0L);
+      Words.put64(b, ((int) l7) - 58152, 0L);
+      Words.put64(b, ((int) l7) - 58144, 0L);
+      L127: {
+       L128: {
+        L129: {
+         L130: {
+          switch (l27 + -1) {
+          case 1: break L129;
+          case 2: break L128;
+          default: break L130;
+          }
+         }
+         l25 = 0;
+         l23 = 1;
+         l11 = l10;
+         l9 = l15;
+         break L125;
+        }
+        f192(m, l7 + 776L, l16, l10);
+        l25 = b[((int) l7) - 58136] & 0xff;
+        Words.put64(b, ((int) l7) - 58104, 0L);
+        Words.put64(b, ((int) l7) - 58112, 0L);
+        Words.put64(b, ((int) l7) - 58120, 0L);
+        Words.put64(b, ((int) l7) - 58128, 0L);
+        Words.put64(b, ((int) l7) - 58136, 0L);
+        f192(m, l7 + 776L, l16, l10);
+        final long t131 = Words.get64(b, ((int) l7) - 58104);
+        final long t132 = l10;
+        final int t133 = l23 = ((b[((int) l7) - 58136] & 0xff) == 1) ? 1 : 0;
+        l9 = t133 != 0 ? t131 : t132;
+        final long t134 = Words.get64(b, ((int) l7) - 58112);
+        final long t135 = l16;
+        final int t136 = l23;
+        l11 = t136 != 0 ? t134 : t135;
+        l23 = (l25 == 1) ? 1 : 0;
+        break L127;
+       }
+       f192(m, l7 + 736L, l14, l2);
+       l25 = b[((int) l7) - 58176] & 0xff;
+       Words.put64(b, ((int) l7) - 58104, 0L);
+       Words.put64(b, ((int) l7) - 58112, 0L);
+       Words.put64(b, ((int) l7) - 58120, 0L);
+       Words.put64(b, ((int) l7) - 58128, 0L);
+       Words.put64(b, ((int) l7) - 58136, 0L);
+       f192(m, l7 + 776L, l14, l2);
+       final long t137 = Words.get64(b, ((int) l7) - 58104);
+       final long t138 = l2;
+       final int t139 = l23 = ((b[((int) l7) - 58136] & 0xff) == 1) ? 1 : 0;
+       l9 = t139 != 0 ? t137 : t138;
+       final long t140 = Words.get64(b, ((int) l7) - 58112);
+       final long t141 = l14;
+       final int t142 = l23;
+       l11 = t142 != 0 ? t140 : t141;
+       l23 = (l25 == 1) ? 1 : 0;
+      }
+      l25 = 0;
+     }
+     f193(m, l7 + 616L, l25 & 1, l23, l11, l9);
+     Words.put64(b, ((int) l7) - 58376, Words.get64(b, ((int) l7) - 58336));
+     Words.put64(b, ((int) l7) - 58368, Words.get64(b, ((int) l7) - 58328));
+     Words.put64(b, ((int) l7) - 58360, Words.get64(b, ((int) l7) - 58320));
+     Words.put64(b, ((int) l7) - 58352, Words.get64(b, ((int) l7) - 58312));
+     Words.put64(b, ((int) l7) - 58344, Words.get64(b, ((int) l7) - 58304));
+     Words.put64(b, ((int) l7) - 58448, Words.get64(b, ((int) l7) - 58288));
+     Words.put64(b, ((int) l7) - 58440, Words.get64(b, ((int) l7) - 58280));
+     Words.put64(b, ((int) l7) - 58432, Words.get64(b, ((int) l7) - 58272));
+     Words.put64(b, ((int) l7) - 58424, Words.get64(b, ((int) l7) - 58264));
+     Words.put64(b, ((int) l7) - 58416, Words.get64(b, ((int) l7) - 58256));
+     Words.put64(b, ((int) l7) - 58408, Words.get64(b, ((int) l7) - 58248));
+     l12 = b[((int) l7) - 58296] & 0xffL;
+     l21 = 0L;
+     Words.put64(b, ((int) l7) - 58384, 0L);
+     Words.put64(b, ((int) l7) - 58392, 0L);
+     l9 = 83372L;
+     l11 = 2L;
+     break L118;
+    }
+    L143: {
+     L144: {
+      L145: {
+       L146: {
+        switch (l27) {
+        case 1: break L145;
+        case 2: break L143;
+        case 3: break L144;
+        default: break L146;
+        }
+       }
+       l16 = l2;
+       l10 = l13;
+       break L143;
+      }
+      l16 = l10;
+      l10 = l15;
+      break L143;
+     }
+     l16 = l14;
+     l10 = l2;
+    }
+    l21 = 2L;
+    l17 = 0L;
+    l18 = 0L;
+    l19 = 0L;
+    l11 = l16;
+    l20 = l10;
+    l14 = 0L;
+    l2 = 0L;
+    l13 = 0L;
+    l16 = 0L;
+    l10 = 0L;
+    l15 = 0L;
+    l9 = 0L;
+    l12 = 0L;
+   }
+   Words.put64(b, ((int) l7) - 58784, Words.get64(b, ((int) l7) - 58344));
+   Words.put64(b, ((int) l7) - 58792, Words.get64(b, ((int) l7) - 58352));
+   Words.put64(b, ((int) l7) - 58800, Words.get64(b, ((int) l7) - 58360));
+   Words.put64(b, ((int) l7) - 58808, Words.get64(b, ((int) l7) - 58368));
+   Words.put64(b, ((int) l7) - 58816, Words.get64(b, ((int) l7) - 58376));
+   Words.put64(b, ((int) l7) - 58864, Words.get64(b, ((int) l7) - 58448));
+   Words.put64(b, ((int) l7) - 58856, Words.get64(b, ((int) l7) - 58440));
+   Words.put64(b, ((int) l7) - 58848, Words.get64(b, ((int) l7) - 58432));
+   Words.put64(b, ((int) l7) - 58840, Words.get64(b, ((int) l7) - 58424));
+   Words.put64(b, ((int) l7) - 58832, Words.get64(b, ((int) l7) - 58416));
+   Words.put64(b, ((int) l7) - 58824, Words.get64(b, ((int) l7) - 58408));
+   Words.put64(b, ((int) l7) - 58872, Words.get64(b, ((int) l7) - 58384));
+   Words.put64(b, ((int) l7) - 58880, Words.get64(b, ((int) l7) - 58392));
+   Words.put64(b, ((int) l7) - 58680, Words.get64(b, ((int) l7) - 58784));
+   Words.put64(b, ((int) l7) - 58688, Words.get64(b, ((int) l7) - 58792));
+   Words.put64(b, ((int) l7) - 58696, Words.get64(b, ((int) l7) - 58800));
+   Words.put64(b, ((int) l7) - 58704, Words.get64(b, ((int) l7) - 58808));
+   Words.put64(b, ((int) l7) - 58712, Words.get64(b, ((int) l7) - 58816));
+   Words.put64(b, ((int) l7) - 58720, Words.get64(b, ((int) l7) - 58824));
+   Words.put64(b, ((int) l7) - 58728, Words.get64(b, ((int) l7) - 58832));
+   Words.put64(b, ((int) l7) - 58736, Words.get64(b, ((int) l7) - 58840));
+   Words.put64(b, ((int) l7) - 58744, Words.get64(b, ((int) l7) - 58848));
+   Words.put64(b, ((int) l7) - 58752, Words.get64(b, ((int) l7) - 58856));
+   Words.put64(b, ((int) l7) - 58760, Words.get64(b, ((int) l7) - 58864));
+   Words.put64(b, ((int) l7) - 58768, Words.get64(b, ((int) l7) - 58872));
+   Words.put64(b, ((int) l7) - 58776, Words.get64(b, ((int) l7) - 58880));
+  }
+ }
+ m.kept[0] = l2;
+ m.kept[1] = l9;
+ m.kept[2] = l10;
+ m.kept[3] = l11;
+ m.kept[4] = l12;
+ m.kept[5] = l13;
+ m.kept[6] = l14;
+ m.kept[7] = l15;
+ m.kept[8] = l16;
+ m.kept[9] = l17;
+ m.kept[10] = l18;
+ m.kept[11] = l19;
+ m.kept[12] = l20;
+ m.kept[13] = l21;
+ m.kept[14] = l22;
+ m.kept[15] = l23;
+ m.kept[16] = l24;
+ m.kept[17] = l25;
+ m.kept[18] = l26;
+ m.kept[19] = l27;
+ return exit;
+}
+
+static void f190(State m, long l0, long l1, long l2, long l3, long l4, int l5, int l6) {
+ final byte[] b = m.bytes;
+ long l7 = 0;
+ long l8 = 0;
+ long l9 = 0;
+ long l10 = 0;
+ long l11 = 0;
+ long l12 = 0;
+ long l13 = 0;
+ long l14 = 0;
+ long l15 = 0;
+ long l16 = 0;
+ long l17 = 0;
+ long l18 = 0;
+ long l19 = 0;
+ long l20 = 0;
+ long l21 = 0;
+ long l22 = 0;
+ int l23 = 0;
  int l24 = 0;
  int l25 = 0;
  int l26 = 0;
  int l27 = 0;
  int l28 = 0;
- int l29 = 0;
- m.g0 = l7 = m.g0 - 1328L;
+ m.g0 = l7 = m.g0 - 816L;
+ L1: {
+  L2: {
+   L3: {
+    L4: {
+     L5: {
+      if ((l7 = l7) < 16L) { break L5; }
+      Words.put64(b, ((int) l7) - 58456, 0L);
+      Words.put64(b, ((int) l7) - 58464, 0L);
+      Words.put64(b, ((int) l7) - 58472, 0L);
+      Words.put64(b, ((int) l7) - 58480, 0L);
+      Words.put64(b, ((int) l7) - 58488, 0L);
+      Words.put64(b, ((int) l7) - 58496, 0L);
+      Words.put64(b, ((int) l7) - 58544, 0L);
+      Words.put64(b, ((int) l7) - 58536, 0L);
+      Words.put64(b, ((int) l7) - 58528, 0L);
+      Words.put64(b, ((int) l7) - 58520, 0L);
+      Words.put64(b, ((int) l7) - 58512, 0L);
+      Words.put64(b, ((int) l7) - 58504, 0L);
+      m.fill((int) (l7 + 240L), 0, (int) 128L);
+      Words.put64(b, ((int) l7) - 58680, 0L);
+      Words.put64(b, ((int) l7) - 58688, 0L);
+      Words.put64(b, ((int) l7) - 58696, 0L);
+      Words.put64(b, ((int) l7) - 58704, 0L);
+      Words.put64(b, ((int) l7) - 58712, 0L);
+      Words.put64(b, ((int) l7) - 58760, 0L);
+      Words.put64(b, ((int) l7) - 58752, 0L);
+      Words.put64(b, ((int) l7) - 58744, 0L);
+      Words.put64(b, ((int) l7) - 58736, 0L);
+      Words.put64(b, ((int) l7) - 58728, 0L);
+      Words.put64(b, ((int) l7) - 58720, 0L);
+      Words.put64(b, ((int) l7) - 58776, 0L);
+      Words.put64(b, ((int) l7) - 58768, 0L);
+      Words.put64(b, ((int) l7) - 58816, 0L);
+      Words.put64(b, ((int) l7) - 58808, 0L);
+      Words.put64(b, ((int) l7) - 58800, 0L);
+      Words.put64(b, ((int) l7) - 58792, 0L);
+      Words.put64(b, ((int) l7) - 58784, 0L);
+      Words.put64(b, ((int) l7) - 58824, 0L);
+      Words.put64(b, ((int) l7) - 58832, 0L);
+      Words.put64(b, ((int) l7) - 58840, 0L);
+      Words.put64(b, ((int) l7) - 58848, 0L);
+      Words.put64(b, ((int) l7) - 58856, 0L);
+      Words.put64(b, ((int) l7) - 58864, 0L);
+      Words.put64(b, ((int) l7) - 58872, 0L);
+      Words.put64(b, ((int) l7) - 58880, 0L);
+      l8 = l2 - l4;
+      l9 = l3;
+      l10 = l4;
+      L6: while (true) {
+       l11 = l9;
+       if ((l12 = l10) == 0L) { break L2; }
+       l9 = 1L;
+       l25 = l24 = (l23 = (int) b[((int) l11) - 58912]) & 255;
+       L7: {
+        if (l23 > -1) { break L7; }
+        l25 = (b[((int) l11) - 58911] & 0xff) & 63;
+        L8: {
+         if (l23 + Integer.MIN_VALUE > 2147483615) { break L8; }
+         l25 = ((l24 << 6) & 1984) | l25;
+         l9 = 2L;
+         break L7;
+        }
+        l26 = (b[((int) l11) - 58910] & 0xff) & 63;
+        L9: {
+         if (l23 + Integer.MIN_VALUE > 2147483631) { break L9; }
+         l25 = ((l25 << 6) | ((l24 << 12) & 61440)) | l26;
+         l9 = 3L;
+         break L7;
+        }
+        l25 = ((l26 << 6) | ((l25 << 12) | ((l24 << 18) & 1835008))) | ((b[((int) l11) - 58909] & 0xff) & 63);
+        l9 = 4L;
+       }
+       l10 = l12 - l9;
+       l9 = l11 + l9;
+       if ((l25 + -48) + Integer.MIN_VALUE < -2147483638) { continue L6; }
+       if ((l25 + -65296) + Integer.MIN_VALUE < -2147483638) { continue L6; }
+       break L6;
+      }
+      l10 = 1L;
+      L10: {
+       if (l23 > -1) { break L10; }
+       l25 = (b[((int) l11) - 58911] & 0xff) & 63;
+       L11: {
+        if (l23 + Integer.MIN_VALUE > 2147483615) { break L11; }
+        l24 = ((l24 << 6) & 1984) | l25;
+        l10 = 2L;
+        break L10;
+       }
+       l26 = (b[((int) l11) - 58910] & 0xff) & 63;
+       L12: {
+        if (l23 + Integer.MIN_VALUE > 2147483631) { break L12; }
+        l24 = ((l25 << 6) | ((l24 << 12) & 61440)) | l26;
+        l10 = 3L;
+        break L10;
+       }
+       l24 = ((l26 << 6) | ((l25 << 12) | ((l24 << 18) & 1835008))) | ((b[((int) l11) - 58909] & 0xff) & 63);
+       l10 = 4L;
+      }
+      l13 = l4 - l12;
+      l9 = l14 = l11 + l10;
+      l16 = l15 = l12 - l10;
+      L13: {
+       L14: while (true) {
+        l11 = l9;
+        if ((l26 = ((l10 = l16) == 0L) ? 1 : 0) != 0) { break L13; }
+        l25 = (l23 = (int) b[((int) l11) - 58912]) & 255;
+        l9 = 1L;
+        L15: {
+         if (l23 > -1) { break L15; }
+         l27 = (b[((int) l11) - 58911] & 0xff) & 63;
+         L16: {
+          if (l23 + Integer.MIN_VALUE > 2147483615) { break L16; }
+          l25 = ((l25 << 6) & 1984) | l27;
+          l9 = 2L;
+          break L15;
+         }
+         l28 = (b[((int) l11) - 58910] & 0xff) & 63;
+         L17: {
+          if (l23 + Integer.MIN_VALUE > 2147483631) { break L17; }
+          l25 = ((l27 << 6) | ((l25 << 12) & 61440)) | l28;
+          l9 = 3L;
+          break L15;
+         }
+         l25 = ((l28 << 6) | ((l27 << 12) | ((l25 << 18) & 1835008))) | ((b[((int) l11) - 58909] & 0xff) & 63);
+         l9 = 4L;
+        }
+        l16 = l10 - l9;
+        l9 = l11 + l9;
+        if ((l25 + -48) + Integer.MIN_VALUE < -2147483638) { continue L14; }
+        if ((l25 + -65296) + Integer.MIN_VALUE < -2147483638) { continue L14; }
+        break L14;
+       }
+      }
+      l25 = 1;
+      if (l24 + Integer.MIN_VALUE > -2147483590) { break L4; }
+      if (((1L << (l24 & 0xffffffffL)) & 288406298012155904L) == 0L) { break L4; }
+      break L3;
+     }
+     throw State.trap();
+    }
+    if (l24 == 65306) { break L3; }
+    l25 = 0;
+   }
+   if (l4 == l12) { break L2; }
+   if (l25 == 0) { break L2; }
+   L18: {
+    L19: {
+     if ((l25 = (int) b[((int) l3) - 58912]) <= -1) { break L19; }
+     l9 = 1L;
+     break L18;
+    }
+    L20: {
+     if (l25 + Integer.MIN_VALUE >= 2147483616) { break L20; }
+     l9 = 2L;
+     break L18;
+    }
+    l9 = (l25 + Integer.MIN_VALUE < 2147483632) ? 3L : 4L;
+   }
+   L21: {
+    L22: {
+     if (l13 == l9) { break L22; }
+     L23: {
+      L24: {
+       if ((l25 = (int) b[((int) (l16 = l3 + l9)) - 58912]) <= -1) { break L24; }
+       l12 = 1L;
+       break L23;
+      }
+      L25: {
+       if (l25 + Integer.MIN_VALUE >= 2147483616) { break L25; }
+       l12 = 2L;
+       break L23;
+      }
+      l12 = (l25 + Integer.MIN_VALUE < 2147483632) ? 3L : 4L;
+     }
+     if (l13 == (l9 = l12 + l9)) { break L22; }
+     L26: {
+      L27: {
+       if ((l25 = (int) b[((int) (l16 = l16 + l12)) - 58912]) <= -1) { break L27; }
+       l12 = 1L;
+       break L26;
+      }
+      L28: {
+       if (l25 + Integer.MIN_VALUE >= 2147483616) { break L28; }
+       l12 = 2L;
+       break L26;
+      }
+      l12 = (l25 + Integer.MIN_VALUE < 2147483632) ? 3L : 4L;
+     }
+     if (l13 == (l9 = l12 + l9)) { break L22; }
+     L29: {
+      L30: {
+       if ((l25 = (int) b[((int) (l16 + l12)) - 58912]) <= -1) { break L30; }
+       l12 = 1L;
+       break L29;
+      }
+      L31: {
+       if (l25 + Integer.MIN_VALUE >= 2147483616) { break L31; }
+       l12 = 2L;
+       break L29;
+      }
+      l12 = (l25 + Integer.MIN_VALUE < 2147483632) ? 3L : 4L;
+     }
+     if (l15 == l10) { break L2; }
+     if (l13 == (l12 + l9)) { break L21; }
+     break L2;
+    }
+    if (l15 == l10) { break L2; }
+   }
+   l9 = l15 - l10;
+   L32: {
+    L33: {
+     if ((l25 = (int) b[((int) l14) - 58912]) <= -1) { break L33; }
+     l12 = 1L;
+     break L32;
+    }
+    L34: {
+     if (l25 + Integer.MIN_VALUE >= 2147483616) { break L34; }
+     l12 = 2L;
+     break L32;
+    }
+    l12 = (l25 + Integer.MIN_VALUE < 2147483632) ? 3L : 4L;
+   }
+   L35: {
+    if (l9 == l12) { break L35; }
+    L36: {
+     L37: {
+      if ((l23 = (int) b[((int) (l15 = l14 + l12)) - 58912]) <= -1) { break L37; }
+      l16 = 1L;
+      break L36;
+     }
+     L38: {
+      if (l23 + Integer.MIN_VALUE >= 2147483616) { break L38; }
+      l16 = 2L;
+      break L36;
+     }
+     l16 = (l23 + Integer.MIN_VALUE < 2147483632) ? 3L : 4L;
+    }
+    if (l9 == (l12 = l16 + l12)) { break L35; }
+    L39: {
+     L40: {
+      if ((l23 = (int) b[((int) (l15 = l15 + l16)) - 58912]) <= -1) { break L40; }
+      l16 = 1L;
+      break L39;
+     }
+     L41: {
+      if (l23 + Integer.MIN_VALUE >= 2147483616) { break L41; }
+      l16 = 2L;
+      break L39;
+     }
+     l16 = (l23 + Integer.MIN_VALUE < 2147483632) ? 3L : 4L;
+    }
+    if (l9 == (l12 = l16 + l12)) { break L35; }
+    L42: {
+     L43: {
+      if ((l23 = (int) b[((int) (l15 + l16)) - 58912]) <= -1) { break L43; }
+      l16 = 1L;
+      break L42;
+     }
+     L44: {
+      if (l23 + Integer.MIN_VALUE >= 2147483616) { break L44; }
+      l16 = 2L;
+      break L42;
+     }
+     l16 = (l23 + Integer.MIN_VALUE < 2147483632) ? 3L : 4L;
+    }
+    if (l9 != (l16 + l12)) { break L2; }
+   }
+   if (f194(m, l1, l8) != 0) { break L2; }
+   L45: {
+    final int x76 = f190_1(m, l1, l2, l3, l4, l7, l8, l9, l10, l11, l12, l13, l14, l15, l16, l23, l24, l25, l26);
+    l12 = m.kept[0];
+    l15 = m.kept[1];
+    l16 = m.kept[2];
+    l23 = (int) m.kept[3];
+    l24 = (int) m.kept[4];
+    l25 = (int) m.kept[5];
+    l26 = (int) m.kept[6];
+    switch (x76) {
+    case 1: break L2;
+    case 2: break L45;
+    }
+    Words.put64(b, ((int) l7) - 58280, 0L);
+    Words.put64(b, ((int) l7) - 58288, 0L);
+    Words.put64(b, ((int) l7) - 58296, 0L);
+    L77: {
+     if (f198(m, 0, l3, l13) != 0) { break L77; }
+     if (f198(m, 12, l3, l13) == 0) { break L77; }
+     if (f198(m, 0, l14, l9) != 0) { break L77; }
+     if (f198(m, 31, l14, l9) == 0) { break L77; }
+     Core4.f134(m, l7 + 616L, 21, l11, l10);
+     if ((b[((int) l7) - 58296] & 0xff) != 1) { break L77; }
+     l12 = 0L;
+     break L45;
+    }
+    Words.put64(b, ((int) l7) - 58280, 0L);
+    Words.put64(b, ((int) l7) - 58288, 0L);
+    Words.put64(b, ((int) l7) - 58296, 0L);
+    f196(m, l7 + 616L, 87448L, 4L, l11, l10);
+    final int x105 = f190_2(m, l1, l2, l3, l4, l7, l8, l9, l10, l11, l12, l13, l14, l15, l16, l23, l24, l25, l26, l27, l28);
+    l12 = m.kept[0];
+    l15 = m.kept[1];
+    l16 = m.kept[2];
+    l23 = (int) m.kept[3];
+    l24 = (int) m.kept[4];
+    l25 = (int) m.kept[5];
+    l26 = (int) m.kept[6];
+    l27 = (int) m.kept[7];
+    l28 = (int) m.kept[8];
+    switch (x105) {
+    case 1: break L2;
+    case 2: break L45;
+    }
+    Words.put64(b, ((int) l7) - 58280, 0L);
+    Words.put64(b, ((int) l7) - 58288, 0L);
+    Words.put64(b, ((int) l7) - 58296, 0L);
+    f196(m, l7 + 616L, 87448L, 4L, l11, l10);
+    L106: {
+     L107: {
+      if ((b[((int) l7) - 58296] & 0xff) == 1) { break L107; }
+      f196(m, l7 + 616L, 87452L, 12L, l11, l10);
+      if ((b[((int) l7) - 58296] & 0xff) != 1) { break L106; }
+     }
+     l10 = Words.get64(b, ((int) l7) - 58280);
+     l11 = Words.get64(b, ((int) l7) - 58288);
+    }
+    l12 = 1L;
+   }
+   Words.put64(b, ((int) l7) - 58248, 0L);
+   Words.put64(b, ((int) l7) - 58256, 0L);
+   Words.put64(b, ((int) l7) - 58264, 0L);
+   Words.put64(b, ((int) l7) - 58272, 0L);
+   Words.put64(b, ((int) l7) - 58280, 0L);
+   Words.put64(b, ((int) l7) - 58288, 0L);
+   Words.put64(b, ((int) l7) - 58296, 0L);
+   f193(m, l7 + 616L, 0, 0, l11, l10);
+   Words.put64(b, ((int) l7) - 58496, Words.get64(b, ((int) l7) - 58288));
+   Words.put64(b, ((int) l7) - 58488, Words.get64(b, ((int) l7) - 58280));
+   Words.put64(b, ((int) l7) - 58480, Words.get64(b, ((int) l7) - 58272));
+   Words.put64(b, ((int) l7) - 58472, Words.get64(b, ((int) l7) - 58264));
+   Words.put64(b, ((int) l7) - 58464, Words.get64(b, ((int) l7) - 58256));
+   Words.put64(b, ((int) l7) - 58456, Words.get64(b, ((int) l7) - 58248));
+   l16 = b[((int) l7) - 58296] & 0xffL;
+   Words.put64(b, ((int) (l0 + 8L)) - 58912, 0L);
+   Words.put64(b, ((int) l0) - 58912, 1L);
+   Words.put64(b, ((int) (l0 + 16L)) - 58912, 0L);
+   Words.put64(b, ((int) (l0 + 80L)) - 58912, 0L);
+   Words.put64(b, ((int) (l0 + 72L)) - 58912, l10);
+   Words.put64(b, ((int) (l0 + 64L)) - 58912, l11);
+   Words.put64(b, ((int) (l0 + 56L)) - 58912, l9);
+   Words.put64(b, ((int) (l0 + 48L)) - 58912, l14);
+   Words.put64(b, ((int) (l0 + 40L)) - 58912, l13);
+   Words.put64(b, ((int) (l0 + 32L)) - 58912, l3);
+   Words.put64(b, ((int) (l0 + 24L)) - 58912, l12);
+   Words.put64(b, ((int) (l0 + 88L)) - 58912, 0L);
+   Words.put64(b, ((int) (l0 + 96L)) - 58912, 0L);
+   Words.put64(b, ((int) (l0 + 104L)) - 58912, 0L);
+   Words.put64(b, ((int) (l0 + 112L)) - 58912, 0L);
+   Words.put64(b, ((int) (l0 + 120L)) - 58912, 0L);
+   Words.put64(b, ((int) (l0 + 128L)) - 58912, 0L);
+   Words.put64(b, ((int) (l0 + 136L)) - 58912, 0L);
+   Words.put64(b, ((int) (l0 + 160L)) - 58912, l16);
+   Words.put64(b, ((int) (l0 + 152L)) - 58912, 0L);
+   Words.put64(b, ((int) (l0 + 144L)) - 58912, 83372L);
+   Words.put64(b, ((int) (l0 + 224L)) - 58912, 0L);
+   Words.put64(b, ((int) (l0 + 216L)) - 58912, 0L);
+   Words.put64(b, ((int) (l0 + 168L)) - 58912, Words.get64(b, ((int) l7) - 58496));
+   Words.put64(b, ((int) (l0 + 176L)) - 58912, Words.get64(b, ((int) l7) - 58488));
+   Words.put64(b, ((int) (l0 + 184L)) - 58912, Words.get64(b, ((int) l7) - 58480));
+   Words.put64(b, ((int) (l0 + 192L)) - 58912, Words.get64(b, ((int) l7) - 58472));
+   Words.put64(b, ((int) (l0 + 200L)) - 58912, Words.get64(b, ((int) l7) - 58464));
+   Words.put64(b, ((int) (l0 + 208L)) - 58912, Words.get64(b, ((int) l7) - 58456));
+   break L1;
+  }
+  Words.put64(b, ((int) l7) - 58272, 0L);
+  Words.put64(b, ((int) l7) - 58280, 0L);
+  Words.put64(b, ((int) l7) - 58288, 0L);
+  Words.put64(b, ((int) l7) - 58296, 0L);
+  L108: {
+   if (l4 == 0L) { break L108; }
+   l25 = (l23 = (int) b[((int) l3) - 58912]) & 255;
+   L109: {
+    if (l23 > -1) { break L109; }
+    l24 = (b[((int) l3) - 58911] & 0xff) & 63;
+    L110: {
+     if (l23 + Integer.MIN_VALUE > 2147483615) { break L110; }
+     l25 = ((l25 << 6) & 1984) | l24;
+     break L109;
+    }
+    l26 = (b[((int) l3) - 58910] & 0xff) & 63;
+    L111: {
+     if (l23 + Integer.MIN_VALUE > 2147483631) { break L111; }
+     l25 = ((l24 << 6) | ((l25 << 12) & 61440)) | l26;
+     break L109;
+    }
+    l25 = ((l26 << 6) | ((l24 << 12) | ((l25 << 18) & 1835008))) | ((b[((int) l3) - 58909] & 0xff) & 63);
+   }
+   L112: {
+    if ((l25 + -48) + Integer.MIN_VALUE < -2147483638) { break L112; }
+    if ((l25 + -65296) + Integer.MIN_VALUE >= -2147483638) { break L108; }
+   }
+   f201(m, l7 + 616L, l1, l8, l3, l4);
+   if ((b[((int) l7) - 58296] & 0xff) != 1) { break L108; }
+   l11 = Words.get64(b, ((int) l7) - 58272);
+   l9 = Words.get64(b, ((int) l7) - 58280);
+   l12 = Words.get64(b, ((int) l7) - 58288);
+   Words.put64(b, ((int) l7) - 58248, 0L);
+   Words.put64(b, ((int) l7) - 58256, 0L);
+   Words.put64(b, ((int) l7) - 58264, 0L);
+   Words.put64(b, ((int) l7) - 58272, 0L);
+   Words.put64(b, ((int) l7) - 58280, 0L);
+   Words.put64(b, ((int) l7) - 58288, 0L);
+   Words.put64(b, ((int) l7) - 58296, 0L);
+   f193(m, l7 + 616L, 0, 0, l9, l11);
+   Words.put64(b, ((int) l7) - 58544, Words.get64(b, ((int) l7) - 58288));
+   Words.put64(b, ((int) l7) - 58536, Words.get64(b, ((int) l7) - 58280));
+   Words.put64(b, ((int) l7) - 58528, Words.get64(b, ((int) l7) - 58272));
+   Words.put64(b, ((int) l7) - 58520, Words.get64(b, ((int) l7) - 58264));
+   Words.put64(b, ((int) l7) - 58512, Words.get64(b, ((int) l7) - 58256));
+   Words.put64(b, ((int) l7) - 58504, Words.get64(b, ((int) l7) - 58248));
+   l10 = b[((int) l7) - 58296] & 0xffL;
+   Words.put64(b, ((int) (l0 + 40L)) - 58912, l11);
+   Words.put64(b, ((int) (l0 + 32L)) - 58912, l9);
+   Words.put64(b, ((int) (l0 + 24L)) - 58912, l12);
+   Words.put64(b, ((int) (l0 + 16L)) - 58912, 1L);
+   Words.put64(b, ((int) (l0 + 8L)) - 58912, 0L);
+   Words.put64(b, ((int) l0) - 58912, 1L);
+   m.fill((int) (l0 + 48L), 0, (int) 96L);
+   Words.put64(b, ((int) (l0 + 160L)) - 58912, l10);
+   Words.put64(b, ((int) (l0 + 152L)) - 58912, 0L);
+   Words.put64(b, ((int) (l0 + 144L)) - 58912, 83372L);
+   Words.put64(b, ((int) (l0 + 216L)) - 58912, 0L);
+   Words.put64(b, ((int) (l0 + 224L)) - 58912, 0L);
+   Words.put64(b, ((int) (l0 + 168L)) - 58912, Words.get64(b, ((int) l7) - 58544));
+   Words.put64(b, ((int) (l0 + 176L)) - 58912, Words.get64(b, ((int) l7) - 58536));
+   Words.put64(b, ((int) (l0 + 184L)) - 58912, Words.get64(b, ((int) l7) - 58528));
+   Words.put64(b, ((int) (l0 + 192L)) - 58912, Words.get64(b, ((int) l7) - 58520));
+   Words.put64(b, ((int) (l0 + 200L)) - 58912, Words.get64(b, ((int) l7) - 58512));
+   Words.put64(b, ((int) (l0 + 208L)) - 58912, Words.get64(b, ((int) l7) - 58504));
+   break L1;
+  }
+  Core4.f119(m, l7 + 240L, l1, l2, l3, l4, l5, l6);
+  l17 = 0L;
+  l18 = 0L;
+  l19 = 0L;
+  l11 = 0L;
+  l20 = 0L;
+  l14 = 0L;
+  l2 = 0L;
+  l13 = 0L;
+  l16 = 0L;
+  l10 = 0L;
+  l15 = 0L;
+  l9 = 0L;
+  l12 = 0L;
+  l21 = 0L;
+  f190_3(m, l1, l2, l3, l4, l7, l8, l9, l10, l11, l12, l13, l14, l15, l16, l17, l18, l19, l20, l21, l22, l23, l24, l25, l26, l27);
+  l2 = m.kept[0];
+  l9 = m.kept[1];
+  l10 = m.kept[2];
+  l11 = m.kept[3];
+  l12 = m.kept[4];
+  l13 = m.kept[5];
+  l14 = m.kept[6];
+  l15 = m.kept[7];
+  l16 = m.kept[8];
+  l17 = m.kept[9];
+  l18 = m.kept[10];
+  l19 = m.kept[11];
+  l20 = m.kept[12];
+  l21 = m.kept[13];
+  l22 = m.kept[14];
+  l23 = (int) m.kept[15];
+  l24 = (int) m.kept[16];
+  l25 = (int) m.kept[17];
+  l26 = (int) m.kept[18];
+  l27 = (int) m.kept[19];
+  Words.put64(b, ((int) l0) - 58912, l22);
+  Words.put64(b, ((int) (l0 + 72L)) - 58912, l19);
+  Words.put64(b, ((int) (l0 + 64L)) - 58912, l18);
+  Words.put64(b, ((int) (l0 + 56L)) - 58912, l17);
+  Words.put64(b, ((int) (l0 + 48L)) - 58912, l13);
+  Words.put64(b, ((int) (l0 + 40L)) - 58912, l2);
+  Words.put64(b, ((int) (l0 + 32L)) - 58912, l14);
+  Words.put64(b, ((int) (l0 + 24L)) - 58912, l20);
+  Words.put64(b, ((int) (l0 + 16L)) - 58912, l11);
+  Words.put64(b, ((int) (l0 + 8L)) - 58912, l21);
+  Words.put64(b, ((int) (l0 + 80L)) - 58912, Words.get64(b, ((int) l7) - 58712));
+  Words.put64(b, ((int) (l0 + 88L)) - 58912, Words.get64(b, ((int) l7) - 58704));
+  Words.put64(b, ((int) (l0 + 96L)) - 58912, Words.get64(b, ((int) l7) - 58696));
+  Words.put64(b, ((int) (l0 + 104L)) - 58912, Words.get64(b, ((int) l7) - 58688));
+  Words.put64(b, ((int) (l0 + 112L)) - 58912, Words.get64(b, ((int) l7) - 58680));
+  Words.put64(b, ((int) (l0 + 160L)) - 58912, l12);
+  Words.put64(b, ((int) (l0 + 152L)) - 58912, 0L);
+  Words.put64(b, ((int) (l0 + 144L)) - 58912, l9);
+  Words.put64(b, ((int) (l0 + 136L)) - 58912, l15);
+  Words.put64(b, ((int) (l0 + 128L)) - 58912, l10);
+  Words.put64(b, ((int) (l0 + 120L)) - 58912, l16);
+  Words.put64(b, ((int) (l0 + 168L)) - 58912, Words.get64(b, ((int) l7) - 58760));
+  Words.put64(b, ((int) (l0 + 176L)) - 58912, Words.get64(b, ((int) l7) - 58752));
+  Words.put64(b, ((int) (l0 + 184L)) - 58912, Words.get64(b, ((int) l7) - 58744));
+  Words.put64(b, ((int) (l0 + 192L)) - 58912, Words.get64(b, ((int) l7) - 58736));
+  Words.put64(b, ((int) (l0 + 200L)) - 58912, Words.get64(b, ((int) l7) - 58728));
+  Words.put64(b, ((int) (l0 + 208L)) - 58912, Words.get64(b, ((int) l7) - 58720));
+  Words.put64(b, ((int) (l0 + 224L)) - 58912, Words.get64(b, ((int) l7) - 58768));
+  Words.put64(b, ((int) (l0 + 216L)) - 58912, Words.get64(b, ((int) l7) - 58776));
+ }
+ m.g0 = l7 + 816L;
+}
+
+static int f191_1(State m, long l0, long l1, long l2, long l3, long l4, long l5, long l6, long l7, long l8, long l9, long l10, int l11, int l12, int l13, int l14, int l15, int l16, int l17) {
+ final byte[] b = m.bytes;
+ int exit = 0;
+ PART: {
+  L6: {
+   L7: {
+    L8: {
+     L9: {
+      switch ((int) (b[((int) l4) - 58912] & 0xffL)) {
+      case 1: break L8;
+      case 2: break L7;
+      case 3: break L6;
+      default: break L9;
+      }
+     }
+     Words.put64(b, ((int) l5) - 58864, 0L);
+     l11 = 0;
+     Words.put32(b, ((int) l5) - 58856, 0);
+     if (Core5.f174(m, l12 = (int) (l9 >>> 8L), l13 = (int) (l9 >>> 48L), l2, l3, l8, l7) != 0) { exit = 1; break PART; }
+     l14 = (int) ((l13 & 0xffffffffL) % 100L);
+     L10: {
+      if (l3 == 0L) { break L10; }
+      if ((l12 & 255) != 3) { break L10; }
+      if (l14 != 0) { break L10; }
+      l14 = (l15 = (int) b[((int) l2) - 58912]) & 255;
+      L11: {
+       if (l15 > -1) { break L11; }
+       l16 = (b[((int) l2) - 58911] & 0xff) & 63;
+       L12: {
+        if (l15 + Integer.MIN_VALUE > 2147483615) { break L12; }
+        l14 = ((l14 << 6) & 1984) | l16;
+        break L11;
+       }
+       l17 = (b[((int) l2) - 58910] & 0xff) & 63;
+       L13: {
+        if (l15 + Integer.MIN_VALUE > 2147483631) { break L13; }
+        l14 = ((l16 << 6) | ((l14 << 12) & 61440)) | l17;
+        break L11;
+       }
+       l14 = ((l17 << 6) | ((l16 << 12) | ((l14 << 18) & 1835008))) | ((b[((int) l2) - 58909] & 0xff) & 63);
+      }
+      if (l1 == 0L) { exit = 2; break PART; }
+      if (((l14 + -58) + Integer.MIN_VALUE < 2147483638) & ((l14 + -65306) + Integer.MIN_VALUE < 2147483638)) { exit = 2; break PART; }
+      if (((int) b[((int) ((l4 = l0 + l1) + -1L)) - 58912]) > -1) { exit = 2; break PART; }
+      l2 = -2L;
+      L14: {
+       if ((b[((int) (l4 + -2L)) - 58912] & 0xff) + Integer.MIN_VALUE > -2147483457) { break L14; }
+       l2 = ((b[((int) (l4 + -3L)) - 58912] & 0xff) + Integer.MIN_VALUE > -2147483457) ? -3L : -4L;
+      }
+      if ((l14 = (int) b[((int) (l4 = (l0 + l2) + l1)) - 58912]) > -1) { exit = 2; break PART; }
+      if (l14 + Integer.MIN_VALUE < 2147483616) { exit = 2; break PART; }
+      l15 = l14 & 255;
+      l16 = (b[((int) l4) - 58911] & 0xff) & 63;
+      l17 = (b[((int) l4) - 58910] & 0xff) & 63;
+      L15: {
+       L16: {
+        if (l14 + Integer.MIN_VALUE > 2147483631) { break L16; }
+        l14 = ((l16 << 6) | ((l15 << 12) & 61440)) | l17;
+        break L15;
+       }
+       l14 = ((l17 << 6) | ((l16 << 12) | ((l15 << 18) & 1835008))) | ((b[((int) l4) - 58909] & 0xff) & 63);
+      }
+      L17: {
+       if (l14 > 32462) { break L17; }
+       L18: {
+        if (l14 > 32003) { break L18; }
+        if (l14 == 20170) { exit = 1; break PART; }
+        if (l14 != 26377) { exit = 2; break PART; }
+        exit = 1; break PART;
+       }
+       if (l14 == 32004) { exit = 1; break PART; }
+       if (l14 == 32147) { exit = 1; break PART; }
+       if (l14 != 32422) { exit = 2; break PART; }
+       exit = 1; break PART;
+      }
+      if ((l15 = l14 + -36798) + Integer.MIN_VALUE > -2147483629) { exit = 3; break PART; }
+      if (((1 << l15) & 524801) == 0) { exit = 3; break PART; }
+      exit = 1; break PART;
+     }
+     if ((l12 & 255) != 21) { exit = 2; break PART; }
+     if (Core7.f217(m, l0, l1, l8, l7) != 0) { exit = 1; break PART; }
+     exit = 2; break PART;
+    }
+    l3 = Words.get64(b, ((int) (l4 + 112L)) - 58912);
+    l4 = l8 = Words.get64(b, ((int) (l4 + 48L)) - 58912);
+    l2 = l10;
+    L19: {
+     L20: while (true) {
+      if (l2 == 0L) { break L19; }
+      l11 = (l12 = (int) b[((int) l4) - 58912]) & 255;
+      l9 = 1L;
+      L21: {
+       if (l12 > -1) { break L21; }
+       l13 = (b[((int) l4) - 58911] & 0xff) & 63;
+       L22: {
+        if (l12 + Integer.MIN_VALUE > 2147483615) { break L22; }
+        l11 = ((l11 << 6) & 1984) | l13;
+        l9 = 2L;
+        break L21;
+       }
+       l14 = (b[((int) l4) - 58910] & 0xff) & 63;
+       L23: {
+        if (l12 + Integer.MIN_VALUE > 2147483631) { break L23; }
+        l11 = ((l13 << 6) | ((l11 << 12) & 61440)) | l14;
+        l9 = 3L;
+        break L21;
+       }
+       l11 = ((l14 << 6) | ((l13 << 12) | ((l11 << 18) & 1835008))) | ((b[((int) l4) - 58909] & 0xff) & 63);
+       l9 = 4L;
+      }
+      L24: {
+       if ((l11 + -48) + Integer.MIN_VALUE < -2147483638) { break L24; }
+       l2 = l2 - l9;
+       l4 = l4 + l9;
+       if ((l11 + -65296) + Integer.MIN_VALUE > -2147483639) { continue L20; }
+      }
+      break L20;
+     }
+     Core7.f218(m, l5 + 8L, l8, l10);
+     l4 = Words.get64(b, ((int) l5) - 58896);
+     l9 = Words.get64(b, ((int) l5) - 58904);
+     Words.put64(b, ((int) l5) - 58808, 0L);
+     Words.put64(b, ((int) l5) - 58816, 0L);
+     Words.put64(b, ((int) l5) - 58824, 0L);
+     Words.put64(b, ((int) l5) - 58832, 0L);
+     Words.put64(b, ((int) l5) - 58840, 0L);
+     Words.put64(b, ((int) l5) - 58848, 0L);
+     Words.put64(b, ((int) l5) - 58856, 0L);
+     Words.put64(b, ((int) l5) - 58864, 0L);
+     Core3.f80(m, l5 + 48L, l9, l4, 1);
+     l11 = 0;
+     if ((b[((int) l5) - 58864] & 0xff) != 0) { exit = 1; break PART; }
+    }
+    l11 = 0;
+    if (f202(m, l0, l1) != 0) { exit = 1; break PART; }
+    if (Core7.f219(m, l0, l1, l8, l10, l6, l3) != 0) { exit = 1; break PART; }
+    l11 = Core7.f220(m, l8, l10, l6, l3) ^ 1;
+    exit = 1; break PART;
+   }
+   l1 = Words.get64(b, ((int) (l4 + 96L)) - 58912);
+   l3 = Words.get64(b, ((int) (l4 + 88L)) - 58912);
+   l8 = Words.get64(b, ((int) (l4 + 80L)) - 58912);
+   l4 = Words.get64(b, ((int) (l4 + 32L)) - 58912);
+   l11 = 0;
+   m.fill((int) (l5 + 48L), 0, (int) 112L);
+   Core2.f79(m, l5 + 48L, l7, l4, l8, l3);
+   if ((b[((int) l5) - 58864] & 0xff) != 1) { exit = 1; break PART; }
+   L25: {
+    if (((l12 = (int) l10) + -8211) + Integer.MIN_VALUE < -2147483646) { break L25; }
+    if (l12 == 65293) { break L25; }
+    l11 = 1;
+    if (l12 != 45) { exit = 1; break PART; }
+   }
+   Words.put64(b, ((int) l5) - 58712, 0L);
+   Words.put64(b, ((int) l5) - 58720, 0L);
+   Words.put64(b, ((int) l5) - 58728, 0L);
+   Words.put64(b, ((int) l5) - 58736, 0L);
+   Words.put64(b, ((int) l5) - 58744, 0L);
+   l4 = l8;
+   l2 = l3;
+   L26: {
+    L27: while (true) {
+     if (l2 == 0L) { break L26; }
+     l11 = (l12 = (int) b[((int) l4) - 58912]) & 255;
+     l9 = 1L;
+     L28: {
+      if (l12 > -1) { break L28; }
+      l13 = (b[((int) l4) - 58911] & 0xff) & 63;
+      L29: {
+       if (l12 + Integer.MIN_VALUE > 2147483615) { break L29; }
+       l11 = ((l11 << 6) & 1984) | l13;
+       l9 = 2L;
+       break L28;
+      }
+      l14 = (b[((int) l4) - 58910] & 0xff) & 63;
+      L30: {
+       if (l12 + Integer.MIN_VALUE > 2147483631) { break L30; }
+       l11 = ((l13 << 6) | ((l11 << 12) & 61440)) | l14;
+       l9 = 3L;
+       break L28;
+      }
+      l11 = ((l14 << 6) | ((l13 << 12) | ((l11 << 18) & 1835008))) | ((b[((int) l4) - 58909] & 0xff) & 63);
+      l9 = 4L;
+     }
+     Core2.f61(m, l5 + 24L, l11);
+     l2 = l2 - l9;
+     l4 = l4 + l9;
+     l11 = 1;
+     if ((b[((int) l5) - 58888] & 0xff) != 1) { continue L27; }
+     if (((b[((int) l5) - 58887] & 0xff) & 255) + Integer.MIN_VALUE <= -2147483647) { continue L27; }
+     exit = 1; break PART;
+    }
+   }
+   L31: {
+    L32: while (true) {
+     if (l3 == 0L) { break L31; }
+     l11 = (l12 = (int) b[((int) l8) - 58912]) & 255;
+     l4 = 1L;
+     L33: {
+      if (l12 > -1) { break L33; }
+      l13 = (b[((int) l8) - 58911] & 0xff) & 63;
+      L34: {
+       if (l12 + Integer.MIN_VALUE > 2147483615) { break L34; }
+       l11 = ((l11 << 6) & 1984) | l13;
+       l4 = 2L;
+       break L33;
+      }
+      l14 = (b[((int) l8) - 58910] & 0xff) & 63;
+      L35: {
+       if (l12 + Integer.MIN_VALUE > 2147483631) { break L35; }
+       l11 = ((l13 << 6) | ((l11 << 12) & 61440)) | l14;
+       l4 = 3L;
+       break L33;
+      }
+      l11 = ((l14 << 6) | ((l13 << 12) | ((l11 << 18) & 1835008))) | ((b[((int) l8) - 58909] & 0xff) & 63);
+      l4 = 4L;
+     }
+     L36: {
+      if (l11 == 37) { break L36; }
+      if (l11 == 8240) { break L36; }
+      l3 = l3 - l4;
+      l8 = l8 + l4;
+      if (l11 != 65285) { continue L32; }
+     }
+     break L32;
+    }
+    l11 = 1;
+    exit = 1; break PART;
+   }
+   l11 = 1;
+   if (Core7.f214(m, l1, l6) != 0) { exit = 1; break PART; }
+   f192(m, l5 + 168L, l1, l6);
+   l11 = ((b[((int) l5) - 58744] & 0xff) == 1) ? 1 : 0;
+   exit = 1; break PART;
+  }
+ }
+ m.kept[0] = l1;
+ m.kept[1] = l2;
+ m.kept[2] = l3;
+ m.kept[3] = l4;
+ m.kept[4] = l8;
+ m.kept[5] = l9;
+ m.kept[6] = l11;
+ m.kept[7] = l12;
+ m.kept[8] = l13;
+ m.kept[9] = l14;
+ m.kept[10] = l15;
+ m.kept[11] = l16;
+ m.kept[12] = l17;
+ return exit;
+}
+
+static int f191(State m, long l0, long l1, long l2, long l3, long l4) {
+ final byte[] b = m.bytes;
+ long l5 = 0;
+ long l6 = 0;
+ long l7 = 0;
+ long l8 = 0;
+ long l9 = 0;
+ long l10 = 0;
+ int l11 = 0;
+ int l12 = 0;
+ int l13 = 0;
+ int l14 = 0;
+ int l15 = 0;
+ int l16 = 0;
+ int l17 = 0;
+ m.g0 = l5 = m.g0 - 208L;
+ L1: {
+  L2: {
+   L3: {
+    L4: {
+     L5: {
+      if ((l5 = l5) < 16L) { break L5; }
+      l6 = Words.get64(b, ((int) (l4 + 104L)) - 58912);
+      l7 = Words.get64(b, ((int) (l4 + 24L)) - 58912);
+      l8 = Words.get64(b, ((int) (l4 + 16L)) - 58912);
+      l9 = Words.get64(b, ((int) (l4 + 8L)) - 58912);
+      l10 = Words.get64(b, ((int) (l4 + 56L)) - 58912);
+      final int x37 = f191_1(m, l0, l1, l2, l3, l4, l5, l6, l7, l8, l9, l10, l11, l12, l13, l14, l15, l16, l17);
+      l1 = m.kept[0];
+      l2 = m.kept[1];
+      l3 = m.kept[2];
+      l4 = m.kept[3];
+      l8 = m.kept[4];
+      l9 = m.kept[5];
+      l11 = (int) m.kept[6];
+      l12 = (int) m.kept[7];
+      l13 = (int) m.kept[8];
+      l14 = (int) m.kept[9];
+      l15 = (int) m.kept[10];
+      l16 = (int) m.kept[11];
+      l17 = (int) m.kept[12];
+      switch (x37) {
+      case 1: break L1;
+      case 2: break L2;
+      case 3: break L3;
+      }
+      Core7.f221(m, l5 + 32L, l2, l7 = l3 - l8);
+      l4 = Words.get64(b, ((int) l5) - 58872);
+      l10 = Words.get64(b, ((int) l5) - 58880);
+      Words.put64(b, ((int) l5) - 58808, 0L);
+      Words.put64(b, ((int) l5) - 58816, 0L);
+      Words.put64(b, ((int) l5) - 58824, 0L);
+      Words.put64(b, ((int) l5) - 58832, 0L);
+      Words.put64(b, ((int) l5) - 58840, 0L);
+      Words.put64(b, ((int) l5) - 58848, 0L);
+      Words.put64(b, ((int) l5) - 58856, 0L);
+      Words.put64(b, ((int) l5) - 58864, 0L);
+      Core3.f80(m, l5 + 48L, l10, l4, 1);
+      l11 = 0;
+      if ((b[((int) l5) - 58864] & 0xff) != 0) { break L1; }
+      if (Core7.f219(m, l0, l1, l2, l7, l9, l8) != 0) { break L1; }
+      Words.put64(b, ((int) l5) - 58832, 0L);
+      Words.put64(b, ((int) l5) - 58840, 0L);
+      Words.put64(b, ((int) l5) - 58848, 0L);
+      Words.put64(b, ((int) l5) - 58856, 0L);
+      Words.put64(b, ((int) l5) - 58864, 0L);
+      f192(m, l5 + 48L, l9, l8);
+      final long t38 = l2;
+      final long t39 = l7;
+      final long t40 = Words.get64(b, ((int) l5) - 58840);
+      final long t41 = l9;
+      final int t42 = l12 = ((b[((int) l5) - 58864] & 0xff) == 1) ? 1 : 0;
+      final long t43 = t42 != 0 ? t40 : t41;
+      final long t44 = Words.get64(b, ((int) l5) - 58832);
+      final long t45 = l8;
+      final int t46 = l12;
+      if (Core7.f220(m, t38, t39, t43, t46 != 0 ? t44 : t45) != 0) { break L1; }
+      if (l3 == l8) { break L4; }
+      L47: {
+       L48: {
+        if ((l12 = (int) b[((int) l2) - 58912]) <= -1) { break L48; }
+        l4 = 1L;
+        break L47;
+       }
+       L49: {
+        if (l12 + Integer.MIN_VALUE >= 2147483616) { break L49; }
+        l4 = 2L;
+        break L47;
+       }
+       l4 = (l12 + Integer.MIN_VALUE < 2147483632) ? 3L : 4L;
+      }
+      L50: {
+       if (l7 == l4) { break L50; }
+       L51: {
+        L52: {
+         if ((l13 = (int) b[((int) (l2 + l4)) - 58912]) <= -1) { break L52; }
+         l3 = 1L;
+         break L51;
+        }
+        L53: {
+         if (l13 + Integer.MIN_VALUE >= 2147483616) { break L53; }
+         l3 = 2L;
+         break L51;
+        }
+        l3 = (l13 + Integer.MIN_VALUE < 2147483632) ? 3L : 4L;
+       }
+       if (l7 != (l3 + l4)) { break L50; }
+       if (f198(m, 60, l2, l7) != 0) { break L50; }
+       L54: {
+        L55: {
+         if (l12 <= -1) { break L55; }
+         l4 = 1L;
+         break L54;
+        }
+        L56: {
+         if (l12 + Integer.MIN_VALUE >= 2147483616) { break L56; }
+         l4 = 2L;
+         break L54;
+        }
+        l4 = (l12 + Integer.MIN_VALUE < 2147483632) ? 3L : 4L;
+       }
+       l13 = Core7.f211(m, l2 + l4, l7 - l4);
+       if (l8 == 0L) { break L50; }
+       if (l13 != 0) { break L50; }
+       if ((l13 = (int) b[((int) l9) - 58912]) > -1) { break L50; }
+       if (l13 + Integer.MIN_VALUE < 2147483616) { break L50; }
+       l14 = l13 & 255;
+       l15 = (b[((int) l9) - 58911] & 0xff) & 63;
+       l16 = (b[((int) l9) - 58910] & 0xff) & 63;
+       L57: {
+        L58: {
+         if (l13 + Integer.MIN_VALUE > 2147483631) { break L58; }
+         l14 = ((l15 << 6) | ((l14 << 12) & 61440)) | l16;
+         break L57;
+        }
+        l14 = ((l16 << 6) | ((l15 << 12) | ((l14 << 18) & 1835008))) | ((b[((int) l9) - 58909] & 0xff) & 63);
+       }
+       if (l14 != 24180) { break L50; }
+       if (l8 == (l4 = (l13 + Integer.MIN_VALUE < 2147483632) ? 3L : 4L)) { break L1; }
+       if ((l13 = (int) b[((int) (l4 = l9 + l4)) - 58912]) > -1) { break L1; }
+       if (l13 + Integer.MIN_VALUE < 2147483616) { break L1; }
+       l14 = l13 & 255;
+       l15 = (b[((int) l4) - 58911] & 0xff) & 63;
+       l16 = (b[((int) l4) - 58910] & 0xff) & 63;
+       L59: {
+        L60: {
+         if (l13 + Integer.MIN_VALUE > 2147483631) { break L60; }
+         l13 = ((l15 << 6) | ((l14 << 12) & 61440)) | l16;
+         break L59;
+        }
+        l13 = ((l16 << 6) | ((l15 << 12) | ((l14 << 18) & 1835008))) | ((b[((int) l4) - 58909] & 0xff) & 63);
+       }
+       L61: {
+        if (l13 > 26468) { break L61; }
+        if (l13 == 20358) { break L50; }
+        if (l13 == 26399) { break L50; }
+        break L1;
+       }
+       if (l13 == 26469) { break L50; }
+       if (l13 == 32026) { break L50; }
+       if (l13 != 32423) { break L1; }
+      }
+      l13 = l12 & 255;
+      Words.put64(b, ((int) l5) - 58832, 0L);
+      Words.put64(b, ((int) l5) - 58840, 0L);
+      Words.put64(b, ((int) l5) - 58848, 0L);
+      Words.put64(b, ((int) l5) - 58856, 0L);
+      Words.put64(b, ((int) l5) - 58864, 0L);
+      L62: {
+       if (l12 > -1) { break L62; }
+       l11 = (b[((int) l2) - 58911] & 0xff) & 63;
+       L63: {
+        if (l12 + Integer.MIN_VALUE > 2147483615) { break L63; }
+        l13 = ((l13 << 6) & 1984) | l11;
+        break L62;
+       }
+       l14 = (b[((int) l2) - 58910] & 0xff) & 63;
+       L64: {
+        if (l12 + Integer.MIN_VALUE > 2147483631) { break L64; }
+        l13 = ((l11 << 6) | ((l13 << 12) & 61440)) | l14;
+        break L62;
+       }
+       l13 = ((l14 << 6) | ((l11 << 12) | ((l13 << 18) & 1835008))) | ((b[((int) l2) - 58909] & 0xff) & 63);
+      }
+      l11 = 1;
+      if (l1 == 0L) { break L1; }
+      if (l13 != 45) { break L1; }
+      if (((int) b[((int) ((l4 = l0 + l1) + -1L)) - 58912]) > -1) { break L1; }
+      l3 = -2L;
+      L65: {
+       if ((l15 = b[((int) (l4 + -2L)) - 58912] & 0xff) + Integer.MIN_VALUE > -2147483457) { break L65; }
+       l3 = ((b[((int) (l4 + -3L)) - 58912] & 0xff) + Integer.MIN_VALUE > -2147483457) ? -3L : -4L;
+      }
+      l13 = (l14 = (int) b[((int) (l3 = (l0 + l3) + l1)) - 58912]) & 255;
+      L66: {
+       if (l14 > -1) { break L66; }
+       l16 = (b[((int) l3) - 58911] & 0xff) & 63;
+       L67: {
+        if (l14 + Integer.MIN_VALUE > 2147483615) { break L67; }
+        l13 = ((l13 << 6) & 1984) | l16;
+        break L66;
+       }
+       l17 = (b[((int) l3) - 58910] & 0xff) & 63;
+       L68: {
+        if (l14 + Integer.MIN_VALUE > 2147483631) { break L68; }
+        l13 = ((l16 << 6) | ((l13 << 12) & 61440)) | l17;
+        break L66;
+       }
+       l13 = ((l17 << 6) | ((l16 << 12) | ((l13 << 18) & 1835008))) | ((b[((int) l3) - 58909] & 0xff) & 63);
+      }
+      if ((l13 + -19968) + Integer.MIN_VALUE > -2147462657) { break L1; }
+      l3 = -2L;
+      L69: {
+       if (l15 + Integer.MIN_VALUE > -2147483457) { break L69; }
+       l3 = ((b[((int) (l4 + -3L)) - 58912] & 0xff) + Integer.MIN_VALUE > -2147483457) ? -3L : -4L;
+      }
+      L70: {
+       if ((l13 = (int) b[((int) (l4 = (l0 + l3) + l1)) - 58912]) > -1) { break L70; }
+       if (l13 + Integer.MIN_VALUE < 2147483616) { break L70; }
+       l14 = l13 & 255;
+       l15 = (b[((int) l4) - 58911] & 0xff) & 63;
+       l16 = (b[((int) l4) - 58910] & 0xff) & 63;
+       L71: {
+        L72: {
+         if (l13 + Integer.MIN_VALUE > 2147483631) { break L72; }
+         l13 = ((l15 << 6) | ((l14 << 12) & 61440)) | l16;
+         break L71;
+        }
+        l13 = ((l16 << 6) | ((l15 << 12) | ((l14 << 18) & 1835008))) | ((b[((int) l4) - 58909] & 0xff) & 63);
+       }
+       L73: {
+        if (l13 > 28200) { break L73; }
+        L74: {
+         if (l13 > 21039) { break L74; }
+         if (l13 == 20026) { break L1; }
+         if (l13 == 20110) { break L1; }
+         if (l13 != 20540) { break L70; }
+         break L1;
+        }
+        L75: {
+         if (l13 > 26043) { break L75; }
+         if (l13 == 21040) { break L1; }
+         if (l13 != 24471) { break L70; }
+         break L1;
+        }
+        if (l13 == 26044) { break L1; }
+        if (l13 != 26159) { break L70; }
+        break L1;
+       }
+       L76: {
+        if (l13 > 32421) { break L76; }
+        L77: {
+         if (l13 > 28857) { break L77; }
+         if (l13 == 28201) { break L1; }
+         if (l13 != 28331) { break L70; }
+         break L1;
+        }
+        if (l13 == 28858) { break L1; }
+        if (l13 != 32004) { break L70; }
+        break L1;
+       }
+       L78: {
+        if (l13 > 36797) { break L78; }
+        if (l13 == 32422) { break L1; }
+        if (l13 != 33267) { break L70; }
+        break L1;
+       }
+       if (l13 == 36798) { break L1; }
+       if (l13 == 36948) { break L1; }
+      }
+      L79: {
+       L80: {
+        if (l12 <= -1) { break L80; }
+        l4 = 1L;
+        break L79;
+       }
+       L81: {
+        if (l12 + Integer.MIN_VALUE >= 2147483616) { break L81; }
+        l4 = 2L;
+        break L79;
+       }
+       l4 = (l12 + Integer.MIN_VALUE < 2147483632) ? 3L : 4L;
+      }
+      l3 = l7 - l4;
+      l4 = l2 + l4;
+      L82: {
+       L83: while (true) {
+        if (l3 == 0L) { break L82; }
+        l12 = (l13 = (int) b[((int) l4) - 58912]) & 255;
+        l2 = 1L;
+        L84: {
+         if (l13 > -1) { break L84; }
+         l14 = (b[((int) l4) - 58911] & 0xff) & 63;
+         L85: {
+          if (l13 + Integer.MIN_VALUE > 2147483615) { break L85; }
+          l12 = ((l12 << 6) & 1984) | l14;
+          l2 = 2L;
+          break L84;
+         }
+         l15 = (b[((int) l4) - 58910] & 0xff) & 63;
+         L86: {
+          if (l13 + Integer.MIN_VALUE > 2147483631) { break L86; }
+          l12 = ((l14 << 6) | ((l12 << 12) & 61440)) | l15;
+          l2 = 3L;
+          break L84;
+         }
+         l12 = ((l15 << 6) | ((l14 << 12) | ((l12 << 18) & 1835008))) | ((b[((int) l4) - 58909] & 0xff) & 63);
+         l2 = 4L;
+        }
+        l3 = l3 - l2;
+        l4 = l4 + l2;
+        if ((l12 + -48) + Integer.MIN_VALUE < -2147483638) { continue L83; }
+        if ((l12 + -65296) + Integer.MIN_VALUE < -2147483638) { continue L83; }
+        break L1;
+       }
+      }
+      if (Core7.f222(m, l9, l8) != 0) { break L1; }
+      f192(m, l5 + 48L, l9, l8);
+      l11 = ((b[((int) l5) - 58864] & 0xff) == 1) ? 1 : 0;
+      break L1;
+     }
+     throw State.trap();
+    }
+    l11 = 1;
+    break L1;
+   }
+   L87: {
+    switch (l14 + -36942) {
+    case 0: case 6: break L1;
+    case 1: case 2: case 3: case 4: case 5: break L2;
+    default: break L87;
+    }
+   }
+   if (l14 == 32463) { break L1; }
+  }
+  Words.put16(b, ((int) l5) - 58740, (short) l13);
+  Words.put32(b, ((int) l5) - 58744, (int) (l9 >>> 16L));
+  Core4.f120(m, l5 + 48L, l12, l5 + 168L);
+  l11 = ((b[((int) l5) - 58864] & 0xff) == 1) ? 1 : 0;
+ }
+ m.g0 = l5 + 208L;
+ return l11;
+}
+
+static void f192(State m, long l0, long l1, long l2) {
+ final byte[] b = m.bytes;
+ long l3 = 0;
+ long l4 = 0;
+ long l5 = 0;
+ long l6 = 0;
+ long l7 = 0;
+ long l8 = 0;
+ long l9 = 0;
+ int l10 = 0;
+ int l11 = 0;
+ int l12 = 0;
+ int l13 = 0;
+ int l14 = 0;
+ int l15 = 0;
+ m.g0 = l3 = m.g0 - 32L;
  L1: {
   L2: {
    L3: {
     L4: {
      L5: {
       L6: {
-       final int x46 = f225_1(m, l0, l1, l2, l3, l6, l7, l8, l9, l10, l11, l12, l13, l14, l15, l16, l17, l18, l24, l25, l26, l27, l28, l29);
-       l0 = m.kept[0];
-       l2 = (int) m.kept[1];
-       l3 = (int) m.kept[2];
-       l7 = m.kept[3];
-       l8 = m.kept[4];
-       l9 = m.kept[5];
-       l10 = m.kept[6];
-       l11 = m.kept[7];
-       l12 = m.kept[8];
-       l13 = m.kept[9];
-       l14 = m.kept[10];
-       l15 = m.kept[11];
-       l16 = m.kept[12];
-       l17 = m.kept[13];
-       l18 = m.kept[14];
-       l24 = (int) m.kept[15];
-       l25 = (int) m.kept[16];
-       l26 = (int) m.kept[17];
-       l27 = (int) m.kept[18];
-       l28 = (int) m.kept[19];
-       l29 = (int) m.kept[20];
-       switch (x46) {
-       case 1: break L1;
-       case 2: break L3;
-       case 3: break L2;
-       case 4: break L6;
+       L7: {
+        if ((l3 = l3) < 16L) { break L7; }
+        L8: {
+         if (!(l2 == 0L)) { break L8; }
+         l2 = 0L;
+         l10 = 0;
+         break L3;
+        }
+        l4 = 1L;
+        l12 = l10 = (l11 = (int) b[((int) l1) - 58912]) & 255;
+        L9: {
+         if (l11 > -1) { break L9; }
+         l12 = (b[((int) l1) - 58911] & 0xff) & 63;
+         L10: {
+          if (l11 + Integer.MIN_VALUE > 2147483615) { break L10; }
+          l12 = ((l10 << 6) & 1984) | l12;
+          l4 = 2L;
+          break L9;
+         }
+         l13 = (b[((int) l1) - 58910] & 0xff) & 63;
+         L11: {
+          if (l11 + Integer.MIN_VALUE > 2147483631) { break L11; }
+          l12 = ((l12 << 6) | ((l10 << 12) & 61440)) | l13;
+          l4 = 3L;
+          break L9;
+         }
+         l12 = ((l13 << 6) | ((l12 << 12) | ((l10 << 18) & 1835008))) | ((b[((int) l1) - 58909] & 0xff) & 63);
+         l4 = 4L;
+        }
+        if (l12 != 35) { break L4; }
+        if ((l5 = l2 - l4) == 0L) { break L4; }
+        if ((l12 = (int) b[((int) (l6 = l1 + l4)) - 58912]) > -1) { break L4; }
+        if (l12 + Integer.MIN_VALUE < 2147483616) { break L4; }
+        l13 = l12 & 255;
+        l14 = (b[((int) l6) - 58911] & 0xff) & 63;
+        l15 = (b[((int) l6) - 58910] & 0xff) & 63;
+        L12: {
+         if (l12 + Integer.MIN_VALUE > 2147483631) { break L12; }
+         if (((l12 = (l14 << 6) | ((l13 << 12) & 61440)) + -19968) + Integer.MIN_VALUE >= -2147462656) { break L6; }
+         break L2;
+        }
+        if (((l12 = (l15 << 6) | ((l14 << 12) | ((l13 << 18) & 1835008))) + -19968) + Integer.MIN_VALUE < -2147462656) { break L2; }
+        l12 = l12 | ((b[((int) l6) - 58909] & 0xff) & 63);
+        break L5;
        }
-       L47: {
-        L48: {
-         if ((l2 = l3 & 255) + Integer.MIN_VALUE < -2147483644) { break L48; }
-         L49: {
-          switch (l2 + -4) {
-          case 1: break L49;
-          default: break L47;
-          }
-         }
-         l0 = l1;
-         l11 = l10;
-         L50: {
-          L51: {
-           L52: while (true) {
-            l12 = 0L;
-            L53: {
-             if (l0 != 0L) { break L53; }
-             l8 = l1;
-             L54: {
-              L55: while (true) {
-               if (l8 == 0L) { break L54; }
-               l2 = (l24 = (int) b[((int) l10) - 60720]) & 255;
-               l11 = 1L;
-               L56: {
-                if (l24 > -1) { break L56; }
-                l3 = (b[((int) l10) - 60719] & 0xff) & 63;
-                L57: {
-                 if (l24 + Integer.MIN_VALUE > 2147483615) { break L57; }
-                 l2 = ((l2 << 6) & 1984) | l3;
-                 l11 = 2L;
-                 break L56;
-                }
-                l25 = (b[((int) l10) - 60718] & 0xff) & 63;
-                L58: {
-                 if (l24 + Integer.MIN_VALUE > 2147483631) { break L58; }
-                 l2 = ((l3 << 6) | ((l2 << 12) & 61440)) | l25;
-                 l11 = 3L;
-                 break L56;
-                }
-                l2 = ((l25 << 6) | ((l3 << 12) | ((l2 << 18) & 1835008))) | ((b[((int) l10) - 60717] & 0xff) & 63);
-                l11 = 4L;
-               }
-               l8 = l8 - l11;
-               l10 = l10 + l11;
-               L59: {
-                if (l2 == 65294) { break L59; }
-                if (l2 != 46) { continue L55; }
-               }
-               l12 = l12 + 1L;
-               continue L55;
-              }
-             }
-             if (l12 + Long.MIN_VALUE < -9223372036854775806L) { break L50; }
-             break L51;
-            }
-            l2 = (l24 = (int) b[((int) l11) - 60720]) & 255;
-            l8 = 1L;
-            L60: {
-             if (l24 > -1) { break L60; }
-             l3 = (b[((int) l11) - 60719] & 0xff) & 63;
-             L61: {
-              if (l24 + Integer.MIN_VALUE > 2147483615) { break L61; }
-              l2 = ((l2 << 6) & 1984) | l3;
-              l8 = 2L;
-              break L60;
-             }
-             l25 = (b[((int) l11) - 60718] & 0xff) & 63;
-             L62: {
-              if (l24 + Integer.MIN_VALUE > 2147483631) { break L62; }
-              l2 = ((l3 << 6) | ((l2 << 12) & 61440)) | l25;
-              l8 = 3L;
-              break L60;
-             }
-             l2 = ((l25 << 6) | ((l3 << 12) | ((l2 << 18) & 1835008))) | ((b[((int) l11) - 60717] & 0xff) & 63);
-             l8 = 4L;
-            }
-            if (l2 == 44) { break L51; }
-            l0 = l0 - l8;
-            l11 = l11 + l8;
-            if (l2 != 65292) { continue L52; }
-            break L52;
-           }
-          }
-          L63: {
-           if (!(l15 == 0L)) { break L63; }
-           l24 = 12;
-           l2 = 1;
-           break L5;
-          }
-          l10 = l15;
-          l11 = l14;
-          L64: while (true) {
-           if (l10 == 0L) { break L50; }
-           l3 = (l2 = (int) b[((int) l11) - 60720]) & 255;
-           l8 = 1L;
-           L65: {
-            if (l2 > -1) { break L65; }
-            l24 = (b[((int) l11) - 60719] & 0xff) & 63;
-            L66: {
-             if (l2 + Integer.MIN_VALUE > 2147483615) { break L66; }
-             l3 = ((l3 << 6) & 1984) | l24;
-             l8 = 2L;
-             break L65;
-            }
-            l25 = (b[((int) l11) - 60718] & 0xff) & 63;
-            L67: {
-             if (l2 + Integer.MIN_VALUE > 2147483631) { break L67; }
-             l3 = ((l24 << 6) | ((l3 << 12) & 61440)) | l25;
-             l8 = 3L;
-             break L65;
-            }
-            l3 = ((l25 << 6) | ((l24 << 12) | ((l3 << 18) & 1835008))) | ((b[((int) l11) - 60717] & 0xff) & 63);
-            l8 = 4L;
-           }
-           l2 = 1;
-           l24 = 12;
-           if ((l3 + -48) + Integer.MIN_VALUE < -2147483638) { break L6; }
-           if ((l3 + -65296) + Integer.MIN_VALUE < -2147483638) { break L6; }
-           l11 = l11 + l8;
-           l10 = l10 - l8;
-           L68: {
-            switch (l3 + -44) {
-            case 0: case 2: break L6;
-            case 1: continue L64;
-            default: break L68;
-            }
-           }
-           switch (l3 + -65292) {
-           case 0: case 2: break L6;
-           default: continue L64;
-           }
-          }
-         }
-         L69: {
-          if (Core1.f29(m, l16, l17, 83384L) == 0) { break L69; }
-          if (Core1.f29(m, l16, l17, 83388L) != 0) { break L69; }
-          l10 = l15;
-          l11 = l14;
-          L70: while (true) {
-           if (l10 == 0L) { break L69; }
-           l3 = (l2 = (int) b[((int) l11) - 60720]) & 255;
-           l8 = 1L;
-           L71: {
-            if (l2 > -1) { break L71; }
-            l24 = (b[((int) l11) - 60719] & 0xff) & 63;
-            L72: {
-             if (l2 + Integer.MIN_VALUE > 2147483615) { break L72; }
-             l3 = ((l3 << 6) & 1984) | l24;
-             l8 = 2L;
-             break L71;
-            }
-            l25 = (b[((int) l11) - 60718] & 0xff) & 63;
-            L73: {
-             if (l2 + Integer.MIN_VALUE > 2147483631) { break L73; }
-             l3 = ((l24 << 6) | ((l3 << 12) & 61440)) | l25;
-             l8 = 3L;
-             break L71;
-            }
-            l3 = ((l25 << 6) | ((l24 << 12) | ((l3 << 18) & 1835008))) | ((b[((int) l11) - 60717] & 0xff) & 63);
-            l8 = 4L;
-           }
-           l2 = 1;
-           l24 = 14;
-           if ((l3 + -48) + Integer.MIN_VALUE < -2147483638) { break L6; }
-           l10 = l10 - l8;
-           l11 = l11 + l8;
-           if ((l3 + -65296) + Integer.MIN_VALUE >= -2147483638) { continue L70; }
-           break L6;
-          }
-         }
-         l2 = 1;
-         L74: {
-          if ((l26 & 1) != 0) { break L74; }
-          l24 = 11;
-          break L6;
-         }
-         l8 = l15;
-         L75: {
-          L76: while (true) {
-           L77: {
-            if (!((l10 = l8) == 0L)) { break L77; }
-            l24 = 0;
-            break L75;
-           }
-           l2 = (l24 = (int) b[((int) l14) - 60720]) & 255;
-           l11 = 1L;
-           L78: {
-            if (l24 > -1) { break L78; }
-            l3 = (b[((int) l14) - 60719] & 0xff) & 63;
-            L79: {
-             if (l24 + Integer.MIN_VALUE > 2147483615) { break L79; }
-             l2 = ((l2 << 6) & 1984) | l3;
-             l11 = 2L;
-             break L78;
-            }
-            l25 = (b[((int) l14) - 60718] & 0xff) & 63;
-            L80: {
-             if (l24 + Integer.MIN_VALUE > 2147483631) { break L80; }
-             l2 = ((l3 << 6) | ((l2 << 12) & 61440)) | l25;
-             l11 = 3L;
-             break L78;
-            }
-            l2 = ((l25 << 6) | ((l3 << 12) | ((l2 << 18) & 1835008))) | ((b[((int) l14) - 60717] & 0xff) & 63);
-            l11 = 4L;
-           }
-           l24 = 13;
-           if (((l2 & 2097119) + -65) + Integer.MIN_VALUE < -2147483622) { break L75; }
-           if (l2 == 37) { break L75; }
-           if (l2 == 8240) { break L75; }
-           if (l2 == 65285) { break L75; }
-           l8 = l10 - l11;
-           l14 = l14 + l11;
-           Core2.f61(m, l7 + 40L, l2);
-           if ((b[((int) l7) - 60680] & 0xff) != 1) { continue L76; }
-           break L76;
-          }
-         }
-         l2 = (l10 != 0L) ? 1 : 0;
-         break L6;
-        }
-        L81: {
-         if ((l26 & 1) == 0) { break L81; }
-         l24 = 0;
-         l2 = 0;
-         break L6;
-        }
-        L82: {
-         L83: {
-          L84: {
-           if (Core1.f31(m, l14, l15, 83491L, 3L) != 0) { break L84; }
-           if (Core1.f31(m, l14, l15, 83494L, 3L) != 0) { break L84; }
-           l2 = 1;
-           l24 = 11;
-           l3 = Core1.f31(m, l14, l15, 83497L, 3L);
-           if (l13 == 0L) { break L6; }
-           if (l3 == 0) { break L6; }
-           break L83;
-          }
-          if (l13 == 0L) { break L82; }
-         }
-         Core1.f30(m, l7 + 104L, l10, l1, l13 + -1L);
-         l10 = Words.get64(b, ((int) l7) - 60608);
-         l11 = Words.get64(b, ((int) l7) - 60616);
-         L85: while (true) {
-          if (l10 == 0L) { break L82; }
-          l2 = (l24 = (int) b[((int) l11) - 60720]) & 255;
-          l8 = 1L;
-          L86: {
-           if (l24 > -1) { break L86; }
-           l3 = (b[((int) l11) - 60719] & 0xff) & 63;
-           L87: {
-            if (l24 + Integer.MIN_VALUE > 2147483615) { break L87; }
-            l2 = ((l2 << 6) & 1984) | l3;
-            l8 = 2L;
-            break L86;
-           }
-           l25 = (b[((int) l11) - 60718] & 0xff) & 63;
-           L88: {
-            if (l24 + Integer.MIN_VALUE > 2147483631) { break L88; }
-            l2 = ((l3 << 6) | ((l2 << 12) & 61440)) | l25;
-            l8 = 3L;
-            break L86;
-           }
-           l2 = ((l25 << 6) | ((l3 << 12) | ((l2 << 18) & 1835008))) | ((b[((int) l11) - 60717] & 0xff) & 63);
-           l8 = 4L;
-          }
-          Core2.f63(m, l7 + 96L, l2);
-          l10 = l10 - l8;
-          l11 = l11 + l8;
-          l2 = 1;
-          if ((b[((int) l7) - 60624] & 0xff) != 1) { continue L85; }
-          l24 = 20;
-          if (((b[((int) l7) - 60623] & 0xff) & 255) == 0) { continue L85; }
-          break L6;
-         }
-        }
-        l2 = 1;
-        l24 = 11;
-        break L6;
-       }
-       L89: {
-        L90: {
-         if (Core1.f31(m, l14, l15, 83491L, 3L) != 0) { break L90; }
-         if (Core1.f31(m, l14, l15, 83494L, 3L) != 0) { break L90; }
-         if (Core1.f31(m, l14, l15, 83497L, 3L) == 0) { break L89; }
-        }
-        Words.put32(b, ((int) l7) - 59416, 24180);
-        l8 = 0L;
-        Words.put64(b, ((int) l7) - 59472, 0L);
-        Words.put64(b, ((int) l7) - 59480, 0L);
-        Words.put64(b, ((int) l7) - 59488, 0L);
-        Core2.f51(m, l7 + 1232L, l7 + 1304L, l10, l1);
-        if ((b[((int) l7) - 59488] & 0xff) != 1) { break L89; }
-        l11 = 0L;
-        L91: {
-         if ((l12 = Words.get64(b, ((int) l7) - 59480)) + Long.MIN_VALUE < -9223372036854775776L) { break L91; }
-         Core1.f25(m, l7 + 80L, l10, l12, l12);
-         l8 = l12 - Words.get64(b, ((int) l7) - 60632);
-         l11 = Words.get64(b, ((int) l7) - 60640);
-        }
-        L92: {
-         if ((l12 - l11) + Long.MIN_VALUE < -9223372036854775800L) { break L92; }
-         L93: while (true) {
-          L94: {
-           L95: {
-            if (((l14 = Words.get64(b, ((int) (l10 + l11)) - 60720)) & 67553998437089520L) != 63050398541283552L) { break L95; }
-            l8 = l8 + 3L;
-            l11 = l11 + 9L;
-            break L94;
-           }
-           if ((l14 & -9187201950435737472L) != 0L) { break L92; }
-           l8 = l8 + 8L;
-           l11 = l11 + 8L;
-          }
-          if ((l12 - l11) + Long.MIN_VALUE > -9223372036854775801L) { continue L93; }
-          break L93;
-         }
-        }
-        L96: {
-         if (l11 + Long.MIN_VALUE >= l12 + Long.MIN_VALUE) { break L96; }
-         L97: while (true) {
-          l8 = l8 + 1L;
-          if ((l11 = Words.get64(b, ((int) (((((b[((int) (l10 + l11)) - 60720] & 0xff) >>> 1) & 0xffffffffL) & 120L) + 66680L)) - 60720) + l11) + Long.MIN_VALUE < l12 + Long.MIN_VALUE) { continue L97; }
-          break L97;
-         }
-        }
-        if (l13 + Long.MIN_VALUE >= l8 + Long.MIN_VALUE) { break L89; }
-        l2 = 1;
-        l24 = 17;
-        break L6;
-       }
-       Words.put32(b, ((int) l7) - 59416, 26376);
-       Words.put64(b, ((int) l7) - 59472, 0L);
-       Words.put64(b, ((int) l7) - 59480, 0L);
-       Words.put64(b, ((int) l7) - 59488, 0L);
-       Core2.f51(m, l7 + 1232L, l7 + 1304L, l10, l1);
-       L98: {
-        if ((b[((int) l7) - 59488] & 0xff) != 1) { break L98; }
-        l12 = Words.get64(b, ((int) l7) - 59480);
-        L99: {
-         if (Core1.f31(m, l8 = l10 + (l11 = Words.get64(b, ((int) l7) - 59472)), l11 = l1 - l11, 83392L, 12L) != 0) { break L99; }
-         if (Core1.f31(m, l8, l11, 83404L, 12L) != 0) { break L99; }
-         if (Core1.f31(m, l8, l11, 83416L, 9L) != 0) { break L99; }
-         if (Core1.f31(m, l8, l11, 83425L, 9L) != 0) { break L99; }
-         if (Core1.f31(m, l8, l11, 83434L, 12L) != 0) { break L99; }
-         if (Core1.f31(m, l8, l11, 83446L, 12L) != 0) { break L99; }
-         if (Core1.f31(m, l8, l11, 83458L, 12L) != 0) { break L99; }
-         if (Core1.f31(m, l8, l11, 83470L, 12L) == 0) { break L98; }
-        }
-        l8 = 0L;
-        l11 = 0L;
-        L100: {
-         if (l12 + Long.MIN_VALUE < -9223372036854775776L) { break L100; }
-         Core1.f25(m, l7 + 64L, l10, l12, l12);
-         l8 = l12 - Words.get64(b, ((int) l7) - 60648);
-         l11 = Words.get64(b, ((int) l7) - 60656);
-        }
-        L101: {
-         if ((l12 - l11) + Long.MIN_VALUE < -9223372036854775800L) { break L101; }
-         L102: while (true) {
-          L103: {
-           L104: {
-            if (((l14 = Words.get64(b, ((int) (l10 + l11)) - 60720)) & 67553998437089520L) != 63050398541283552L) { break L104; }
-            l8 = l8 + 3L;
-            l11 = l11 + 9L;
-            break L103;
-           }
-           if ((l14 & -9187201950435737472L) != 0L) { break L101; }
-           l8 = l8 + 8L;
-           l11 = l11 + 8L;
-          }
-          if ((l12 - l11) + Long.MIN_VALUE > -9223372036854775801L) { continue L102; }
-          break L102;
-         }
-        }
-        L105: {
-         if (l11 + Long.MIN_VALUE >= l12 + Long.MIN_VALUE) { break L105; }
-         L106: while (true) {
-          l8 = l8 + 1L;
-          if ((l11 = Words.get64(b, ((int) (((((b[((int) (l10 + l11)) - 60720] & 0xff) >>> 1) & 0xffffffffL) & 120L) + 66680L)) - 60720) + l11) + Long.MIN_VALUE < l12 + Long.MIN_VALUE) { continue L106; }
-          break L106;
-         }
-        }
-        if (l8 + Long.MIN_VALUE >= l13 + Long.MIN_VALUE) { break L98; }
-        l2 = 1;
-        l24 = 15;
-        break L6;
-       }
-       Words.put32(b, ((int) l7) - 59416, 26376);
-       Words.put64(b, ((int) l7) - 59472, 0L);
-       Words.put64(b, ((int) l7) - 59480, 0L);
-       Words.put64(b, ((int) l7) - 59488, 0L);
-       Core2.f51(m, l7 + 1232L, l7 + 1304L, l10, l1);
-       l2 = 1;
-       L107: {
-        if ((b[((int) l7) - 59488] & 0xff) == 1) { break L107; }
-        l24 = 11;
-        break L6;
-       }
-       final int x176 = f225_2(m, l0, l3, l7, l8, l9, l10, l11, l12, l13, l14, l17, l18, l19, l20, l21, l22, l23, l24);
-       l0 = m.kept[0];
-       l3 = (int) m.kept[1];
-       l8 = m.kept[2];
-       l9 = m.kept[3];
-       l11 = m.kept[4];
-       l12 = m.kept[5];
-       l14 = m.kept[6];
-       l17 = m.kept[7];
-       l18 = m.kept[8];
-       l19 = m.kept[9];
-       l20 = m.kept[10];
-       l21 = m.kept[11];
-       l22 = m.kept[12];
-       l23 = m.kept[13];
-       l24 = (int) m.kept[14];
-       switch (x176) {
-       case 1: break L6;
-       }
-       l24 = 11;
+       throw State.trap();
       }
-      if (l15 == 0L) { break L5; }
-      l25 = 8;
-      l3 = 4;
-      break L4;
+      l12 = l12 | l15;
      }
-     l25 = ((l3 = (l1 == 0L) ? 1 : 0) != 0) ? 9 : 10;
-     l3 = l3 != 0 ? 5 : 6;
+     if (l12 == 12289) { break L2; }
     }
-    Core2.f50(m, l7 + 936L, l7 + 152L, l3);
-    L177: {
-     L178: {
-      L179: {
-       if (l2 != 0) { break L179; }
-       if (((b[((int) l7) - 59704] & 0xff) & 1) == 0) { break L179; }
-       Core2.f50(m, l7 + 936L, l7 + 152L, 7);
-       break L178;
+    L13: {
+     L14: {
+      if (l11 > -1) { break L14; }
+      l12 = (b[((int) l1) - 58911] & 0xff) & 63;
+      L15: {
+       if (l11 + Integer.MIN_VALUE < 2147483616) { break L15; }
+       l13 = (b[((int) l1) - 58910] & 0xff) & 63;
+       L16: {
+        L17: {
+         if (l11 + Integer.MIN_VALUE > 2147483631) { break L17; }
+         l12 = ((l12 << 6) | ((l10 << 12) & 61440)) | l13;
+         break L16;
+        }
+        l12 = ((l13 << 6) | ((l12 << 12) | ((l10 << 18) & 1835008))) | ((b[((int) l1) - 58909] & 0xff) & 63);
+       }
+       l13 = (b[((int) l1) - 58910] & 0xff) & 63;
+       l14 = (b[((int) l1) - 58911] & 0xff) & 63;
+       L18: {
+        L19: {
+         if (l11 + Integer.MIN_VALUE > 2147483631) { break L19; }
+         l13 = ((l14 << 6) | ((l10 << 12) & 61440)) | l13;
+         break L18;
+        }
+        l13 = ((l13 << 6) | ((l14 << 12) | ((l10 << 18) & 1835008))) | ((b[((int) l1) - 58909] & 0xff) & 63);
+       }
+       l10 = (l12 == 32) ? 1 : 0;
+       if (l13 != 32) { break L3; }
+       l4 = (l11 + Integer.MIN_VALUE < 2147483632) ? 3L : 4L;
+       break L13;
       }
-      if (l2 == 0) { break L178; }
-      if (l24 != 11) { break L177; }
+      l10 = (((l11 = (l10 << 6) & 1984) | l12) == 32) ? 1 : 0;
+      if ((l11 | ((b[((int) l1) - 58911] & 0xff) & 63)) != 32) { break L3; }
+      l4 = 2L;
+      break L13;
      }
-     L180: {
-      if ((l11 = Words.get64(b, ((int) l7) - 59504)) == 0L) { break L180; }
-      L181: {
-       if (Core1.f29(m, l16, l11, 83384L) == 0) { break L181; }
-       if (Core1.f29(m, l16, l11, 83388L) == 0) { break L180; }
-      }
-      Core2.f50(m, l7 + 936L, l7 + 152L, l25);
-     }
-     if (l2 == 0) { break L2; }
+     if ((l10 = (l11 == 32) ? 1 : 0) == 0) { break L3; }
+     l4 = 1L;
     }
-    Core2.f50(m, l7 + 936L, l7 + 152L, l24);
-    break L2;
+    l2 = l2 - l4;
+    l1 = l1 + l4;
    }
-   L182: {
-    if (l11 + Long.MIN_VALUE >= l1 + Long.MIN_VALUE) { break L182; }
-    L183: while (true) {
-     l8 = l8 + 1L;
-     if ((l11 = Words.get64(b, ((int) (((((b[((int) (l10 + l11)) - 60720] & 0xff) >>> 1) & 0xffffffffL) & 120L) + 66680L)) - 60720) + l11) + Long.MIN_VALUE < l1 + Long.MIN_VALUE) { continue L183; }
-     break L183;
-    }
-   }
-   l24 = 3;
-   L184: {
-    L185: {
-     L186: {
-      switch (l2) {
-      case 1: break L184;
-      case 2: break L185;
-      default: break L186;
+   l15 = l10 ^ 1;
+   l4 = -2816L;
+   L20: {
+    L21: while (true) {
+     Words.put64(b, ((int) l3) - 58888, 0L);
+     Words.put64(b, ((int) l3) - 58896, 0L);
+     Words.put64(b, ((int) l3) - 58904, 0L);
+     f196(m, l3 + 8L, l7 = Words.get64(b, ((int) (l4 + 96768L)) - 58912), l8 = Words.get64(b, ((int) (l4 + 96776L)) - 58912), l1, l2);
+     L22: {
+      if ((b[((int) l3) - 58904] & 0xff) != 1) { break L22; }
+      l6 = Words.get64(b, ((int) l3) - 58896);
+      L23: {
+       L24: {
+        if ((l5 = Words.get64(b, ((int) l3) - 58888)) == 0L) { break L24; }
+        l11 = (l12 = (int) b[((int) l6) - 58912]) & 255;
+        l9 = 1L;
+        L25: {
+         if (l12 > -1) { break L25; }
+         l13 = (b[((int) l6) - 58911] & 0xff) & 63;
+         L26: {
+          if (l12 + Integer.MIN_VALUE > 2147483615) { break L26; }
+          l11 = ((l11 << 6) & 1984) | l13;
+          l9 = 2L;
+          break L25;
+         }
+         l14 = (b[((int) l6) - 58910] & 0xff) & 63;
+         L27: {
+          if (l12 + Integer.MIN_VALUE > 2147483631) { break L27; }
+          l11 = ((l13 << 6) | ((l11 << 12) & 61440)) | l14;
+          l9 = 3L;
+          break L25;
+         }
+         l11 = ((l14 << 6) | ((l13 << 12) | ((l11 << 18) & 1835008))) | ((b[((int) l6) - 58909] & 0xff) & 63);
+         l9 = 4L;
+        }
+        if (((l11 & 2097119) + -65) + Integer.MIN_VALUE < -2147483622) { break L22; }
+        if (l11 == 95) { break L22; }
+        if ((l11 & 2097150) == 178) { break L22; }
+        if ((l12 = l11 + -48) + Integer.MIN_VALUE < -2147483638) { break L22; }
+        if ((l11 + -65296) + Integer.MIN_VALUE < -2147483638) { break L22; }
+        if (l5 == l9) { break L24; }
+        if (l12 + Integer.MIN_VALUE < 2147483645) { break L24; }
+        l11 = (l12 = (int) b[((int) (l9 = l6 + l9)) - 58912]) & 255;
+        L28: {
+         if (l12 > -1) { break L28; }
+         l13 = (b[((int) l9) - 58911] & 0xff) & 63;
+         L29: {
+          if (l12 + Integer.MIN_VALUE > 2147483615) { break L29; }
+          l11 = ((l11 << 6) & 1984) | l13;
+          break L28;
+         }
+         l14 = (b[((int) l9) - 58910] & 0xff) & 63;
+         L30: {
+          if (l12 + Integer.MIN_VALUE > 2147483631) { break L30; }
+          l11 = ((l13 << 6) | ((l11 << 12) & 61440)) | l14;
+          break L28;
+         }
+         l11 = ((l14 << 6) | ((l13 << 12) | ((l11 << 18) & 1835008))) | ((b[((int) l9) - 58909] & 0xff) & 63);
+        }
+        L31: {
+         if (((((l11 = (l11 & -33) + -65) + Integer.MIN_VALUE < -2147483622) ? 1 : 0) | l15) != 0) { break L31; }
+         if (l8 == 0L) { break L20; }
+         break L23;
+        }
+        if (((l10 ^ -1) & ((l11 + Integer.MIN_VALUE > -2147483623) ? 1 : 0)) != 0) { break L20; }
+        break L22;
+       }
+       if ((l10 & ((l8 != 0L) ? 1 : 0)) == 0) { break L20; }
       }
+      l11 = (l12 = (int) b[((int) l7) - 58912]) & 255;
+      l9 = 1L;
+      L32: {
+       if (l12 > -1) { break L32; }
+       l13 = (b[((int) l7) - 58911] & 0xff) & 63;
+       L33: {
+        if (l12 + Integer.MIN_VALUE > 2147483615) { break L33; }
+        l11 = ((l11 << 6) & 1984) | l13;
+        l9 = 2L;
+        break L32;
+       }
+       l14 = (b[((int) l7) - 58910] & 0xff) & 63;
+       L34: {
+        if (l12 + Integer.MIN_VALUE > 2147483631) { break L34; }
+        l11 = ((l13 << 6) | ((l11 << 12) & 61440)) | l14;
+        l9 = 3L;
+        break L32;
+       }
+       l11 = ((l14 << 6) | ((l13 << 12) | ((l11 << 18) & 1835008))) | ((b[((int) l7) - 58909] & 0xff) & 63);
+       l9 = 4L;
+      }
+      if (l8 != l9) { break L20; }
+      if (((l11 & 2097119) + -65) + Integer.MIN_VALUE >= -2147483622) { break L20; }
      }
-     l24 = (l8 + Long.MIN_VALUE <= l12 + Long.MIN_VALUE) ? 1 : 0;
+     l5 = 0L;
+     if ((l4 = l4 + 32L) != 0L) { continue L21; }
+     break L21;
     }
-    Core2.f50(m, l7 + 1232L, l7 + 152L, l24);
-    break L2;
-   }
-   Core2.f50(m, l7 + 1232L, l7 + 152L, 2);
-   Core1.f30(m, l7 + 8L, l10, l1, l12);
-   L187: {
-    if (Core1.f31(m, l11 = Words.get64(b, ((int) l7) - 60712), l8 = Words.get64(b, ((int) l7) - 60704), 70241L, 3L) != 0) { break L187; }
-    if (Core1.f31(m, l11, l8, 70244L, 3L) != 0) { break L187; }
-    if (Core1.f31(m, l11, l8, 70247L, 3L) != 0) { break L187; }
-    if (Core1.f31(m, l11, l8, 70250L, 3L) != 0) { break L187; }
-    if (Core1.f31(m, l11, l8, 70253L, 3L) != 0) { break L187; }
-    if (Core1.f31(m, l11, l8, 70256L, 3L) != 0) { break L187; }
-    if (Core1.f31(m, l11, l8, 70259L, 3L) != 0) { break L187; }
-    if (Core1.f31(m, l11, l8, 70262L, 3L) != 0) { break L187; }
-    if (Core1.f31(m, l11, l8, 70265L, 3L) != 0) { break L187; }
-    if (Core1.f31(m, l11, l8, 70268L, 3L) != 0) { break L187; }
-    if (Core1.f31(m, l11, l8, 70271L, 3L) != 0) { break L187; }
-    if (Core1.f31(m, l11, l8, 70274L, 3L) != 0) { break L187; }
-    if (Core1.f31(m, l11, l8, 70277L, 3L) != 0) { break L187; }
-    L188: while (true) {
-     if (l8 == 0L) { break L2; }
-     l2 = (l24 = (int) b[((int) l11) - 60720]) & 255;
-     l1 = 1L;
-     L189: {
-      if (l24 > -1) { break L189; }
-      l3 = (b[((int) l11) - 60719] & 0xff) & 63;
-      L190: {
-       if (l24 + Integer.MIN_VALUE > 2147483615) { break L190; }
-       l2 = ((l2 << 6) & 1984) | l3;
-       l1 = 2L;
-       break L189;
-      }
-      l25 = (b[((int) l11) - 60718] & 0xff) & 63;
-      L191: {
-       if (l24 + Integer.MIN_VALUE > 2147483631) { break L191; }
-       l2 = ((l3 << 6) | ((l2 << 12) & 61440)) | l25;
-       l1 = 3L;
-       break L189;
-      }
-      l2 = ((l25 << 6) | ((l3 << 12) | ((l2 << 18) & 1835008))) | ((b[((int) l11) - 60717] & 0xff) & 63);
-      l1 = 4L;
-     }
-     if ((l2 + -48) + Integer.MIN_VALUE < -2147483638) { break L187; }
-     l8 = l8 - l1;
-     l11 = l11 + l1;
-     if ((l2 + -65296) + Integer.MIN_VALUE > -2147483639) { continue L188; }
-     break L188;
-    }
-   }
-   Core2.f50(m, l7 + 1232L, l7 + 152L, 21);
-  }
-  final int t192 = (int) l6;
-  final long t193 = l11 = Words.get64(b, ((int) l7) - 60552);
-  final int t194 = l2 = (l11 + Long.MIN_VALUE < -9223372036854775295L) ? 1 : 0;
-  Words.put64(b, t192 - 60720, l11 = t194 != 0 ? t193 : 0L);
-  L195: {
-   if (l5 + Long.MIN_VALUE >= l11 + Long.MIN_VALUE) { break L195; }
-   l24 = 6;
-   break L1;
-  }
-  L196: {
-   L197: {
-    final long t198 = l6 = l4 + (l12 = (l4 == 0L) ? 4096L : 0L);
-    final long t199 = l7 + 176L;
-    final int t200 = l2;
-    if ((t198 - (l0 = t200 != 0 ? t199 : 83372L)) + Long.MIN_VALUE >= l11 + Long.MIN_VALUE) { break L197; }
-    l10 = l11 & 3L;
+    l7 = 0L;
     l8 = 0L;
-    L201: {
-     if (l11 + Long.MIN_VALUE < -9223372036854775804L) { break L201; }
-     l5 = l11 & -4L;
-     l8 = 0L;
-     L202: while (true) {
-      b[((int) (l11 = l6 + l8)) - 60720] = (byte) (b[((int) (l1 = l0 + l8)) - 60720] & 0xff);
-      b[((int) (l11 + 1L)) - 60720] = (byte) (b[((int) (l1 + 1L)) - 60720] & 0xff);
-      b[((int) (l11 + 2L)) - 60720] = (byte) (b[((int) (l1 + 2L)) - 60720] & 0xff);
-      b[((int) (l11 + 3L)) - 60720] = (byte) (b[((int) (l1 + 3L)) - 60720] & 0xff);
-      if (l5 != (l8 = l8 + 4L)) { continue L202; }
-      break L202;
-     }
-     if (l10 == 0L) { break L196; }
-    }
-    l11 = l0 + l8;
-    l8 = l4 + (l12 + l8);
-    L203: while (true) {
-     b[((int) l8) - 60720] = (byte) (b[((int) l11) - 60720] & 0xff);
-     l8 = l8 + 1L;
-     l11 = l11 + 1L;
-     if ((l10 = l10 + -1L) != 0L) { continue L203; }
-     break L196;
-    }
+    l4 = 0L;
+    l6 = 0L;
+    break L1;
    }
-   if (l11 == 0L) { break L196; }
-   m.copy((int) l6, (int) l0, (int) l11);
-   l24 = 0;
+   l8 = Words.get64(b, ((int) (l4 + 96792L)) - 58912);
+   l7 = Words.get64(b, ((int) (l4 + 96784L)) - 58912);
+   l4 = 1L;
    break L1;
   }
-  l24 = 0;
+  l4 = 1L;
+  l8 = 3L;
+  l7 = 93944L;
  }
- m.g0 = l7 + 1328L;
- return l24;
+ Words.put64(b, ((int) l0) - 58912, l4);
+ Words.put64(b, ((int) (l0 + 32L)) - 58912, l5);
+ Words.put64(b, ((int) (l0 + 24L)) - 58912, l6);
+ Words.put64(b, ((int) (l0 + 16L)) - 58912, l8);
+ Words.put64(b, ((int) (l0 + 8L)) - 58912, l7);
+ m.g0 = l3 + 32L;
 }
 
-static int f227(State m, int l0, int l1, int l2, int l3, long l4, long l5, long l6) {
+static void f193(State m, long l0, int l1, int l2, long l3, long l4) {
  final byte[] b = m.bytes;
+ long l5 = 0;
+ long l6 = 0;
+ long l7 = 0;
+ long l8 = 0;
+ long l9 = 0;
+ int l10 = 0;
+ int l11 = 0;
+ int l12 = 0;
+ int l13 = 0;
+ m.g0 = l5 = m.g0 - 112L;
+ L1: {
+  if ((l5 = l5) < 16L) { break L1; }
+  l6 = 0L;
+  Words.put64(b, ((int) l5) - 58848, 0L);
+  Words.put64(b, ((int) l5) - 58856, 0L);
+  Words.put64(b, ((int) l5) - 58864, 0L);
+  Words.put64(b, ((int) l5) - 58872, 0L);
+  Words.put64(b, ((int) l5) - 58880, 0L);
+  Words.put64(b, ((int) l5) - 58896, 0L);
+  Words.put64(b, ((int) l5) - 58888, 0L);
+  Words.put64(b, ((int) l5) - 58912, 0L);
+  Words.put64(b, ((int) l5) - 58904, 0L);
+  f204(m, l5 + 32L, l1, l2, l3, l4);
+  L2: {
+   L3: {
+    if ((b[((int) l5) - 58880] & 0xff) != 1) { break L3; }
+    Words.put64(b, ((int) l5) - 58888, Words.get64(b, ((int) l5) - 58864));
+    Words.put64(b, ((int) l5) - 58896, Words.get64(b, ((int) l5) - 58872));
+    Words.put64(b, ((int) l5) - 58912, Words.get64(b, ((int) l5) - 58856));
+    Words.put64(b, ((int) l5) - 58904, Words.get64(b, ((int) l5) - 58848));
+    l3 = 83372L;
+    l4 = 1L;
+    break L2;
+   }
+   Words.put64(b, ((int) l5) - 58808, 0L);
+   Words.put64(b, ((int) l5) - 58816, 0L);
+   Words.put64(b, ((int) l5) - 58824, 0L);
+   Words.put64(b, ((int) l5) - 58832, 0L);
+   Words.put64(b, ((int) l5) - 58840, 0L);
+   L4: {
+    if (l4 == 0L) { break L4; }
+    l10 = (l2 = (int) b[((int) l3) - 58912]) & 255;
+    L5: {
+     L6: {
+      if (l2 > -1) { break L6; }
+      l11 = (b[((int) l3) - 58911] & 0xff) & 63;
+      L7: {
+       if (l2 + Integer.MIN_VALUE < 2147483616) { break L7; }
+       l12 = (b[((int) l3) - 58910] & 0xff) & 63;
+       L8: {
+        L9: {
+         if (l2 + Integer.MIN_VALUE > 2147483631) { break L9; }
+         l10 = ((l11 << 6) | ((l10 << 12) & 61440)) | l12;
+         break L8;
+        }
+        l10 = ((l12 << 6) | ((l11 << 12) | ((l10 << 18) & 1835008))) | ((b[((int) l3) - 58909] & 0xff) & 63);
+       }
+       if (f188(m, l10) == 0) { break L4; }
+       l7 = (l2 + Integer.MIN_VALUE < 2147483632) ? 3L : 4L;
+       break L5;
+      }
+      if (f188(m, ((l10 << 6) & 1984) | l11) == 0) { break L4; }
+      l7 = 2L;
+      break L5;
+     }
+     if (f188(m, l10) == 0) { break L4; }
+     l7 = 1L;
+    }
+    l6 = l3 + l7;
+    l8 = 0L;
+    L10: {
+     if ((l7 = l4 - l7) == 0L) { break L10; }
+     L11: {
+      if ((l2 = (int) b[((int) l6) - 58912]) <= -1) { break L11; }
+      l8 = l7;
+      break L10;
+     }
+     L12: {
+      if (l2 + Integer.MIN_VALUE >= 2147483616) { break L12; }
+      l8 = l7;
+      break L10;
+     }
+     l10 = l2 & 255;
+     l11 = (b[((int) l6) - 58911] & 0xff) & 63;
+     l12 = (b[((int) l6) - 58910] & 0xff) & 63;
+     L13: {
+      L14: {
+       if (l2 + Integer.MIN_VALUE > 2147483631) { break L14; }
+       l13 = ((l11 << 6) | ((l10 << 12) & 61440)) | l12;
+       break L13;
+      }
+      l13 = ((l12 << 6) | ((l11 << 12) | ((l10 << 18) & 1835008))) | ((b[((int) l6) - 58909] & 0xff) & 63);
+     }
+     L15: {
+      if ((l13 + -19968) + Integer.MIN_VALUE > -2147462657) { break L15; }
+      l6 = l6 + (l9 = (l2 + Integer.MIN_VALUE < 2147483632) ? 3L : 4L);
+      if ((l7 = l7 - l9) == 0L) { break L10; }
+      L16: {
+       if ((l10 = b[((int) l6) - 58912] & 0xff) + Integer.MIN_VALUE >= -2147483424) { break L16; }
+       l8 = l7;
+       break L10;
+      }
+      l12 = (b[((int) l6) - 58910] & 0xff) & 63;
+      l11 = (b[((int) l6) - 58911] & 0xff) & 63;
+      l2 = l10;
+     }
+     L17: {
+      L18: {
+       if ((l2 & 255) + Integer.MIN_VALUE > -2147483409) { break L18; }
+       l10 = (((l10 << 12) & 61440) | (l11 << 6)) | l12;
+       break L17;
+      }
+      l10 = ((((l10 << 18) & 1835008) | (l11 << 12)) | (l12 << 6)) | ((b[((int) l6) - 58909] & 0xff) & 63);
+     }
+     L19: {
+      if ((l10 + -19968) + Integer.MIN_VALUE <= -2147462657) { break L19; }
+      l8 = l7;
+      break L10;
+     }
+     l8 = l7 - (l9 = ((l2 & 255) + Integer.MIN_VALUE < -2147483408) ? 3L : 4L);
+     l6 = l6 + l9;
+    }
+    f204(m, l5 + 72L, l1, 1, l6, l8);
+    if ((b[((int) l5) - 58840] & 0xff) != 1) { break L4; }
+    Words.put64(b, ((int) l5) - 58888, Words.get64(b, ((int) l5) - 58824));
+    Words.put64(b, ((int) l5) - 58896, Words.get64(b, ((int) l5) - 58832));
+    Words.put64(b, ((int) l5) - 58912, Words.get64(b, ((int) l5) - 58816));
+    Words.put64(b, ((int) l5) - 58904, Words.get64(b, ((int) l5) - 58808));
+    l6 = l4 - l8;
+    l4 = 1L;
+    break L2;
+   }
+   l4 = 0L;
+   Words.put64(b, ((int) l5) - 58888, 0L);
+   Words.put64(b, ((int) l5) - 58896, 0L);
+   Words.put64(b, ((int) l5) - 58912, 0L);
+   Words.put64(b, ((int) l5) - 58904, 0L);
+   l3 = 0L;
+   l6 = 0L;
+  }
+  Words.put64(b, ((int) l0) - 58912, l4);
+  Words.put64(b, ((int) (l0 + 16L)) - 58912, l6);
+  Words.put64(b, ((int) (l0 + 8L)) - 58912, l3);
+  Words.put64(b, ((int) (l0 + 24L)) - 58912, Words.get64(b, ((int) l5) - 58896));
+  Words.put64(b, ((int) (l0 + 32L)) - 58912, Words.get64(b, ((int) l5) - 58888));
+  Words.put64(b, ((int) (l0 + 40L)) - 58912, Words.get64(b, ((int) l5) - 58912));
+  Words.put64(b, ((int) (l0 + 48L)) - 58912, Words.get64(b, ((int) l5) - 58904));
+  m.g0 = l5 + 112L;
+  return;
+ }
+ throw State.trap();
+}
+
+static int f194(State m, long l0, long l1) {
+ final byte[] b = m.bytes;
+ long l2 = 0;
+ long l3 = 0;
+ int l4 = 0;
+ int l5 = 0;
+ int l6 = 0;
+ int l7 = 0;
+ L1: {
+  if (m.g0 < 16L) { break L1; }
+  L2: {
+   if (!(l1 == 0L)) { break L2; }
+   return 0;
+  }
+  L3: {
+   if ((l4 = (int) b[((int) ((l2 = l0 + l1) + -1L)) - 58912]) >= 0) { break L3; }
+   l3 = -2L;
+   L4: {
+    if ((b[((int) (l2 + -2L)) - 58912] & 0xff) + Integer.MIN_VALUE > -2147483457) { break L4; }
+    l3 = ((b[((int) (l2 + -3L)) - 58912] & 0xff) + Integer.MIN_VALUE > -2147483457) ? -3L : -4L;
+   }
+   l4 = (l5 = (int) b[((int) (l1 = (l0 + l3) + l1)) - 58912]) & 255;
+   if (l5 > -1) { break L3; }
+   l6 = (b[((int) l1) - 58911] & 0xff) & 63;
+   L5: {
+    if (l5 + Integer.MIN_VALUE > 2147483615) { break L5; }
+    l4 = ((l4 << 6) & 1984) | l6;
+    break L3;
+   }
+   l7 = (b[((int) l1) - 58910] & 0xff) & 63;
+   L6: {
+    if (l5 + Integer.MIN_VALUE > 2147483631) { break L6; }
+    l4 = ((l6 << 6) | ((l4 << 12) & 61440)) | l7;
+    break L3;
+   }
+   l4 = ((l7 << 6) | ((l6 << 12) | ((l4 << 18) & 1835008))) | ((b[((int) l1) - 58909] & 0xff) & 63);
+  }
+  l6 = 1;
+  L7: {
+   if (((l4 & -33) + -65) + Integer.MIN_VALUE < -2147483622) { break L7; }
+   if ((l4 + -48) + Integer.MIN_VALUE < -2147483638) { break L7; }
+   if ((l4 + -65296) + Integer.MIN_VALUE < -2147483638) { break L7; }
+   l1 = -76L;
+   L8: while (true) {
+    if ((l6 = (Words.get32(b, ((int) (l1 + 87356L)) - 58912) == l4) ? 1 : 0) != 0) { break L7; }
+    l5 = (l1 != 0L) ? 1 : 0;
+    l1 = l1 + 4L;
+    if (l5 != 0) { continue L8; }
+    break L8;
+   }
+  }
+  final int t9 = l6;
+  return t9;
+ }
+ throw State.trap();
+}
+
+static int f195(State m, long l0, long l1) {
+ final byte[] b = m.bytes;
+ int l2 = 0;
+ int l3 = 0;
+ int l4 = 0;
+ int l5 = 0;
+ long l6 = 0;
+ long l7 = 0;
+ L1: {
+  L2: {
+   L3: {
+    L4: {
+     if (m.g0 < 16L) { break L4; }
+     L5: {
+      if (!(l1 == 0L)) { break L5; }
+      return 0;
+     }
+     l3 = (l2 = (int) b[((int) l0) - 58912]) & 255;
+     l6 = 1L;
+     L6: {
+      if (l2 > -1) { break L6; }
+      l4 = (b[((int) l0) - 58911] & 0xff) & 63;
+      L7: {
+       if (l2 + Integer.MIN_VALUE > 2147483615) { break L7; }
+       l3 = ((l3 << 6) & 1984) | l4;
+       l6 = 2L;
+       break L6;
+      }
+      l5 = (b[((int) l0) - 58910] & 0xff) & 63;
+      L8: {
+       if (l2 + Integer.MIN_VALUE > 2147483631) { break L8; }
+       l3 = ((l4 << 6) | ((l3 << 12) & 61440)) | l5;
+       l6 = 3L;
+       break L6;
+      }
+      l3 = ((l5 << 6) | ((l4 << 12) | ((l3 << 18) & 1835008))) | ((b[((int) l0) - 58909] & 0xff) & 63);
+      l6 = 4L;
+     }
+     l5 = 1;
+     if (((l3 & 2097119) + -65) + Integer.MIN_VALUE < -2147483622) { break L1; }
+     if ((l3 + -48) + Integer.MIN_VALUE < -2147483638) { break L1; }
+     if ((l3 + -65296) + Integer.MIN_VALUE < -2147483638) { break L1; }
+     l7 = l0 + l6;
+     l0 = -52L;
+     L9: {
+      L10: while (true) {
+       if ((l4 = (Words.get32(b, ((int) (l0 + 87412L)) - 58912) == l3) ? 1 : 0) != 0) { break L9; }
+       l2 = (l0 != 0L) ? 1 : 0;
+       l0 = l0 + 4L;
+       if (l2 != 0) { continue L10; }
+       break L10;
+      }
+     }
+     if (l4 != 0) { break L1; }
+     l2 = 1;
+     if (l3 + Integer.MIN_VALUE > -2147483590) { break L3; }
+     if (((1L << (l3 & 0xffffffffL)) & 288335929267978240L) == 0L) { break L3; }
+     break L2;
+    }
+    throw State.trap();
+   }
+   if (l3 == 126) { break L2; }
+   if (l3 == 65374) { break L2; }
+   l2 = 0;
+  }
+  L11: {
+   if (l1 != l6) { break L11; }
+   return 0;
+  }
+  l5 = 0;
+  if (l2 == 0) { break L1; }
+  l2 = (l3 = (int) b[((int) l7) - 58912]) & 255;
+  L12: {
+   if (l3 > -1) { break L12; }
+   l4 = (b[((int) l7) - 58911] & 0xff) & 63;
+   L13: {
+    if (l3 + Integer.MIN_VALUE > 2147483615) { break L13; }
+    l2 = ((l2 << 6) & 1984) | l4;
+    break L12;
+   }
+   l5 = (b[((int) l7) - 58910] & 0xff) & 63;
+   L14: {
+    if (l3 + Integer.MIN_VALUE > 2147483631) { break L14; }
+    l2 = ((l4 << 6) | ((l2 << 12) & 61440)) | l5;
+    break L12;
+   }
+   l2 = ((l5 << 6) | ((l4 << 12) | ((l2 << 18) & 1835008))) | ((b[((int) l7) - 58909] & 0xff) & 63);
+  }
+  l5 = 1;
+  if (((l2 & 2097119) + -65) + Integer.MIN_VALUE < -2147483622) { break L1; }
+  l5 = (((l2 + -48) + Integer.MIN_VALUE < -2147483638) | ((l2 + -65296) + Integer.MIN_VALUE < -2147483638)) ? 1 : 0;
+ }
+ return l5;
+}
+
+static void f196(State m, long l0, long l1, long l2, long l3, long l4) {
+ final byte[] b = m.bytes;
+ int l5 = 0;
+ int l6 = 0;
+ int l7 = 0;
+ int l8 = 0;
+ int l9 = 0;
+ long l10 = 0;
+ long l11 = 0;
+ L1: {
+  L2: {
+   if (m.g0 < 16L) { break L2; }
+   L3: {
+    L4: while (true) {
+     if (l2 == 0L) { break L3; }
+     l6 = (l5 = (int) b[((int) l1) - 58912]) & 255;
+     l10 = 1L;
+     L5: {
+      if (l5 > -1) { break L5; }
+      l7 = (b[((int) l1) - 58911] & 0xff) & 63;
+      L6: {
+       if (l5 + Integer.MIN_VALUE > 2147483615) { break L6; }
+       l6 = ((l6 << 6) & 1984) | l7;
+       l10 = 2L;
+       break L5;
+      }
+      l8 = (b[((int) l1) - 58910] & 0xff) & 63;
+      L7: {
+       if (l5 + Integer.MIN_VALUE > 2147483631) { break L7; }
+       l6 = ((l7 << 6) | ((l6 << 12) & 61440)) | l8;
+       l10 = 3L;
+       break L5;
+      }
+      l6 = ((l8 << 6) | ((l7 << 12) | ((l6 << 18) & 1835008))) | ((b[((int) l1) - 58909] & 0xff) & 63);
+      l10 = 4L;
+     }
+     if (l4 == 0L) { break L1; }
+     l5 = (l7 = (int) b[((int) l3) - 58912]) & 255;
+     l11 = 1L;
+     L8: {
+      if (l7 > -1) { break L8; }
+      l8 = (b[((int) l3) - 58911] & 0xff) & 63;
+      L9: {
+       if (l7 + Integer.MIN_VALUE > 2147483615) { break L9; }
+       l5 = ((l5 << 6) & 1984) | l8;
+       l11 = 2L;
+       break L8;
+      }
+      l9 = (b[((int) l3) - 58910] & 0xff) & 63;
+      L10: {
+       if (l7 + Integer.MIN_VALUE > 2147483631) { break L10; }
+       l5 = ((l8 << 6) | ((l5 << 12) & 61440)) | l9;
+       l11 = 3L;
+       break L8;
+      }
+      l5 = ((l9 << 6) | ((l8 << 12) | ((l5 << 18) & 1835008))) | ((b[((int) l3) - 58909] & 0xff) & 63);
+      l11 = 4L;
+     }
+     l2 = l2 - l10;
+     l1 = l1 + l10;
+     l4 = l4 - l11;
+     l3 = l3 + l11;
+     if (l6 == l5) { continue L4; }
+     break L4;
+    }
+    Words.put64(b, ((int) l0) - 58896, 0L);
+    Words.put64(b, ((int) l0) - 58904, 0L);
+    Words.put64(b, ((int) l0) - 58912, 0L);
+    return;
+   }
+   Words.put64(b, ((int) l0) - 58912, 1L);
+   Words.put64(b, ((int) (l0 + 16L)) - 58912, l4);
+   Words.put64(b, ((int) (l0 + 8L)) - 58912, l3);
+   return;
+  }
+  throw State.trap();
+ }
+ Words.put64(b, ((int) l0) - 58896, 0L);
+ Words.put64(b, ((int) l0) - 58904, 0L);
+ Words.put64(b, ((int) l0) - 58912, 0L);
+}
+
+static int f197(State m, long l0, long l1, long l2) {
+ final byte[] b = m.bytes;
+ long l3 = 0;
+ long l4 = 0;
+ long l5 = 0;
+ long l6 = 0;
+ long l7 = 0;
+ int l8 = 0;
+ int l9 = 0;
+ int l10 = 0;
+ int l11 = 0;
+ int l12 = 0;
+ int l13 = 0;
+ m.g0 = l3 = m.g0 - 80L;
+ L1: {
+  L2: {
+   L3: {
+    L4: {
+     if ((l3 = l3) < 16L) { break L4; }
+     l4 = Words.get64(b, ((int) l2) - 58864);
+     l5 = Words.get64(b, ((int) l2) - 58872);
+     Words.put32(b, ((int) l3) - 58896, l8 = Words.get32(b, ((int) l2) - 58896));
+     Words.put64(b, ((int) l3) - 58864, l4);
+     Words.put64(b, ((int) l3) - 58872, l5);
+     Words.put64(b, ((int) l3) - 58904, Words.get64(b, ((int) l2) - 58904));
+     Words.put64(b, ((int) l3) - 58912, Words.get64(b, ((int) l2) - 58912));
+     Words.put64(b, ((int) l3) - 58892, Words.get64(b, ((int) l2) - 58892));
+     Words.put64(b, ((int) l3) - 58884, Words.get64(b, ((int) l2) - 58884));
+     Words.put32(b, ((int) l3) - 58876, Words.get32(b, ((int) l2) - 58876));
+     l9 = 0;
+     if (f199(m, l3) == 0) { break L1; }
+     l2 = -672L;
+     L5: {
+      L6: while (true) {
+       L7: {
+        if ((l6 = l2 + 16L) != 0L) { break L7; }
+        if (l1 == 0L) { break L3; }
+        l10 = 20;
+        l2 = l1;
+        break L5;
+       }
+       Words.put64(b, ((int) l3) - 58840, 0L);
+       Words.put64(b, ((int) l3) - 58848, 0L);
+       Words.put64(b, ((int) l3) - 58856, 0L);
+       f196(m, l3 + 56L, Words.get64(b, ((int) (l2 + 88344L)) - 58912), Words.get64(b, ((int) (l2 + 88352L)) - 58912), l5, l4);
+       l9 = 1;
+       l2 = l6;
+       if ((b[((int) l3) - 58856] & 0xff) != 1) { continue L6; }
+       break L1;
+      }
+     }
+     L8: while (true) {
+      L9: {
+       if ((l11 = (int) b[((int) (l0 + (l6 = l2 + -1L))) - 58912]) >= 0) { break L9; }
+       l6 = -2L;
+       L10: {
+        if ((b[((int) ((l7 = l0 + l2) + -2L)) - 58912] & 0xff) + Integer.MIN_VALUE > -2147483457) { break L10; }
+        l6 = ((b[((int) (l7 + -3L)) - 58912] & 0xff) + Integer.MIN_VALUE > -2147483457) ? -3L : -4L;
+       }
+       l11 = (l9 = (int) b[((int) (l7 = l0 + (l6 = l6 + l2))) - 58912]) & 255;
+       if (l9 > -1) { break L9; }
+       l12 = (b[((int) l7) - 58911] & 0xff) & 63;
+       L11: {
+        if (l9 + Integer.MIN_VALUE > 2147483615) { break L11; }
+        l11 = ((l11 << 6) & 1984) | l12;
+        break L9;
+       }
+       l13 = (b[((int) l7) - 58910] & 0xff) & 63;
+       L12: {
+        if (l9 + Integer.MIN_VALUE > 2147483631) { break L12; }
+        l11 = ((l12 << 6) | ((l11 << 12) & 61440)) | l13;
+        break L9;
+       }
+       l11 = ((l13 << 6) | ((l12 << 12) | ((l11 << 18) & 1835008))) | ((b[((int) l7) - 58909] & 0xff) & 63);
+      }
+      Words.put64(b, ((int) l3) - 58840, 0L);
+      Words.put64(b, ((int) l3) - 58848, 0L);
+      Words.put64(b, ((int) l3) - 58856, 0L);
+      f203(m, l3 + 56L, 88568L, 6L, l0, l2);
+      l9 = 1;
+      if ((b[((int) l3) - 58856] & 0xff) == 1) { break L1; }
+      L13: {
+       L14: {
+        if (l11 == 26159) { break L14; }
+        if (l11 == 28858) { break L14; }
+        if (l11 == 20026) { break L14; }
+        if (l11 == 45) { break L14; }
+        if (l11 == 32) { break L14; }
+        if (l11 == 33287) { break L14; }
+        if (l11 == 19982) { break L14; }
+        if (l11 == 21644) { break L14; }
+        if (l11 == 65292) { break L14; }
+        if (l11 == 12289) { break L14; }
+        if ((l11 + -48) + Integer.MIN_VALUE < -2147483636) { break L14; }
+        if ((l11 + -65296) + Integer.MIN_VALUE >= -2147483636) { break L13; }
+       }
+       if (l6 == 0L) { break L13; }
+       l2 = l6;
+       if (((l10 = l10 + -1) & 255) != 0) { continue L8; }
+      }
+      break L8;
+     }
+     l9 = 0;
+     if (l8 == 45) { break L1; }
+     if (((int) b[((int) ((l2 = l0 + l1) + -1L)) - 58912]) > -1) { break L2; }
+     l6 = -2L;
+     L15: {
+      if ((b[((int) (l2 + -2L)) - 58912] & 0xff) + Integer.MIN_VALUE > -2147483457) { break L15; }
+      l6 = ((b[((int) (l2 + -3L)) - 58912] & 0xff) + Integer.MIN_VALUE > -2147483457) ? -3L : -4L;
+     }
+     if ((l9 = (int) b[((int) (l2 = (l0 + l6) + l1)) - 58912]) > -1) { break L2; }
+     if (l9 + Integer.MIN_VALUE < 2147483616) { break L2; }
+     l11 = l9 & 255;
+     l10 = (b[((int) l2) - 58911] & 0xff) & 63;
+     l8 = (b[((int) l2) - 58910] & 0xff) & 63;
+     L16: {
+      L17: {
+       if (l9 + Integer.MIN_VALUE > 2147483631) { break L17; }
+       l11 = ((l10 << 6) | ((l11 << 12) & 61440)) | l8;
+       break L16;
+      }
+      l11 = ((l8 << 6) | ((l10 << 12) | ((l11 << 18) & 1835008))) | ((b[((int) l2) - 58909] & 0xff) & 63);
+     }
+     l9 = 1;
+     if (l11 == 20197) { break L1; }
+     break L2;
+    }
+    throw State.trap();
+   }
+   l9 = 0;
+   if (l8 == 45) { break L1; }
+  }
+  Words.put64(b, ((int) l3) - 58840, 0L);
+  Words.put64(b, ((int) l3) - 58848, 0L);
+  Words.put64(b, ((int) l3) - 58856, 0L);
+  f203(m, l3 + 56L, 88704L, 6L, l0, l1);
+  l9 = 1;
+  if ((b[((int) l3) - 58856] & 0xff) == 1) { break L1; }
+  Words.put64(b, ((int) l3) - 58840, 0L);
+  Words.put64(b, ((int) l3) - 58848, 0L);
+  Words.put64(b, ((int) l3) - 58856, 0L);
+  f203(m, l3 + 56L, 88710L, 9L, l0, l1);
+  l9 = 1;
+  if ((b[((int) l3) - 58856] & 0xff) == 1) { break L1; }
+  Words.put64(b, ((int) l3) - 58840, 0L);
+  Words.put64(b, ((int) l3) - 58848, 0L);
+  Words.put64(b, ((int) l3) - 58856, 0L);
+  f203(m, l3 + 56L, 88719L, 9L, l0, l1);
+  l9 = 1;
+  if ((b[((int) l3) - 58856] & 0xff) == 1) { break L1; }
+  Words.put64(b, ((int) l3) - 58840, 0L);
+  Words.put64(b, ((int) l3) - 58848, 0L);
+  Words.put64(b, ((int) l3) - 58856, 0L);
+  f203(m, l3 + 56L, 88728L, 9L, l0, l1);
+  l9 = 1;
+  if ((b[((int) l3) - 58856] & 0xff) == 1) { break L1; }
+  Words.put64(b, ((int) l3) - 58840, 0L);
+  Words.put64(b, ((int) l3) - 58848, 0L);
+  Words.put64(b, ((int) l3) - 58856, 0L);
+  f203(m, l3 + 56L, 88737L, 9L, l0, l1);
+  l9 = 1;
+  if ((b[((int) l3) - 58856] & 0xff) == 1) { break L1; }
+  Words.put64(b, ((int) l3) - 58840, 0L);
+  Words.put64(b, ((int) l3) - 58848, 0L);
+  Words.put64(b, ((int) l3) - 58856, 0L);
+  f203(m, l3 + 56L, 88746L, 9L, l0, l1);
+  l9 = 1;
+  if ((b[((int) l3) - 58856] & 0xff) == 1) { break L1; }
+  Words.put64(b, ((int) l3) - 58840, 0L);
+  Words.put64(b, ((int) l3) - 58848, 0L);
+  Words.put64(b, ((int) l3) - 58856, 0L);
+  f203(m, l3 + 56L, 88755L, 6L, l0, l1);
+  l9 = 1;
+  if ((b[((int) l3) - 58856] & 0xff) == 1) { break L1; }
+  Words.put64(b, ((int) l3) - 58840, 0L);
+  Words.put64(b, ((int) l3) - 58848, 0L);
+  Words.put64(b, ((int) l3) - 58856, 0L);
+  f203(m, l3 + 56L, 88761L, 6L, l0, l1);
+  l9 = 1;
+  if ((b[((int) l3) - 58856] & 0xff) == 1) { break L1; }
+  Words.put64(b, ((int) l3) - 58840, 0L);
+  Words.put64(b, ((int) l3) - 58848, 0L);
+  Words.put64(b, ((int) l3) - 58856, 0L);
+  f196(m, l3 + 56L, 88928L, 9L, l5, l4);
+  l9 = 1;
+  if ((b[((int) l3) - 58856] & 0xff) == 1) { break L1; }
+  Words.put64(b, ((int) l3) - 58840, 0L);
+  Words.put64(b, ((int) l3) - 58848, 0L);
+  Words.put64(b, ((int) l3) - 58856, 0L);
+  f196(m, l3 + 56L, 88937L, 6L, l5, l4);
+  l9 = 1;
+  if ((b[((int) l3) - 58856] & 0xff) == 1) { break L1; }
+  Words.put64(b, ((int) l3) - 58840, 0L);
+  Words.put64(b, ((int) l3) - 58848, 0L);
+  Words.put64(b, ((int) l3) - 58856, 0L);
+  f196(m, l3 + 56L, 88943L, 6L, l5, l4);
+  l9 = 1;
+  if ((b[((int) l3) - 58856] & 0xff) == 1) { break L1; }
+  Words.put64(b, ((int) l3) - 58840, 0L);
+  Words.put64(b, ((int) l3) - 58848, 0L);
+  Words.put64(b, ((int) l3) - 58856, 0L);
+  f196(m, l3 + 56L, 88949L, 6L, l5, l4);
+  l9 = 1;
+  if ((b[((int) l3) - 58856] & 0xff) == 1) { break L1; }
+  Words.put64(b, ((int) l3) - 58840, 0L);
+  Words.put64(b, ((int) l3) - 58848, 0L);
+  Words.put64(b, ((int) l3) - 58856, 0L);
+  f196(m, l3 + 56L, 88955L, 6L, l5, l4);
+  l9 = 1;
+  if ((b[((int) l3) - 58856] & 0xff) == 1) { break L1; }
+  Words.put64(b, ((int) l3) - 58840, 0L);
+  Words.put64(b, ((int) l3) - 58848, 0L);
+  Words.put64(b, ((int) l3) - 58856, 0L);
+  f196(m, l3 + 56L, 88961L, 6L, l5, l4);
+  l9 = 1;
+  if ((b[((int) l3) - 58856] & 0xff) == 1) { break L1; }
+  Words.put64(b, ((int) l3) - 58840, 0L);
+  Words.put64(b, ((int) l3) - 58848, 0L);
+  Words.put64(b, ((int) l3) - 58856, 0L);
+  f196(m, l3 + 56L, 88967L, 6L, l5, l4);
+  l9 = 1;
+  if ((b[((int) l3) - 58856] & 0xff) == 1) { break L1; }
+  Words.put64(b, ((int) l3) - 58840, 0L);
+  Words.put64(b, ((int) l3) - 58848, 0L);
+  Words.put64(b, ((int) l3) - 58856, 0L);
+  f196(m, l3 + 56L, 88973L, 6L, l5, l4);
+  l9 = 1;
+  if ((b[((int) l3) - 58856] & 0xff) == 1) { break L1; }
+  Words.put64(b, ((int) l3) - 58840, 0L);
+  Words.put64(b, ((int) l3) - 58848, 0L);
+  Words.put64(b, ((int) l3) - 58856, 0L);
+  f196(m, l3 + 56L, 88979L, 6L, l5, l4);
+  l9 = 1;
+  if ((b[((int) l3) - 58856] & 0xff) == 1) { break L1; }
+  Words.put64(b, ((int) l3) - 58840, 0L);
+  Words.put64(b, ((int) l3) - 58848, 0L);
+  Words.put64(b, ((int) l3) - 58856, 0L);
+  f196(m, l3 + 56L, 88985L, 6L, l5, l4);
+  l9 = ((b[((int) l3) - 58856] & 0xff) == 1) ? 1 : 0;
+ }
+ m.g0 = l3 + 80L;
+ return l9;
+}
+
+static int f198(State m, int l0, long l1, long l2) {
+ final byte[] b = m.bytes;
+ long l3 = 0;
+ long l4 = 0;
+ long l5 = 0;
+ long l6 = 0;
+ int l7 = 0;
+ int l8 = 0;
+ int l9 = 0;
+ int l10 = 0;
+ m.g0 = l3 = m.g0 - 16L;
+ L1: {
+  if ((l4 = l3) < 16L) { break L1; }
+  l5 = l0 & 0xffffffffL;
+  l6 = 0L;
+  L2: {
+   L3: while (true) {
+    if ((l7 = (l2 == 0L) ? 1 : 0) != 0) { break L2; }
+    l8 = (l0 = (int) b[((int) l1) - 58912]) & 255;
+    l3 = 1L;
+    L4: {
+     L5: {
+      L6: {
+       L7: {
+        if (l0 > -1) { break L7; }
+        l9 = (b[((int) l1) - 58911] & 0xff) & 63;
+        if (l0 + Integer.MIN_VALUE > 2147483615) { break L6; }
+        l8 = ((l8 << 6) & 1984) | l9;
+        l3 = 2L;
+       }
+       l6 = l6 * 10L;
+       l2 = l2 - l3;
+       l1 = l1 + l3;
+       break L5;
+      }
+      l10 = (b[((int) l1) - 58910] & 0xff) & 63;
+      L8: {
+       L9: {
+        if (l0 + Integer.MIN_VALUE > 2147483631) { break L9; }
+        l8 = ((l9 << 6) | ((l8 << 12) & 61440)) | l10;
+        l3 = 3L;
+        break L8;
+       }
+       l8 = ((l10 << 6) | ((l9 << 12) | ((l8 << 18) & 1835008))) | ((b[((int) l1) - 58909] & 0xff) & 63);
+       l3 = 4L;
+      }
+      l6 = l6 * 10L;
+      l2 = l2 - l3;
+      l1 = l1 + l3;
+      l3 = 1L;
+      if (l8 == 24186) { break L4; }
+     }
+     l3 = -44L;
+     L10: {
+      L11: while (true) {
+       if ((l9 = Words.get32(b, ((int) (l3 + 87508L)) - 58912)) == l8) { break L10; }
+       l0 = (l3 != 0L) ? 1 : 0;
+       l3 = l3 + 4L;
+       if (l0 != 0) { continue L11; }
+       break L11;
+      }
+     }
+     L12: {
+      L13: {
+       if (l9 != l8) { break L13; }
+       Core2.f63(m, l4, l8);
+       l0 = b[((int) l4) - 58911] & 0xff;
+       l8 = b[((int) l4) - 58912] & 0xff;
+       break L12;
+      }
+      Core1.f24(m, l4 + 8L, l8);
+      l0 = b[((int) l4) - 58903] & 0xff;
+      l8 = b[((int) l4) - 58904] & 0xff;
+     }
+     l3 = ((((l8 & 255) == 1) ? l0 : 0) & 0xffffffffL) & 255L;
+    }
+    if ((l6 = l3 + l6) + Long.MIN_VALUE <= l5 + Long.MIN_VALUE) { continue L3; }
+    break L3;
+   }
+  }
+  m.g0 = l4 + 16L;
+  final int t14 = l7;
+  return t14;
+ }
+ throw State.trap();
+}
+
+static int f199(State m, long l0) {
+ final byte[] b = m.bytes;
+ long l1 = 0;
+ long l2 = 0;
+ long l3 = 0;
+ long l4 = 0;
+ long l5 = 0;
+ int l6 = 0;
+ int l7 = 0;
+ L1: {
+  if (m.g0 < 16L) { break L1; }
+  l1 = Words.get64(b, ((int) l0) - 58880);
+  l2 = Words.get64(b, ((int) l0) - 58888);
+  L2: {
+   L3: {
+    if ((l3 = Words.get64(b, ((int) l0) - 58904)) == 0L) { break L3; }
+    L4: {
+     L5: {
+      if ((l6 = (int) b[((int) (l4 = Words.get64(b, ((int) l0) - 58912))) - 58912]) <= -1) { break L5; }
+      l0 = 1L;
+      break L4;
+     }
+     L6: {
+      if (l6 + Integer.MIN_VALUE >= 2147483616) { break L6; }
+      l0 = 2L;
+      break L4;
+     }
+     l0 = (l6 + Integer.MIN_VALUE < 2147483632) ? 3L : 4L;
+    }
+    if (l3 == l0) { break L3; }
+    L7: {
+     L8: {
+      if ((l6 = (int) b[((int) (l5 = l4 + l0)) - 58912]) <= -1) { break L8; }
+      l4 = 1L;
+      break L7;
+     }
+     L9: {
+      if (l6 + Integer.MIN_VALUE >= 2147483616) { break L9; }
+      l4 = 2L;
+      break L7;
+     }
+     l4 = (l6 + Integer.MIN_VALUE < 2147483632) ? 3L : 4L;
+    }
+    if (l3 == (l0 = l0 + l4)) { break L3; }
+    L10: {
+     L11: {
+      if ((l6 = (int) b[((int) (l5 + l4)) - 58912]) <= -1) { break L11; }
+      l4 = 1L;
+      break L10;
+     }
+     L12: {
+      if (l6 + Integer.MIN_VALUE >= 2147483616) { break L12; }
+      l4 = 2L;
+      break L10;
+     }
+     l4 = (l6 + Integer.MIN_VALUE < 2147483632) ? 3L : 4L;
+    }
+    l6 = 0;
+    if (l3 != (l0 + l4)) { break L2; }
+   }
+   l6 = 1;
+   if (l1 == 0L) { break L2; }
+   L13: {
+    L14: {
+     if ((l7 = (int) b[((int) l2) - 58912]) <= -1) { break L14; }
+     l0 = 1L;
+     break L13;
+    }
+    L15: {
+     if (l7 + Integer.MIN_VALUE >= 2147483616) { break L15; }
+     l0 = 2L;
+     break L13;
+    }
+    l0 = (l7 + Integer.MIN_VALUE < 2147483632) ? 3L : 4L;
+   }
+   if (l1 == l0) { break L2; }
+   L16: {
+    L17: {
+     if ((l7 = (int) b[((int) (l2 = l2 + l0)) - 58912]) <= -1) { break L17; }
+     l3 = 1L;
+     break L16;
+    }
+    L18: {
+     if (l7 + Integer.MIN_VALUE >= 2147483616) { break L18; }
+     l3 = 2L;
+     break L16;
+    }
+    l3 = (l7 + Integer.MIN_VALUE < 2147483632) ? 3L : 4L;
+   }
+   if (l1 == (l0 = l0 + l3)) { break L2; }
+   L19: {
+    L20: {
+     if ((l6 = (int) b[((int) (l2 + l3)) - 58912]) <= -1) { break L20; }
+     l3 = 1L;
+     break L19;
+    }
+    L21: {
+     if (l6 + Integer.MIN_VALUE >= 2147483616) { break L21; }
+     l3 = 2L;
+     break L19;
+    }
+    l3 = (l6 + Integer.MIN_VALUE < 2147483632) ? 3L : 4L;
+   }
+   l6 = (l1 == (l0 + l3)) ? 1 : 0;
+  }
+  final int t22 = l6;
+  return t22;
+ }
+ throw State.trap();
+}
+
+static void f200(State m, long l0, long l1, long l2) {
+ final byte[] b = m.bytes;
+ long l3 = 0;
+ long l4 = 0;
+ long l5 = 0;
+ long l6 = 0;
+ int l7 = 0;
+ int l8 = 0;
+ int l9 = 0;
+ int l10 = 0;
+ m.g0 = l3 = m.g0 - 16L;
+ L1: {
+  if ((l4 = l3) < 16L) { break L1; }
+  l3 = 0L;
+  L2: {
+   L3: while (true) {
+    L4: {
+     if (!(l2 == 0L)) { break L4; }
+     l7 = 1;
+     break L2;
+    }
+    l8 = (l7 = (int) b[((int) l1) - 58912]) & 255;
+    l5 = 1L;
+    L5: {
+     if (l7 > -1) { break L5; }
+     l9 = (b[((int) l1) - 58911] & 0xff) & 63;
+     L6: {
+      if (l7 + Integer.MIN_VALUE > 2147483615) { break L6; }
+      l8 = ((l8 << 6) & 1984) | l9;
+      l5 = 2L;
+      break L5;
+     }
+     l10 = (b[((int) l1) - 58910] & 0xff) & 63;
+     L7: {
+      if (l7 + Integer.MIN_VALUE > 2147483631) { break L7; }
+      l8 = ((l9 << 6) | ((l8 << 12) & 61440)) | l10;
+      l5 = 3L;
+      break L5;
+     }
+     l8 = ((l10 << 6) | ((l9 << 12) | ((l8 << 18) & 1835008))) | ((b[((int) l1) - 58909] & 0xff) & 63);
+     l5 = 4L;
+    }
+    L8: {
+     if (l8 == 44) { break L8; }
+     if (l8 == 65292) { break L8; }
+     l6 = l3 * 10L;
+     l3 = 1L;
+     L9: {
+      if (l8 == 24186) { break L9; }
+      l3 = -44L;
+      L10: {
+       L11: while (true) {
+        if ((l9 = Words.get32(b, ((int) (l3 + 87508L)) - 58912)) == l8) { break L10; }
+        l7 = (l3 != 0L) ? 1 : 0;
+        l3 = l3 + 4L;
+        if (l7 != 0) { continue L11; }
+        break L11;
+       }
+      }
+      L12: {
+       L13: {
+        if (l9 != l8) { break L13; }
+        Core2.f63(m, l4, l8);
+        l7 = b[((int) l4) - 58911] & 0xff;
+        l8 = b[((int) l4) - 58912] & 0xff;
+        break L12;
+       }
+       Core1.f24(m, l4 + 8L, l8);
+       l7 = b[((int) l4) - 58903] & 0xff;
+       l8 = b[((int) l4) - 58904] & 0xff;
+      }
+      l3 = ((((l8 & 255) == 1) ? l7 : 0) & 0xffffffffL) & 255L;
+     }
+     l3 = l3 + l6;
+    }
+    l2 = l2 - l5;
+    l1 = l1 + l5;
+    if (l3 + Long.MIN_VALUE < -9213372036854775808L) { continue L3; }
+    break L3;
+   }
+   l7 = 0;
+   l3 = 0L;
+  }
+  Words.put64(b, ((int) l0) - 58904, l3);
+  b[((int) l0) - 58912] = (byte) l7;
+  m.g0 = l4 + 16L;
+  return;
+ }
+ throw State.trap();
+}
+
+static int f201_1(State m, long l0, long l1, long l2, long l3, long l4, long l5, long l6, long l7, long l8, long l9, long l10, long l11, long l12, int l14, int l15, int l16, int l17, int l18, int l19) {
+ final byte[] b = m.bytes;
+ int exit = 0;
+ PART: {
+  L7: {
+   L8: {
+    if ((l16 + -48) + Integer.MIN_VALUE < -2147483638) { break L8; }
+    if ((l16 + -65296) + Integer.MIN_VALUE > -2147483639) { break L7; }
+   }
+   L9: {
+    if (l2 == 0L) { break L9; }
+    L10: {
+     if ((l16 = (int) b[((int) ((l5 = l1 + l2) + -1L)) - 58912]) >= 0) { break L10; }
+     l8 = -2L;
+     L11: {
+      if ((b[((int) (l5 + -2L)) - 58912] & 0xff) + Integer.MIN_VALUE > -2147483457) { break L11; }
+      l8 = ((b[((int) (l5 + -3L)) - 58912] & 0xff) + Integer.MIN_VALUE > -2147483457) ? -3L : -4L;
+     }
+     l16 = (l17 = (int) b[((int) (l5 = (l1 + l8) + l2)) - 58912]) & 255;
+     if (l17 > -1) { break L10; }
+     l18 = (b[((int) l5) - 58911] & 0xff) & 63;
+     L12: {
+      if (l17 + Integer.MIN_VALUE > 2147483615) { break L12; }
+      l16 = ((l16 << 6) & 1984) | l18;
+      break L10;
+     }
+     l19 = (b[((int) l5) - 58910] & 0xff) & 63;
+     L13: {
+      if (l17 + Integer.MIN_VALUE > 2147483631) { break L13; }
+      l16 = ((l18 << 6) | ((l16 << 12) & 61440)) | l19;
+      break L10;
+     }
+     l16 = ((l19 << 6) | ((l18 << 12) | ((l16 << 18) & 1835008))) | ((b[((int) l5) - 58909] & 0xff) & 63);
+    }
+    if ((l16 + -48) + Integer.MIN_VALUE < -2147483638) { break L7; }
+    if ((l16 + -65296) + Integer.MIN_VALUE < -2147483638) { break L7; }
+   }
+   l9 = 0L;
+   Words.put64(b, ((int) l6) - 58464, 0L);
+   Words.put64(b, ((int) l6) - 58456, 0L);
+   Words.put64(b, ((int) l6) - 58448, 0L);
+   Words.put64(b, ((int) l6) - 58440, 0L);
+   Words.put64(b, ((int) l6) - 58816, 0L);
+   Words.put64(b, ((int) l6) - 58824, 83372L);
+   Words.put64(b, ((int) l6) - 58808, 0L);
+   Words.put64(b, ((int) l6) - 58776, 0L);
+   Words.put64(b, ((int) l6) - 58784, 83372L);
+   Words.put64(b, ((int) l6) - 58792, 0L);
+   Words.put64(b, ((int) l6) - 58800, 83372L);
+   Words.put64(b, ((int) l6) - 58768, 0L);
+   Words.put64(b, ((int) l6) - 58744, 83372L);
+   Words.put64(b, ((int) l6) - 58752, 0L);
+   Words.put64(b, ((int) l6) - 58760, 83372L);
+   Words.put64(b, ((int) l6) - 58856, 0L);
+   Words.put64(b, ((int) l6) - 58848, 0L);
+   Words.put64(b, ((int) l6) - 58840, 0L);
+   Words.put64(b, ((int) l6) - 58832, 0L);
+   Words.put64(b, ((int) l6) - 58728, 0L);
+   Words.put64(b, ((int) l6) - 58736, 0L);
+   Words.put64(b, ((int) l6) - 58704, 83372L);
+   Words.put64(b, ((int) l6) - 58712, 0L);
+   Words.put64(b, ((int) l6) - 58720, 83372L);
+   Words.put64(b, ((int) l6) - 58696, 0L);
+   Words.put64(b, ((int) l6) - 58688, 0L);
+   Words.put64(b, ((int) l6) - 58664, 83372L);
+   Words.put64(b, ((int) l6) - 58672, 0L);
+   Words.put64(b, ((int) l6) - 58680, 83372L);
+   Words.put64(b, ((int) l6) - 58656, 0L);
+   Words.put64(b, ((int) l6) - 58648, 0L);
+   Words.put64(b, ((int) l6) - 58624, 83372L);
+   Words.put64(b, ((int) l6) - 58632, 0L);
+   Words.put64(b, ((int) l6) - 58640, 83372L);
+   Words.put64(b, ((int) l6) - 58608, 0L);
+   Words.put64(b, ((int) l6) - 58616, 0L);
+   Words.put64(b, ((int) l6) - 58600, 83372L);
+   Words.put64(b, ((int) l6) - 58592, 0L);
+   Words.put64(b, ((int) l6) - 58584, 83372L);
+   Words.put64(b, ((int) l6) - 58568, 0L);
+   Words.put64(b, ((int) l6) - 58576, 0L);
+   Words.put64(b, ((int) l6) - 58544, 83372L);
+   Words.put64(b, ((int) l6) - 58552, 0L);
+   Words.put64(b, ((int) l6) - 58560, 83372L);
+   Words.put64(b, ((int) l6) - 58528, 0L);
+   Words.put64(b, ((int) l6) - 58536, 0L);
+   Words.put64(b, ((int) l6) - 58504, 83372L);
+   Words.put64(b, ((int) l6) - 58512, 0L);
+   Words.put64(b, ((int) l6) - 58520, 83372L);
+   Words.put64(b, ((int) l6) - 58488, 0L);
+   Words.put64(b, ((int) l6) - 58496, 0L);
+   Words.put64(b, ((int) l6) - 58472, 0L);
+   Words.put64(b, ((int) l6) - 58480, 83372L);
+   l10 = l3;
+   l11 = l4;
+   L14: while (true) {
+    l7 = l10;
+    l12 = l11;
+    L15: {
+     L16: {
+      L17: while (true) {
+       l5 = l7;
+       if ((l17 = ((l8 = l12) == 0L) ? 1 : 0) != 0) { break L16; }
+       l7 = 1L;
+       l14 = l16 = (l15 = (int) b[((int) l5) - 58912]) & 255;
+       L18: {
+        if (l15 > -1) { break L18; }
+        l14 = (b[((int) l5) - 58911] & 0xff) & 63;
+        L19: {
+         if (l15 + Integer.MIN_VALUE > 2147483615) { break L19; }
+         l14 = ((l16 << 6) & 1984) | l14;
+         l7 = 2L;
+         break L18;
+        }
+        l18 = (b[((int) l5) - 58910] & 0xff) & 63;
+        L20: {
+         if (l15 + Integer.MIN_VALUE > 2147483631) { break L20; }
+         l14 = ((l14 << 6) | ((l16 << 12) & 61440)) | l18;
+         l7 = 3L;
+         break L18;
+        }
+        l14 = ((l18 << 6) | ((l14 << 12) | ((l16 << 18) & 1835008))) | ((b[((int) l5) - 58909] & 0xff) & 63);
+        l7 = 4L;
+       }
+       l12 = l8 - l7;
+       l7 = l5 + l7;
+       if ((l14 + -48) + Integer.MIN_VALUE < -2147483638) { continue L17; }
+       if ((l14 + -65296) + Integer.MIN_VALUE < -2147483638) { continue L17; }
+       break L17;
+      }
+      l7 = 1L;
+      L21: {
+       if (l15 > -1) { break L21; }
+       l14 = (b[((int) l5) - 58911] & 0xff) & 63;
+       L22: {
+        if (l15 + Integer.MIN_VALUE > 2147483615) { break L22; }
+        l16 = ((l16 << 6) & 1984) | l14;
+        l7 = 2L;
+        break L21;
+       }
+       l18 = (b[((int) l5) - 58910] & 0xff) & 63;
+       L23: {
+        if (l15 + Integer.MIN_VALUE > 2147483631) { break L23; }
+        l16 = ((l14 << 6) | ((l16 << 12) & 61440)) | l18;
+        l7 = 3L;
+        break L21;
+       }
+       l16 = ((l18 << 6) | ((l14 << 12) | ((l16 << 18) & 1835008))) | ((b[((int) l5) - 58909] & 0xff) & 63);
+       l7 = 4L;
+      }
+      L24: {
+       L25: {
+        if (l16 + Integer.MIN_VALUE > -2147483602) { break L25; }
+        l14 = 1;
+        if (((1L << (l16 & 0xffffffffL)) & 105557411233792L) != 0L) { break L24; }
+       }
+       l14 = 0;
+      }
+      if (l8 == l7) { break L16; }
+      if (l14 == 0) { break L16; }
+      l18 = (l14 = (int) b[((int) (l7 = l5 + l7)) - 58912]) & 255;
+      L26: {
+       if (l14 > -1) { break L26; }
+       l15 = (b[((int) l7) - 58911] & 0xff) & 63;
+       L27: {
+        if (l14 + Integer.MIN_VALUE > 2147483615) { break L27; }
+        l18 = ((l18 << 6) & 1984) | l15;
+        break L26;
+       }
+       l19 = (b[((int) l7) - 58910] & 0xff) & 63;
+       L28: {
+        if (l14 + Integer.MIN_VALUE > 2147483631) { break L28; }
+        l18 = ((l15 << 6) | ((l18 << 12) & 61440)) | l19;
+        break L26;
+       }
+       l18 = ((l19 << 6) | ((l15 << 12) | ((l18 << 18) & 1835008))) | ((b[((int) l7) - 58909] & 0xff) & 63);
+      }
+      l14 = 1;
+      L29: {
+       if ((l18 + -48) + Integer.MIN_VALUE >= -2147483638) { break L29; }
+       l15 = 1;
+       break L15;
+      }
+      l15 = 1;
+      if ((l18 + -65296) + Integer.MIN_VALUE < -2147483638) { break L15; }
+     }
+     l16 = 0;
+     l14 = 0;
+     l15 = 0;
+    }
+    Words.put64(b, ((int) (l7 = (l6 + 88L) + (l9 * 40L))) - 58904, l11 - l8);
+    Words.put64(b, ((int) l7) - 58912, l10);
+    Words.put64(b, ((int) (l7 + 32L)) - 58912, l8);
+    Words.put64(b, ((int) (l7 + 24L)) - 58912, l5);
+    Words.put32(b, ((int) (l7 + 20L)) - 58912, l16);
+    Words.put32(b, ((int) (l7 + 16L)) - 58912, l15);
+    l9 = l9 + 1L;
+    L30: {
+     L31: {
+      if (l14 != 0) { break L31; }
+      l5 = l9;
+      break L30;
+     }
+     L32: {
+      L33: {
+       if (l17 == 0) { break L33; }
+       l11 = 0L;
+       l10 = l5;
+       break L32;
+      }
+      L34: {
+       L35: {
+        if ((l14 = (int) b[((int) l5) - 58912]) <= -1) { break L35; }
+        l7 = 1L;
+        break L34;
+       }
+       L36: {
+        if (l14 + Integer.MIN_VALUE >= 2147483616) { break L36; }
+        l7 = 2L;
+        break L34;
+       }
+       l7 = (l14 + Integer.MIN_VALUE < 2147483632) ? 3L : 4L;
+      }
+      l11 = l8 - l7;
+      l10 = l5 + l7;
+     }
+     l5 = 9L;
+     if (l9 != 9L) { continue L14; }
+    }
+    break L14;
+   }
+   f206(m, l6 + 56L, l1, l2, 0, l6 + 88L, l5, Words.get64(b, ((int) ((l7 = (l6 + 88L) + (l5 * 40L)) + -16L)) - 58912), Words.get64(b, ((int) (l7 + -8L)) - 58912));
+   l7 = l3;
+   l8 = l4;
+   L37: {
+    L38: {
+     if ((b[((int) l6) - 58856] & 0xff) != 1) { break L38; }
+     Words.put64(b, ((int) l6) - 58864, Words.get64(b, ((int) l6) - 58832));
+     Words.put64(b, ((int) l6) - 58872, Words.get64(b, ((int) l6) - 58840));
+     Words.put64(b, ((int) l6) - 58880, Words.get64(b, ((int) l6) - 58848));
+     l5 = 1L;
+     break L37;
+    }
+    L39: {
+     L40: while (true) {
+      l5 = l7;
+      if ((l12 = l8) == 0L) { break L39; }
+      l14 = (l15 = (int) b[((int) l5) - 58912]) & 255;
+      l7 = 1L;
+      L41: {
+       if (l15 > -1) { break L41; }
+       l16 = (b[((int) l5) - 58911] & 0xff) & 63;
+       L42: {
+        if (l15 + Integer.MIN_VALUE > 2147483615) { break L42; }
+        l14 = ((l14 << 6) & 1984) | l16;
+        l7 = 2L;
+        break L41;
+       }
+       l17 = (b[((int) l5) - 58910] & 0xff) & 63;
+       L43: {
+        if (l15 + Integer.MIN_VALUE > 2147483631) { break L43; }
+        l14 = ((l16 << 6) | ((l14 << 12) & 61440)) | l17;
+        l7 = 3L;
+        break L41;
+       }
+       l14 = ((l17 << 6) | ((l16 << 12) | ((l14 << 18) & 1835008))) | ((b[((int) l5) - 58909] & 0xff) & 63);
+       l7 = 4L;
+      }
+      l8 = l12 - l7;
+      l7 = l5 + l7;
+      if ((l14 + -48) + Integer.MIN_VALUE < -2147483638) { continue L40; }
+      if ((l14 + -65296) + Integer.MIN_VALUE < -2147483638) { continue L40; }
+      break L40;
+     }
+    }
+    Core7.f207(m, l6 + 448L, l1, l2, 0, l3, l4 - l12, l5, l12);
+    Words.put64(b, ((int) l6) - 58880, Words.get64(b, ((int) l6) - 58456));
+    Words.put64(b, ((int) l6) - 58872, Words.get64(b, ((int) l6) - 58448));
+    Words.put64(b, ((int) l6) - 58864, Words.get64(b, ((int) l6) - 58440));
+    l5 = b[((int) l6) - 58464] & 0xffL;
+   }
+   Words.put64(b, ((int) l0) - 58912, l5);
+   Words.put64(b, ((int) (l0 + 8L)) - 58912, Words.get64(b, ((int) l6) - 58880));
+   Words.put64(b, ((int) (l0 + 16L)) - 58912, Words.get64(b, ((int) l6) - 58872));
+   Words.put64(b, ((int) (l0 + 24L)) - 58912, Words.get64(b, ((int) l6) - 58864));
+   exit = 1; break PART;
+  }
+ }
+ m.kept[0] = l5;
+ m.kept[1] = l7;
+ m.kept[2] = l8;
+ m.kept[3] = l9;
+ m.kept[4] = l10;
+ m.kept[5] = l11;
+ m.kept[6] = l12;
+ m.kept[7] = l14;
+ m.kept[8] = l15;
+ m.kept[9] = l16;
+ m.kept[10] = l17;
+ m.kept[11] = l18;
+ m.kept[12] = l19;
+ return exit;
+}
+
+static void f201(State m, long l0, long l1, long l2, long l3, long l4) {
+ final byte[] b = m.bytes;
+ long l5 = 0;
+ long l6 = 0;
  long l7 = 0;
  long l8 = 0;
  long l9 = 0;
@@ -7722,303 +6299,560 @@ static int f227(State m, int l0, int l1, int l2, int l3, long l4, long l5, long 
  int l14 = 0;
  int l15 = 0;
  int l16 = 0;
- m.g0 = l7 = m.g0 - 64L;
+ int l17 = 0;
+ int l18 = 0;
+ int l19 = 0;
+ m.g0 = l5 = m.g0 - 480L;
  L1: {
   L2: {
+   if ((l6 = l5) < 16L) { break L2; }
+   l7 = 0L;
+   Words.put64(b, ((int) l6) - 58864, 0L);
+   Words.put64(b, ((int) l6) - 58872, 0L);
+   Words.put64(b, ((int) l6) - 58880, 0L);
+   Words.put64(b, ((int) l6) - 58904, 0L);
+   Words.put64(b, ((int) l6) - 58896, 0L);
+   Words.put64(b, ((int) l6) - 58888, 0L);
    L3: {
+    if (l4 == 0L) { break L3; }
+    l16 = l15 = (l14 = (int) b[((int) l3) - 58912]) & 255;
     L4: {
+     if (l14 > -1) { break L4; }
+     l16 = (b[((int) l3) - 58911] & 0xff) & 63;
      L5: {
-      if ((l7 = l7) < 16L) { break L5; }
-      Words.put64(b, ((int) l6) - 60720, 0L);
-      L6: {
-       if (l3 + Integer.MIN_VALUE <= -2147483647) { break L6; }
-       l14 = 8;
-       break L1;
-      }
-      Words.put64(b, ((int) l7) - 60689, 0L);
-      Words.put64(b, ((int) l7) - 60696, 0L);
-      Words.put64(b, ((int) l7) - 60704, 0L);
-      Words.put64(b, ((int) l7) - 60712, 0L);
-      Words.put64(b, ((int) l7) - 60720, 0L);
-      l14 = 11;
-      if (l0 + Integer.MIN_VALUE > -2147418113) { break L1; }
-      if (l1 + Integer.MIN_VALUE > -2147483393) { break L1; }
-      if (l2 + Integer.MIN_VALUE > -2147483393) { break L1; }
-      if (((l15 = (l2 + Integer.MIN_VALUE < -2147483392) ? l2 : 256) & 255) == 0) { break L1; }
-      if ((((l16 = (l0 + Integer.MIN_VALUE < -2147418112) ? l0 : 65536) + -1) & 65535) + Integer.MIN_VALUE > -2147473650) { break L1; }
-      if ((((l0 = (l1 + Integer.MIN_VALUE < -2147483392) ? l1 : 256) + -1) & 255) + Integer.MIN_VALUE > -2147483637) { break L1; }
-      l14 = b[((int) ((l3 & 0xffffffffL) + 83500L)) - 60720] & 0xff;
-      L7: {
-       L8: {
-        if ((l0 & 255) != 2) { break L8; }
-        l3 = 28;
-        if ((l16 & 3) != 0) { break L7; }
-        final int t9 = (((int) (((l3 = l16 & 65535) & 0xffffffffL) % 400L)) != 0) ? 28 : 29;
-        final int t10 = (int) ((l3 & 0xffffffffL) % 100L);
-        l3 = t10 != 0 ? 29 : t9;
-        break L7;
-       }
-       final int t11 = ((l3 = l0 & 13) == 9) ? 30 : 31;
-       final int t12 = (l3 == 4) ? 1 : 0;
-       l3 = t12 != 0 ? 30 : t11;
-      }
-      L13: {
-       if (l3 + Integer.MIN_VALUE >= (l15 & 255) + Integer.MIN_VALUE) { break L13; }
-       l14 = 11;
-       break L1;
-      }
-      Words.put64(b, ((int) l7) - 60664, 0L);
-      Words.put64(b, ((int) l7) - 60672, 39L);
-      Words.put64(b, ((int) l7) - 60680, l7);
-      Core2.f64(m, l7 + 40L, l14, l16);
-      L14: {
-       final long t15 = l9 = (l8 = Words.get64(b, ((int) l7) - 60664)) + 3L;
-       final int t16 = (l9 + Long.MIN_VALUE < l8 + Long.MIN_VALUE) ? 1 : 0;
-       if ((l9 = t16 != 0 ? -1L : t15) + Long.MIN_VALUE > (l10 = Words.get64(b, ((int) l7) - 60672)) + Long.MIN_VALUE) { break L14; }
-       b[((int) (l11 = Words.get64(b, ((int) l7) - 60680) + l8)) - 60718] = (byte) 180;
-       Words.put16(b, ((int) l11) - 60720, (short) 47589);
-      }
-      Words.put64(b, ((int) l7) - 60664, l9);
-      L17: {
-       if ((l3 = l0 & 255) + Integer.MIN_VALUE > -2147483638) { break L17; }
-       if (((1 << l3) & 1030) == 0) { break L17; }
-       L18: {
-        final long t19 = l11 = l8 + 6L;
-        final int t20 = (l11 + Long.MIN_VALUE < l8 + Long.MIN_VALUE) ? 1 : 0;
-        if ((l8 = t20 != 0 ? -1L : t19) + Long.MIN_VALUE > l10 + Long.MIN_VALUE) { break L18; }
-        b[((int) (l9 = Words.get64(b, ((int) l7) - 60680) + l9)) - 60718] = (byte) 182;
-        Words.put16(b, ((int) l9) - 60720, (short) 39913);
-       }
-       Words.put64(b, ((int) l7) - 60664, l8);
-      }
-      l3 = (l4 == 0L) ? 1 : 0;
-      Core2.f65(m, l7 + 40L, l14, l0);
-      L21: {
-       final long t22 = l9 = (l8 = Words.get64(b, ((int) l7) - 60664)) + 3L;
-       final int t23 = (l9 + Long.MIN_VALUE < l8 + Long.MIN_VALUE) ? 1 : 0;
-       if ((l9 = t23 != 0 ? -1L : t22) + Long.MIN_VALUE > (l10 = Words.get64(b, ((int) l7) - 60672)) + Long.MIN_VALUE) { break L21; }
-       b[((int) (l11 = Words.get64(b, ((int) l7) - 60680) + l8)) - 60718] = (byte) 136;
-       Words.put16(b, ((int) l11) - 60720, (short) 40166);
-      }
-      l12 = l3 != 0 ? 4096L : 0L;
-      Words.put64(b, ((int) l7) - 60664, l9);
-      l3 = (int) (((l15 & 255) & 0xffffffffL) % 10L);
-      L24: {
-       L25: {
-        if (l2 + Integer.MIN_VALUE < -2147483638) { break L25; }
-        if (l3 != 0) { break L24; }
-       }
-       L26: {
-        final long t27 = l11 = l8 + 6L;
-        final int t28 = (l11 + Long.MIN_VALUE < l8 + Long.MIN_VALUE) ? 1 : 0;
-        if ((l8 = t28 != 0 ? -1L : t27) + Long.MIN_VALUE > l10 + Long.MIN_VALUE) { break L26; }
-        b[((int) (l9 = Words.get64(b, ((int) l7) - 60680) + l9)) - 60718] = (byte) 182;
-        Words.put16(b, ((int) l9) - 60720, (short) 39913);
-       }
-       Words.put64(b, ((int) l7) - 60664, l8);
-      }
-      l11 = l4 + l12;
-      Core2.f65(m, l7 + 40L, l14, l15);
-      L29: {
-       final long t30 = l8 = (l13 = Words.get64(b, ((int) l7) - 60664)) + 3L;
-       final int t31 = (l8 + Long.MIN_VALUE < l13 + Long.MIN_VALUE) ? 1 : 0;
-       if ((l8 = t31 != 0 ? -1L : t30) + Long.MIN_VALUE <= Words.get64(b, ((int) l7) - 60672) + Long.MIN_VALUE) { break L29; }
-       l8 = 0L;
-       Words.put64(b, ((int) l6) - 60720, 0L);
-       l10 = 83372L;
-       break L3;
-      }
-      b[((int) (l9 = (l10 = Words.get64(b, ((int) l7) - 60680)) + l13)) - 60718] = (byte) 165;
-      Words.put16(b, ((int) l9) - 60720, (short) 38886);
-      Words.put64(b, ((int) l6) - 60720, l8);
-      L32: {
-       if (l5 + Long.MIN_VALUE >= l8 + Long.MIN_VALUE) { break L32; }
-       l14 = 6;
-       break L1;
-      }
-      if ((l11 - l10) + Long.MIN_VALUE >= l8 + Long.MIN_VALUE) { break L3; }
-      l9 = l8 & 3L;
-      L33: {
-       if (!(l13 == 0L)) { break L33; }
-       l6 = 0L;
-       break L4;
-      }
-      l13 = l8 & -4L;
-      l6 = 0L;
-      L34: while (true) {
-       b[((int) (l5 = l11 + l6)) - 60720] = (byte) (b[((int) (l8 = l10 + l6)) - 60720] & 0xff);
-       b[((int) (l5 + 1L)) - 60720] = (byte) (b[((int) (l8 + 1L)) - 60720] & 0xff);
-       b[((int) (l5 + 2L)) - 60720] = (byte) (b[((int) (l8 + 2L)) - 60720] & 0xff);
-       b[((int) (l5 + 3L)) - 60720] = (byte) (b[((int) (l8 + 3L)) - 60720] & 0xff);
-       if (l13 != (l6 = l6 + 4L)) { continue L34; }
-       break L34;
-      }
-      if (!(l9 == 0L)) { break L4; }
-      break L2;
+      if (l14 + Integer.MIN_VALUE > 2147483615) { break L5; }
+      l16 = ((l15 << 6) & 1984) | l16;
+      break L4;
      }
-     throw State.trap();
+     l17 = (b[((int) l3) - 58910] & 0xff) & 63;
+     L6: {
+      if (l14 + Integer.MIN_VALUE > 2147483631) { break L6; }
+      l16 = ((l16 << 6) | ((l15 << 12) & 61440)) | l17;
+      break L4;
+     }
+     l16 = ((l17 << 6) | ((l16 << 12) | ((l15 << 18) & 1835008))) | ((b[((int) l3) - 58909] & 0xff) & 63);
     }
-    l5 = l10 + l6;
-    l6 = l4 + (l12 + l6);
-    L35: while (true) {
-     b[((int) l6) - 60720] = (byte) (b[((int) l5) - 60720] & 0xff);
-     l6 = l6 + 1L;
-     l5 = l5 + 1L;
-     l14 = 0;
-     if ((l9 = l9 + -1L) != 0L) { continue L35; }
-     break L1;
+    final int x44 = f201_1(m, l0, l1, l2, l3, l4, l5, l6, l7, l8, l9, l10, l11, l12, l14, l15, l16, l17, l18, l19);
+    l5 = m.kept[0];
+    l7 = m.kept[1];
+    l8 = m.kept[2];
+    l9 = m.kept[3];
+    l10 = m.kept[4];
+    l11 = m.kept[5];
+    l12 = m.kept[6];
+    l14 = (int) m.kept[7];
+    l15 = (int) m.kept[8];
+    l16 = (int) m.kept[9];
+    l17 = (int) m.kept[10];
+    l18 = (int) m.kept[11];
+    l19 = (int) m.kept[12];
+    switch (x44) {
+    case 1: break L1;
     }
+    L45: {
+     if (l14 > -1) { break L45; }
+     l16 = (b[((int) l3) - 58911] & 0xff) & 63;
+     L46: {
+      if (l14 + Integer.MIN_VALUE > 2147483615) { break L46; }
+      l15 = ((l15 << 6) & 1984) | l16;
+      break L45;
+     }
+     l17 = (b[((int) l3) - 58910] & 0xff) & 63;
+     L47: {
+      if (l14 + Integer.MIN_VALUE > 2147483631) { break L47; }
+      l15 = ((l16 << 6) | ((l15 << 12) & 61440)) | l17;
+      break L45;
+     }
+     l15 = ((l17 << 6) | ((l16 << 12) | ((l15 << 18) & 1835008))) | ((b[((int) l3) - 58909] & 0xff) & 63);
+    }
+    l5 = -44L;
+    L48: {
+     L49: while (true) {
+      if ((l16 = Words.get32(b, ((int) (l5 + 87508L)) - 58912)) == l15) { break L48; }
+      l14 = (l5 != 0L) ? 1 : 0;
+      l5 = l5 + 4L;
+      if (l14 != 0) { continue L49; }
+      break L49;
+     }
+    }
+    if (l16 != l15) { break L3; }
+    L50: {
+     if (l2 == 0L) { break L50; }
+     L51: {
+      if ((l15 = (int) b[((int) ((l5 = l1 + l2) + -1L)) - 58912]) >= 0) { break L51; }
+      l8 = -2L;
+      L52: {
+       if ((b[((int) (l5 + -2L)) - 58912] & 0xff) + Integer.MIN_VALUE > -2147483457) { break L52; }
+       l8 = ((b[((int) (l5 + -3L)) - 58912] & 0xff) + Integer.MIN_VALUE > -2147483457) ? -3L : -4L;
+      }
+      l15 = (l14 = (int) b[((int) (l5 = (l1 + l8) + l2)) - 58912]) & 255;
+      if (l14 > -1) { break L51; }
+      l16 = (b[((int) l5) - 58911] & 0xff) & 63;
+      L53: {
+       if (l14 + Integer.MIN_VALUE > 2147483615) { break L53; }
+       l15 = ((l15 << 6) & 1984) | l16;
+       break L51;
+      }
+      l17 = (b[((int) l5) - 58910] & 0xff) & 63;
+      L54: {
+       if (l14 + Integer.MIN_VALUE > 2147483631) { break L54; }
+       l15 = ((l16 << 6) | ((l15 << 12) & 61440)) | l17;
+       break L51;
+      }
+      l15 = ((l17 << 6) | ((l16 << 12) | ((l15 << 18) & 1835008))) | ((b[((int) l5) - 58909] & 0xff) & 63);
+     }
+     l5 = -44L;
+     L55: {
+      L56: while (true) {
+       if ((l16 = (Words.get32(b, ((int) (l5 + 87508L)) - 58912) == l15) ? 1 : 0) != 0) { break L55; }
+       l14 = (l5 != 0L) ? 1 : 0;
+       l5 = l5 + 4L;
+       if (l14 != 0) { continue L56; }
+       break L56;
+      }
+     }
+     if (l16 != 0) { break L3; }
+    }
+    if (Core7.f208(m, l1, l2) != 0) { break L3; }
+    l10 = 0L;
+    Words.put64(b, ((int) l6) - 58464, 0L);
+    Words.put64(b, ((int) l6) - 58456, 0L);
+    Words.put64(b, ((int) l6) - 58448, 0L);
+    Words.put64(b, ((int) l6) - 58440, 0L);
+    Words.put64(b, ((int) l6) - 58816, 0L);
+    Words.put64(b, ((int) l6) - 58824, 83372L);
+    Words.put64(b, ((int) l6) - 58808, 0L);
+    Words.put64(b, ((int) l6) - 58776, 0L);
+    Words.put64(b, ((int) l6) - 58784, 83372L);
+    Words.put64(b, ((int) l6) - 58792, 0L);
+    Words.put64(b, ((int) l6) - 58800, 83372L);
+    Words.put64(b, ((int) l6) - 58768, 0L);
+    Words.put64(b, ((int) l6) - 58744, 83372L);
+    Words.put64(b, ((int) l6) - 58752, 0L);
+    Words.put64(b, ((int) l6) - 58760, 83372L);
+    Words.put64(b, ((int) l6) - 58856, 0L);
+    Words.put64(b, ((int) l6) - 58848, 0L);
+    Words.put64(b, ((int) l6) - 58840, 0L);
+    Words.put64(b, ((int) l6) - 58832, 0L);
+    Words.put64(b, ((int) l6) - 58728, 0L);
+    Words.put64(b, ((int) l6) - 58736, 0L);
+    Words.put64(b, ((int) l6) - 58704, 83372L);
+    Words.put64(b, ((int) l6) - 58712, 0L);
+    Words.put64(b, ((int) l6) - 58720, 83372L);
+    Words.put64(b, ((int) l6) - 58696, 0L);
+    Words.put64(b, ((int) l6) - 58688, 0L);
+    Words.put64(b, ((int) l6) - 58664, 83372L);
+    Words.put64(b, ((int) l6) - 58672, 0L);
+    Words.put64(b, ((int) l6) - 58680, 83372L);
+    Words.put64(b, ((int) l6) - 58656, 0L);
+    Words.put64(b, ((int) l6) - 58648, 0L);
+    Words.put64(b, ((int) l6) - 58624, 83372L);
+    Words.put64(b, ((int) l6) - 58632, 0L);
+    Words.put64(b, ((int) l6) - 58640, 83372L);
+    Words.put64(b, ((int) l6) - 58608, 0L);
+    Words.put64(b, ((int) l6) - 58616, 0L);
+    Words.put64(b, ((int) l6) - 58600, 83372L);
+    Words.put64(b, ((int) l6) - 58592, 0L);
+    Words.put64(b, ((int) l6) - 58584, 83372L);
+    Words.put64(b, ((int) l6) - 58568, 0L);
+    Words.put64(b, ((int) l6) - 58576, 0L);
+    Words.put64(b, ((int) l6) - 58544, 83372L);
+    Words.put64(b, ((int) l6) - 58552, 0L);
+    Words.put64(b, ((int) l6) - 58560, 83372L);
+    Words.put64(b, ((int) l6) - 58528, 0L);
+    Words.put64(b, ((int) l6) - 58536, 0L);
+    Words.put64(b, ((int) l6) - 58504, 83372L);
+    Words.put64(b, ((int) l6) - 58512, 0L);
+    Words.put64(b, ((int) l6) - 58520, 83372L);
+    Words.put64(b, ((int) l6) - 58488, 0L);
+    Words.put64(b, ((int) l6) - 58496, 0L);
+    Words.put64(b, ((int) l6) - 58472, 0L);
+    Words.put64(b, ((int) l6) - 58480, 83372L);
+    l11 = l3;
+    l13 = l4;
+    L57: while (true) {
+     l5 = l11;
+     l9 = l13;
+     L58: {
+      L59: {
+       L60: while (true) {
+        l7 = l5;
+        if ((l19 = ((l12 = l9) == 0L) ? 1 : 0) != 0) { break L59; }
+        l8 = 1L;
+        l15 = l18 = (l17 = (int) b[((int) l7) - 58912]) & 255;
+        L61: {
+         if (l17 > -1) { break L61; }
+         l14 = (b[((int) l7) - 58911] & 0xff) & 63;
+         L62: {
+          if (l17 + Integer.MIN_VALUE > 2147483615) { break L62; }
+          l15 = ((l18 << 6) & 1984) | l14;
+          l8 = 2L;
+          break L61;
+         }
+         l15 = (b[((int) l7) - 58910] & 0xff) & 63;
+         L63: {
+          if (l17 + Integer.MIN_VALUE > 2147483631) { break L63; }
+          l15 = ((l14 << 6) | ((l18 << 12) & 61440)) | l15;
+          l8 = 3L;
+          break L61;
+         }
+         l15 = ((l15 << 6) | ((l14 << 12) | ((l18 << 18) & 1835008))) | ((b[((int) l7) - 58909] & 0xff) & 63);
+         l8 = 4L;
+        }
+        l5 = -44L;
+        L64: {
+         L65: while (true) {
+          if ((l16 = (Words.get32(b, ((int) (l5 + 87508L)) - 58912) == l15) ? 1 : 0) != 0) { break L64; }
+          l14 = (l5 != 0L) ? 1 : 0;
+          l5 = l5 + 4L;
+          if (l14 != 0) { continue L65; }
+          break L65;
+         }
+        }
+        l9 = l12 - l8;
+        l5 = l7 + l8;
+        if (l16 != 0) { continue L60; }
+        break L60;
+       }
+       l5 = 1L;
+       L66: {
+        if (l17 > -1) { break L66; }
+        l14 = (b[((int) l7) - 58911] & 0xff) & 63;
+        L67: {
+         if (l17 + Integer.MIN_VALUE > 2147483615) { break L67; }
+         l18 = ((l18 << 6) & 1984) | l14;
+         l5 = 2L;
+         break L66;
+        }
+        l15 = (b[((int) l7) - 58910] & 0xff) & 63;
+        L68: {
+         if (l17 + Integer.MIN_VALUE > 2147483631) { break L68; }
+         l18 = ((l14 << 6) | ((l18 << 12) & 61440)) | l15;
+         l5 = 3L;
+         break L66;
+        }
+        l18 = ((l15 << 6) | ((l14 << 12) | ((l18 << 18) & 1835008))) | ((b[((int) l7) - 58909] & 0xff) & 63);
+        l5 = 4L;
+       }
+       l14 = 1;
+       L69: {
+        L70: {
+         L71: {
+          if (l18 > 28856) { break L71; }
+          L72: {
+           switch (l18 + -32) {
+           case 0: case 13: break L69;
+           case 1: case 2: case 3: case 4: case 5: case 6: case 7: case 8: case 9: case 10: case 11: case 12: break L70;
+           default: break L72;
+           }
+          }
+          if (l18 != 26464) { break L70; }
+          break L69;
+         }
+         if (l18 == 28857) { break L69; }
+         if (l18 == 40670) { break L69; }
+        }
+        l14 = 0;
+       }
+       if (l12 == l5) { break L59; }
+       if (l14 == 0) { break L59; }
+       l15 = (l14 = (int) b[((int) (l5 = l7 + l5)) - 58912]) & 255;
+       L73: {
+        if (l14 > -1) { break L73; }
+        l16 = (b[((int) l5) - 58911] & 0xff) & 63;
+        L74: {
+         if (l14 + Integer.MIN_VALUE > 2147483615) { break L74; }
+         l15 = ((l15 << 6) & 1984) | l16;
+         break L73;
+        }
+        l17 = (b[((int) l5) - 58910] & 0xff) & 63;
+        L75: {
+         if (l14 + Integer.MIN_VALUE > 2147483631) { break L75; }
+         l15 = ((l16 << 6) | ((l15 << 12) & 61440)) | l17;
+         break L73;
+        }
+        l15 = ((l17 << 6) | ((l16 << 12) | ((l15 << 18) & 1835008))) | ((b[((int) l5) - 58909] & 0xff) & 63);
+       }
+       l5 = -44L;
+       L76: {
+        L77: while (true) {
+         if ((l16 = (Words.get32(b, ((int) (l5 + 87508L)) - 58912) == l15) ? 1 : 0) != 0) { break L76; }
+         l14 = (l5 != 0L) ? 1 : 0;
+         l5 = l5 + 4L;
+         if (l14 != 0) { continue L77; }
+         break L77;
+        }
+       }
+       l14 = 1;
+       if (l16 != 0) { break L58; }
+      }
+      l18 = 0;
+      l14 = 0;
+     }
+     Words.put64(b, ((int) (l5 = (l6 + 88L) + (l10 * 40L))) - 58904, l13 - l12);
+     Words.put64(b, ((int) l5) - 58912, l11);
+     Words.put64(b, ((int) (l5 + 32L)) - 58912, l12);
+     Words.put64(b, ((int) (l5 + 24L)) - 58912, l7);
+     Words.put32(b, ((int) (l5 + 20L)) - 58912, l18);
+     Words.put32(b, ((int) (l5 + 16L)) - 58912, l14);
+     l10 = l10 + 1L;
+     L78: {
+      L79: {
+       if (l14 != 0) { break L79; }
+       l5 = l10;
+       break L78;
+      }
+      L80: {
+       L81: {
+        if (l19 == 0) { break L81; }
+        l13 = 0L;
+        l11 = l7;
+        break L80;
+       }
+       L82: {
+        L83: {
+         if ((l14 = (int) b[((int) l7) - 58912]) <= -1) { break L83; }
+         l5 = 1L;
+         break L82;
+        }
+        L84: {
+         if (l14 + Integer.MIN_VALUE >= 2147483616) { break L84; }
+         l5 = 2L;
+         break L82;
+        }
+        l5 = (l14 + Integer.MIN_VALUE < 2147483632) ? 3L : 4L;
+       }
+       l13 = l12 - l5;
+       l11 = l7 + l5;
+      }
+      l5 = 9L;
+      if (l10 != 9L) { continue L57; }
+     }
+     break L57;
+    }
+    f206(m, l6 + 56L, l1, l2, 1, l6 + 88L, l5, Words.get64(b, ((int) ((l7 = (l6 + 88L) + (l5 * 40L)) + -16L)) - 58912), Words.get64(b, ((int) (l7 + -8L)) - 58912));
+    l5 = l3;
+    l12 = l4;
+    L85: {
+     if ((b[((int) l6) - 58856] & 0xff) != 1) { break L85; }
+     Words.put64(b, ((int) l6) - 58888, Words.get64(b, ((int) l6) - 58832));
+     Words.put64(b, ((int) l6) - 58896, Words.get64(b, ((int) l6) - 58840));
+     Words.put64(b, ((int) l6) - 58904, Words.get64(b, ((int) l6) - 58848));
+     l7 = 1L;
+     break L3;
+    }
+    L86: {
+     L87: while (true) {
+      l7 = l5;
+      if ((l9 = l12) == 0L) { break L86; }
+      l15 = (l14 = (int) b[((int) l7) - 58912]) & 255;
+      l8 = 1L;
+      L88: {
+       if (l14 > -1) { break L88; }
+       l16 = (b[((int) l7) - 58911] & 0xff) & 63;
+       L89: {
+        if (l14 + Integer.MIN_VALUE > 2147483615) { break L89; }
+        l15 = ((l15 << 6) & 1984) | l16;
+        l8 = 2L;
+        break L88;
+       }
+       l17 = (b[((int) l7) - 58910] & 0xff) & 63;
+       L90: {
+        if (l14 + Integer.MIN_VALUE > 2147483631) { break L90; }
+        l15 = ((l16 << 6) | ((l15 << 12) & 61440)) | l17;
+        l8 = 3L;
+        break L88;
+       }
+       l15 = ((l17 << 6) | ((l16 << 12) | ((l15 << 18) & 1835008))) | ((b[((int) l7) - 58909] & 0xff) & 63);
+       l8 = 4L;
+      }
+      l5 = -44L;
+      L91: {
+       L92: while (true) {
+        if ((l16 = (Words.get32(b, ((int) (l5 + 87508L)) - 58912) == l15) ? 1 : 0) != 0) { break L91; }
+        l14 = (l5 != 0L) ? 1 : 0;
+        l5 = l5 + 4L;
+        if (l14 != 0) { continue L92; }
+        break L92;
+       }
+      }
+      l12 = l9 - l8;
+      l5 = l7 + l8;
+      if (l16 != 0) { continue L87; }
+      break L87;
+     }
+    }
+    Core7.f207(m, l6 + 448L, l1, l2, 1, l3, l4 - l9, l7, l9);
+    Words.put64(b, ((int) l6) - 58904, Words.get64(b, ((int) l6) - 58456));
+    Words.put64(b, ((int) l6) - 58896, Words.get64(b, ((int) l6) - 58448));
+    Words.put64(b, ((int) l6) - 58888, Words.get64(b, ((int) l6) - 58440));
+    l7 = b[((int) l6) - 58464] & 0xffL;
    }
-   if (l8 == 0L) { break L2; }
-   m.copy((int) l11, (int) l10, (int) l8);
+   Words.put64(b, ((int) l0) - 58912, l7);
+   Words.put64(b, ((int) (l0 + 8L)) - 58912, Words.get64(b, ((int) l6) - 58904));
+   Words.put64(b, ((int) (l0 + 16L)) - 58912, Words.get64(b, ((int) l6) - 58896));
+   Words.put64(b, ((int) (l0 + 24L)) - 58912, Words.get64(b, ((int) l6) - 58888));
+   break L1;
   }
-  l14 = 0;
+  throw State.trap();
  }
- m.g0 = l7 + 64L;
- return l14;
+ m.g0 = l6 + 480L;
 }
 
-static int f229(State m, long l0, int l1, int l2, long l3, long l4, long l5) {
+static int f202(State m, long l0, long l1) {
  final byte[] b = m.bytes;
- long l6 = 0;
- long l7 = 0;
- long l8 = 0;
- long l9 = 0;
- long l10 = 0;
- long l11 = 0;
- int l12 = 0;
- int l13 = 0;
- m.g0 = l6 = m.g0 - 192L;
+ long l2 = 0;
+ long l3 = 0;
+ int l4 = 0;
+ int l5 = 0;
+ int l6 = 0;
+ int l7 = 0;
  L1: {
+  if (m.g0 < 16L) { break L1; }
   L2: {
    L3: {
-    if ((l6 = l6) < 16L) { break L3; }
-    Words.put64(b, ((int) l5) - 60720, 0L);
-    l12 = 0;
+    if (l1 == 0L) { break L3; }
     L4: {
-     if (l1 + Integer.MIN_VALUE > -2147483647) { break L4; }
-     l12 = b[((int) ((l1 & 0xffffffffL) + 83500L)) - 60720] & 0xff;
-    }
-    l13 = 8;
-    if (l2 + Integer.MIN_VALUE > -2147483633) { break L1; }
-    if (l1 + Integer.MIN_VALUE > -2147483647) { break L1; }
-    L5: {
-     if ((l7 = (l0 ^ (l7 = l0 >> 63L)) - l7) + Long.MIN_VALUE < -8223372036854775808L) { break L5; }
-     l13 = (l0 < 0L) ? 4 : 3;
-     break L1;
-    }
-    m.fill((int) (l6 + 7L), 0, (int) 129L);
-    Words.put32(b, ((int) l6) - 60532, ((((l2 << 7) & 256) | (l2 & 1)) | ((l2 << 14) & 65536)) | (l13 = (l2 << 21) & 16777216));
-    b[((int) l6) - 60533] = (byte) l12;
-    Words.put64(b, ((int) l6) - 60544, 0L);
-    Words.put64(b, ((int) l6) - 60552, 129L);
-    Words.put16(b, ((int) l6) - 60568, (short) 0);
-    Words.put64(b, ((int) l6) - 60576, 0L);
-    Words.put64(b, ((int) l6) - 60584, 0L);
-    Words.put64(b, ((int) l6) - 60560, l6 + 7L);
-    L6: {
-     if (l0 > -1L) { break L6; }
-     l1 = (l2 = ((l12 = l12 & 255) != 0) ? 36127 : 36000) | -128;
-     l2 = (l2 >>> 6) | -128;
+     if ((l4 = (int) b[((int) ((l2 = l0 + l1) + -1L)) - 58912]) >= 0) { break L4; }
+     l3 = -2L;
+     L5: {
+      if ((b[((int) (l2 + -2L)) - 58912] & 0xff) + Integer.MIN_VALUE > -2147483457) { break L5; }
+      l3 = ((b[((int) (l2 + -3L)) - 58912] & 0xff) + Integer.MIN_VALUE > -2147483457) ? -3L : -4L;
+     }
+     l4 = (l5 = (int) b[((int) (l1 = (l0 + l3) + l1)) - 58912]) & 255;
+     if (l5 > -1) { break L4; }
+     l6 = (b[((int) l1) - 58911] & 0xff) & 63;
+     L6: {
+      if (l5 + Integer.MIN_VALUE > 2147483615) { break L6; }
+      l4 = ((l4 << 6) & 1984) | l6;
+      break L4;
+     }
+     l7 = (b[((int) l1) - 58910] & 0xff) & 63;
      L7: {
-      L8: {
-       if (l13 != 0) { break L8; }
-       l0 = 3L;
-       l13 = 232;
-       break L7;
-      }
-      b[((int) l6) - 60702] = (byte) 137;
-      Words.put16(b, ((int) l6) - 60704, (short) 48367);
-      Words.put16(b, ((int) l6) - 60707, (short) 38374);
-      b[((int) l6) - 60708] = (byte) l1;
-      b[((int) l6) - 60709] = (byte) l2;
-      b[((int) l6) - 60710] = (byte) 232;
-      b[((int) l6) - 60705] = (byte) ((l12 == 1) ? -80 : -72);
-      l0 = 12L;
-      l1 = 136;
-      l2 = 188;
-      l13 = 239;
+      if (l5 + Integer.MIN_VALUE > 2147483631) { break L7; }
+      l4 = ((l6 << 6) | ((l4 << 12) & 61440)) | l7;
+      break L4;
      }
-     b[((int) l6) - 60711] = (byte) l1;
-     b[((int) l6) - 60712] = (byte) l2;
-     b[((int) l6) - 60713] = (byte) l13;
-     Words.put64(b, ((int) l6) - 60544, l0);
+     l4 = ((l7 << 6) | ((l6 << 12) | ((l4 << 18) & 1835008))) | ((b[((int) l1) - 58909] & 0xff) & 63);
     }
-    Core2.f66(m, l6 + 136L, l7);
-    Core2.f67(m, l6 + 160L, l6 + 187L, l6 + 136L);
-    l7 = Words.get64(b, ((int) l6) - 60560);
-    final int t9 = (int) l5;
-    final long t10 = l0 = Words.get64(b, ((int) l6) - 60544);
-    final int t11 = l13 = (Words.get64(b, ((int) l6) - 60552) + Long.MIN_VALUE < l0 + Long.MIN_VALUE) ? 1 : 0;
-    Words.put64(b, t9 - 60720, l8 = t11 != 0 ? 0L : t10);
-    L12: {
-     if (l4 + Long.MIN_VALUE >= l8 + Long.MIN_VALUE) { break L12; }
-     l13 = 6;
-     break L1;
+    l5 = 1;
+    L8: {
+     if (l4 > 8363) { break L8; }
+     if (l4 == 36) { break L2; }
+     if (l4 != 163) { break L3; }
+     break L2;
     }
-    L13: {
-     if (((l10 = l3 + (l9 = (l3 == 0L) ? 4096L : 0L)) - (l11 = l13 != 0 ? 83372L : l7)) + Long.MIN_VALUE >= l8 + Long.MIN_VALUE) { break L13; }
-     l7 = l8 & 3L;
-     l0 = 0L;
-     if (l8 + Long.MIN_VALUE < -9223372036854775804L) { break L2; }
-     l8 = l8 & -4L;
-     l0 = 0L;
-     L14: while (true) {
-      b[((int) (l5 = l10 + l0)) - 60720] = (byte) (b[((int) (l4 = l11 + l0)) - 60720] & 0xff);
-      b[((int) (l5 + 1L)) - 60720] = (byte) (b[((int) (l4 + 1L)) - 60720] & 0xff);
-      b[((int) (l5 + 2L)) - 60720] = (byte) (b[((int) (l4 + 2L)) - 60720] & 0xff);
-      b[((int) (l5 + 3L)) - 60720] = (byte) (b[((int) (l4 + 3L)) - 60720] & 0xff);
-      if (l8 != (l0 = l0 + 4L)) { continue L14; }
-      break L14;
-     }
-     if (!(l7 == 0L)) { break L2; }
-     l13 = 0;
-     break L1;
-    }
-    L15: {
-     if (l8 == 0L) { break L15; }
-     m.copy((int) l10, (int) l11, (int) l8);
-    }
-    l13 = 0;
-    break L1;
+    if (l4 == 8364) { break L2; }
+    if (l4 == 65284) { break L2; }
    }
-   throw State.trap();
+   l5 = 0;
   }
-  l5 = l11 + l0;
-  l0 = l3 + (l9 + l0);
-  L16: while (true) {
-   b[((int) l0) - 60720] = (byte) (b[((int) l5) - 60720] & 0xff);
-   l0 = l0 + 1L;
-   l5 = l5 + 1L;
-   l13 = 0;
-   if ((l7 = l7 + -1L) != 0L) { continue L16; }
-   break L16;
-  }
+  final int t9 = l5;
+  return t9;
  }
- m.g0 = l6 + 192L;
- return l13;
+ throw State.trap();
 }
 
-static int f231(State m, int l0, int l1, long l2, long l3, long l4) {
+static void f203(State m, long l0, long l1, long l2, long l3, long l4) {
+ final byte[] b = m.bytes;
+ long l5 = 0;
+ long l6 = 0;
+ int l7 = 0;
+ int l8 = 0;
+ int l9 = 0;
+ int l10 = 0;
+ int l11 = 0;
+ L1: {
+  L2: {
+   if (m.g0 < 16L) { break L2; }
+   L3: {
+    L4: while (true) {
+     l5 = l4;
+     if ((l4 = l2) == 0L) { break L3; }
+     L5: {
+      if ((l7 = (int) b[((int) (l1 + (l2 = l4 + -1L))) - 58912]) >= 0) { break L5; }
+      l2 = -2L;
+      L6: {
+       if ((b[((int) ((l6 = l1 + l4) + -2L)) - 58912] & 0xff) + Integer.MIN_VALUE > -2147483457) { break L6; }
+       l2 = ((b[((int) (l6 + -3L)) - 58912] & 0xff) + Integer.MIN_VALUE > -2147483457) ? -3L : -4L;
+      }
+      l7 = (l8 = (int) b[((int) (l4 = l1 + (l2 = l2 + l4))) - 58912]) & 255;
+      if (l8 > -1) { break L5; }
+      l9 = (b[((int) l4) - 58911] & 0xff) & 63;
+      L7: {
+       if (l8 + Integer.MIN_VALUE > 2147483615) { break L7; }
+       l7 = ((l7 << 6) & 1984) | l9;
+       break L5;
+      }
+      l10 = (b[((int) l4) - 58910] & 0xff) & 63;
+      L8: {
+       if (l8 + Integer.MIN_VALUE > 2147483631) { break L8; }
+       l7 = ((l9 << 6) | ((l7 << 12) & 61440)) | l10;
+       break L5;
+      }
+      l7 = ((l10 << 6) | ((l9 << 12) | ((l7 << 18) & 1835008))) | ((b[((int) l4) - 58909] & 0xff) & 63);
+     }
+     if (l5 == 0L) { break L1; }
+     L9: {
+      if ((l8 = (int) b[((int) (l3 + (l4 = l5 + -1L))) - 58912]) >= 0) { break L9; }
+      l4 = -2L;
+      L10: {
+       if ((b[((int) ((l6 = l3 + l5) + -2L)) - 58912] & 0xff) + Integer.MIN_VALUE > -2147483457) { break L10; }
+       l4 = ((b[((int) (l6 + -3L)) - 58912] & 0xff) + Integer.MIN_VALUE > -2147483457) ? -3L : -4L;
+      }
+      l8 = (l9 = (int) b[((int) (l5 = l3 + (l4 = l4 + l5))) - 58912]) & 255;
+      if (l9 > -1) { break L9; }
+      l10 = (b[((int) l5) - 58911] & 0xff) & 63;
+      L11: {
+       if (l9 + Integer.MIN_VALUE > 2147483615) { break L11; }
+       l8 = ((l8 << 6) & 1984) | l10;
+       break L9;
+      }
+      l11 = (b[((int) l5) - 58910] & 0xff) & 63;
+      L12: {
+       if (l9 + Integer.MIN_VALUE > 2147483631) { break L12; }
+       l8 = ((l10 << 6) | ((l8 << 12) & 61440)) | l11;
+       break L9;
+      }
+      l8 = ((l11 << 6) | ((l10 << 12) | ((l8 << 18) & 1835008))) | ((b[((int) l5) - 58909] & 0xff) & 63);
+     }
+     if (l7 == l8) { continue L4; }
+     break L4;
+    }
+    Words.put64(b, ((int) l0) - 58896, 0L);
+    Words.put64(b, ((int) l0) - 58904, 0L);
+    Words.put64(b, ((int) l0) - 58912, 0L);
+    return;
+   }
+   Words.put64(b, ((int) l0) - 58912, 1L);
+   Words.put64(b, ((int) (l0 + 16L)) - 58912, l5);
+   Words.put64(b, ((int) (l0 + 8L)) - 58912, l3);
+   return;
+  }
+  throw State.trap();
+ }
+ Words.put64(b, ((int) l0) - 58896, 0L);
+ Words.put64(b, ((int) l0) - 58904, 0L);
+ Words.put64(b, ((int) l0) - 58912, 0L);
+}
+
+static void f204(State m, long l0, int l1, int l2, long l3, long l4) {
  final byte[] b = m.bytes;
  long l5 = 0;
  long l6 = 0;
  long l7 = 0;
  long l8 = 0;
- long l9 = 0;
- long l10 = 0;
- long l11 = 0;
+ int l9 = 0;
+ int l10 = 0;
+ int l11 = 0;
  int l12 = 0;
  int l13 = 0;
- m.g0 = l5 = m.g0 - 608L;
+ int l14 = 0;
+ int l15 = 0;
+ m.g0 = l5 = m.g0 - 32L;
  L1: {
   L2: {
    L3: {
-    if ((l5 = l5) < 16L) { break L3; }
-    Words.put64(b, ((int) l4) - 60720, 0L);
-    l12 = 8;
-    if (l1 + Integer.MIN_VALUE > -2147483646) { break L1; }
-    l13 = 44;
     L4: {
      L5: {
       L6: {
@@ -8027,207 +6861,1686 @@ static int f231(State m, int l0, int l1, long l2, long l3, long l4) {
          L9: {
           L10: {
            L11: {
+            if ((l6 = l5) < 16L) { break L11; }
             L12: {
+             if (l4 == 0L) { break L12; }
+             l10 = (l9 = (int) b[((int) l3) - 58912]) & 255;
+             l7 = 1L;
              L13: {
+              if (l9 > -1) { break L13; }
+              l11 = (b[((int) l3) - 58911] & 0xff) & 63;
               L14: {
-               L15: {
-                L16: {
-                 switch (l0 + 1) {
-                 case 0: break L6;
-                 case 1: break L2;
-                 case 2: break L5;
-                 case 3: break L4;
-                 case 4: break L16;
-                 case 5: break L15;
-                 case 6: break L14;
-                 case 7: break L13;
-                 case 8: break L12;
-                 case 9: break L11;
-                 case 10: break L10;
-                 case 11: break L9;
-                 case 12: break L8;
-                 case 13: break L7;
-                 default: break L1;
-                 }
-                }
-                l13 = 24;
-                break L4;
-               }
-               l13 = 25;
-               break L4;
+               if (l9 + Integer.MIN_VALUE > 2147483615) { break L14; }
+               l10 = ((l10 << 6) & 1984) | l11;
+               l7 = 2L;
+               break L13;
               }
-              l13 = 45;
-              break L4;
+              l12 = (b[((int) l3) - 58910] & 0xff) & 63;
+              L15: {
+               if (l9 + Integer.MIN_VALUE > 2147483631) { break L15; }
+               l10 = ((l11 << 6) | ((l10 << 12) & 61440)) | l12;
+               l7 = 3L;
+               break L13;
+              }
+              l10 = ((l12 << 6) | ((l11 << 12) | ((l10 << 18) & 1835008))) | ((b[((int) l3) - 58909] & 0xff) & 63);
+              l7 = 4L;
              }
-             l13 = 46;
-             break L4;
+             l5 = -32L;
+             L16: {
+              L17: while (true) {
+               if ((l11 = Words.get32(b, ((int) (l5 + 83884L)) - 58912)) == l10) { break L16; }
+               l9 = (l5 != 0L) ? 1 : 0;
+               l5 = l5 + 4L;
+               if (l9 != 0) { continue L17; }
+               break L17;
+              }
+             }
+             l4 = l4 - l7;
+             l5 = l3 + l7;
+             if (l11 != l10) { break L5; }
+             if ((((l10 != 21040) & (l10 != 33267)) ? 1 : 0) != 1) { break L5; }
+             if ((l12 = (l4 == 0L) ? 1 : 0) != 0) { break L8; }
+             l11 = (l9 = (int) b[((int) l5) - 58912]) & 255;
+             L18: {
+              if (l9 > -1) { break L18; }
+              l13 = (b[((int) l5) - 58911] & 0xff) & 63;
+              L19: {
+               if (l9 + Integer.MIN_VALUE < 2147483616) { break L19; }
+               l14 = (b[((int) l5) - 58910] & 0xff) & 63;
+               L20: {
+                if (l9 + Integer.MIN_VALUE > 2147483631) { break L20; }
+                l15 = 1;
+                if (((l11 = ((l13 << 6) | ((l11 << 12) & 61440)) | l14) + -48) + Integer.MIN_VALUE < -2147483638) { break L9; }
+                if ((l11 + -65296) + Integer.MIN_VALUE >= -2147483638) { break L10; }
+                break L9;
+               }
+               l15 = 1;
+               if (((l11 = ((l14 << 6) | ((l13 << 12) | ((l11 << 18) & 1835008))) | ((b[((int) l5) - 58909] & 0xff) & 63)) + -48) + Integer.MIN_VALUE < -2147483638) { break L9; }
+               if ((l11 + -65296) + Integer.MIN_VALUE < -2147483638) { break L9; }
+               break L10;
+              }
+              if (((l11 = ((l11 << 6) & 1984) | l13) + -48) + Integer.MIN_VALUE >= -2147483638) { break L10; }
+              l15 = 1;
+              break L9;
+             }
+             if (((l9 + -48) & 255) + Integer.MIN_VALUE >= -2147483638) { break L10; }
+             l15 = 1;
+             break L9;
             }
-            l13 = 47;
-            break L4;
+            Words.put64(b, ((int) l0) - 58880, 0L);
+            Words.put64(b, ((int) l0) - 58888, 0L);
+            Words.put64(b, ((int) l0) - 58896, 0L);
+            Words.put64(b, ((int) l0) - 58904, 0L);
+            Words.put64(b, ((int) l0) - 58912, 0L);
+            break L1;
            }
-           l13 = 48;
-           break L4;
+           throw State.trap();
           }
-          l13 = 6;
+          L21: {
+           if (l11 == 8722) { break L21; }
+           if (l11 != 45) { break L8; }
+          }
+          L22: {
+           L23: {
+            if (l9 <= -1) { break L23; }
+            l3 = 1L;
+            break L22;
+           }
+           L24: {
+            if (l9 + Integer.MIN_VALUE >= 2147483616) { break L24; }
+            l3 = 2L;
+            break L22;
+           }
+           l3 = (l9 + Integer.MIN_VALUE < 2147483632) ? 3L : 4L;
+          }
+          if (l4 == l3) { break L8; }
+          l9 = (l11 = (int) b[((int) (l3 = l5 + l3)) - 58912]) & 255;
+          L25: {
+           if (l11 > -1) { break L25; }
+           l15 = (b[((int) l3) - 58911] & 0xff) & 63;
+           L26: {
+            if (l11 + Integer.MIN_VALUE > 2147483615) { break L26; }
+            l9 = ((l9 << 6) & 1984) | l15;
+            break L25;
+           }
+           l13 = (b[((int) l3) - 58910] & 0xff) & 63;
+           L27: {
+            if (l11 + Integer.MIN_VALUE > 2147483631) { break L27; }
+            l9 = ((l15 << 6) | ((l9 << 12) & 61440)) | l13;
+            break L25;
+           }
+           l9 = ((l13 << 6) | ((l15 << 12) | ((l9 << 18) & 1835008))) | ((b[((int) l3) - 58909] & 0xff) & 63);
+          }
+          l15 = (((l9 + -48) + Integer.MIN_VALUE < -2147483638) | ((l9 + -65296) + Integer.MIN_VALUE < -2147483638)) ? 1 : 0;
+         }
+         L28: {
+          if (l1 != 0) { break L28; }
+          if ((l15 & 1) == 0) { break L28; }
+          if (l10 == 45) { break L5; }
+          if (l10 == 65293) { break L5; }
           break L4;
          }
-         l13 = 49;
-         break L4;
+         if (((l15 | (l1 ^ -1)) & 1) != 0) { break L6; }
+         break L7;
         }
-        l13 = 50;
-        break L4;
+        if (l1 == 0) { break L5; }
        }
-       l13 = 40;
-       break L4;
+       Words.put64(b, ((int) l6) - 58896, 0L);
+       Words.put64(b, ((int) l6) - 58904, 0L);
+       Words.put64(b, ((int) l6) - 58912, 0L);
+       f196(m, l6, 89120L, 6L, l5, l4);
+       l3 = 3L;
+       l7 = 88992L;
+       l8 = 1L;
+       if ((b[((int) l6) - 58912] & 0xff) == 1) { break L2; }
+       Words.put64(b, ((int) l6) - 58896, 0L);
+       Words.put64(b, ((int) l6) - 58904, 0L);
+       Words.put64(b, ((int) l6) - 58912, 0L);
+       f196(m, l6, 89126L, 6L, l5, l4);
+       if ((b[((int) l6) - 58912] & 0xff) == 1) { break L2; }
+       Words.put64(b, ((int) l6) - 58896, 0L);
+       Words.put64(b, ((int) l6) - 58904, 0L);
+       Words.put64(b, ((int) l6) - 58912, 0L);
+       f196(m, l6, 89132L, 6L, l5, l4);
+       if ((b[((int) l6) - 58912] & 0xff) == 1) { break L2; }
+       Words.put64(b, ((int) l6) - 58896, 0L);
+       Words.put64(b, ((int) l6) - 58904, 0L);
+       Words.put64(b, ((int) l6) - 58912, 0L);
+       f196(m, l6, 89138L, 6L, l5, l4);
+       if ((b[((int) l6) - 58912] & 0xff) == 1) { break L2; }
+       Words.put64(b, ((int) l6) - 58896, 0L);
+       Words.put64(b, ((int) l6) - 58904, 0L);
+       Words.put64(b, ((int) l6) - 58912, 0L);
+       f196(m, l6, 89144L, 6L, l5, l4);
+       if ((b[((int) l6) - 58912] & 0xff) == 1) { break L2; }
+       Words.put64(b, ((int) l6) - 58896, 0L);
+       Words.put64(b, ((int) l6) - 58904, 0L);
+       Words.put64(b, ((int) l6) - 58912, 0L);
+       f196(m, l6, 89150L, 6L, l5, l4);
+       if ((b[((int) l6) - 58912] & 0xff) == 1) { break L2; }
+       Words.put64(b, ((int) l6) - 58896, 0L);
+       Words.put64(b, ((int) l6) - 58904, 0L);
+       Words.put64(b, ((int) l6) - 58912, 0L);
+       f196(m, l6, 89156L, 9L, l5, l4);
+       l1 = ((l9 = b[((int) l6) - 58912] & 0xff) == 1) ? 1 : 0;
+       if (l12 != 0) { break L6; }
+       if (l9 == 1) { break L6; }
+       if ((l9 = (int) b[((int) l5) - 58912]) > -1) { break L5; }
+       if (l9 + Integer.MIN_VALUE < 2147483616) { break L5; }
+       l11 = l9 & 255;
+       l1 = (b[((int) l5) - 58911] & 0xff) & 63;
+       l12 = (b[((int) l5) - 58910] & 0xff) & 63;
+       L29: {
+        L30: {
+         if (l9 + Integer.MIN_VALUE > 2147483631) { break L30; }
+         l9 = ((l1 << 6) | ((l11 << 12) & 61440)) | l12;
+         break L29;
+        }
+        l9 = ((l12 << 6) | ((l1 << 12) | ((l11 << 18) & 1835008))) | ((b[((int) l5) - 58909] & 0xff) & 63);
+       }
+       L31: {
+        if (l9 > 20939) { break L31; }
+        if ((l9 = l9 + -19978) + Integer.MIN_VALUE > -2147483613) { break L5; }
+        if (((1L << (l9 & 0xffffffffL)) & 34359738371L) == 0L) { break L5; }
+        break L2;
+       }
+       L32: {
+        if (l9 > 26201) { break L32; }
+        if (l9 == 20940) { break L2; }
+        if (l9 != 26089) { break L5; }
+        break L2;
+       }
+       if (l9 == 26202) { break L2; }
+       if (l9 != 28145) { break L5; }
+       break L2;
       }
-      l13 = 51;
-      break L4;
+      if (l1 != 0) { break L4; }
      }
-     l13 = 23;
-    }
-    m.fill((int) (l5 + 24L), 0, (int) 512L);
-    Words.put64(b, ((int) l5) - 60704, 0L);
-    Words.put64(b, ((int) l5) - 60712, 512L);
-    Words.put64(b, ((int) l5) - 60720, l5 + 24L);
-    Words.put32(b, ((int) l5) - 60183, 0);
-    b[((int) l5) - 60184] = (byte) l1;
-    Words.put32(b, ((int) l5) - 60180, 0);
-    Words.put64(b, ((int) l5) - 60168, 0L);
-    Words.put64(b, ((int) l5) - 60176, 83372L);
-    Words.put64(b, ((int) l5) - 60160, 0L);
-    Words.put64(b, ((int) l5) - 60152, 0L);
-    Words.put64(b, ((int) l5) - 60120, 0L);
-    Words.put64(b, ((int) l5) - 60128, 83372L);
-    Words.put64(b, ((int) l5) - 60136, 0L);
-    Words.put64(b, ((int) l5) - 60144, 83372L);
-    Core2.f50(m, l5 + 536L, l5, l13);
-    final int t17 = (int) l4;
-    final long t18 = l6 = Words.get64(b, ((int) l5) - 60704);
-    final int t19 = l12 = (l6 + Long.MIN_VALUE < -9223372036854775295L) ? 1 : 0;
-    Words.put64(b, t17 - 60720, l6 = t19 != 0 ? t18 : 0L);
-    L20: {
-     if (l3 + Long.MIN_VALUE >= l6 + Long.MIN_VALUE) { break L20; }
-     l12 = 6;
-     break L1;
-    }
-    L21: {
-     final long t22 = l8 = l2 + (l7 = (l2 == 0L) ? 4096L : 0L);
-     final long t23 = l5 + 24L;
-     final int t24 = l12;
-     if ((t22 - (l9 = t24 != 0 ? t23 : 83372L)) + Long.MIN_VALUE >= l6 + Long.MIN_VALUE) { break L21; }
-     l10 = l6 & 3L;
-     l3 = 0L;
-     L25: {
-      if (l6 + Long.MIN_VALUE < -9223372036854775804L) { break L25; }
-      l11 = l6 & -4L;
+     Words.put64(b, ((int) l6) - 58888, 0L);
+     Words.put64(b, ((int) l6) - 58896, 0L);
+     Words.put64(b, ((int) l6) - 58904, 0L);
+     Words.put64(b, ((int) l6) - 58912, 0L);
+     f205(m, l6, l5, l4);
+     L33: {
+      L34: {
+       L35: {
+        if (l10 != 215) { break L35; }
+        if (l4 == 0L) { break L35; }
+        l9 = (l10 = (int) b[((int) l5) - 58912]) & 255;
+        L36: {
+         if (l10 > -1) { break L36; }
+         l11 = (b[((int) l5) - 58911] & 0xff) & 63;
+         L37: {
+          if (l10 + Integer.MIN_VALUE > 2147483615) { break L37; }
+          l9 = ((l9 << 6) & 1984) | l11;
+          break L36;
+         }
+         l1 = (b[((int) l5) - 58910] & 0xff) & 63;
+         L38: {
+          if (l10 + Integer.MIN_VALUE > 2147483631) { break L38; }
+          l9 = ((l11 << 6) | ((l9 << 12) & 61440)) | l1;
+          break L36;
+         }
+         l9 = ((l1 << 6) | ((l11 << 12) | ((l9 << 18) & 1835008))) | ((b[((int) l5) - 58909] & 0xff) & 63);
+        }
+        l7 = Words.get64(b, ((int) l6) - 58888);
+        l3 = Words.get64(b, ((int) l6) - 58896);
+        L39: {
+         if ((l9 + -48) + Integer.MIN_VALUE < -2147483638) { break L39; }
+         if ((l9 + -65296) + Integer.MIN_VALUE >= -2147483638) { break L34; }
+        }
+        if (l7 == 0L) { break L33; }
+        l9 = (l10 = (int) b[((int) l3) - 58912]) & 255;
+        L40: {
+         if (l10 > -1) { break L40; }
+         l11 = (b[((int) l3) - 58911] & 0xff) & 63;
+         L41: {
+          if (l10 + Integer.MIN_VALUE > 2147483615) { break L41; }
+          l9 = ((l9 << 6) & 1984) | l11;
+          break L40;
+         }
+         l1 = (b[((int) l3) - 58910] & 0xff) & 63;
+         L42: {
+          if (l10 + Integer.MIN_VALUE > 2147483631) { break L42; }
+          l9 = ((l11 << 6) | ((l9 << 12) & 61440)) | l1;
+          break L40;
+         }
+         l9 = ((l1 << 6) | ((l11 << 12) | ((l9 << 18) & 1835008))) | ((b[((int) l3) - 58909] & 0xff) & 63);
+        }
+        if (l9 != 61) { break L33; }
+        break L34;
+       }
+       if (l10 != 47) { break L34; }
+       if (l2 == 0) { break L34; }
+       if (l4 == 0L) { break L34; }
+       l9 = (l10 = (int) b[((int) l5) - 58912]) & 255;
+       L43: {
+        if (l10 > -1) { break L43; }
+        l11 = (b[((int) l5) - 58911] & 0xff) & 63;
+        L44: {
+         if (l10 + Integer.MIN_VALUE > 2147483615) { break L44; }
+         l9 = ((l9 << 6) & 1984) | l11;
+         break L43;
+        }
+        l1 = (b[((int) l5) - 58910] & 0xff) & 63;
+        L45: {
+         if (l10 + Integer.MIN_VALUE > 2147483631) { break L45; }
+         l9 = ((l11 << 6) | ((l9 << 12) & 61440)) | l1;
+         break L43;
+        }
+        l9 = ((l1 << 6) | ((l11 << 12) | ((l9 << 18) & 1835008))) | ((b[((int) l5) - 58909] & 0xff) & 63);
+       }
+       if (f188(m, l9) == 0) { break L34; }
+       l3 = 3L;
+       l7 = 88998L;
+       break L3;
+      }
+      l5 = 0L;
+      l4 = 0L;
+      l8 = 0L;
+      l7 = 0L;
       l3 = 0L;
-      L26: while (true) {
-       b[((int) (l4 = l8 + l3)) - 60720] = (byte) (b[((int) (l6 = l9 + l3)) - 60720] & 0xff);
-       b[((int) (l4 + 1L)) - 60720] = (byte) (b[((int) (l6 + 1L)) - 60720] & 0xff);
-       b[((int) (l4 + 2L)) - 60720] = (byte) (b[((int) (l6 + 2L)) - 60720] & 0xff);
-       b[((int) (l4 + 3L)) - 60720] = (byte) (b[((int) (l6 + 3L)) - 60720] & 0xff);
-       if (l11 != (l3 = l3 + 4L)) { continue L26; }
-       break L26;
-      }
-      if (l10 == 0L) { break L2; }
-     }
-     l4 = l9 + l3;
-     l3 = l2 + (l7 + l3);
-     L27: while (true) {
-      b[((int) l3) - 60720] = (byte) (b[((int) l4) - 60720] & 0xff);
-      l3 = l3 + 1L;
-      l4 = l4 + 1L;
-      if ((l10 = l10 + -1L) != 0L) { continue L27; }
       break L2;
      }
+     l3 = 3L;
+     l7 = 88995L;
+     break L3;
     }
-    if (l6 == 0L) { break L2; }
-    m.copy((int) l8, (int) l9, (int) l6);
-    l12 = 0;
-    break L1;
+    l3 = 3L;
+    l7 = 88992L;
    }
-   throw State.trap();
+   l8 = 1L;
   }
-  l12 = 0;
+  Words.put64(b, ((int) l0) - 58912, l8);
+  Words.put64(b, ((int) (l0 + 32L)) - 58912, l4);
+  Words.put64(b, ((int) (l0 + 24L)) - 58912, l5);
+  Words.put64(b, ((int) (l0 + 16L)) - 58912, l3);
+  Words.put64(b, ((int) (l0 + 8L)) - 58912, l7);
  }
- m.g0 = l5 + 608L;
- return l12;
+ m.g0 = l6 + 32L;
 }
 
-static int f233(State m, long l0, long l1, long l2, long l3) {
+static void f205(State m, long l0, long l1, long l2) {
  final byte[] b = m.bytes;
+ long l3 = 0;
  long l4 = 0;
  long l5 = 0;
  long l6 = 0;
- long l7 = 0;
- long l8 = 0;
- long l9 = 0;
+ int l7 = 0;
+ int l8 = 0;
+ int l9 = 0;
  int l10 = 0;
- m.g0 = l4 = m.g0 - 144L;
  L1: {
+  if (m.g0 < 16L) { break L1; }
   L2: {
    L3: {
-    if ((l4 = l4) < 16L) { break L3; }
-    Words.put64(b, ((int) l3) - 60720, 0L);
-    L4: {
-     if ((l10 = Words.get32(b, ((int) (l0 + 32L)) - 60720)) + Integer.MIN_VALUE <= -2147483645) { break L4; }
-     l10 = 8;
-     break L1;
-    }
-    Words.put64(b, ((int) l4) - 60591, 0L);
-    b[((int) l4) - 60592] = (byte) l10;
-    Words.put64(b, ((int) l4) - 60584, 0L);
-    Words.put64(b, ((int) l4) - 60616, Words.get64(b, ((int) l0) - 60712));
-    Words.put64(b, ((int) l4) - 60624, Words.get64(b, ((int) l0) - 60720));
-    Words.put64(b, ((int) l4) - 60600, Words.get64(b, ((int) (l0 + 24L)) - 60720));
-    Words.put64(b, ((int) l4) - 60608, Words.get64(b, ((int) (l0 + 16L)) - 60720));
-    m.fill((int) (l4 + 16L), 0, (int) 80L);
-    Core2.f52(m, l4, l4 + 16L, l4 + 96L);
-    l5 = Words.get64(b, ((int) l4) - 60720);
-    Words.put64(b, ((int) l3) - 60720, l0 = Words.get64(b, ((int) l4) - 60712));
+    if (!(l2 == 0L)) { break L3; }
+    l3 = 0L;
+    l4 = l1;
+    break L2;
+   }
+   l5 = l2;
+   l4 = l1;
+   L4: while (true) {
+    l8 = (l7 = (int) b[((int) l4) - 58912]) & 255;
+    l6 = 1L;
     L5: {
-     if (l2 + Long.MIN_VALUE >= l0 + Long.MIN_VALUE) { break L5; }
-     l10 = 6;
-     break L1;
-    }
-    L6: {
-     if (((l7 = l1 + (l6 = (l1 == 0L) ? 4096L : 0L)) - l5) + Long.MIN_VALUE >= l0 + Long.MIN_VALUE) { break L6; }
-     l8 = l0 & 3L;
-     l3 = 0L;
+     if (l7 > -1) { break L5; }
+     l9 = (b[((int) l4) - 58911] & 0xff) & 63;
+     L6: {
+      if (l7 + Integer.MIN_VALUE > 2147483615) { break L6; }
+      l8 = ((l8 << 6) & 1984) | l9;
+      l6 = 2L;
+      break L5;
+     }
+     l10 = (b[((int) l4) - 58910] & 0xff) & 63;
      L7: {
-      if (l0 + Long.MIN_VALUE < -9223372036854775804L) { break L7; }
-      l9 = l0 & -4L;
-      l3 = 0L;
+      if (l7 + Integer.MIN_VALUE > 2147483631) { break L7; }
+      l8 = ((l9 << 6) | ((l8 << 12) & 61440)) | l10;
+      l6 = 3L;
+      break L5;
+     }
+     l8 = ((l10 << 6) | ((l9 << 12) | ((l8 << 18) & 1835008))) | ((b[((int) l4) - 58909] & 0xff) & 63);
+     l6 = 4L;
+    }
+    L8: {
+     if ((l8 + -48) + Integer.MIN_VALUE < -2147483638) { break L8; }
+     if ((l8 + -65296) + Integer.MIN_VALUE < -2147483638) { break L8; }
+     l3 = l5;
+     L9: {
+      switch (l8 + -44) {
+      case 0: case 2: break L8;
+      case 1: break L2;
+      default: break L9;
+      }
+     }
+     l3 = l5;
+     switch (l8 + -65292) {
+     case 0: case 2: break L8;
+     default: break L2;
+     }
+    }
+    l4 = l4 + l6;
+    l3 = 0L;
+    if ((l5 = l5 - l6) != 0L) { continue L4; }
+    break L4;
+   }
+  }
+  Words.put64(b, ((int) l0) - 58888, l3);
+  Words.put64(b, ((int) l0) - 58896, l4);
+  Words.put64(b, ((int) l0) - 58912, l1);
+  Words.put64(b, ((int) l0) - 58904, l2 - l3);
+  return;
+ }
+ throw State.trap();
+}
+
+static int f206_1(State m, long l1, long l2, int l3, long l4, long l5, long l6, long l7, long l8, long l9, long l10, long l11, long l12, long l13, long l14, int l18, int l19, int l20, int l21) {
+ final byte[] b = m.bytes;
+ int exit = 0;
+ PART: {
+  L4: {
+   L5: {
+    if ((l8 = m.g0) < 16L) { break L5; }
+    if (l5 == 0L) { exit = 1; break PART; }
+    l9 = l4 + 20L;
+    l10 = l5;
+    L6: {
+     L7: {
       L8: while (true) {
-       b[((int) (l0 = l7 + l3)) - 60720] = (byte) (b[((int) (l2 = l5 + l3)) - 60720] & 0xff);
-       b[((int) (l0 + 1L)) - 60720] = (byte) (b[((int) (l2 + 1L)) - 60720] & 0xff);
-       b[((int) (l0 + 2L)) - 60720] = (byte) (b[((int) (l2 + 2L)) - 60720] & 0xff);
-       b[((int) (l0 + 3L)) - 60720] = (byte) (b[((int) (l2 + 3L)) - 60720] & 0xff);
-       if (l9 != (l3 = l3 + 4L)) { continue L8; }
+       L9: {
+        if ((b[((int) (l9 + -4L)) - 58912] & 0xff) != 1) { break L9; }
+        if ((l18 = Words.get32(b, ((int) l9) - 58912)) == 46) { break L9; }
+        if (l18 == 40670) { break L9; }
+        if (l18 != 28857) { break L7; }
+       }
+       l9 = l9 + 40L;
+       if ((l10 = l10 + -1L) != 0L) { continue L8; }
        break L8;
       }
-      if (l8 == 0L) { break L2; }
+      l9 = l4;
+      l11 = l5;
+      L10: while (true) {
+       L11: {
+        if ((l10 = Words.get64(b, ((int) (l9 + 8L)) - 58912)) == 0L) { break L11; }
+        L12: {
+         L13: {
+          if ((l18 = (int) b[((int) (l12 = Words.get64(b, ((int) l9) - 58912))) - 58912]) <= -1) { break L13; }
+          l13 = 1L;
+          break L12;
+         }
+         L14: {
+          if (l18 + Integer.MIN_VALUE >= 2147483616) { break L14; }
+          l13 = 2L;
+          break L12;
+         }
+         l13 = (l18 + Integer.MIN_VALUE < 2147483632) ? 3L : 4L;
+        }
+        if (l10 == l13) { break L11; }
+        L15: {
+         L16: {
+          if ((l18 = (int) b[((int) (l14 = l12 + l13)) - 58912]) <= -1) { break L16; }
+          l12 = 1L;
+          break L15;
+         }
+         L17: {
+          if (l18 + Integer.MIN_VALUE >= 2147483616) { break L17; }
+          l12 = 2L;
+          break L15;
+         }
+         l12 = (l18 + Integer.MIN_VALUE < 2147483632) ? 3L : 4L;
+        }
+        if (l10 == (l13 = l12 + l13)) { break L11; }
+        L18: {
+         L19: {
+          if ((l18 = (int) b[((int) (l14 = l14 + l12)) - 58912]) <= -1) { break L19; }
+          l12 = 1L;
+          break L18;
+         }
+         L20: {
+          if (l18 + Integer.MIN_VALUE >= 2147483616) { break L20; }
+          l12 = 2L;
+          break L18;
+         }
+         l12 = (l18 + Integer.MIN_VALUE < 2147483632) ? 3L : 4L;
+        }
+        if (l10 == (l13 = l12 + l13)) { break L11; }
+        L21: {
+         L22: {
+          if ((l18 = (int) b[((int) (l14 + l12)) - 58912]) <= -1) { break L22; }
+          l12 = 1L;
+          break L21;
+         }
+         L23: {
+          if (l18 + Integer.MIN_VALUE >= 2147483616) { break L23; }
+          l12 = 2L;
+          break L21;
+         }
+         l12 = (l18 + Integer.MIN_VALUE < 2147483632) ? 3L : 4L;
+        }
+        if (l10 != (l12 + l13)) { break L7; }
+       }
+       l9 = l9 + 40L;
+       if ((l11 = l11 + -1L) != 0L) { continue L10; }
+       break L10;
+      }
+      if ((l9 = l5 + -3L) + Long.MIN_VALUE > -9223372036854775807L) { break L7; }
+      L24: {
+       L25: {
+        switch ((int) l9) {
+        case 1: break L25;
+        default: break L24;
+        }
+       }
+       if (f198(m, 255, Words.get64(b, ((int) l4) - 58912), Words.get64(b, ((int) l4) - 58904)) == 0) { break L6; }
+       if (f198(m, 255, Words.get64(b, ((int) (l4 + 40L)) - 58912), Words.get64(b, ((int) (l4 + 48L)) - 58912)) == 0) { break L6; }
+       if (f198(m, 255, Words.get64(b, ((int) (l4 + 80L)) - 58912), Words.get64(b, ((int) (l4 + 88L)) - 58912)) == 0) { break L6; }
+       if (f198(m, 255, Words.get64(b, ((int) (l4 + 120L)) - 58912), Words.get64(b, ((int) (l4 + 128L)) - 58912)) == 0) { break L6; }
+      }
+      L26: {
+       if (l3 != 0) { break L26; }
+       L27: {
+        if (f194(m, l1, l2) == 0) { break L27; }
+        if (l2 == 0L) { break L6; }
+        l3 = l18 = (int) b[((int) ((l9 = l1 + l2) + -1L)) - 58912];
+        L28: {
+         if (l18 >= 0) { break L28; }
+         l10 = -2L;
+         L29: {
+          if ((b[((int) (l9 + -2L)) - 58912] & 0xff) + Integer.MIN_VALUE > -2147483457) { break L29; }
+          l10 = ((b[((int) (l9 + -3L)) - 58912] & 0xff) + Integer.MIN_VALUE > -2147483457) ? -3L : -4L;
+         }
+         l3 = (l19 = (int) b[((int) (l10 = (l1 + l10) + l2)) - 58912]) & 255;
+         if (l19 > -1) { break L28; }
+         l20 = (b[((int) l10) - 58911] & 0xff) & 63;
+         L30: {
+          if (l19 + Integer.MIN_VALUE > 2147483615) { break L30; }
+          l3 = ((l3 << 6) & 1984) | l20;
+          break L28;
+         }
+         l21 = (b[((int) l10) - 58910] & 0xff) & 63;
+         L31: {
+          if (l19 + Integer.MIN_VALUE > 2147483631) { break L31; }
+          l3 = ((l20 << 6) | ((l3 << 12) & 61440)) | l21;
+          break L28;
+         }
+         l3 = ((l21 << 6) | ((l20 << 12) | ((l3 << 18) & 1835008))) | ((b[((int) l10) - 58909] & 0xff) & 63);
+        }
+        if ((l3 | 32) != 118) { break L6; }
+        L32: {
+         L33: {
+          if (l18 <= -1) { break L33; }
+          l9 = l2 + -1L;
+          break L32;
+         }
+         l10 = -2L;
+         L34: {
+          if ((b[((int) (l9 + -2L)) - 58912] & 0xff) + Integer.MIN_VALUE > -2147483457) { break L34; }
+          l10 = ((b[((int) (l9 + -3L)) - 58912] & 0xff) + Integer.MIN_VALUE > -2147483457) ? -3L : -4L;
+         }
+         l9 = l10 + l2;
+        }
+        if (l9 == 0L) { break L27; }
+        L35: {
+         if ((l18 = (int) b[((int) ((l10 = l1 + l9) + -1L)) - 58912]) >= 0) { break L35; }
+         l11 = -2L;
+         L36: {
+          if ((b[((int) (l10 + -2L)) - 58912] & 0xff) + Integer.MIN_VALUE > -2147483457) { break L36; }
+          l11 = ((b[((int) (l10 + -3L)) - 58912] & 0xff) + Integer.MIN_VALUE > -2147483457) ? -3L : -4L;
+         }
+         l18 = (l3 = (int) b[((int) (l9 = (l1 + l11) + l9)) - 58912]) & 255;
+         if (l3 > -1) { break L35; }
+         l19 = (b[((int) l9) - 58911] & 0xff) & 63;
+         L37: {
+          if (l3 + Integer.MIN_VALUE > 2147483615) { break L37; }
+          l18 = ((l18 << 6) & 1984) | l19;
+          break L35;
+         }
+         l20 = (b[((int) l9) - 58910] & 0xff) & 63;
+         L38: {
+          if (l3 + Integer.MIN_VALUE > 2147483631) { break L38; }
+          l18 = ((l19 << 6) | ((l18 << 12) & 61440)) | l20;
+          break L35;
+         }
+         l18 = ((l20 << 6) | ((l19 << 12) | ((l18 << 18) & 1835008))) | ((b[((int) l9) - 58909] & 0xff) & 63);
+        }
+        if (((l18 & -33) + -91) + Integer.MIN_VALUE > 2147483621) { break L6; }
+       }
+       if (f195(m, l6, l7) != 0) { break L6; }
+       l18 = 1;
+       if (l5 != 3L) { exit = 2; break PART; }
+       if ((l9 = Words.get64(b, ((int) l4) - 58904)) == 0L) { exit = 2; break PART; }
+       L39: {
+        L40: {
+         if ((l3 = (int) b[((int) (l11 = Words.get64(b, ((int) l4) - 58912))) - 58912]) <= -1) { break L40; }
+         l10 = 1L;
+         break L39;
+        }
+        L41: {
+         if (l3 + Integer.MIN_VALUE >= 2147483616) { break L41; }
+         l10 = 2L;
+         break L39;
+        }
+        l10 = (l3 + Integer.MIN_VALUE < 2147483632) ? 3L : 4L;
+       }
+       if (l9 == l10) { exit = 2; break PART; }
+       L42: {
+        L43: {
+         if ((l3 = (int) b[((int) (l13 = l11 + l10)) - 58912]) <= -1) { break L43; }
+         l11 = 1L;
+         break L42;
+        }
+        L44: {
+         if (l3 + Integer.MIN_VALUE >= 2147483616) { break L44; }
+         l11 = 2L;
+         break L42;
+        }
+        l11 = (l3 + Integer.MIN_VALUE < 2147483632) ? 3L : 4L;
+       }
+       if (l9 == (l10 = l11 + l10)) { exit = 2; break PART; }
+       L45: {
+        L46: {
+         if ((l3 = (int) b[((int) (l13 = l13 + l11)) - 58912]) <= -1) { break L46; }
+         l11 = 1L;
+         break L45;
+        }
+        L47: {
+         if (l3 + Integer.MIN_VALUE >= 2147483616) { break L47; }
+         l11 = 2L;
+         break L45;
+        }
+        l11 = (l3 + Integer.MIN_VALUE < 2147483632) ? 3L : 4L;
+       }
+       if (l9 == (l10 = l11 + l10)) { exit = 2; break PART; }
+       L48: {
+        L49: {
+         if ((l3 = (int) b[((int) (l13 + l11)) - 58912]) <= -1) { break L49; }
+         l11 = 1L;
+         break L48;
+        }
+        L50: {
+         if (l3 + Integer.MIN_VALUE >= 2147483616) { break L50; }
+         l11 = 2L;
+         break L48;
+        }
+        l11 = (l3 + Integer.MIN_VALUE < 2147483632) ? 3L : 4L;
+       }
+       if (l9 != (l11 + l10)) { exit = 2; break PART; }
+       l9 = Words.get64(b, ((int) (l4 + 88L)) - 58912);
+       l10 = Words.get64(b, ((int) (l4 + 80L)) - 58912);
+       if (f198(m, 12, Words.get64(b, ((int) (l4 + 40L)) - 58912), Words.get64(b, ((int) (l4 + 48L)) - 58912)) == 0) { exit = 2; break PART; }
+       if (f198(m, 31, l10, l9) != 0) { break L6; }
+       exit = 2; break PART;
+      }
+      if (Core7.f209(m, l4, l5, l6, l7) == 0) { break L6; }
+      l18 = 1;
+      exit = 2; break PART;
      }
-     l0 = l5 + l3;
-     l3 = l1 + (l6 + l3);
-     L9: while (true) {
-      b[((int) l3) - 60720] = (byte) (b[((int) l0) - 60720] & 0xff);
-      l3 = l3 + 1L;
-      l0 = l0 + 1L;
-      if ((l8 = l8 + -1L) != 0L) { continue L9; }
-      break L2;
-     }
+     if ((l5 + -2L) + Long.MIN_VALUE > -9223372036854775802L) { exit = 1; break PART; }
     }
-    if (l0 == 0L) { break L2; }
-    m.copy((int) l7, (int) l5, (int) l0);
-    l10 = 0;
-    break L1;
+    if (f194(m, l1, l2) != 0) { exit = 1; break PART; }
+    if (f195(m, l6, l7) != 0) { exit = 1; break PART; }
+    l9 = l4 + 20L;
+    l10 = l5;
+    L51: while (true) {
+     L52: {
+      if ((b[((int) (l9 + -4L)) - 58912] & 0xff) != 1) { break L52; }
+      if (Words.get32(b, ((int) l9) - 58912) == 32) { break L52; }
+      l9 = l4 + 20L;
+      l10 = l5;
+      L53: while (true) {
+       L54: {
+        if ((b[((int) (l9 + -4L)) - 58912] & 0xff) != 1) { break L54; }
+        if (Words.get32(b, ((int) l9) - 58912) != 45) { exit = 3; break PART; }
+       }
+       l9 = l9 + 40L;
+       if ((l10 = l10 + -1L) != 0L) { continue L53; }
+       break L4;
+      }
+     }
+     l9 = l9 + 40L;
+     if (!((l10 = l10 + -1L) == 0L)) { continue L51; }
+     break L4;
+    }
    }
    throw State.trap();
   }
-  l10 = 0;
  }
- m.g0 = l4 + 144L;
- return l10;
+ m.kept[0] = l3;
+ m.kept[1] = l8;
+ m.kept[2] = l9;
+ m.kept[3] = l10;
+ m.kept[4] = l11;
+ m.kept[5] = l12;
+ m.kept[6] = l13;
+ m.kept[7] = l14;
+ m.kept[8] = l18;
+ m.kept[9] = l19;
+ m.kept[10] = l20;
+ m.kept[11] = l21;
+ return exit;
+}
+
+static int f206_2(State m, int l3, long l4, long l5, long l9, long l10, long l11, long l12, long l13, long l14, long l15, long l16, int l18, int l19) {
+ final byte[] b = m.bytes;
+ int exit = 0;
+ PART: {
+  L56: {
+   L57: {
+    if ((l18 = ((l9 = Words.get64(b, ((int) l4) - 58904)) == 0L) ? 1 : 0) != 0) { break L57; }
+    L58: {
+     L59: {
+      if ((l3 = (int) b[((int) l10) - 58912]) <= -1) { break L59; }
+      l11 = 1L;
+      break L58;
+     }
+     L60: {
+      if (l3 + Integer.MIN_VALUE >= 2147483616) { break L60; }
+      l11 = 2L;
+      break L58;
+     }
+     l11 = (l3 + Integer.MIN_VALUE < 2147483632) ? 3L : 4L;
+    }
+    if (l9 == l11) { break L57; }
+    L61: {
+     L62: {
+      if ((l3 = (int) b[((int) (l12 = l10 + l11)) - 58912]) <= -1) { break L62; }
+      l13 = 1L;
+      break L61;
+     }
+     L63: {
+      if (l3 + Integer.MIN_VALUE >= 2147483616) { break L63; }
+      l13 = 2L;
+      break L61;
+     }
+     l13 = (l3 + Integer.MIN_VALUE < 2147483632) ? 3L : 4L;
+    }
+    if (l9 == (l11 = l13 + l11)) { break L57; }
+    L64: {
+     L65: {
+      if ((l3 = (int) b[((int) (l12 + l13)) - 58912]) <= -1) { break L65; }
+      l13 = 1L;
+      break L64;
+     }
+     L66: {
+      if (l3 + Integer.MIN_VALUE >= 2147483616) { break L66; }
+      l13 = 2L;
+      break L64;
+     }
+     l13 = (l3 + Integer.MIN_VALUE < 2147483632) ? 3L : 4L;
+    }
+    if (l9 != (l13 + l11)) { break L57; }
+    if ((l12 = l5 + -1L) == 0L) { break L56; }
+    if ((l11 = Words.get64(b, ((int) (l4 + 48L)) - 58912)) == 0L) { break L57; }
+    L67: {
+     L68: {
+      if ((l3 = (int) b[((int) (l14 = Words.get64(b, ((int) (l4 + 40L)) - 58912))) - 58912]) <= -1) { break L68; }
+      l13 = 1L;
+      break L67;
+     }
+     L69: {
+      if (l3 + Integer.MIN_VALUE >= 2147483616) { break L69; }
+      l13 = 2L;
+      break L67;
+     }
+     l13 = (l3 + Integer.MIN_VALUE < 2147483632) ? 3L : 4L;
+    }
+    if (l11 == l13) { break L57; }
+    L70: {
+     L71: {
+      if ((l3 = (int) b[((int) (l15 = l14 + l13)) - 58912]) <= -1) { break L71; }
+      l14 = 1L;
+      break L70;
+     }
+     L72: {
+      if (l3 + Integer.MIN_VALUE >= 2147483616) { break L72; }
+      l14 = 2L;
+      break L70;
+     }
+     l14 = (l3 + Integer.MIN_VALUE < 2147483632) ? 3L : 4L;
+    }
+    if (l11 == (l13 = l14 + l13)) { break L57; }
+    L73: {
+     L74: {
+      if ((l3 = (int) b[((int) (l15 = l15 + l14)) - 58912]) <= -1) { break L74; }
+      l14 = 1L;
+      break L73;
+     }
+     L75: {
+      if (l3 + Integer.MIN_VALUE >= 2147483616) { break L75; }
+      l14 = 2L;
+      break L73;
+     }
+     l14 = (l3 + Integer.MIN_VALUE < 2147483632) ? 3L : 4L;
+    }
+    if (l11 == (l13 = l14 + l13)) { break L57; }
+    l16 = 1L;
+    L76: {
+     if ((l3 = (int) b[((int) (l15 + l14)) - 58912]) > -1) { break L76; }
+     l16 = 2L;
+     if (l3 + Integer.MIN_VALUE < 2147483616) { break L76; }
+     l16 = (l3 + Integer.MIN_VALUE < 2147483632) ? 3L : 4L;
+    }
+    if (l12 == 1L) { break L57; }
+    if (l11 != (l16 + l13)) { break L57; }
+    if ((l11 = Words.get64(b, ((int) (l4 + 88L)) - 58912)) == 0L) { break L56; }
+    L77: {
+     L78: {
+      if ((l3 = (int) b[((int) (l12 = Words.get64(b, ((int) (l4 + 80L)) - 58912))) - 58912]) <= -1) { break L78; }
+      l13 = 1L;
+      break L77;
+     }
+     L79: {
+      if (l3 + Integer.MIN_VALUE >= 2147483616) { break L79; }
+      l13 = 2L;
+      break L77;
+     }
+     l13 = (l3 + Integer.MIN_VALUE < 2147483632) ? 3L : 4L;
+    }
+    if (l11 == l13) { break L56; }
+    L80: {
+     L81: {
+      if ((l3 = (int) b[((int) (l14 = l12 + l13)) - 58912]) <= -1) { break L81; }
+      l12 = 1L;
+      break L80;
+     }
+     L82: {
+      if (l3 + Integer.MIN_VALUE >= 2147483616) { break L82; }
+      l12 = 2L;
+      break L80;
+     }
+     l12 = (l3 + Integer.MIN_VALUE < 2147483632) ? 3L : 4L;
+    }
+    if (l11 == (l13 = l12 + l13)) { break L56; }
+    L83: {
+     L84: {
+      if ((l3 = (int) b[((int) (l14 = l14 + l12)) - 58912]) <= -1) { break L84; }
+      l12 = 1L;
+      break L83;
+     }
+     L85: {
+      if (l3 + Integer.MIN_VALUE >= 2147483616) { break L85; }
+      l12 = 2L;
+      break L83;
+     }
+     l12 = (l3 + Integer.MIN_VALUE < 2147483632) ? 3L : 4L;
+    }
+    if (l11 == (l13 = l12 + l13)) { break L56; }
+    L86: {
+     L87: {
+      if ((l3 = (int) b[((int) (l14 + l12)) - 58912]) <= -1) { break L87; }
+      l12 = 1L;
+      break L86;
+     }
+     L88: {
+      if (l3 + Integer.MIN_VALUE >= 2147483616) { break L88; }
+      l12 = 2L;
+      break L86;
+     }
+     l12 = (l3 + Integer.MIN_VALUE < 2147483632) ? 3L : 4L;
+    }
+    if (l5 + Long.MIN_VALUE > -9223372036854775805L) { break L56; }
+    if (l11 != (l12 + l13)) { break L56; }
+    if (Core7.f210(m, 89168L, 7L, l10, l9) == 0) { break L56; }
+    l18 = 0;
+    exit = 1; break PART;
+   }
+   if (l5 != 2L) { break L56; }
+   l3 = Core7.f211(m, l10, l9);
+   if (l18 != 0) { break L56; }
+   if (l3 == 0) { break L56; }
+   L89: {
+    L90: {
+     if ((l3 = (int) b[((int) l10) - 58912]) <= -1) { break L90; }
+     l11 = 1L;
+     break L89;
+    }
+    L91: {
+     if (l3 + Integer.MIN_VALUE >= 2147483616) { break L91; }
+     l11 = 2L;
+     break L89;
+    }
+    l11 = (l3 + Integer.MIN_VALUE < 2147483632) ? 3L : 4L;
+   }
+   L92: {
+    L93: {
+     if (l9 == l11) { break L93; }
+     L94: {
+      L95: {
+       if ((l19 = (int) b[((int) (l12 = l10 + l11)) - 58912]) <= -1) { break L95; }
+       l13 = 1L;
+       break L94;
+      }
+      L96: {
+       if (l19 + Integer.MIN_VALUE >= 2147483616) { break L96; }
+       l13 = 2L;
+       break L94;
+      }
+      l13 = (l19 + Integer.MIN_VALUE < 2147483632) ? 3L : 4L;
+     }
+     if (l9 == (l11 = l13 + l11)) { break L93; }
+     L97: {
+      L98: {
+       if ((l19 = (int) b[((int) (l12 + l13)) - 58912]) <= -1) { break L98; }
+       l13 = 1L;
+       break L97;
+      }
+      L99: {
+       if (l19 + Integer.MIN_VALUE >= 2147483616) { break L99; }
+       l13 = 2L;
+       break L97;
+      }
+      l13 = (l19 + Integer.MIN_VALUE < 2147483632) ? 3L : 4L;
+     }
+     if (l9 == (l13 + l11)) { break L92; }
+    }
+    L100: {
+     L101: {
+      if (l3 <= -1) { break L101; }
+      l11 = 1L;
+      break L100;
+     }
+     L102: {
+      if (l3 + Integer.MIN_VALUE >= 2147483616) { break L102; }
+      l11 = 2L;
+      break L100;
+     }
+     l11 = (l3 + Integer.MIN_VALUE < 2147483632) ? 3L : 4L;
+    }
+    if (l9 == l11) { break L56; }
+    L103: {
+     L104: {
+      if ((l3 = (int) b[((int) (l12 = l10 + l11)) - 58912]) <= -1) { break L104; }
+      l13 = 1L;
+      break L103;
+     }
+     L105: {
+      if (l3 + Integer.MIN_VALUE >= 2147483616) { break L105; }
+      l13 = 2L;
+      break L103;
+     }
+     l13 = (l3 + Integer.MIN_VALUE < 2147483632) ? 3L : 4L;
+    }
+    if (l9 == (l11 = l13 + l11)) { break L56; }
+    L106: {
+     L107: {
+      if ((l3 = (int) b[((int) (l12 = l12 + l13)) - 58912]) <= -1) { break L107; }
+      l13 = 1L;
+      break L106;
+     }
+     L108: {
+      if (l3 + Integer.MIN_VALUE >= 2147483616) { break L108; }
+      l13 = 2L;
+      break L106;
+     }
+     l13 = (l3 + Integer.MIN_VALUE < 2147483632) ? 3L : 4L;
+    }
+    if (l9 == (l11 = l13 + l11)) { break L56; }
+    L109: {
+     L110: {
+      if ((l3 = (int) b[((int) (l12 + l13)) - 58912]) <= -1) { break L110; }
+      l13 = 1L;
+      break L109;
+     }
+     L111: {
+      if (l3 + Integer.MIN_VALUE >= 2147483616) { break L111; }
+      l13 = 2L;
+      break L109;
+     }
+     l13 = (l3 + Integer.MIN_VALUE < 2147483632) ? 3L : 4L;
+    }
+    if (l9 != (l13 + l11)) { break L56; }
+   }
+   if ((l11 = Words.get64(b, ((int) (l4 + 48L)) - 58912)) == 0L) { break L56; }
+   L112: {
+    L113: {
+     if ((l3 = (int) b[((int) (l12 = Words.get64(b, ((int) (l4 + 40L)) - 58912))) - 58912]) <= -1) { break L113; }
+     l13 = 1L;
+     break L112;
+    }
+    L114: {
+     if (l3 + Integer.MIN_VALUE >= 2147483616) { break L114; }
+     l13 = 2L;
+     break L112;
+    }
+    l13 = (l3 + Integer.MIN_VALUE < 2147483632) ? 3L : 4L;
+   }
+   L115: {
+    if (l11 == l13) { break L115; }
+    L116: {
+     L117: {
+      if ((l19 = (int) b[((int) (l15 = l12 + l13)) - 58912]) <= -1) { break L117; }
+      l14 = 1L;
+      break L116;
+     }
+     L118: {
+      if (l19 + Integer.MIN_VALUE >= 2147483616) { break L118; }
+      l14 = 2L;
+      break L116;
+     }
+     l14 = (l19 + Integer.MIN_VALUE < 2147483632) ? 3L : 4L;
+    }
+    if (l11 == (l13 = l14 + l13)) { break L115; }
+    L119: {
+     L120: {
+      if ((l19 = (int) b[((int) (l15 = l15 + l14)) - 58912]) <= -1) { break L120; }
+      l14 = 1L;
+      break L119;
+     }
+     L121: {
+      if (l19 + Integer.MIN_VALUE >= 2147483616) { break L121; }
+      l14 = 2L;
+      break L119;
+     }
+     l14 = (l19 + Integer.MIN_VALUE < 2147483632) ? 3L : 4L;
+    }
+    if (l11 == (l13 = l14 + l13)) { break L115; }
+    L122: {
+     L123: {
+      if ((l19 = (int) b[((int) (l15 = l15 + l14)) - 58912]) <= -1) { break L123; }
+      l14 = 1L;
+      break L122;
+     }
+     L124: {
+      if (l19 + Integer.MIN_VALUE >= 2147483616) { break L124; }
+      l14 = 2L;
+      break L122;
+     }
+     l14 = (l19 + Integer.MIN_VALUE < 2147483632) ? 3L : 4L;
+    }
+    if (l11 == (l13 = l14 + l13)) { break L115; }
+    L125: {
+     L126: {
+      if ((l19 = (int) b[((int) (l15 = l15 + l14)) - 58912]) <= -1) { break L126; }
+      l14 = 1L;
+      break L125;
+     }
+     L127: {
+      if (l19 + Integer.MIN_VALUE >= 2147483616) { break L127; }
+      l14 = 2L;
+      break L125;
+     }
+     l14 = (l19 + Integer.MIN_VALUE < 2147483632) ? 3L : 4L;
+    }
+    if (l11 == (l13 = l14 + l13)) { break L115; }
+    L128: {
+     L129: {
+      if ((l19 = (int) b[((int) (l15 = l15 + l14)) - 58912]) <= -1) { break L129; }
+      l14 = 1L;
+      break L128;
+     }
+     L130: {
+      if (l19 + Integer.MIN_VALUE >= 2147483616) { break L130; }
+      l14 = 2L;
+      break L128;
+     }
+     l14 = (l19 + Integer.MIN_VALUE < 2147483632) ? 3L : 4L;
+    }
+    if (l11 == (l13 = l14 + l13)) { break L115; }
+    L131: {
+     L132: {
+      if ((l19 = (int) b[((int) (l15 + l14)) - 58912]) <= -1) { break L132; }
+      l14 = 1L;
+      break L131;
+     }
+     L133: {
+      if (l19 + Integer.MIN_VALUE >= 2147483616) { break L133; }
+      l14 = 2L;
+      break L131;
+     }
+     l14 = (l19 + Integer.MIN_VALUE < 2147483632) ? 3L : 4L;
+    }
+    if (l11 != (l14 + l13)) { break L115; }
+    l18 = 0;
+    exit = 1; break PART;
+   }
+   L134: {
+    L135: {
+     if (l3 <= -1) { break L135; }
+     l13 = 1L;
+     break L134;
+    }
+    L136: {
+     if (l3 + Integer.MIN_VALUE >= 2147483616) { break L136; }
+     l13 = 2L;
+     break L134;
+    }
+    l13 = (l3 + Integer.MIN_VALUE < 2147483632) ? 3L : 4L;
+   }
+   if (l11 == l13) { break L56; }
+   L137: {
+    L138: {
+     if ((l3 = (int) b[((int) (l14 = l12 + l13)) - 58912]) <= -1) { break L138; }
+     l12 = 1L;
+     break L137;
+    }
+    L139: {
+     if (l3 + Integer.MIN_VALUE >= 2147483616) { break L139; }
+     l12 = 2L;
+     break L137;
+    }
+    l12 = (l3 + Integer.MIN_VALUE < 2147483632) ? 3L : 4L;
+   }
+   if (l11 == (l13 = l12 + l13)) { break L56; }
+   L140: {
+    L141: {
+     if ((l3 = (int) b[((int) (l14 = l14 + l12)) - 58912]) <= -1) { break L141; }
+     l12 = 1L;
+     break L140;
+    }
+    L142: {
+     if (l3 + Integer.MIN_VALUE >= 2147483616) { break L142; }
+     l12 = 2L;
+     break L140;
+    }
+    l12 = (l3 + Integer.MIN_VALUE < 2147483632) ? 3L : 4L;
+   }
+   if (l11 == (l13 = l12 + l13)) { break L56; }
+   L143: {
+    L144: {
+     if ((l3 = (int) b[((int) (l14 = l14 + l12)) - 58912]) <= -1) { break L144; }
+     l12 = 1L;
+     break L143;
+    }
+    L145: {
+     if (l3 + Integer.MIN_VALUE >= 2147483616) { break L145; }
+     l12 = 2L;
+     break L143;
+    }
+    l12 = (l3 + Integer.MIN_VALUE < 2147483632) ? 3L : 4L;
+   }
+   if (l11 == (l13 = l12 + l13)) { break L56; }
+   L146: {
+    L147: {
+     if ((l3 = (int) b[((int) (l14 = l14 + l12)) - 58912]) <= -1) { break L147; }
+     l12 = 1L;
+     break L146;
+    }
+    L148: {
+     if (l3 + Integer.MIN_VALUE >= 2147483616) { break L148; }
+     l12 = 2L;
+     break L146;
+    }
+    l12 = (l3 + Integer.MIN_VALUE < 2147483632) ? 3L : 4L;
+   }
+   if (l11 == (l13 = l12 + l13)) { break L56; }
+   L149: {
+    L150: {
+     if ((l3 = (int) b[((int) (l14 = l14 + l12)) - 58912]) <= -1) { break L150; }
+     l12 = 1L;
+     break L149;
+    }
+    L151: {
+     if (l3 + Integer.MIN_VALUE >= 2147483616) { break L151; }
+     l12 = 2L;
+     break L149;
+    }
+    l12 = (l3 + Integer.MIN_VALUE < 2147483632) ? 3L : 4L;
+   }
+   if (l11 == (l13 = l12 + l13)) { break L56; }
+   L152: {
+    L153: {
+     if ((l3 = (int) b[((int) (l14 = l14 + l12)) - 58912]) <= -1) { break L153; }
+     l12 = 1L;
+     break L152;
+    }
+    L154: {
+     if (l3 + Integer.MIN_VALUE >= 2147483616) { break L154; }
+     l12 = 2L;
+     break L152;
+    }
+    l12 = (l3 + Integer.MIN_VALUE < 2147483632) ? 3L : 4L;
+   }
+   if (l11 == (l13 = l12 + l13)) { break L56; }
+   L155: {
+    L156: {
+     if ((l3 = (int) b[((int) (l14 + l12)) - 58912]) <= -1) { break L156; }
+     l12 = 1L;
+     break L155;
+    }
+    L157: {
+     if (l3 + Integer.MIN_VALUE >= 2147483616) { break L157; }
+     l12 = 2L;
+     break L155;
+    }
+    l12 = (l3 + Integer.MIN_VALUE < 2147483632) ? 3L : 4L;
+   }
+   if (l11 != (l12 + l13)) { break L56; }
+   l18 = 0;
+   exit = 1; break PART;
+  }
+ }
+ m.kept[0] = l3;
+ m.kept[1] = l9;
+ m.kept[2] = l11;
+ m.kept[3] = l12;
+ m.kept[4] = l13;
+ m.kept[5] = l14;
+ m.kept[6] = l15;
+ m.kept[7] = l16;
+ m.kept[8] = l18;
+ m.kept[9] = l19;
+ return exit;
+}
+
+static void f206(State m, long l0, long l1, long l2, int l3, long l4, long l5, long l6, long l7) {
+ final byte[] b = m.bytes;
+ long l8 = 0;
+ long l9 = 0;
+ long l10 = 0;
+ long l11 = 0;
+ long l12 = 0;
+ long l13 = 0;
+ long l14 = 0;
+ long l15 = 0;
+ long l16 = 0;
+ long l17 = 0;
+ int l18 = 0;
+ int l19 = 0;
+ int l20 = 0;
+ int l21 = 0;
+ L1: {
+  L2: {
+   L3: {
+    final int x55 = f206_1(m, l1, l2, l3, l4, l5, l6, l7, l8, l9, l10, l11, l12, l13, l14, l18, l19, l20, l21);
+    l3 = (int) m.kept[0];
+    l8 = m.kept[1];
+    l9 = m.kept[2];
+    l10 = m.kept[3];
+    l11 = m.kept[4];
+    l12 = m.kept[5];
+    l13 = m.kept[6];
+    l14 = m.kept[7];
+    l18 = (int) m.kept[8];
+    l19 = (int) m.kept[9];
+    l20 = (int) m.kept[10];
+    l21 = (int) m.kept[11];
+    switch (x55) {
+    case 1: break L1;
+    case 2: break L2;
+    case 3: break L3;
+    }
+    l10 = Words.get64(b, ((int) l4) - 58912);
+    final int x158 = f206_2(m, l3, l4, l5, l9, l10, l11, l12, l13, l14, l15, l16, l18, l19);
+    l3 = (int) m.kept[0];
+    l9 = m.kept[1];
+    l11 = m.kept[2];
+    l12 = m.kept[3];
+    l13 = m.kept[4];
+    l14 = m.kept[5];
+    l15 = m.kept[6];
+    l16 = m.kept[7];
+    l18 = (int) m.kept[8];
+    l19 = (int) m.kept[9];
+    switch (x158) {
+    case 1: break L2;
+    }
+    l3 = Core7.f210(m, 89296L, 2L, l10, l9);
+    L159: {
+     if (l18 != 0) { break L159; }
+     if (l3 == 0) { break L159; }
+     L160: {
+      L161: {
+       if ((l18 = (int) b[((int) l10) - 58912]) <= -1) { break L161; }
+       l11 = 1L;
+       break L160;
+      }
+      L162: {
+       if (l18 + Integer.MIN_VALUE >= 2147483616) { break L162; }
+       l11 = 2L;
+       break L160;
+      }
+      l11 = (l18 + Integer.MIN_VALUE < 2147483632) ? 3L : 4L;
+     }
+     L163: {
+      if (l9 == l11) { break L163; }
+      L164: {
+       L165: {
+        if ((l3 = (int) b[((int) (l12 = l10 + l11)) - 58912]) <= -1) { break L165; }
+        l13 = 1L;
+        break L164;
+       }
+       L166: {
+        if (l3 + Integer.MIN_VALUE >= 2147483616) { break L166; }
+        l13 = 2L;
+        break L164;
+       }
+       l13 = (l3 + Integer.MIN_VALUE < 2147483632) ? 3L : 4L;
+      }
+      if (l9 == (l11 = l13 + l11)) { break L163; }
+      L167: {
+       L168: {
+        if ((l3 = (int) b[((int) (l12 + l13)) - 58912]) <= -1) { break L168; }
+        l13 = 1L;
+        break L167;
+       }
+       L169: {
+        if (l3 + Integer.MIN_VALUE >= 2147483616) { break L169; }
+        l13 = 2L;
+        break L167;
+       }
+       l13 = (l3 + Integer.MIN_VALUE < 2147483632) ? 3L : 4L;
+      }
+      if (l9 != (l13 + l11)) { break L163; }
+      if (l5 == 1L) { break L163; }
+      if ((l11 = Words.get64(b, ((int) (l4 + 48L)) - 58912)) == 0L) { break L163; }
+      L170: {
+       L171: {
+        if ((l3 = (int) b[((int) (l12 = Words.get64(b, ((int) (l4 + 40L)) - 58912))) - 58912]) <= -1) { break L171; }
+        l13 = 1L;
+        break L170;
+       }
+       L172: {
+        if (l3 + Integer.MIN_VALUE >= 2147483616) { break L172; }
+        l13 = 2L;
+        break L170;
+       }
+       l13 = (l3 + Integer.MIN_VALUE < 2147483632) ? 3L : 4L;
+      }
+      if (l11 == l13) { break L163; }
+      L173: {
+       L174: {
+        if ((l3 = (int) b[((int) (l14 = l12 + l13)) - 58912]) <= -1) { break L174; }
+        l12 = 1L;
+        break L173;
+       }
+       L175: {
+        if (l3 + Integer.MIN_VALUE >= 2147483616) { break L175; }
+        l12 = 2L;
+        break L173;
+       }
+       l12 = (l3 + Integer.MIN_VALUE < 2147483632) ? 3L : 4L;
+      }
+      if (l11 == (l13 = l12 + l13)) { break L163; }
+      L176: {
+       L177: {
+        if ((l3 = (int) b[((int) (l14 + l12)) - 58912]) <= -1) { break L177; }
+        l12 = 1L;
+        break L176;
+       }
+       L178: {
+        if (l3 + Integer.MIN_VALUE >= 2147483616) { break L178; }
+        l12 = 2L;
+        break L176;
+       }
+       l12 = (l3 + Integer.MIN_VALUE < 2147483632) ? 3L : 4L;
+      }
+      if (l5 + Long.MIN_VALUE < -9223372036854775805L) { break L163; }
+      if (l11 != (l12 + l13)) { break L163; }
+      if ((l11 = Words.get64(b, ((int) (l4 + 88L)) - 58912)) == 0L) { break L163; }
+      L179: {
+       L180: {
+        if ((l3 = (int) b[((int) (l12 = Words.get64(b, ((int) (l4 + 80L)) - 58912))) - 58912]) <= -1) { break L180; }
+        l13 = 1L;
+        break L179;
+       }
+       L181: {
+        if (l3 + Integer.MIN_VALUE >= 2147483616) { break L181; }
+        l13 = 2L;
+        break L179;
+       }
+       l13 = (l3 + Integer.MIN_VALUE < 2147483632) ? 3L : 4L;
+      }
+      if (l11 == l13) { break L163; }
+      L182: {
+       L183: {
+        if ((l3 = (int) b[((int) (l14 = l12 + l13)) - 58912]) <= -1) { break L183; }
+        l12 = 1L;
+        break L182;
+       }
+       L184: {
+        if (l3 + Integer.MIN_VALUE >= 2147483616) { break L184; }
+        l12 = 2L;
+        break L182;
+       }
+       l12 = (l3 + Integer.MIN_VALUE < 2147483632) ? 3L : 4L;
+      }
+      if (l11 == (l13 = l12 + l13)) { break L163; }
+      L185: {
+       L186: {
+        if ((l3 = (int) b[((int) (l14 = l14 + l12)) - 58912]) <= -1) { break L186; }
+        l12 = 1L;
+        break L185;
+       }
+       L187: {
+        if (l3 + Integer.MIN_VALUE >= 2147483616) { break L187; }
+        l12 = 2L;
+        break L185;
+       }
+       l12 = (l3 + Integer.MIN_VALUE < 2147483632) ? 3L : 4L;
+      }
+      if (l11 == (l13 = l12 + l13)) { break L163; }
+      L188: {
+       L189: {
+        if ((l3 = (int) b[((int) (l14 + l12)) - 58912]) <= -1) { break L189; }
+        l12 = 1L;
+        break L188;
+       }
+       L190: {
+        if (l3 + Integer.MIN_VALUE >= 2147483616) { break L190; }
+        l12 = 2L;
+        break L188;
+       }
+       l12 = (l3 + Integer.MIN_VALUE < 2147483632) ? 3L : 4L;
+      }
+      if (l5 != 3L) { break L163; }
+      if (l11 != (l12 + l13)) { break L163; }
+      l18 = 0;
+      break L2;
+     }
+     L191: {
+      L192: {
+       if (l18 <= -1) { break L192; }
+       l11 = 1L;
+       break L191;
+      }
+      L193: {
+       if (l18 + Integer.MIN_VALUE >= 2147483616) { break L193; }
+       l11 = 2L;
+       break L191;
+      }
+      l11 = (l18 + Integer.MIN_VALUE < 2147483632) ? 3L : 4L;
+     }
+     if (l9 == l11) { break L159; }
+     L194: {
+      L195: {
+       if ((l18 = (int) b[((int) (l13 = l10 + l11)) - 58912]) <= -1) { break L195; }
+       l10 = 1L;
+       break L194;
+      }
+      L196: {
+       if (l18 + Integer.MIN_VALUE >= 2147483616) { break L196; }
+       l10 = 2L;
+       break L194;
+      }
+      l10 = (l18 + Integer.MIN_VALUE < 2147483632) ? 3L : 4L;
+     }
+     if (l9 == (l11 = l10 + l11)) { break L159; }
+     L197: {
+      L198: {
+       if ((l18 = (int) b[((int) (l13 + l10)) - 58912]) <= -1) { break L198; }
+       l10 = 1L;
+       break L197;
+      }
+      L199: {
+       if (l18 + Integer.MIN_VALUE >= 2147483616) { break L199; }
+       l10 = 2L;
+       break L197;
+      }
+      l10 = (l18 + Integer.MIN_VALUE < 2147483632) ? 3L : 4L;
+     }
+     if (l9 != (l10 + l11)) { break L159; }
+     if (l5 == 1L) { break L159; }
+     if ((l9 = Words.get64(b, ((int) (l4 + 48L)) - 58912)) == 0L) { break L159; }
+     L200: {
+      L201: {
+       if ((l18 = (int) b[((int) (l11 = Words.get64(b, ((int) (l4 + 40L)) - 58912))) - 58912]) <= -1) { break L201; }
+       l10 = 1L;
+       break L200;
+      }
+      L202: {
+       if (l18 + Integer.MIN_VALUE >= 2147483616) { break L202; }
+       l10 = 2L;
+       break L200;
+      }
+      l10 = (l18 + Integer.MIN_VALUE < 2147483632) ? 3L : 4L;
+     }
+     if (l9 == l10) { break L159; }
+     L203: {
+      L204: {
+       if ((l18 = (int) b[((int) (l13 = l11 + l10)) - 58912]) <= -1) { break L204; }
+       l11 = 1L;
+       break L203;
+      }
+      L205: {
+       if (l18 + Integer.MIN_VALUE >= 2147483616) { break L205; }
+       l11 = 2L;
+       break L203;
+      }
+      l11 = (l18 + Integer.MIN_VALUE < 2147483632) ? 3L : 4L;
+     }
+     if (l9 == (l10 = l11 + l10)) { break L159; }
+     L206: {
+      L207: {
+       if ((l18 = (int) b[((int) (l13 = l13 + l11)) - 58912]) <= -1) { break L207; }
+       l11 = 1L;
+       break L206;
+      }
+      L208: {
+       if (l18 + Integer.MIN_VALUE >= 2147483616) { break L208; }
+       l11 = 2L;
+       break L206;
+      }
+      l11 = (l18 + Integer.MIN_VALUE < 2147483632) ? 3L : 4L;
+     }
+     if (l9 == (l10 = l11 + l10)) { break L159; }
+     L209: {
+      L210: {
+       if ((l18 = (int) b[((int) (l13 + l11)) - 58912]) <= -1) { break L210; }
+       l11 = 1L;
+       break L209;
+      }
+      L211: {
+       if (l18 + Integer.MIN_VALUE >= 2147483616) { break L211; }
+       l11 = 2L;
+       break L209;
+      }
+      l11 = (l18 + Integer.MIN_VALUE < 2147483632) ? 3L : 4L;
+     }
+     if (l5 + Long.MIN_VALUE < -9223372036854775805L) { break L159; }
+     if (l9 != (l11 + l10)) { break L159; }
+     if ((l9 = Words.get64(b, ((int) (l4 + 88L)) - 58912)) == 0L) { break L159; }
+     L212: {
+      L213: {
+       if ((l18 = (int) b[((int) (l11 = Words.get64(b, ((int) (l4 + 80L)) - 58912))) - 58912]) <= -1) { break L213; }
+       l10 = 1L;
+       break L212;
+      }
+      L214: {
+       if (l18 + Integer.MIN_VALUE >= 2147483616) { break L214; }
+       l10 = 2L;
+       break L212;
+      }
+      l10 = (l18 + Integer.MIN_VALUE < 2147483632) ? 3L : 4L;
+     }
+     if (l9 == l10) { break L159; }
+     L215: {
+      L216: {
+       if ((l18 = (int) b[((int) (l13 = l11 + l10)) - 58912]) <= -1) { break L216; }
+       l11 = 1L;
+       break L215;
+      }
+      L217: {
+       if (l18 + Integer.MIN_VALUE >= 2147483616) { break L217; }
+       l11 = 2L;
+       break L215;
+      }
+      l11 = (l18 + Integer.MIN_VALUE < 2147483632) ? 3L : 4L;
+     }
+     if (l9 == (l10 = l11 + l10)) { break L159; }
+     L218: {
+      L219: {
+       if ((l18 = (int) b[((int) (l13 + l11)) - 58912]) <= -1) { break L219; }
+       l11 = 1L;
+       break L218;
+      }
+      L220: {
+       if (l18 + Integer.MIN_VALUE >= 2147483616) { break L220; }
+       l11 = 2L;
+       break L218;
+      }
+      l11 = (l18 + Integer.MIN_VALUE < 2147483632) ? 3L : 4L;
+     }
+     if (l5 != 3L) { break L159; }
+     if (l9 != (l11 + l10)) { break L159; }
+     l18 = 0;
+     break L2;
+    }
+    l9 = l4 + 20L;
+    l10 = l5;
+    L221: while (true) {
+     L222: {
+      if ((b[((int) (l9 + -4L)) - 58912] & 0xff) != 1) { break L222; }
+      if (Words.get32(b, ((int) l9) - 58912) != 32) { break L3; }
+     }
+     l9 = l9 + 40L;
+     if ((l10 = l10 + -1L) != 0L) { continue L221; }
+     break L221;
+    }
+    if (l5 + Long.MIN_VALUE < -9223372036854775805L) { break L3; }
+    l17 = (l16 = l4 + (l5 * 40L)) + -40L;
+    l10 = l4;
+    l12 = l5;
+    L223: {
+     L224: {
+      L225: while (true) {
+       L226: {
+        if ((l12 = l12 + -1L) != 0L) { break L226; }
+        l18 = 0;
+        if ((l9 = Words.get64(b, ((int) (l16 + -32L)) - 58912)) == 0L) { break L2; }
+        L227: {
+         L228: {
+          if ((l3 = (int) b[((int) (l11 = Words.get64(b, ((int) l17) - 58912))) - 58912]) <= -1) { break L228; }
+          l10 = 1L;
+          break L227;
+         }
+         L229: {
+          if (l3 + Integer.MIN_VALUE >= 2147483616) { break L229; }
+          l10 = 2L;
+          break L227;
+         }
+         l10 = (l3 + Integer.MIN_VALUE < 2147483632) ? 3L : 4L;
+        }
+        if (l9 == l10) { break L2; }
+        L230: {
+         L231: {
+          if ((l3 = (int) b[((int) (l13 = l11 + l10)) - 58912]) <= -1) { break L231; }
+          l11 = 1L;
+          break L230;
+         }
+         L232: {
+          if (l3 + Integer.MIN_VALUE >= 2147483616) { break L232; }
+          l11 = 2L;
+          break L230;
+         }
+         l11 = (l3 + Integer.MIN_VALUE < 2147483632) ? 3L : 4L;
+        }
+        if (l9 == (l10 = l11 + l10)) { break L2; }
+        L233: {
+         L234: {
+          if ((l3 = (int) b[((int) (l13 = l13 + l11)) - 58912]) <= -1) { break L234; }
+          l11 = 1L;
+          break L233;
+         }
+         L235: {
+          if (l3 + Integer.MIN_VALUE >= 2147483616) { break L235; }
+          l11 = 2L;
+          break L233;
+         }
+         l11 = (l3 + Integer.MIN_VALUE < 2147483632) ? 3L : 4L;
+        }
+        if (l9 == (l10 = l11 + l10)) { break L2; }
+        L236: {
+         if ((l3 = (int) b[((int) (l13 + l11)) - 58912]) <= -1) { break L236; }
+         l11 = 1L;
+         break L223;
+        }
+        if (l3 + Integer.MIN_VALUE >= 2147483616) { break L224; }
+        l11 = 2L;
+        break L223;
+       }
+       if ((l9 = Words.get64(b, ((int) (l10 + 8L)) - 58912)) == 0L) { break L3; }
+       L237: {
+        L238: {
+         if ((l18 = (int) b[((int) (l13 = Words.get64(b, ((int) l10) - 58912))) - 58912]) <= -1) { break L238; }
+         l11 = 1L;
+         break L237;
+        }
+        L239: {
+         if (l18 + Integer.MIN_VALUE >= 2147483616) { break L239; }
+         l11 = 2L;
+         break L237;
+        }
+        l11 = (l18 + Integer.MIN_VALUE < 2147483632) ? 3L : 4L;
+       }
+       if (l9 == l11) { break L3; }
+       L240: {
+        L241: {
+         if ((l18 = (int) b[((int) (l14 = l13 + l11)) - 58912]) <= -1) { break L241; }
+         l13 = 1L;
+         break L240;
+        }
+        L242: {
+         if (l18 + Integer.MIN_VALUE >= 2147483616) { break L242; }
+         l13 = 2L;
+         break L240;
+        }
+        l13 = (l18 + Integer.MIN_VALUE < 2147483632) ? 3L : 4L;
+       }
+       if (l9 == (l15 = l13 + l11)) { break L3; }
+       L243: {
+        L244: {
+         if ((l18 = (int) b[((int) (l13 = l14 + l13)) - 58912]) <= -1) { break L244; }
+         l11 = 1L;
+         break L243;
+        }
+        L245: {
+         if (l18 + Integer.MIN_VALUE >= 2147483616) { break L245; }
+         l11 = 2L;
+         break L243;
+        }
+        l11 = (l18 + Integer.MIN_VALUE < 2147483632) ? 3L : 4L;
+       }
+       if (l9 == (l14 = l11 + l15)) { break L3; }
+       L246: {
+        L247: {
+         if ((l18 = (int) b[((int) (l13 + l11)) - 58912]) <= -1) { break L247; }
+         l11 = 1L;
+         break L246;
+        }
+        L248: {
+         if (l18 + Integer.MIN_VALUE >= 2147483616) { break L248; }
+         l11 = 2L;
+         break L246;
+        }
+        l11 = (l18 + Integer.MIN_VALUE < 2147483632) ? 3L : 4L;
+       }
+       l10 = l10 + 40L;
+       if (l9 == (l11 + l14)) { continue L225; }
+       break L3;
+      }
+     }
+     l11 = (l3 + Integer.MIN_VALUE < 2147483632) ? 3L : 4L;
+    }
+    if (l9 == (l11 + l10)) { break L2; }
+   }
+   l9 = l4 + 20L;
+   L249: while (true) {
+    L250: {
+     if ((b[((int) (l9 + -4L)) - 58912] & 0xff) != 1) { break L250; }
+     if ((l18 = Words.get32(b, ((int) l9) - 58912)) == 26464) { break L250; }
+     if (l18 != 45) { break L1; }
+    }
+    l9 = l9 + 40L;
+    if ((l5 = l5 + -1L) != 0L) { continue L249; }
+    break L249;
+   }
+   if (Core7.f212(m, l1, l2) == 0) { break L1; }
+   l18 = 2;
+  }
+  Words.put64(b, ((int) l0) - 58912, 1L);
+  Words.put32(b, ((int) (l0 + 9L)) - 58912, 0);
+  b[((int) (l0 + 8L)) - 58912] = (byte) l18;
+  Words.put32(b, ((int) (l0 + 12L)) - 58912, 0);
+  Words.put64(b, ((int) (l0 + 24L)) - 58912, l7);
+  Words.put64(b, ((int) (l0 + 16L)) - 58912, l6);
+  m.g0 = l8;
+  return;
+ }
+ Words.put64(b, ((int) l0) - 58888, 0L);
+ Words.put64(b, ((int) l0) - 58896, 0L);
+ Words.put64(b, ((int) l0) - 58904, 0L);
+ Words.put64(b, ((int) l0) - 58912, 0L);
+ m.g0 = l8;
 }
 }

@@ -2,20 +2,1697 @@
 package chinesenumber;
 
 final class Core7 {
-static int f235(State m, long l0, long l1, long l2) {
+static int f207_1(State m, int l3, long l6, long l7, long l9, long l10, long l11, int l15, int l16, int l17) {
  final byte[] b = m.bytes;
- long l3 = 0;
- long l4 = 0;
- long l5 = 0;
- long l6 = 0;
- long l7 = 0;
+ int exit = 0;
+ PART: {
+  L8: {
+   if (l7 == 0L) { break L8; }
+   l15 = (l3 = (int) b[((int) l6) - 58912]) & 255;
+   L9: {
+    L10: {
+     L11: {
+      if (l3 > -1) { break L11; }
+      l16 = (b[((int) l6) - 58911] & 0xff) & 63;
+      L12: {
+       if (l3 + Integer.MIN_VALUE < 2147483616) { break L12; }
+       l17 = (b[((int) l6) - 58910] & 0xff) & 63;
+       if (l3 + Integer.MIN_VALUE > 2147483631) { break L10; }
+       l9 = 0L;
+       l10 = 0L;
+       l11 = 0L;
+       if ((((((l3 = l16 << 6) | (l15 = l15 << 12)) | l17) & 65503) + -65) + Integer.MIN_VALUE < -2147483622) { exit = 1; break PART; }
+       l3 = (l3 | (l15 & 61440)) | l17;
+       break L9;
+      }
+      l9 = 0L;
+      l10 = 0L;
+      l11 = 0L;
+      if (((((l15 << 6) | l16) & 2015) + -65) + Integer.MIN_VALUE >= -2147483622) { break L8; }
+      exit = 1; break PART;
+     }
+     l9 = 0L;
+     l10 = 0L;
+     l11 = 0L;
+     if (((l15 & 95) + -65) + Integer.MIN_VALUE >= -2147483622) { break L8; }
+     exit = 1; break PART;
+    }
+    l9 = 0L;
+    l10 = 0L;
+    l11 = 0L;
+    if ((((l3 = (l17 << 6) | ((l16 << 12) | ((l15 << 18) & 1835008))) | ((l15 = b[((int) l6) - 58909] & 0xff) & 31)) + -65) + Integer.MIN_VALUE < -2147483622) { exit = 1; break PART; }
+    l3 = l3 | (l15 & 63);
+   }
+   l9 = 0L;
+   L13: {
+    if (l3 > 24179) { break L13; }
+    L14: {
+     if (l3 > 20739) { break L14; }
+     if (l3 == 19975) { exit = 2; break PART; }
+     if (l3 == 20004) { exit = 2; break PART; }
+     l10 = 0L;
+     l11 = 0L;
+     if (l3 != 20159) { break L8; }
+     exit = 1; break PART;
+    }
+    l10 = 0L;
+    l11 = 0L;
+    L15: {
+     switch (l3 + -21313) {
+     case 0: case 2: exit = 1; break PART;
+     case 1: break L8;
+     default: break L15;
+     }
+    }
+    if (l3 == 20740) { exit = 2; break PART; }
+    l10 = 0L;
+    l11 = 0L;
+    if (l3 != 20841) { break L8; }
+    exit = 1; break PART;
+   }
+   L16: {
+    if (l3 > 28856) { break L16; }
+    if (l3 == 24180) { exit = 2; break PART; }
+    if (l3 == 24319) { exit = 2; break PART; }
+    l10 = 0L;
+    l11 = 0L;
+    if (l3 != 26376) { break L8; }
+    exit = 1; break PART;
+   }
+   L17: {
+    if (l3 > 33835) { break L17; }
+    if (l3 == 28857) { exit = 2; break PART; }
+    l10 = 0L;
+    l11 = 0L;
+    if (l3 != 30334) { break L8; }
+    exit = 1; break PART;
+   }
+   if (l3 == 33836) { exit = 2; break PART; }
+   l10 = 0L;
+   l11 = 0L;
+   if (l3 == 40670) { exit = 1; break PART; }
+  }
+ }
+ m.kept[0] = l3;
+ m.kept[1] = l9;
+ m.kept[2] = l10;
+ m.kept[3] = l11;
+ m.kept[4] = l15;
+ m.kept[5] = l16;
+ m.kept[6] = l17;
+ return exit;
+}
+
+static int f207_2(State m, long l1, long l2, int l3, long l4, long l5, long l6, long l7, long l8, long l9, long l10, long l11, int l15, int l16, int l17) {
+ final byte[] b = m.bytes;
+ int exit = 0;
+ PART: {
+  L19: {
+   if (l2 == 0L) { break L19; }
+   L20: {
+    if ((l3 = (int) b[((int) ((l10 = l1 + l2) + -1L)) - 58912]) >= 0) { break L20; }
+    l11 = -2L;
+    L21: {
+     if ((b[((int) (l10 + -2L)) - 58912] & 0xff) + Integer.MIN_VALUE > -2147483457) { break L21; }
+     l11 = ((b[((int) (l10 + -3L)) - 58912] & 0xff) + Integer.MIN_VALUE > -2147483457) ? -3L : -4L;
+    }
+    l3 = (l15 = (int) b[((int) (l10 = (l1 + l11) + l2)) - 58912]) & 255;
+    if (l15 > -1) { break L20; }
+    l16 = (b[((int) l10) - 58911] & 0xff) & 63;
+    L22: {
+     if (l15 + Integer.MIN_VALUE > 2147483615) { break L22; }
+     l3 = ((l3 << 6) & 1984) | l16;
+     break L20;
+    }
+    l17 = (b[((int) l10) - 58910] & 0xff) & 63;
+    L23: {
+     if (l15 + Integer.MIN_VALUE > 2147483631) { break L23; }
+     l3 = ((l16 << 6) | ((l3 << 12) & 61440)) | l17;
+     break L20;
+    }
+    l3 = ((l17 << 6) | ((l16 << 12) | ((l3 << 18) & 1835008))) | ((b[((int) l10) - 58909] & 0xff) & 63);
+   }
+   if (((l3 & -33) + -65) + Integer.MIN_VALUE > -2147483623) { break L19; }
+   l9 = 0L;
+   l10 = 0L;
+   l11 = 0L;
+   if (f213(m, l1, l2) == 0) { exit = 1; break PART; }
+   L24: {
+    if ((l3 = (l5 == 0L) ? 1 : 0) != 0) { break L24; }
+    L25: {
+     L26: {
+      if ((l15 = (int) b[((int) l4) - 58912]) <= -1) { break L26; }
+      l10 = 1L;
+      break L25;
+     }
+     L27: {
+      if (l15 + Integer.MIN_VALUE >= 2147483616) { break L27; }
+      l10 = 2L;
+      break L25;
+     }
+     l10 = (l15 + Integer.MIN_VALUE < 2147483632) ? 3L : 4L;
+    }
+    if (l5 == l10) { break L24; }
+    L28: {
+     L29: {
+      if ((l15 = (int) b[((int) (l4 + l10)) - 58912]) <= -1) { break L29; }
+      l11 = 1L;
+      break L28;
+     }
+     L30: {
+      if (l15 + Integer.MIN_VALUE >= 2147483616) { break L30; }
+      l11 = 2L;
+      break L28;
+     }
+     l11 = (l15 + Integer.MIN_VALUE < 2147483632) ? 3L : 4L;
+    }
+    if (l5 != (l11 + l10)) { exit = 2; break PART; }
+   }
+   Words.put64(b, ((int) l8) - 58856, 0L);
+   Words.put64(b, ((int) l8) - 58864, 0L);
+   Words.put64(b, ((int) l8) - 58872, 0L);
+   Core6.f196(m, l8 + 40L, 92064L, 3L, l6, l7);
+   if ((b[((int) l8) - 58872] & 0xff) == 1) { exit = 2; break PART; }
+   Words.put64(b, ((int) l8) - 58856, 0L);
+   Words.put64(b, ((int) l8) - 58864, 0L);
+   Words.put64(b, ((int) l8) - 58872, 0L);
+   Core6.f196(m, l8 + 40L, 92067L, 3L, l6, l7);
+   if ((b[((int) l8) - 58872] & 0xff) == 1) { exit = 2; break PART; }
+   Words.put64(b, ((int) l8) - 58856, 0L);
+   Words.put64(b, ((int) l8) - 58864, 0L);
+   Words.put64(b, ((int) l8) - 58872, 0L);
+   Core6.f196(m, l8 + 40L, 92070L, 3L, l6, l7);
+   if ((b[((int) l8) - 58872] & 0xff) == 1) { exit = 2; break PART; }
+   Words.put64(b, ((int) l8) - 58856, 0L);
+   Words.put64(b, ((int) l8) - 58864, 0L);
+   Words.put64(b, ((int) l8) - 58872, 0L);
+   Core6.f196(m, l8 + 40L, 92073L, 6L, l6, l7);
+   if ((b[((int) l8) - 58872] & 0xff) == 1) { exit = 2; break PART; }
+   Words.put64(b, ((int) l8) - 58856, 0L);
+   Words.put64(b, ((int) l8) - 58864, 0L);
+   Words.put64(b, ((int) l8) - 58872, 0L);
+   Core6.f196(m, l8 + 40L, 92079L, 6L, l6, l7);
+   if ((b[((int) l8) - 58872] & 0xff) == 1) { exit = 2; break PART; }
+   Words.put64(b, ((int) l8) - 58856, 0L);
+   Words.put64(b, ((int) l8) - 58864, 0L);
+   Words.put64(b, ((int) l8) - 58872, 0L);
+   Core6.f196(m, l8 + 40L, 92085L, 6L, l6, l7);
+   if ((b[((int) l8) - 58872] & 0xff) == 1) { exit = 2; break PART; }
+   Words.put64(b, ((int) l8) - 58856, 0L);
+   Words.put64(b, ((int) l8) - 58864, 0L);
+   Words.put64(b, ((int) l8) - 58872, 0L);
+   Core6.f196(m, l8 + 40L, 92091L, 6L, l6, l7);
+   if ((b[((int) l8) - 58872] & 0xff) == 1) { exit = 2; break PART; }
+   Words.put64(b, ((int) l8) - 58856, 0L);
+   Words.put64(b, ((int) l8) - 58864, 0L);
+   Words.put64(b, ((int) l8) - 58872, 0L);
+   Core6.f196(m, l8 + 40L, 92097L, 6L, l6, l7);
+   if ((b[((int) l8) - 58872] & 0xff) == 1) { exit = 2; break PART; }
+   Words.put64(b, ((int) l8) - 58856, 0L);
+   Words.put64(b, ((int) l8) - 58864, 0L);
+   Words.put64(b, ((int) l8) - 58872, 0L);
+   Core6.f196(m, l8 + 40L, 92103L, 6L, l6, l7);
+   if ((b[((int) l8) - 58872] & 0xff) == 1) { exit = 2; break PART; }
+   Words.put64(b, ((int) l8) - 58856, 0L);
+   Words.put64(b, ((int) l8) - 58864, 0L);
+   Words.put64(b, ((int) l8) - 58872, 0L);
+   Core6.f196(m, l8 + 40L, 92109L, 6L, l6, l7);
+   if ((b[((int) l8) - 58872] & 0xff) == 1) { exit = 2; break PART; }
+   Words.put64(b, ((int) l8) - 58856, 0L);
+   Words.put64(b, ((int) l8) - 58864, 0L);
+   Words.put64(b, ((int) l8) - 58872, 0L);
+   Core6.f196(m, l8 + 40L, 92115L, 6L, l6, l7);
+   if ((b[((int) l8) - 58872] & 0xff) == 1) { exit = 2; break PART; }
+   Words.put64(b, ((int) l8) - 58856, 0L);
+   Words.put64(b, ((int) l8) - 58864, 0L);
+   Words.put64(b, ((int) l8) - 58872, 0L);
+   Core6.f196(m, l8 + 40L, 92121L, 9L, l6, l7);
+   if ((b[((int) l8) - 58872] & 0xff) == 1) { exit = 2; break PART; }
+   Words.put64(b, ((int) l8) - 58856, 0L);
+   Words.put64(b, ((int) l8) - 58864, 0L);
+   Words.put64(b, ((int) l8) - 58872, 0L);
+   Core6.f196(m, l8 + 40L, 92130L, 9L, l6, l7);
+   if ((b[((int) l8) - 58872] & 0xff) == 1) { exit = 2; break PART; }
+   Words.put64(b, ((int) l8) - 58856, 0L);
+   Words.put64(b, ((int) l8) - 58864, 0L);
+   Words.put64(b, ((int) l8) - 58872, 0L);
+   Core6.f196(m, l8 + 40L, 92139L, 9L, l6, l7);
+   if ((b[((int) l8) - 58872] & 0xff) == 1) { exit = 2; break PART; }
+   l9 = 0L;
+   Words.put64(b, ((int) l8) - 58856, 0L);
+   Words.put64(b, ((int) l8) - 58864, 0L);
+   Words.put64(b, ((int) l8) - 58872, 0L);
+   Core6.f196(m, l8 + 40L, 92148L, 9L, l6, l7);
+   l15 = b[((int) l8) - 58872] & 0xff;
+   if (l3 != 0) { exit = 3; break PART; }
+   if ((l15 & 255) == 1) { exit = 3; break PART; }
+   L31: {
+    L32: {
+     if ((l3 = (int) b[((int) l4) - 58912]) <= -1) { break L32; }
+     l2 = 1L;
+     break L31;
+    }
+    L33: {
+     if (l3 + Integer.MIN_VALUE >= 2147483616) { break L33; }
+     l2 = 2L;
+     break L31;
+    }
+    l2 = (l3 + Integer.MIN_VALUE < 2147483632) ? 3L : 4L;
+   }
+   l9 = 0L;
+   l10 = 0L;
+   l11 = 0L;
+   if (l5 == l2) { exit = 1; break PART; }
+   l9 = 0L;
+   l10 = 0L;
+   l11 = 0L;
+   if (f214(m, l6, l7) == 0) { exit = 2; break PART; }
+   exit = 1; break PART;
+  }
+ }
+ m.kept[0] = l2;
+ m.kept[1] = l3;
+ m.kept[2] = l9;
+ m.kept[3] = l10;
+ m.kept[4] = l11;
+ m.kept[5] = l15;
+ m.kept[6] = l16;
+ m.kept[7] = l17;
+ return exit;
+}
+
+static int f207_3(State m, long l1, long l2, int l3, long l4, long l5, long l6, long l7, long l9, long l10, long l11, int l15) {
+ final byte[] b = m.bytes;
+ int exit = 0;
+ PART: {
+  L49: {
+   L50: {
+    if (l5 == l10) { break L50; }
+    L51: {
+     L52: {
+      if ((l15 = (int) b[((int) (l9 = l4 + l10)) - 58912]) <= -1) { break L52; }
+      l11 = 1L;
+      break L51;
+     }
+     L53: {
+      if (l15 + Integer.MIN_VALUE >= 2147483616) { break L53; }
+      l11 = 2L;
+      break L51;
+     }
+     l11 = (l15 + Integer.MIN_VALUE < 2147483632) ? 3L : 4L;
+    }
+    if (l5 == (l10 = l11 + l10)) { break L50; }
+    L54: {
+     L55: {
+      if ((l15 = (int) b[((int) (l9 = l9 + l11)) - 58912]) <= -1) { break L55; }
+      l11 = 1L;
+      break L54;
+     }
+     L56: {
+      if (l15 + Integer.MIN_VALUE >= 2147483616) { break L56; }
+      l11 = 2L;
+      break L54;
+     }
+     l11 = (l15 + Integer.MIN_VALUE < 2147483632) ? 3L : 4L;
+    }
+    if (l5 == (l10 = l11 + l10)) { break L50; }
+    L57: {
+     L58: {
+      if ((l15 = (int) b[((int) (l9 + l11)) - 58912]) <= -1) { break L58; }
+      l11 = 1L;
+      break L57;
+     }
+     L59: {
+      if (l15 + Integer.MIN_VALUE >= 2147483616) { break L59; }
+      l11 = 2L;
+      break L57;
+     }
+     l11 = (l15 + Integer.MIN_VALUE < 2147483632) ? 3L : 4L;
+    }
+    if (l5 != (l11 + l10)) { break L49; }
+   }
+   if (f216(m, l1, l2, l6, l7) != 0) { exit = 1; break PART; }
+   l3 = b[((int) l4) - 58912] & 0xff;
+  }
+ }
+ m.kept[0] = l3;
+ m.kept[1] = l9;
+ m.kept[2] = l10;
+ m.kept[3] = l11;
+ m.kept[4] = l15;
+ return exit;
+}
+
+static int f207_4(State m, int l3, long l4, long l5, long l8, long l10, int l15, int l16, int l17, int l18) {
+ final byte[] b = m.bytes;
+ int exit = 0;
+ PART: {
+  L79: while (true) {
+   if (l5 == 0L) { exit = 1; break PART; }
+   l15 = (l3 = (int) b[((int) l4) - 58912]) & 255;
+   l10 = 1L;
+   L80: {
+    L81: {
+     L82: {
+      L83: {
+       if (l3 > -1) { break L83; }
+       l16 = (b[((int) l4) - 58911] & 0xff) & 63;
+       if (l3 + Integer.MIN_VALUE > 2147483615) { break L82; }
+       l15 = ((l15 << 6) & 1984) | l16;
+       l10 = 2L;
+      }
+      l5 = l5 - l10;
+      l4 = l4 + l10;
+      break L81;
+     }
+     l18 = (b[((int) l4) - 58910] & 0xff) & 63;
+     L84: {
+      L85: {
+       if (l3 + Integer.MIN_VALUE > 2147483631) { break L85; }
+       l15 = ((l16 << 6) | ((l15 << 12) & 61440)) | l18;
+       l10 = 3L;
+       break L84;
+      }
+      l15 = ((l18 << 6) | ((l16 << 12) | ((l15 << 18) & 1835008))) | ((b[((int) l4) - 58909] & 0xff) & 63);
+      l10 = 4L;
+     }
+     l5 = l5 - l10;
+     l4 = l4 + l10;
+     l3 = 1;
+     if (l15 == 24186) { break L80; }
+    }
+    l10 = -44L;
+    L86: {
+     L87: while (true) {
+      if ((l16 = Words.get32(b, ((int) (l10 + 87508L)) - 58912)) == l15) { break L86; }
+      l3 = (l10 != 0L) ? 1 : 0;
+      l10 = l10 + 4L;
+      if (l3 != 0) { continue L87; }
+      break L87;
+     }
+    }
+    L88: {
+     L89: {
+      if (l16 != l15) { break L89; }
+      Core2.f63(m, l8 + 8L, l15);
+      l3 = b[((int) l8) - 58903] & 0xff;
+      l15 = b[((int) l8) - 58904] & 0xff;
+      break L88;
+     }
+     Core1.f24(m, l8 + 16L, l15);
+     l3 = b[((int) l8) - 58895] & 0xff;
+     l15 = b[((int) l8) - 58896] & 0xff;
+    }
+    l3 = ((l15 & 255) == 1) ? l3 : 0;
+   }
+   l15 = l17 & 255;
+   l17 = l3;
+   if ((l3 & 255) + Integer.MIN_VALUE >= l15 + Integer.MIN_VALUE) { continue L79; }
+   exit = 2; break PART;
+  }
+ }
+ m.kept[0] = l3;
+ m.kept[1] = l4;
+ m.kept[2] = l5;
+ m.kept[3] = l10;
+ m.kept[4] = l15;
+ m.kept[5] = l16;
+ m.kept[6] = l17;
+ m.kept[7] = l18;
+ return exit;
+}
+
+static int f207_5(State m, long l1, long l2, int l3, long l4, long l5, long l9, long l10, long l11, long l12, long l13, int l15, int l16, int l17, int l18, int l19) {
+ final byte[] b = m.bytes;
+ int exit = 0;
+ PART: {
+  L91: {
+   if ((l18 = (l2 == 0L) ? 1 : 0) != 0) { break L91; }
+   L92: {
+    L93: {
+     if ((l3 = (int) b[((int) ((l10 = l1 + l2) + -1L)) - 58912]) > -1) { break L93; }
+     l11 = -2L;
+     L94: {
+      if ((l16 = b[((int) (l10 + -2L)) - 58912] & 0xff) + Integer.MIN_VALUE > -2147483457) { break L94; }
+      l11 = ((b[((int) (l10 + -3L)) - 58912] & 0xff) + Integer.MIN_VALUE > -2147483457) ? -3L : -4L;
+     }
+     l3 = (l15 = (int) b[((int) (l11 = (l1 + l11) + l2)) - 58912]) & 255;
+     L95: {
+      if (l15 > -1) { break L95; }
+      l17 = (b[((int) l11) - 58911] & 0xff) & 63;
+      L96: {
+       if (l15 + Integer.MIN_VALUE > 2147483615) { break L96; }
+       l3 = ((l3 << 6) & 1984) | l17;
+       break L95;
+      }
+      l19 = (b[((int) l11) - 58910] & 0xff) & 63;
+      L97: {
+       if (l15 + Integer.MIN_VALUE > 2147483631) { break L97; }
+       l3 = ((l17 << 6) | ((l3 << 12) & 61440)) | l19;
+       break L95;
+      }
+      l3 = ((l19 << 6) | ((l17 << 12) | ((l3 << 18) & 1835008))) | ((b[((int) l11) - 58909] & 0xff) & 63);
+     }
+     if (l3 != 44) { break L91; }
+     l11 = -2L;
+     L98: {
+      if (l16 + Integer.MIN_VALUE > -2147483457) { break L98; }
+      l11 = ((b[((int) (l10 + -3L)) - 58912] & 0xff) + Integer.MIN_VALUE > -2147483457) ? -3L : -4L;
+     }
+     l10 = l11 + l2;
+     break L92;
+    }
+    if (l3 != 44) { break L91; }
+    l10 = l2 + -1L;
+   }
+   if (l10 == 0L) { break L91; }
+   L99: {
+    if ((l3 = (int) b[((int) ((l11 = l1 + l10) + -1L)) - 58912]) >= 0) { break L99; }
+    l9 = -2L;
+    L100: {
+     if ((b[((int) (l11 + -2L)) - 58912] & 0xff) + Integer.MIN_VALUE > -2147483457) { break L100; }
+     l9 = ((b[((int) (l11 + -3L)) - 58912] & 0xff) + Integer.MIN_VALUE > -2147483457) ? -3L : -4L;
+    }
+    l3 = (l15 = (int) b[((int) (l10 = (l1 + l9) + l10)) - 58912]) & 255;
+    if (l15 > -1) { break L99; }
+    l16 = (b[((int) l10) - 58911] & 0xff) & 63;
+    L101: {
+     if (l15 + Integer.MIN_VALUE > 2147483615) { break L101; }
+     l3 = ((l3 << 6) & 1984) | l16;
+     break L99;
+    }
+    l17 = (b[((int) l10) - 58910] & 0xff) & 63;
+    L102: {
+     if (l15 + Integer.MIN_VALUE > 2147483631) { break L102; }
+     l3 = ((l16 << 6) | ((l3 << 12) & 61440)) | l17;
+     break L99;
+    }
+    l3 = ((l17 << 6) | ((l16 << 12) | ((l3 << 18) & 1835008))) | ((b[((int) l10) - 58909] & 0xff) & 63);
+   }
+   if (l5 == 0L) { break L91; }
+   if (((l3 + -58) + Integer.MIN_VALUE < 2147483638) & ((l3 + -65306) + Integer.MIN_VALUE < 2147483638)) { break L91; }
+   L103: {
+    L104: {
+     if ((l3 = (int) b[((int) l4) - 58912]) <= -1) { break L104; }
+     l10 = 1L;
+     break L103;
+    }
+    L105: {
+     if (l3 + Integer.MIN_VALUE >= 2147483616) { break L105; }
+     l10 = 2L;
+     break L103;
+    }
+    l10 = (l3 + Integer.MIN_VALUE < 2147483632) ? 3L : 4L;
+   }
+   if (l5 == l10) { break L91; }
+   L106: {
+    L107: {
+     if ((l3 = (int) b[((int) (l9 = l4 + l10)) - 58912]) <= -1) { break L107; }
+     l11 = 1L;
+     break L106;
+    }
+    L108: {
+     if (l3 + Integer.MIN_VALUE >= 2147483616) { break L108; }
+     l11 = 2L;
+     break L106;
+    }
+    l11 = (l3 + Integer.MIN_VALUE < 2147483632) ? 3L : 4L;
+   }
+   if (l5 == (l12 = l11 + l10)) { break L91; }
+   L109: {
+    L110: {
+     if ((l3 = (int) b[((int) (l9 + l11)) - 58912]) <= -1) { break L110; }
+     l13 = 1L;
+     break L109;
+    }
+    L111: {
+     if (l3 + Integer.MIN_VALUE >= 2147483616) { break L111; }
+     l13 = 2L;
+     break L109;
+    }
+    l13 = (l3 + Integer.MIN_VALUE < 2147483632) ? 3L : 4L;
+   }
+   l9 = 0L;
+   l10 = 0L;
+   l11 = 0L;
+   if (l5 == (l13 + l12)) { exit = 1; break PART; }
+  }
+ }
+ m.kept[0] = l3;
+ m.kept[1] = l9;
+ m.kept[2] = l10;
+ m.kept[3] = l11;
+ m.kept[4] = l12;
+ m.kept[5] = l13;
+ m.kept[6] = l15;
+ m.kept[7] = l16;
+ m.kept[8] = l17;
+ m.kept[9] = l18;
+ m.kept[10] = l19;
+ return exit;
+}
+
+static int f207_6(State m, long l1, long l2, int l3, long l4, long l5, long l6, long l7, long l9, long l10, long l11, long l12, long l13, long l14, int l15, int l16, int l17, int l18, int l19, int l20, int l21, int l22) {
+ final byte[] b = m.bytes;
+ int exit = 0;
+ PART: {
+  L116: {
+   L117: {
+    L118: {
+     L119: {
+      L120: {
+       L121: {
+        L122: {
+         if ((l19 = (l7 == 0L) ? 1 : 0) != 0) { break L122; }
+         L123: {
+          L124: {
+           if ((l3 = (int) b[((int) l6) - 58912]) > -1) { break L124; }
+           l15 = l3 & 255;
+           l16 = (b[((int) l6) - 58911] & 0xff) & 63;
+           L125: {
+            if (l3 + Integer.MIN_VALUE < 2147483616) { break L125; }
+            l17 = (b[((int) l6) - 58910] & 0xff) & 63;
+            L126: {
+             L127: {
+              if (l3 + Integer.MIN_VALUE > 2147483631) { break L127; }
+              l15 = ((l16 << 6) | ((l15 << 12) & 61440)) | l17;
+              break L126;
+             }
+             l15 = ((l17 << 6) | ((l16 << 12) | ((l15 << 18) & 1835008))) | ((b[((int) l6) - 58909] & 0xff) & 63);
+            }
+            if (l15 != 44) { break L122; }
+            l11 = (l3 + Integer.MIN_VALUE < 2147483632) ? 3L : 4L;
+            break L123;
+           }
+           if ((((l15 << 6) & 1984) | l16) != 44) { break L122; }
+           l11 = 2L;
+           break L123;
+          }
+          if (l3 != 44) { break L122; }
+          l11 = 1L;
+         }
+         l10 = l14 = l6 + l11;
+         l12 = l13 = l7 - l11;
+         L128: {
+          L129: while (true) {
+           if ((l9 = l12) == 0L) { break L128; }
+           l3 = (l15 = (int) b[((int) l10) - 58912]) & 255;
+           l11 = 1L;
+           L130: {
+            if (l15 > -1) { break L130; }
+            l16 = (b[((int) l10) - 58911] & 0xff) & 63;
+            L131: {
+             if (l15 + Integer.MIN_VALUE > 2147483615) { break L131; }
+             l3 = ((l3 << 6) & 1984) | l16;
+             l11 = 2L;
+             break L130;
+            }
+            l17 = (b[((int) l10) - 58910] & 0xff) & 63;
+            L132: {
+             if (l15 + Integer.MIN_VALUE > 2147483631) { break L132; }
+             l3 = ((l16 << 6) | ((l3 << 12) & 61440)) | l17;
+             l11 = 3L;
+             break L130;
+            }
+            l3 = ((l17 << 6) | ((l16 << 12) | ((l3 << 18) & 1835008))) | ((b[((int) l10) - 58909] & 0xff) & 63);
+            l11 = 4L;
+           }
+           l12 = l9 - l11;
+           l10 = l10 + l11;
+           if ((l3 + -48) + Integer.MIN_VALUE < -2147483638) { continue L129; }
+           if ((l3 + -65296) + Integer.MIN_VALUE < -2147483638) { continue L129; }
+           break L129;
+          }
+         }
+         if (l13 == l9) { break L122; }
+         L133: {
+          L134: {
+           if ((l3 = (int) b[((int) l14) - 58912]) <= -1) { break L134; }
+           l10 = 1L;
+           break L133;
+          }
+          L135: {
+           if (l3 + Integer.MIN_VALUE >= 2147483616) { break L135; }
+           l10 = 2L;
+           break L133;
+          }
+          l10 = (l3 + Integer.MIN_VALUE < 2147483632) ? 3L : 4L;
+         }
+         if (l13 == (l11 = l10 + l9)) { break L122; }
+         L136: {
+          L137: {
+           if ((l3 = (int) b[((int) (l9 = l14 + l10)) - 58912]) <= -1) { break L137; }
+           l10 = 1L;
+           break L136;
+          }
+          L138: {
+           if (l3 + Integer.MIN_VALUE >= 2147483616) { break L138; }
+           l10 = 2L;
+           break L136;
+          }
+          l10 = (l3 + Integer.MIN_VALUE < 2147483632) ? 3L : 4L;
+         }
+         if (l13 == (l11 = l10 + l11)) { break L122; }
+         L139: {
+          L140: {
+           if ((l3 = (int) b[((int) (l9 + l10)) - 58912]) <= -1) { break L140; }
+           l10 = 1L;
+           break L139;
+          }
+          L141: {
+           if (l3 + Integer.MIN_VALUE >= 2147483616) { break L141; }
+           l10 = 2L;
+           break L139;
+          }
+          l10 = (l3 + Integer.MIN_VALUE < 2147483632) ? 3L : 4L;
+         }
+         if (l13 != (l10 + l11)) { break L122; }
+         if (l5 == 0L) { exit = 1; break PART; }
+         L142: {
+          L143: {
+           if ((l3 = (int) b[((int) l4) - 58912]) <= -1) { break L143; }
+           l12 = 1L;
+           break L142;
+          }
+          L144: {
+           if (l3 + Integer.MIN_VALUE >= 2147483616) { break L144; }
+           l12 = 2L;
+           break L142;
+          }
+          l12 = (l3 + Integer.MIN_VALUE < 2147483632) ? 3L : 4L;
+         }
+         l9 = 0L;
+         l10 = 0L;
+         l11 = 0L;
+         if (l5 == l12) { exit = 2; break PART; }
+         L145: {
+          L146: {
+           if ((l15 = (int) b[((int) (l14 = l4 + l12)) - 58912]) <= -1) { break L146; }
+           l13 = 1L;
+           break L145;
+          }
+          L147: {
+           if (l15 + Integer.MIN_VALUE >= 2147483616) { break L147; }
+           l13 = 2L;
+           break L145;
+          }
+          l13 = (l15 + Integer.MIN_VALUE < 2147483632) ? 3L : 4L;
+         }
+         l9 = 0L;
+         l10 = 0L;
+         l11 = 0L;
+         if (l5 == (l12 = l13 + l12)) { exit = 2; break PART; }
+         L148: {
+          L149: {
+           if ((l15 = (int) b[((int) (l14 + l13)) - 58912]) <= -1) { break L149; }
+           l13 = 1L;
+           break L148;
+          }
+          L150: {
+           if (l15 + Integer.MIN_VALUE >= 2147483616) { break L150; }
+           l13 = 2L;
+           break L148;
+          }
+          l13 = (l15 + Integer.MIN_VALUE < 2147483632) ? 3L : 4L;
+         }
+         l9 = 0L;
+         l10 = 0L;
+         l11 = 0L;
+         if (l5 != (l13 + l12)) { break L121; }
+         exit = 2; break PART;
+        }
+        if (l5 == 0L) { break L120; }
+        l3 = b[((int) l4) - 58912] & 0xff;
+       }
+       L151: {
+        L152: {
+         if ((l15 = (int) (byte) l3) <= -1) { break L152; }
+         l10 = 1L;
+         break L151;
+        }
+        L153: {
+         if ((l16 = l3 & 255) + Integer.MIN_VALUE >= -2147483424) { break L153; }
+         l10 = 2L;
+         break L151;
+        }
+        l10 = (l16 + Integer.MIN_VALUE < -2147483408) ? 3L : 4L;
+       }
+       L154: {
+        if (l5 == l10) { break L154; }
+        L155: {
+         L156: {
+          if ((l16 = (int) b[((int) (l9 = l4 + l10)) - 58912]) <= -1) { break L156; }
+          l11 = 1L;
+          break L155;
+         }
+         L157: {
+          if (l16 + Integer.MIN_VALUE >= 2147483616) { break L157; }
+          l11 = 2L;
+          break L155;
+         }
+         l11 = (l16 + Integer.MIN_VALUE < 2147483632) ? 3L : 4L;
+        }
+        if (l5 == (l10 = l11 + l10)) { break L154; }
+        L158: {
+         L159: {
+          if ((l16 = (int) b[((int) (l9 + l11)) - 58912]) <= -1) { break L159; }
+          l11 = 1L;
+          break L158;
+         }
+         L160: {
+          if (l16 + Integer.MIN_VALUE >= 2147483616) { break L160; }
+          l11 = 2L;
+          break L158;
+         }
+         l11 = (l16 + Integer.MIN_VALUE < 2147483632) ? 3L : 4L;
+        }
+        if (l18 != 0) { break L154; }
+        if (l5 != (l11 + l10)) { break L154; }
+        L161: {
+         L162: {
+          if ((l16 = (int) b[((int) ((l10 = l1 + l2) + -1L)) - 58912]) > -1) { break L162; }
+          l11 = -2L;
+          L163: {
+           if ((l20 = b[((int) (l10 + -2L)) - 58912] & 0xff) + Integer.MIN_VALUE > -2147483457) { break L163; }
+           l11 = ((b[((int) (l10 + -3L)) - 58912] & 0xff) + Integer.MIN_VALUE > -2147483457) ? -3L : -4L;
+          }
+          l16 = (l17 = (int) b[((int) (l11 = (l1 + l11) + l2)) - 58912]) & 255;
+          L164: {
+           if (l17 > -1) { break L164; }
+           l21 = (b[((int) l11) - 58911] & 0xff) & 63;
+           L165: {
+            if (l17 + Integer.MIN_VALUE > 2147483615) { break L165; }
+            l16 = ((l16 << 6) & 1984) | l21;
+            break L164;
+           }
+           l22 = (b[((int) l11) - 58910] & 0xff) & 63;
+           L166: {
+            if (l17 + Integer.MIN_VALUE > 2147483631) { break L166; }
+            l16 = ((l21 << 6) | ((l16 << 12) & 61440)) | l22;
+            break L164;
+           }
+           l16 = ((l22 << 6) | ((l21 << 12) | ((l16 << 18) & 1835008))) | ((b[((int) l11) - 58909] & 0xff) & 63);
+          }
+          if (l16 != 32) { break L154; }
+          l11 = -2L;
+          L167: {
+           if (l20 + Integer.MIN_VALUE > -2147483457) { break L167; }
+           l11 = ((b[((int) (l10 + -3L)) - 58912] & 0xff) + Integer.MIN_VALUE > -2147483457) ? -3L : -4L;
+          }
+          l10 = l11 + l2;
+          break L161;
+         }
+         if (l16 != 32) { break L154; }
+         l10 = l2 + -1L;
+        }
+        if (l10 == 0L) { break L154; }
+        L168: {
+         if ((l16 = (int) b[((int) ((l11 = l1 + l10) + -1L)) - 58912]) >= 0) { break L168; }
+         l9 = -2L;
+         L169: {
+          if ((b[((int) (l11 + -2L)) - 58912] & 0xff) + Integer.MIN_VALUE > -2147483457) { break L169; }
+          l9 = ((b[((int) (l11 + -3L)) - 58912] & 0xff) + Integer.MIN_VALUE > -2147483457) ? -3L : -4L;
+         }
+         l16 = (l17 = (int) b[((int) (l10 = (l1 + l9) + l10)) - 58912]) & 255;
+         if (l17 > -1) { break L168; }
+         l20 = (b[((int) l10) - 58911] & 0xff) & 63;
+         L170: {
+          if (l17 + Integer.MIN_VALUE > 2147483615) { break L170; }
+          l16 = ((l16 << 6) & 1984) | l20;
+          break L168;
+         }
+         l21 = (b[((int) l10) - 58910] & 0xff) & 63;
+         L171: {
+          if (l17 + Integer.MIN_VALUE > 2147483631) { break L171; }
+          l16 = ((l20 << 6) | ((l16 << 12) & 61440)) | l21;
+          break L168;
+         }
+         l16 = ((l21 << 6) | ((l20 << 12) | ((l16 << 18) & 1835008))) | ((b[((int) l10) - 58909] & 0xff) & 63);
+        }
+        l9 = 0L;
+        if ((l16 + -48) + Integer.MIN_VALUE < -2147483638) { exit = 3; break PART; }
+        l10 = 0L;
+        l11 = 0L;
+        if ((l16 + -65296) + Integer.MIN_VALUE < -2147483638) { exit = 2; break PART; }
+       }
+       if (f213(m, l1, l2) != 0) { break L118; }
+       l3 = 0;
+       break L119;
+      }
+      l9 = 0L;
+      l10 = 0L;
+      l11 = 0L;
+      if (f213(m, l1, l2) != 0) { exit = 2; break PART; }
+      l3 = 1;
+     }
+     l9 = 0L;
+     l10 = 0L;
+     l11 = 0L;
+     if (Core6.f194(m, l1, l2) != 0) { exit = 2; break PART; }
+     if (f215(m, l4, l5) != 0) { exit = 4; break PART; }
+     if ((l3 | f214(m, l6, l7)) != 0) { exit = 5; break PART; }
+     if ((l15 = (int) b[((int) l4) - 58912]) <= -1) { break L117; }
+     l10 = 1L;
+     break L116;
+    }
+    L172: {
+     L173: {
+      if (l15 <= -1) { break L173; }
+      l2 = 1L;
+      break L172;
+     }
+     L174: {
+      if ((l3 = l3 & 255) + Integer.MIN_VALUE >= -2147483424) { break L174; }
+      l2 = 2L;
+      break L172;
+     }
+     l2 = (l3 + Integer.MIN_VALUE < -2147483408) ? 3L : 4L;
+    }
+    l9 = 0L;
+    l10 = 0L;
+    l11 = 0L;
+    if (l5 == l2) { exit = 2; break PART; }
+    L175: {
+     L176: {
+      if ((l3 = (int) b[((int) (l4 + l2)) - 58912]) <= -1) { break L176; }
+      l12 = 1L;
+      break L175;
+     }
+     L177: {
+      if (l3 + Integer.MIN_VALUE >= 2147483616) { break L177; }
+      l12 = 2L;
+      break L175;
+     }
+     l12 = (l3 + Integer.MIN_VALUE < 2147483632) ? 3L : 4L;
+    }
+    l9 = 0L;
+    l10 = 0L;
+    l11 = 0L;
+    if (l5 != (l12 + l2)) { exit = 4; break PART; }
+    exit = 2; break PART;
+   }
+   L178: {
+    if (l15 + Integer.MIN_VALUE >= 2147483616) { break L178; }
+    l10 = 2L;
+    break L116;
+   }
+   l10 = (l15 + Integer.MIN_VALUE < 2147483632) ? 3L : 4L;
+  }
+ }
+ m.kept[0] = l2;
+ m.kept[1] = l3;
+ m.kept[2] = l9;
+ m.kept[3] = l10;
+ m.kept[4] = l11;
+ m.kept[5] = l12;
+ m.kept[6] = l13;
+ m.kept[7] = l14;
+ m.kept[8] = l15;
+ m.kept[9] = l16;
+ m.kept[10] = l17;
+ m.kept[11] = l19;
+ m.kept[12] = l20;
+ m.kept[13] = l21;
+ m.kept[14] = l22;
+ return exit;
+}
+
+static int f207_7(State m, long l4, long l5, long l9, long l10, long l11, int l16) {
+ final byte[] b = m.bytes;
+ int exit = 0;
+ PART: {
+  L180: {
+   if (l5 == l10) { break L180; }
+   L181: {
+    L182: {
+     if ((l16 = (int) b[((int) (l9 = l4 + l10)) - 58912]) <= -1) { break L182; }
+     l11 = 1L;
+     break L181;
+    }
+    L183: {
+     if (l16 + Integer.MIN_VALUE >= 2147483616) { break L183; }
+     l11 = 2L;
+     break L181;
+    }
+    l11 = (l16 + Integer.MIN_VALUE < 2147483632) ? 3L : 4L;
+   }
+   if (l5 == (l10 = l11 + l10)) { break L180; }
+   L184: {
+    L185: {
+     if ((l16 = (int) b[((int) (l9 = l9 + l11)) - 58912]) <= -1) { break L185; }
+     l11 = 1L;
+     break L184;
+    }
+    L186: {
+     if (l16 + Integer.MIN_VALUE >= 2147483616) { break L186; }
+     l11 = 2L;
+     break L184;
+    }
+    l11 = (l16 + Integer.MIN_VALUE < 2147483632) ? 3L : 4L;
+   }
+   if (l5 == (l10 = l11 + l10)) { break L180; }
+   L187: {
+    L188: {
+     if ((l16 = (int) b[((int) (l9 = l9 + l11)) - 58912]) <= -1) { break L188; }
+     l11 = 1L;
+     break L187;
+    }
+    L189: {
+     if (l16 + Integer.MIN_VALUE >= 2147483616) { break L189; }
+     l11 = 2L;
+     break L187;
+    }
+    l11 = (l16 + Integer.MIN_VALUE < 2147483632) ? 3L : 4L;
+   }
+   if (l5 == (l10 = l11 + l10)) { break L180; }
+   L190: {
+    L191: {
+     if ((l16 = (int) b[((int) (l9 + l11)) - 58912]) <= -1) { break L191; }
+     l11 = 1L;
+     break L190;
+    }
+    L192: {
+     if (l16 + Integer.MIN_VALUE >= 2147483616) { break L192; }
+     l11 = 2L;
+     break L190;
+    }
+    l11 = (l16 + Integer.MIN_VALUE < 2147483632) ? 3L : 4L;
+   }
+   if (l5 != (l11 + l10)) { break L180; }
+   if (f210(m, 92232L, 12L, l4, l5) != 0) { exit = 1; break PART; }
+  }
+ }
+ m.kept[0] = l9;
+ m.kept[1] = l10;
+ m.kept[2] = l11;
+ m.kept[3] = l16;
+ return exit;
+}
+
+static int f207_8(State m, long l1, long l8, long l11) {
+ final byte[] b = m.bytes;
+ int exit = 0;
+ PART: {
+  L213: {
+   if ((b[((int) l8) - 58872] & 0xff) == 1) { break L213; }
+   Words.put64(b, ((int) l8) - 58856, 0L);
+   Words.put64(b, ((int) l8) - 58864, 0L);
+   Words.put64(b, ((int) l8) - 58872, 0L);
+   Core6.f203(m, l8 + 40L, 92587L, 3L, l1, l11);
+   if ((b[((int) l8) - 58872] & 0xff) == 1) { break L213; }
+   Words.put64(b, ((int) l8) - 58856, 0L);
+   Words.put64(b, ((int) l8) - 58864, 0L);
+   Words.put64(b, ((int) l8) - 58872, 0L);
+   Core6.f203(m, l8 + 40L, 92590L, 3L, l1, l11);
+   if ((b[((int) l8) - 58872] & 0xff) == 1) { break L213; }
+   Words.put64(b, ((int) l8) - 58856, 0L);
+   Words.put64(b, ((int) l8) - 58864, 0L);
+   Words.put64(b, ((int) l8) - 58872, 0L);
+   Core6.f203(m, l8 + 40L, 92593L, 3L, l1, l11);
+   if ((b[((int) l8) - 58872] & 0xff) == 1) { break L213; }
+   Words.put64(b, ((int) l8) - 58856, 0L);
+   Words.put64(b, ((int) l8) - 58864, 0L);
+   Words.put64(b, ((int) l8) - 58872, 0L);
+   Core6.f203(m, l8 + 40L, 92596L, 3L, l1, l11);
+   if ((b[((int) l8) - 58872] & 0xff) == 1) { break L213; }
+   Words.put64(b, ((int) l8) - 58856, 0L);
+   Words.put64(b, ((int) l8) - 58864, 0L);
+   Words.put64(b, ((int) l8) - 58872, 0L);
+   Core6.f203(m, l8 + 40L, 92599L, 3L, l1, l11);
+   if ((b[((int) l8) - 58872] & 0xff) != 1) { exit = 1; break PART; }
+  }
+ }
+ return exit;
+}
+
+static int f207_9(State m, long l4, long l5, long l6, long l10, long l11, int l15, int l16, int l17, int l19, int l20, int l21) {
+ final byte[] b = m.bytes;
+ int exit = 0;
+ PART: {
+  L224: {
+   if (l5 == l10) { break L224; }
+   if (f211(m, l4, l5) == 0) { break L224; }
+   L225: {
+    L226: {
+     if (l15 <= -1) { break L226; }
+     l10 = 1L;
+     break L225;
+    }
+    L227: {
+     if (l15 + Integer.MIN_VALUE >= 2147483616) { break L227; }
+     l10 = 2L;
+     break L225;
+    }
+    l10 = (l15 + Integer.MIN_VALUE < 2147483632) ? 3L : 4L;
+   }
+   if (l5 == l10) { exit = 1; break PART; }
+   L228: {
+    L229: {
+     if ((l16 = (int) b[((int) (l4 + l10)) - 58912]) <= -1) { break L229; }
+     l11 = 1L;
+     break L228;
+    }
+    L230: {
+     if (l16 + Integer.MIN_VALUE >= 2147483616) { break L230; }
+     l11 = 2L;
+     break L228;
+    }
+    l11 = (l16 + Integer.MIN_VALUE < 2147483632) ? 3L : 4L;
+   }
+   if (l19 != 0) { exit = 1; break PART; }
+   if (l5 != (l11 + l10)) { exit = 1; break PART; }
+   if ((l16 = (int) b[((int) l6) - 58912]) > -1) { exit = 1; break PART; }
+   if (l16 + Integer.MIN_VALUE < 2147483616) { exit = 1; break PART; }
+   l17 = l16 & 255;
+   l20 = (b[((int) l6) - 58911] & 0xff) & 63;
+   l21 = (b[((int) l6) - 58910] & 0xff) & 63;
+   L231: {
+    L232: {
+     if (l16 + Integer.MIN_VALUE > 2147483631) { break L232; }
+     l16 = ((l20 << 6) | ((l17 << 12) & 61440)) | l21;
+     break L231;
+    }
+    l16 = ((l21 << 6) | ((l20 << 12) | ((l17 << 18) & 1835008))) | ((b[((int) l6) - 58909] & 0xff) & 63);
+   }
+   L233: {
+    if (l16 > 26375) { break L233; }
+    L234: {
+     if (l16 > 26084) { break L234; }
+     if (l16 == 20803) { break L224; }
+     if (l16 == 20998) { break L224; }
+     if (l16 == 21495) { break L224; }
+     exit = 1; break PART;
+    }
+    L235: {
+     switch (l16 + -26085) {
+     case 0: case 17: break L224;
+     case 1: case 2: case 3: case 4: case 5: case 6: case 7: case 8: case 9: case 10: case 11: case 12: case 13: case 14: case 15: case 16: exit = 1; break PART;
+     default: break L235;
+     }
+    }
+    if (l16 == 26178) { break L224; }
+    exit = 1; break PART;
+   }
+   L236: {
+    if (l16 > 31185) { break L236; }
+    if (l16 == 26376) { break L224; }
+    if (l16 == 28857) { break L224; }
+    exit = 1; break PART;
+   }
+   if (l16 == 31186) { break L224; }
+   if (l16 == 40670) { break L224; }
+   if (l16 != 34399) { exit = 1; break PART; }
+  }
+ }
+ m.kept[0] = l10;
+ m.kept[1] = l11;
+ m.kept[2] = l16;
+ m.kept[3] = l17;
+ m.kept[4] = l20;
+ m.kept[5] = l21;
+ return exit;
+}
+
+static int f207_10(State m, long l1, long l2, long l4, long l5, long l6, long l7, long l8, long l9, long l10, long l11, int l15, int l16) {
+ final byte[] b = m.bytes;
+ int exit = 0;
+ PART: {
+  L241: {
+   L242: {
+    L243: {
+     if (l5 == l10) { break L243; }
+     L244: {
+      L245: {
+       if ((l16 = (int) b[((int) (l9 = l4 + l10)) - 58912]) <= -1) { break L245; }
+       l11 = 1L;
+       break L244;
+      }
+      L246: {
+       if (l16 + Integer.MIN_VALUE >= 2147483616) { break L246; }
+       l11 = 2L;
+       break L244;
+      }
+      l11 = (l16 + Integer.MIN_VALUE < 2147483632) ? 3L : 4L;
+     }
+     if (l5 == (l10 = l11 + l10)) { break L243; }
+     L247: {
+      L248: {
+       if ((l16 = (int) b[((int) (l9 + l11)) - 58912]) <= -1) { break L248; }
+       l11 = 1L;
+       break L247;
+      }
+      L249: {
+       if (l16 + Integer.MIN_VALUE >= 2147483616) { break L249; }
+       l11 = 2L;
+       break L247;
+      }
+      l11 = (l16 + Integer.MIN_VALUE < 2147483632) ? 3L : 4L;
+     }
+     if (l5 == (l11 + l10)) { break L242; }
+    }
+    L250: {
+     L251: {
+      if (l15 <= -1) { break L251; }
+      l10 = 1L;
+      break L250;
+     }
+     L252: {
+      if (l15 + Integer.MIN_VALUE >= 2147483616) { break L252; }
+      l10 = 2L;
+      break L250;
+     }
+     l10 = (l15 + Integer.MIN_VALUE < 2147483632) ? 3L : 4L;
+    }
+    if (l5 == l10) { break L241; }
+    L253: {
+     L254: {
+      if ((l16 = (int) b[((int) (l9 = l4 + l10)) - 58912]) <= -1) { break L254; }
+      l11 = 1L;
+      break L253;
+     }
+     L255: {
+      if (l16 + Integer.MIN_VALUE >= 2147483616) { break L255; }
+      l11 = 2L;
+      break L253;
+     }
+     l11 = (l16 + Integer.MIN_VALUE < 2147483632) ? 3L : 4L;
+    }
+    if (l5 == (l10 = l11 + l10)) { break L241; }
+    L256: {
+     L257: {
+      if ((l16 = (int) b[((int) (l9 = l9 + l11)) - 58912]) <= -1) { break L257; }
+      l11 = 1L;
+      break L256;
+     }
+     L258: {
+      if (l16 + Integer.MIN_VALUE >= 2147483616) { break L258; }
+      l11 = 2L;
+      break L256;
+     }
+     l11 = (l16 + Integer.MIN_VALUE < 2147483632) ? 3L : 4L;
+    }
+    if (l5 == (l10 = l11 + l10)) { break L241; }
+    L259: {
+     L260: {
+      if ((l16 = (int) b[((int) (l9 + l11)) - 58912]) <= -1) { break L260; }
+      l11 = 1L;
+      break L259;
+     }
+     L261: {
+      if (l16 + Integer.MIN_VALUE >= 2147483616) { break L261; }
+      l11 = 2L;
+      break L259;
+     }
+     l11 = (l16 + Integer.MIN_VALUE < 2147483632) ? 3L : 4L;
+    }
+    if (l5 != (l11 + l10)) { break L241; }
+   }
+   Words.put64(b, ((int) l8) - 58856, 0L);
+   Words.put64(b, ((int) l8) - 58864, 0L);
+   Words.put64(b, ((int) l8) - 58872, 0L);
+   Core6.f196(m, l8 + 40L, 92896L, 3L, l6, l7);
+   if ((b[((int) l8) - 58872] & 0xff) == 1) { exit = 1; break PART; }
+   Words.put64(b, ((int) l8) - 58856, 0L);
+   Words.put64(b, ((int) l8) - 58864, 0L);
+   Words.put64(b, ((int) l8) - 58872, 0L);
+   Core6.f196(m, l8 + 40L, 92899L, 3L, l6, l7);
+   if ((b[((int) l8) - 58872] & 0xff) == 1) { exit = 1; break PART; }
+   Words.put64(b, ((int) l8) - 58856, 0L);
+   Words.put64(b, ((int) l8) - 58864, 0L);
+   Words.put64(b, ((int) l8) - 58872, 0L);
+   Core6.f196(m, l8 + 40L, 92902L, 6L, l6, l7);
+   if ((b[((int) l8) - 58872] & 0xff) == 1) { exit = 1; break PART; }
+   Words.put64(b, ((int) l8) - 58856, 0L);
+   Words.put64(b, ((int) l8) - 58864, 0L);
+   Words.put64(b, ((int) l8) - 58872, 0L);
+   Core6.f196(m, l8 + 40L, 92908L, 6L, l6, l7);
+   if ((b[((int) l8) - 58872] & 0xff) == 1) { exit = 1; break PART; }
+   Words.put64(b, ((int) l8) - 58856, 0L);
+   Words.put64(b, ((int) l8) - 58864, 0L);
+   Words.put64(b, ((int) l8) - 58872, 0L);
+   Core6.f196(m, l8 + 40L, 92914L, 6L, l6, l7);
+   if ((b[((int) l8) - 58872] & 0xff) == 1) { exit = 1; break PART; }
+   Words.put64(b, ((int) l8) - 58856, 0L);
+   Words.put64(b, ((int) l8) - 58864, 0L);
+   Words.put64(b, ((int) l8) - 58872, 0L);
+   Core6.f196(m, l8 + 40L, 92920L, 6L, l6, l7);
+   if ((b[((int) l8) - 58872] & 0xff) == 1) { exit = 1; break PART; }
+   Words.put64(b, ((int) l8) - 58856, 0L);
+   Words.put64(b, ((int) l8) - 58864, 0L);
+   Words.put64(b, ((int) l8) - 58872, 0L);
+   Core6.f196(m, l8 + 40L, 92926L, 6L, l6, l7);
+   if ((b[((int) l8) - 58872] & 0xff) == 1) { exit = 1; break PART; }
+   Words.put64(b, ((int) l8) - 58856, 0L);
+   Words.put64(b, ((int) l8) - 58864, 0L);
+   Words.put64(b, ((int) l8) - 58872, 0L);
+   Core6.f196(m, l8 + 40L, 92932L, 6L, l6, l7);
+   if ((b[((int) l8) - 58872] & 0xff) == 1) { exit = 1; break PART; }
+   Words.put64(b, ((int) l8) - 58856, 0L);
+   Words.put64(b, ((int) l8) - 58864, 0L);
+   Words.put64(b, ((int) l8) - 58872, 0L);
+   Core6.f196(m, l8 + 40L, 92938L, 6L, l6, l7);
+   if ((b[((int) l8) - 58872] & 0xff) == 1) { exit = 1; break PART; }
+   Words.put64(b, ((int) l8) - 58856, 0L);
+   Words.put64(b, ((int) l8) - 58864, 0L);
+   Words.put64(b, ((int) l8) - 58872, 0L);
+   Core6.f196(m, l8 + 40L, 92944L, 6L, l6, l7);
+   if ((b[((int) l8) - 58872] & 0xff) == 1) { exit = 1; break PART; }
+   Words.put64(b, ((int) l8) - 58856, 0L);
+   Words.put64(b, ((int) l8) - 58864, 0L);
+   Words.put64(b, ((int) l8) - 58872, 0L);
+   Core6.f196(m, l8 + 40L, 92950L, 9L, l6, l7);
+   if ((b[((int) l8) - 58872] & 0xff) == 1) { exit = 1; break PART; }
+   Words.put64(b, ((int) l8) - 58856, 0L);
+   Words.put64(b, ((int) l8) - 58864, 0L);
+   Words.put64(b, ((int) l8) - 58872, 0L);
+   Core6.f196(m, l8 + 40L, 92959L, 9L, l6, l7);
+   if ((b[((int) l8) - 58872] & 0xff) == 1) { exit = 1; break PART; }
+   Words.put64(b, ((int) l8) - 58856, 0L);
+   Words.put64(b, ((int) l8) - 58864, 0L);
+   Words.put64(b, ((int) l8) - 58872, 0L);
+   Core6.f196(m, l8 + 40L, 92968L, 6L, l6, l7);
+   if ((b[((int) l8) - 58872] & 0xff) == 1) { exit = 1; break PART; }
+   Words.put64(b, ((int) l8) - 58856, 0L);
+   Words.put64(b, ((int) l8) - 58864, 0L);
+   Words.put64(b, ((int) l8) - 58872, 0L);
+   Core6.f196(m, l8 + 40L, 92974L, 6L, l6, l7);
+   if ((b[((int) l8) - 58872] & 0xff) == 1) { exit = 1; break PART; }
+   Words.put64(b, ((int) l8) - 58856, 0L);
+   Words.put64(b, ((int) l8) - 58864, 0L);
+   Words.put64(b, ((int) l8) - 58872, 0L);
+   Core6.f196(m, l8 + 40L, 92980L, 6L, l6, l7);
+   if ((b[((int) l8) - 58872] & 0xff) == 1) { exit = 1; break PART; }
+   Words.put64(b, ((int) l8) - 58856, 0L);
+   Words.put64(b, ((int) l8) - 58864, 0L);
+   Words.put64(b, ((int) l8) - 58872, 0L);
+   Core6.f196(m, l8 + 40L, 92986L, 6L, l6, l7);
+   if ((b[((int) l8) - 58872] & 0xff) == 1) { exit = 1; break PART; }
+   Words.put64(b, ((int) l8) - 58856, 0L);
+   Words.put64(b, ((int) l8) - 58864, 0L);
+   Words.put64(b, ((int) l8) - 58872, 0L);
+   Core6.f196(m, l8 + 40L, 92992L, 6L, l6, l7);
+   if ((b[((int) l8) - 58872] & 0xff) == 1) { exit = 1; break PART; }
+   Words.put64(b, ((int) l8) - 58856, 0L);
+   Words.put64(b, ((int) l8) - 58864, 0L);
+   Words.put64(b, ((int) l8) - 58872, 0L);
+   Core6.f196(m, l8 + 40L, 92998L, 6L, l6, l7);
+   if ((b[((int) l8) - 58872] & 0xff) == 1) { exit = 1; break PART; }
+   if (f216(m, l1, l2, l6, l7) != 0) { exit = 1; break PART; }
+   l15 = b[((int) l4) - 58912] & 0xff;
+  }
+ }
+ m.kept[0] = l9;
+ m.kept[1] = l10;
+ m.kept[2] = l11;
+ m.kept[3] = l15;
+ m.kept[4] = l16;
+ return exit;
+}
+
+static int f207_11(State m, long l4, long l5, long l6, long l7, long l9, long l10, long l11, int l17, int l19, int l20, int l21, int l22) {
+ final byte[] b = m.bytes;
+ int exit = 0;
+ PART: {
+  L266: {
+   if (l5 == l10) { break L266; }
+   L267: {
+    L268: {
+     if ((l17 = (int) b[((int) (l9 = l4 + l10)) - 58912]) <= -1) { break L268; }
+     l11 = 1L;
+     break L267;
+    }
+    L269: {
+     if (l17 + Integer.MIN_VALUE >= 2147483616) { break L269; }
+     l11 = 2L;
+     break L267;
+    }
+    l11 = (l17 + Integer.MIN_VALUE < 2147483632) ? 3L : 4L;
+   }
+   if (l5 == (l10 = l11 + l10)) { break L266; }
+   L270: {
+    L271: {
+     if ((l17 = (int) b[((int) (l9 + l11)) - 58912]) <= -1) { break L271; }
+     l11 = 1L;
+     break L270;
+    }
+    L272: {
+     if (l17 + Integer.MIN_VALUE >= 2147483616) { break L272; }
+     l11 = 2L;
+     break L270;
+    }
+    l11 = (l17 + Integer.MIN_VALUE < 2147483632) ? 3L : 4L;
+   }
+   if (l19 != 0) { break L266; }
+   if (l5 != (l11 + l10)) { break L266; }
+   if ((l17 = (int) b[((int) l6) - 58912]) > -1) { break L266; }
+   if (l17 + Integer.MIN_VALUE < 2147483616) { break L266; }
+   l20 = l17 & 255;
+   l21 = (b[((int) l6) - 58911] & 0xff) & 63;
+   l22 = (b[((int) l6) - 58910] & 0xff) & 63;
+   L273: {
+    L274: {
+     if (l17 + Integer.MIN_VALUE > 2147483631) { break L274; }
+     l20 = ((l21 << 6) | ((l20 << 12) & 61440)) | l22;
+     break L273;
+    }
+    l20 = ((l22 << 6) | ((l21 << 12) | ((l20 << 18) & 1835008))) | ((b[((int) l6) - 58909] & 0xff) & 63);
+   }
+   if (l20 != 36335) { break L266; }
+   if (l7 == (l10 = (l17 + Integer.MIN_VALUE < 2147483632) ? 3L : 4L)) { exit = 1; break PART; }
+   if ((l17 = (int) b[((int) (l10 = l6 + l10)) - 58912]) > -1) { exit = 1; break PART; }
+   if (l17 + Integer.MIN_VALUE < 2147483616) { exit = 1; break PART; }
+   l20 = l17 & 255;
+   l21 = (b[((int) l10) - 58911] & 0xff) & 63;
+   l22 = (b[((int) l10) - 58910] & 0xff) & 63;
+   L275: {
+    L276: {
+     if (l17 + Integer.MIN_VALUE > 2147483631) { break L276; }
+     l17 = ((l21 << 6) | ((l20 << 12) & 61440)) | l22;
+     break L275;
+    }
+    l17 = ((l22 << 6) | ((l21 << 12) | ((l20 << 18) & 1835008))) | ((b[((int) l10) - 58909] & 0xff) & 63);
+   }
+   if (l17 == 19978) { break L266; }
+   if (l17 == 31243) { break L266; }
+   if (l17 != 21475) { exit = 1; break PART; }
+  }
+ }
+ m.kept[0] = l9;
+ m.kept[1] = l10;
+ m.kept[2] = l11;
+ m.kept[3] = l17;
+ m.kept[4] = l20;
+ m.kept[5] = l21;
+ m.kept[6] = l22;
+ return exit;
+}
+
+static int f207_12(State m, long l1, long l2, long l4, long l5, long l6, long l7, long l8, long l9, long l10, long l11, int l15, int l16, int l17, int l18, int l20) {
+ final byte[] b = m.bytes;
+ int exit = 0;
+ PART: {
+  L281: {
+   if (l5 == l10) { break L281; }
+   L282: {
+    L283: {
+     if ((l16 = (int) b[((int) (l9 = l4 + l10)) - 58912]) <= -1) { break L283; }
+     l11 = 1L;
+     break L282;
+    }
+    L284: {
+     if (l16 + Integer.MIN_VALUE >= 2147483616) { break L284; }
+     l11 = 2L;
+     break L282;
+    }
+    l11 = (l16 + Integer.MIN_VALUE < 2147483632) ? 3L : 4L;
+   }
+   if (l5 == (l10 = l11 + l10)) { break L281; }
+   L285: {
+    L286: {
+     if ((l16 = (int) b[((int) (l9 = l9 + l11)) - 58912]) <= -1) { break L286; }
+     l11 = 1L;
+     break L285;
+    }
+    L287: {
+     if (l16 + Integer.MIN_VALUE >= 2147483616) { break L287; }
+     l11 = 2L;
+     break L285;
+    }
+    l11 = (l16 + Integer.MIN_VALUE < 2147483632) ? 3L : 4L;
+   }
+   if (l5 == (l10 = l11 + l10)) { break L281; }
+   L288: {
+    L289: {
+     if ((l16 = (int) b[((int) (l9 + l11)) - 58912]) <= -1) { break L289; }
+     l11 = 1L;
+     break L288;
+    }
+    L290: {
+     if (l16 + Integer.MIN_VALUE >= 2147483616) { break L290; }
+     l11 = 2L;
+     break L288;
+    }
+    l11 = (l16 + Integer.MIN_VALUE < 2147483632) ? 3L : 4L;
+   }
+   if (l5 != (l11 + l10)) { break L281; }
+   if (f210(m, 93008L, 2L, l4, l5) == 0) { break L281; }
+   Words.put64(b, ((int) l8) - 58856, 0L);
+   Words.put64(b, ((int) l8) - 58864, 0L);
+   Words.put64(b, ((int) l8) - 58872, 0L);
+   Core6.f196(m, l8 + 40L, 93240L, 3L, l6, l7);
+   if ((b[((int) l8) - 58872] & 0xff) == 1) { exit = 1; break PART; }
+   Words.put64(b, ((int) l8) - 58856, 0L);
+   Words.put64(b, ((int) l8) - 58864, 0L);
+   Words.put64(b, ((int) l8) - 58872, 0L);
+   Core6.f196(m, l8 + 40L, 93243L, 3L, l6, l7);
+   if ((b[((int) l8) - 58872] & 0xff) == 1) { exit = 1; break PART; }
+   Words.put64(b, ((int) l8) - 58856, 0L);
+   Words.put64(b, ((int) l8) - 58864, 0L);
+   Words.put64(b, ((int) l8) - 58872, 0L);
+   Core6.f196(m, l8 + 40L, 93246L, 3L, l6, l7);
+   if ((b[((int) l8) - 58872] & 0xff) == 1) { exit = 1; break PART; }
+   Words.put64(b, ((int) l8) - 58856, 0L);
+   Words.put64(b, ((int) l8) - 58864, 0L);
+   Words.put64(b, ((int) l8) - 58872, 0L);
+   Core6.f196(m, l8 + 40L, 93249L, 3L, l6, l7);
+   if ((b[((int) l8) - 58872] & 0xff) == 1) { exit = 1; break PART; }
+   Words.put64(b, ((int) l8) - 58856, 0L);
+   Words.put64(b, ((int) l8) - 58864, 0L);
+   Words.put64(b, ((int) l8) - 58872, 0L);
+   Core6.f196(m, l8 + 40L, 93252L, 3L, l6, l7);
+   if ((b[((int) l8) - 58872] & 0xff) == 1) { exit = 1; break PART; }
+   Words.put64(b, ((int) l8) - 58856, 0L);
+   Words.put64(b, ((int) l8) - 58864, 0L);
+   Words.put64(b, ((int) l8) - 58872, 0L);
+   Core6.f196(m, l8 + 40L, 93255L, 3L, l6, l7);
+   if ((b[((int) l8) - 58872] & 0xff) == 1) { exit = 1; break PART; }
+   Words.put64(b, ((int) l8) - 58856, 0L);
+   Words.put64(b, ((int) l8) - 58864, 0L);
+   Words.put64(b, ((int) l8) - 58872, 0L);
+   Core6.f196(m, l8 + 40L, 93258L, 6L, l6, l7);
+   if ((b[((int) l8) - 58872] & 0xff) == 1) { exit = 1; break PART; }
+   Words.put64(b, ((int) l8) - 58856, 0L);
+   Words.put64(b, ((int) l8) - 58864, 0L);
+   Words.put64(b, ((int) l8) - 58872, 0L);
+   Core6.f196(m, l8 + 40L, 93264L, 6L, l6, l7);
+   if ((b[((int) l8) - 58872] & 0xff) == 1) { exit = 1; break PART; }
+   Words.put64(b, ((int) l8) - 58856, 0L);
+   Words.put64(b, ((int) l8) - 58864, 0L);
+   Words.put64(b, ((int) l8) - 58872, 0L);
+   Core6.f196(m, l8 + 40L, 93270L, 6L, l6, l7);
+   if ((b[((int) l8) - 58872] & 0xff) == 1) { exit = 1; break PART; }
+   Words.put64(b, ((int) l8) - 58856, 0L);
+   Words.put64(b, ((int) l8) - 58864, 0L);
+   Words.put64(b, ((int) l8) - 58872, 0L);
+   Core6.f196(m, l8 + 40L, 93276L, 6L, l6, l7);
+   if ((b[((int) l8) - 58872] & 0xff) == 1) { exit = 1; break PART; }
+   Words.put64(b, ((int) l8) - 58856, 0L);
+   Words.put64(b, ((int) l8) - 58864, 0L);
+   Words.put64(b, ((int) l8) - 58872, 0L);
+   Core6.f196(m, l8 + 40L, 93282L, 6L, l6, l7);
+   if ((b[((int) l8) - 58872] & 0xff) == 1) { exit = 1; break PART; }
+   Words.put64(b, ((int) l8) - 58856, 0L);
+   Words.put64(b, ((int) l8) - 58864, 0L);
+   Words.put64(b, ((int) l8) - 58872, 0L);
+   Core6.f196(m, l8 + 40L, 93288L, 6L, l6, l7);
+   if ((b[((int) l8) - 58872] & 0xff) == 1) { exit = 1; break PART; }
+   L291: {
+    if (l18 != 0) { break L291; }
+    if (((int) b[((int) ((l10 = l1 + l2) + -1L)) - 58912]) > -1) { break L291; }
+    l11 = -2L;
+    L292: {
+     if ((b[((int) (l10 + -2L)) - 58912] & 0xff) + Integer.MIN_VALUE > -2147483457) { break L292; }
+     l11 = ((b[((int) (l10 + -3L)) - 58912] & 0xff) + Integer.MIN_VALUE > -2147483457) ? -3L : -4L;
+    }
+    if ((l15 = (int) b[((int) (l10 = (l1 + l11) + l2)) - 58912]) > -1) { break L291; }
+    if (l15 + Integer.MIN_VALUE < 2147483616) { break L291; }
+    l16 = l15 & 255;
+    l17 = (b[((int) l10) - 58911] & 0xff) & 63;
+    l20 = (b[((int) l10) - 58910] & 0xff) & 63;
+    L293: {
+     L294: {
+      if (l15 + Integer.MIN_VALUE > 2147483631) { break L294; }
+      l15 = ((l17 << 6) | ((l16 << 12) & 61440)) | l20;
+      break L293;
+     }
+     l15 = ((l20 << 6) | ((l17 << 12) | ((l16 << 18) & 1835008))) | ((b[((int) l10) - 58909] & 0xff) & 63);
+    }
+    if (l15 == 12308) { exit = 1; break PART; }
+   }
+   if (Core5.f176(m, l1, l2) != 0) { exit = 1; break PART; }
+   l15 = b[((int) l4) - 58912] & 0xff;
+  }
+ }
+ m.kept[0] = l9;
+ m.kept[1] = l10;
+ m.kept[2] = l11;
+ m.kept[3] = l15;
+ m.kept[4] = l16;
+ m.kept[5] = l17;
+ m.kept[6] = l20;
+ return exit;
+}
+
+static int f207_13(State m, long l1, long l2, int l3, long l9, long l10, long l11, int l15, int l16, int l17, int l18) {
+ final byte[] b = m.bytes;
+ int exit = 0;
+ PART: {
+  L314: {
+   L315: {
+    if (l18 != 0) { break L315; }
+    L316: {
+     if ((l15 = (int) b[((int) ((l10 = l1 + l2) + -1L)) - 58912]) >= 0) { break L316; }
+     l11 = -2L;
+     L317: {
+      if ((b[((int) (l10 + -2L)) - 58912] & 0xff) + Integer.MIN_VALUE > -2147483457) { break L317; }
+      l11 = ((b[((int) (l10 + -3L)) - 58912] & 0xff) + Integer.MIN_VALUE > -2147483457) ? -3L : -4L;
+     }
+     l15 = (l16 = (int) b[((int) (l10 = (l1 + l11) + l2)) - 58912]) & 255;
+     if (l16 > -1) { break L316; }
+     l17 = (b[((int) l10) - 58911] & 0xff) & 63;
+     L318: {
+      L319: {
+       if (l16 + Integer.MIN_VALUE > 2147483615) { break L319; }
+       l15 = ((l15 << 6) & 1984) | l17;
+       break L318;
+      }
+      l18 = (b[((int) l10) - 58910] & 0xff) & 63;
+      L320: {
+       if (l16 + Integer.MIN_VALUE > 2147483631) { break L320; }
+       l15 = ((l17 << 6) | ((l15 << 12) & 61440)) | l18;
+       break L318;
+      }
+      l15 = ((l18 << 6) | ((l17 << 12) | ((l15 << 18) & 1835008))) | ((b[((int) l10) - 58909] & 0xff) & 63);
+     }
+     l9 = 0L;
+     if (l15 == 165) { exit = 1; break PART; }
+     l10 = 0L;
+     l11 = 0L;
+     if (l15 == 65509) { exit = 2; break PART; }
+    }
+    l9 = 0L;
+    l10 = 0L;
+    l11 = 0L;
+    if ((l3 | ((l15 == 36) ? 1 : 0)) == 0) { break L314; }
+    exit = 2; break PART;
+   }
+   l9 = 0L;
+   l10 = 0L;
+   l11 = 0L;
+   if (l3 != 0) { exit = 2; break PART; }
+  }
+ }
+ m.kept[0] = l9;
+ m.kept[1] = l10;
+ m.kept[2] = l11;
+ m.kept[3] = l15;
+ m.kept[4] = l16;
+ m.kept[5] = l17;
+ m.kept[6] = l18;
+ return exit;
+}
+
+static int f207_14(State m, int l3, long l4, long l5, long l8, long l9, long l10, long l11, int l15) {
+ final byte[] b = m.bytes;
+ int exit = 0;
+ PART: {
+  L325: {
+   if (l5 == l10) { break L325; }
+   L326: {
+    L327: {
+     if ((l15 = (int) b[((int) (l9 = l4 + l10)) - 58912]) <= -1) { break L327; }
+     l11 = 1L;
+     break L326;
+    }
+    L328: {
+     if (l15 + Integer.MIN_VALUE >= 2147483616) { break L328; }
+     l11 = 2L;
+     break L326;
+    }
+    l11 = (l15 + Integer.MIN_VALUE < 2147483632) ? 3L : 4L;
+   }
+   if (l5 == (l10 = l11 + l10)) { break L325; }
+   L329: {
+    L330: {
+     if ((l15 = (int) b[((int) (l9 = l9 + l11)) - 58912]) <= -1) { break L330; }
+     l11 = 1L;
+     break L329;
+    }
+    L331: {
+     if (l15 + Integer.MIN_VALUE >= 2147483616) { break L331; }
+     l11 = 2L;
+     break L329;
+    }
+    l11 = (l15 + Integer.MIN_VALUE < 2147483632) ? 3L : 4L;
+   }
+   if (l5 == (l10 = l11 + l10)) { break L325; }
+   L332: {
+    L333: {
+     if ((l15 = (int) b[((int) (l9 = l9 + l11)) - 58912]) <= -1) { break L333; }
+     l11 = 1L;
+     break L332;
+    }
+    L334: {
+     if (l15 + Integer.MIN_VALUE >= 2147483616) { break L334; }
+     l11 = 2L;
+     break L332;
+    }
+    l11 = (l15 + Integer.MIN_VALUE < 2147483632) ? 3L : 4L;
+   }
+   if (l5 == (l10 = l11 + l10)) { break L325; }
+   L335: {
+    L336: {
+     if ((l15 = (int) b[((int) (l9 = l9 + l11)) - 58912]) <= -1) { break L336; }
+     l11 = 1L;
+     break L335;
+    }
+    L337: {
+     if (l15 + Integer.MIN_VALUE >= 2147483616) { break L337; }
+     l11 = 2L;
+     break L335;
+    }
+    l11 = (l15 + Integer.MIN_VALUE < 2147483632) ? 3L : 4L;
+   }
+   if (l5 == (l10 = l11 + l10)) { break L325; }
+   L338: {
+    L339: {
+     if ((l15 = (int) b[((int) (l9 + l11)) - 58912]) <= -1) { break L339; }
+     l11 = 1L;
+     break L338;
+    }
+    L340: {
+     if (l15 + Integer.MIN_VALUE >= 2147483616) { break L340; }
+     l11 = 2L;
+     break L338;
+    }
+    l11 = (l15 + Integer.MIN_VALUE < 2147483632) ? 3L : 4L;
+   }
+   if (l5 == (l11 + l10)) { break L325; }
+   Words.put64(b, ((int) l8) - 58856, 0L);
+   Words.put64(b, ((int) l8) - 58864, 0L);
+   Words.put64(b, ((int) l8) - 58872, 0L);
+   Core6.f203(m, l8 + 40L, 93528L, 5L, l4, l5);
+   if ((b[((int) l8) - 58872] & 0xff) != 1) { exit = 1; break PART; }
+   l3 = b[((int) l4) - 58912] & 0xff;
+  }
+ }
+ m.kept[0] = l3;
+ m.kept[1] = l9;
+ m.kept[2] = l10;
+ m.kept[3] = l11;
+ m.kept[4] = l15;
+ return exit;
+}
+
+static void f207(State m, long l0, long l1, long l2, int l3, long l4, long l5, long l6, long l7) {
+ final byte[] b = m.bytes;
  long l8 = 0;
  long l9 = 0;
  long l10 = 0;
  long l11 = 0;
  long l12 = 0;
  long l13 = 0;
- int l14 = 0;
+ long l14 = 0;
  int l15 = 0;
  int l16 = 0;
  int l17 = 0;
@@ -23,2368 +1700,3730 @@ static int f235(State m, long l0, long l1, long l2) {
  int l19 = 0;
  int l20 = 0;
  int l21 = 0;
- m.g0 = l3 = m.g0 - 32L;
+ int l22 = 0;
+ m.g0 = l8 = m.g0 - 64L;
  L1: {
   L2: {
    L3: {
     L4: {
-     if ((l4 = l3) < 16L) { break L4; }
-     Words.put64(b, ((int) l2) - 60720, 0L);
-     Words.put64(b, ((int) l2) - 60712, 0L);
-     Words.put64(b, ((int) l2) - 60704, 0L);
-     Words.put64(b, ((int) l4) - 60696, 0L);
-     Words.put64(b, ((int) l4) - 60704, 0L);
-     Words.put64(b, ((int) l4) - 60712, 0L);
-     l3 = l1;
-     l0 = l5 = l0 + ((l0 == 0L) ? 4096L : 0L);
+     if ((l8 = l8) < 16L) { break L4; }
+     Words.put32(b, ((int) l8) - 58877, 0);
+     Words.put32(b, ((int) l8) - 58880, 0);
+     Words.put32(b, ((int) l8) - 58888, 0);
+     Words.put32(b, ((int) l8) - 58885, 0);
      L5: {
       L6: {
        L7: {
-        if (l1 + Long.MIN_VALUE < -9223372036854775804L) { break L7; }
-        l0 = l5;
-        l3 = l1;
-        L8: while (true) {
-         if (((Words.get32(b, ((int) l0) - 60720) + 16776990) & 12632312) != 8421376) { break L6; }
-         l0 = l0 + 3L;
-         if ((l3 = l3 + -3L) + Long.MIN_VALUE > -9223372036854775805L) { continue L8; }
-         break L8;
+        if (l3 == 0) { break L7; }
+        final int x18 = f207_1(m, l3, l6, l7, l9, l10, l11, l15, l16, l17);
+        l3 = (int) m.kept[0];
+        l9 = m.kept[1];
+        l10 = m.kept[2];
+        l11 = m.kept[3];
+        l15 = (int) m.kept[4];
+        l16 = (int) m.kept[5];
+        l17 = (int) m.kept[6];
+        switch (x18) {
+        case 1: break L1;
+        case 2: break L2;
         }
-       }
-       if (l3 + Long.MIN_VALUE > -9223372036854775805L) { break L6; }
-       L9: {
-        switch ((int) l3) {
-        case 1: case 2: break L6;
-        case 3: break L9;
+        final int x34 = f207_2(m, l1, l2, l3, l4, l5, l6, l7, l8, l9, l10, l11, l15, l16, l17);
+        l2 = m.kept[0];
+        l3 = (int) m.kept[1];
+        l9 = m.kept[2];
+        l10 = m.kept[3];
+        l11 = m.kept[4];
+        l15 = (int) m.kept[5];
+        l16 = (int) m.kept[6];
+        l17 = (int) m.kept[7];
+        switch (x34) {
+        case 1: break L1;
+        case 2: break L5;
+        case 3: break L6;
+        }
+        if (l5 == 0L) { break L3; }
+        L35: {
+         L36: {
+          if ((l3 = (int) b[((int) l4) - 58912]) <= -1) { break L36; }
+          l12 = 1L;
+          break L35;
+         }
+         L37: {
+          if (l3 + Integer.MIN_VALUE >= 2147483616) { break L37; }
+          l12 = 2L;
+          break L35;
+         }
+         l12 = (l3 + Integer.MIN_VALUE < 2147483632) ? 3L : 4L;
+        }
+        l9 = 0L;
+        l10 = 0L;
+        l11 = 0L;
+        if (l5 == l12) { break L1; }
+        L38: {
+         L39: {
+          if ((l3 = (int) b[((int) (l4 + l12)) - 58912]) <= -1) { break L39; }
+          l13 = 1L;
+          break L38;
+         }
+         L40: {
+          if (l3 + Integer.MIN_VALUE >= 2147483616) { break L40; }
+          l13 = 2L;
+          break L38;
+         }
+         l13 = (l3 + Integer.MIN_VALUE < 2147483632) ? 3L : 4L;
+        }
+        l9 = 0L;
+        l10 = 0L;
+        l11 = 0L;
+        if (l5 == (l13 + l12)) { break L1; }
+        l10 = l4;
+        l9 = l5;
+        L41: {
+         L42: while (true) {
+          if (l9 == 0L) { break L41; }
+          l3 = (l15 = (int) b[((int) l10) - 58912]) & 255;
+          l11 = 1L;
+          L43: {
+           if (l15 > -1) { break L43; }
+           l16 = (b[((int) l10) - 58911] & 0xff) & 63;
+           L44: {
+            if (l15 + Integer.MIN_VALUE > 2147483615) { break L44; }
+            l3 = ((l3 << 6) & 1984) | l16;
+            l11 = 2L;
+            break L43;
+           }
+           l17 = (b[((int) l10) - 58910] & 0xff) & 63;
+           L45: {
+            if (l15 + Integer.MIN_VALUE > 2147483631) { break L45; }
+            l3 = ((l16 << 6) | ((l3 << 12) & 61440)) | l17;
+            l11 = 3L;
+            break L43;
+           }
+           l3 = ((l17 << 6) | ((l16 << 12) | ((l3 << 18) & 1835008))) | ((b[((int) l10) - 58909] & 0xff) & 63);
+           l11 = 4L;
+          }
+          l9 = l9 - l11;
+          l10 = l10 + l11;
+          if (l3 != 24186) { continue L42; }
+          break L5;
+         }
+        }
+        if (f211(m, l4, l5) != 0) { break L5; }
+        if (f215(m, l4, l5) != 0) { break L5; }
+        if (f212(m, l1, l2) != 0) { break L5; }
+        L46: {
+         L47: {
+          if ((l3 = (int) b[((int) l4) - 58912]) <= -1) { break L47; }
+          l10 = 1L;
+          break L46;
+         }
+         L48: {
+          if (l3 + Integer.MIN_VALUE >= 2147483616) { break L48; }
+          l10 = 2L;
+          break L46;
+         }
+         l10 = (l3 + Integer.MIN_VALUE < 2147483632) ? 3L : 4L;
+        }
+        final int x60 = f207_3(m, l1, l2, l3, l4, l5, l6, l7, l9, l10, l11, l15);
+        l3 = (int) m.kept[0];
+        l9 = m.kept[1];
+        l10 = m.kept[2];
+        l11 = m.kept[3];
+        l15 = (int) m.kept[4];
+        switch (x60) {
+        case 1: break L5;
+        }
+        L61: {
+         L62: {
+          if (((int) (byte) l3) <= -1) { break L62; }
+          l2 = 1L;
+          break L61;
+         }
+         L63: {
+          if ((l3 = l3 & 255) + Integer.MIN_VALUE >= -2147483424) { break L63; }
+          l2 = 2L;
+          break L61;
+         }
+         l2 = (l3 + Integer.MIN_VALUE < -2147483408) ? 3L : 4L;
+        }
+        l9 = 0L;
+        l10 = 0L;
+        l11 = 0L;
+        if (l5 == l2) { break L1; }
+        L64: {
+         L65: {
+          if ((l3 = (int) b[((int) (l1 = l4 + l2)) - 58912]) <= -1) { break L65; }
+          l12 = 1L;
+          break L64;
+         }
+         L66: {
+          if (l3 + Integer.MIN_VALUE >= 2147483616) { break L66; }
+          l12 = 2L;
+          break L64;
+         }
+         l12 = (l3 + Integer.MIN_VALUE < 2147483632) ? 3L : 4L;
+        }
+        l9 = 0L;
+        l10 = 0L;
+        l11 = 0L;
+        if (l5 == (l2 = l12 + l2)) { break L1; }
+        L67: {
+         L68: {
+          if ((l3 = (int) b[((int) (l1 = l1 + l12)) - 58912]) <= -1) { break L68; }
+          l12 = 1L;
+          break L67;
+         }
+         L69: {
+          if (l3 + Integer.MIN_VALUE >= 2147483616) { break L69; }
+          l12 = 2L;
+          break L67;
+         }
+         l12 = (l3 + Integer.MIN_VALUE < 2147483632) ? 3L : 4L;
+        }
+        l9 = 0L;
+        l10 = 0L;
+        l11 = 0L;
+        if (l5 == (l2 = l12 + l2)) { break L1; }
+        L70: {
+         L71: {
+          if ((l3 = (int) b[((int) (l1 = l1 + l12)) - 58912]) <= -1) { break L71; }
+          l12 = 1L;
+          break L70;
+         }
+         L72: {
+          if (l3 + Integer.MIN_VALUE >= 2147483616) { break L72; }
+          l12 = 2L;
+          break L70;
+         }
+         l12 = (l3 + Integer.MIN_VALUE < 2147483632) ? 3L : 4L;
+        }
+        l9 = 0L;
+        l10 = 0L;
+        l11 = 0L;
+        if (l5 == (l2 = l12 + l2)) { break L1; }
+        L73: {
+         L74: {
+          if ((l3 = (int) b[((int) (l1 = l1 + l12)) - 58912]) <= -1) { break L74; }
+          l12 = 1L;
+          break L73;
+         }
+         L75: {
+          if (l3 + Integer.MIN_VALUE >= 2147483616) { break L75; }
+          l12 = 2L;
+          break L73;
+         }
+         l12 = (l3 + Integer.MIN_VALUE < 2147483632) ? 3L : 4L;
+        }
+        l9 = 0L;
+        l10 = 0L;
+        l11 = 0L;
+        if (l5 == (l2 = l12 + l2)) { break L1; }
+        L76: {
+         L77: {
+          if ((l3 = (int) b[((int) (l1 + l12)) - 58912]) <= -1) { break L77; }
+          l12 = 1L;
+          break L76;
+         }
+         L78: {
+          if (l3 + Integer.MIN_VALUE >= 2147483616) { break L78; }
+          l12 = 2L;
+          break L76;
+         }
+         l12 = (l3 + Integer.MIN_VALUE < 2147483632) ? 3L : 4L;
+        }
+        l9 = 0L;
+        l10 = 0L;
+        l11 = 0L;
+        if (l5 == (l12 + l2)) { break L1; }
+        l17 = 0;
+        final int x90 = f207_4(m, l3, l4, l5, l8, l10, l15, l16, l17, l18);
+        l3 = (int) m.kept[0];
+        l4 = m.kept[1];
+        l5 = m.kept[2];
+        l10 = m.kept[3];
+        l15 = (int) m.kept[4];
+        l16 = (int) m.kept[5];
+        l17 = (int) m.kept[6];
+        l18 = (int) m.kept[7];
+        switch (x90) {
+        case 1: break L3;
         default: break L5;
         }
        }
-       if (((((Words.get16(b, ((int) l0) - 60720) & 0xffff) | ((b[((int) (l0 + 2L)) - 60720] & 0xff) << 16)) + 16776990) & 12632312) == 8421376) { break L5; }
-      }
-      l14 = 5;
-      if (Core1.f6(m, l5, l1) == 0) { break L1; }
-     }
-     if (l1 == 0L) { break L3; }
-     l15 = 0;
-     l6 = 0L;
-     l7 = l1;
-     l3 = l5;
-     l8 = 0L;
-     l9 = 0L;
-     l10 = 0L;
-     l16 = 0;
-     l17 = 0;
-     L10: {
-      L11: while (true) {
-       l18 = l16;
-       l14 = (l16 = (int) b[((int) l3) - 60720]) & 255;
-       l11 = 1L;
-       L12: {
-        L13: {
-         if (l16 <= -1) { break L13; }
-         l12 = 1L;
-         break L12;
-        }
-        l19 = (b[((int) l3) - 60719] & 0xff) & 63;
-        L14: {
-         if (l16 + Integer.MIN_VALUE > 2147483615) { break L14; }
-         l14 = ((l14 << 6) & 1984) | l19;
-         l12 = 2L;
-         break L12;
-        }
-        l20 = (b[((int) l3) - 60718] & 0xff) & 63;
-        L15: {
-         if (l16 + Integer.MIN_VALUE > 2147483631) { break L15; }
-         l14 = ((l19 << 6) | ((l14 << 12) & 61440)) | l20;
-         l12 = 3L;
-         break L12;
-        }
-        l14 = ((l20 << 6) | ((l19 << 12) | ((l14 << 18) & 1835008))) | ((b[((int) l3) - 60717] & 0xff) & 63);
-        l12 = 4L;
+       l9 = 0L;
+       l10 = 0L;
+       l11 = 0L;
+       if (Core6.f195(m, l6, l7) != 0) { break L1; }
+       final int x112 = f207_5(m, l1, l2, l3, l4, l5, l9, l10, l11, l12, l13, l15, l16, l17, l18, l19);
+       l3 = (int) m.kept[0];
+       l9 = m.kept[1];
+       l10 = m.kept[2];
+       l11 = m.kept[3];
+       l12 = m.kept[4];
+       l13 = m.kept[5];
+       l15 = (int) m.kept[6];
+       l16 = (int) m.kept[7];
+       l17 = (int) m.kept[8];
+       l18 = (int) m.kept[9];
+       l19 = (int) m.kept[10];
+       switch (x112) {
+       case 1: break L1;
        }
-       L16: {
-        if (Words.get32(b, State.far((int) (l0 = (((l14 * 3227) >>> 7) & 0xffffffffL) & 504L), 65536)) == l14) { break L16; }
-        l0 = 1L;
-        break L10;
-       }
-       L17: {
-        if (((b[((int) (l0 + 65540L)) - 60720] & 0xff) & 255) == 1) { break L17; }
-        l0 = 1L;
-        break L10;
-       }
-       l13 = b[((int) (l0 + 65542L)) - 60720] & 0xffL;
-       l14 = b[((int) (l0 + 65541L)) - 60720] & 0xff;
-       l0 = 1L;
-       L18: {
-        L19: {
-         L20: {
-          L21: {
-           L22: {
-            L23: {
-             L24: {
-              L25: {
-               L26: {
-                L27: {
-                 L28: {
-                  L29: {
-                   L30: {
-                    L31: {
-                     L32: {
-                      L33: {
-                       L34: {
-                        L35: {
-                         L36: {
-                          L37: {
-                           L38: {
-                            L39: {
-                             L40: {
-                              L41: {
-                               L42: {
-                                L43: {
-                                 L44: {
-                                  L45: {
-                                   L46: {
-                                    L47: {
-                                     L48: {
-                                      L49: {
-                                       L50: {
-                                        L51: {
-                                         L52: {
-                                          L53: {
-                                           switch ((int) ((l17 & 0xffffffffL) & 255L)) {
-                                           case 1: break L44;
-                                           case 2: break L43;
-                                           case 3: break L42;
-                                           case 4: break L41;
-                                           case 5: break L53;
-                                           case 6: break L52;
-                                           case 7: break L51;
-                                           case 8: break L50;
-                                           case 9: break L49;
-                                           case 10: break L48;
-                                           case 11: break L47;
-                                           case 12: break L46;
-                                           case 13: break L40;
-                                           case 14: break L38;
-                                           case 15: break L36;
-                                           case 16: break L37;
-                                           case 17: break L39;
-                                           case 18: break L34;
-                                           case 19: break L10;
-                                           default: break L45;
-                                           }
-                                          }
-                                          L54: {
-                                           if (((1 << l14) & 261375) != 0) { break L54; }
-                                           if (l14 != 8) { break L21; }
-                                           break L20;
-                                          }
-                                          L55: {
-                                           if ((l14 + -5) + Integer.MIN_VALUE < -2147483635) { break L55; }
-                                           l16 = 0;
-                                           switch (l14) {
-                                           case 2: break L31;
-                                           case 3: break L30;
-                                           case 4: break L28;
-                                           default: break L55;
-                                           }
-                                          }
-                                          l16 = 0;
-                                          l17 = 6;
-                                          l0 = 1L;
-                                          switch (l14) {
-                                          case 5: break L25;
-                                          case 6: break L24;
-                                          case 7: break L22;
-                                          default: break L10;
-                                          }
-                                         }
-                                         L56: {
-                                          if ((l14 + -6) + Integer.MIN_VALUE < -2147483636) { break L56; }
-                                          l20 = 3;
-                                          l19 = 10;
-                                          l21 = l14;
-                                          l0 = 1L;
-                                          L57: {
-                                           switch (l14) {
-                                           case 1: break L32;
-                                           case 2: case 3: case 4: break L56;
-                                           case 5: break L10;
-                                           default: break L57;
-                                           }
-                                          }
-                                          l16 = 1;
-                                          l15 = (l18 & 1) | 2;
-                                          l17 = 9;
-                                          break L18;
-                                         }
-                                         l16 = 1;
-                                         if (l14 == 6) { break L24; }
-                                         if (l14 == 7) { break L22; }
-                                         l0 = 1L;
-                                         break L10;
-                                        }
-                                        L58: {
-                                         if ((l14 + -6) + Integer.MIN_VALUE < -2147483636) { break L58; }
-                                         l20 = 3;
-                                         l21 = 4;
-                                         l19 = 10;
-                                         l0 = 1L;
-                                         L59: {
-                                          switch (l14) {
-                                          case 1: break L32;
-                                          case 2: case 3: case 4: break L58;
-                                          case 5: break L10;
-                                          default: break L59;
-                                          }
-                                         }
-                                         l15 = 3;
-                                         l16 = (l18 & 1) ^ 3;
-                                         l17 = 9;
-                                         break L18;
-                                        }
-                                        l16 = 1;
-                                        l17 = 8;
-                                        if (l14 == 5) { break L25; }
-                                        if (l14 == 7) { break L22; }
-                                        l0 = 1L;
-                                        break L10;
-                                       }
-                                       l16 = 1;
-                                       l20 = 3;
-                                       l21 = 5;
-                                       l19 = 10;
-                                       l0 = 1L;
-                                       L60: {
-                                        switch (l14) {
-                                        case 1: break L32;
-                                        case 2: case 3: case 4: case 5: case 6: case 8: case 9: case 10: case 11: case 12: case 13: case 14: case 15: case 16: case 17: break L10;
-                                        case 7: break L22;
-                                        default: break L60;
-                                        }
-                                       }
-                                       l15 = (l18 & 1) | 2;
-                                       l16 = 5;
-                                       l17 = 9;
-                                       break L18;
-                                      }
-                                      if (l14 == 1) { break L33; }
-                                      l0 = 1L;
-                                      break L10;
-                                     }
-                                     L61: {
-                                      L62: {
-                                       L63: {
-                                        L64: {
-                                         switch ((int) ((l15 & 0xffffffffL) & 255L)) {
-                                         case 1: break L62;
-                                         case 2: break L63;
-                                         case 3: break L64;
-                                         default: break L61;
-                                         }
-                                        }
-                                        l16 = l18;
-                                        if (l14 == 4) { break L28; }
-                                        l0 = 1L;
-                                        break L10;
-                                       }
-                                       l16 = l18;
-                                       if (l14 == 3) { break L30; }
-                                       l0 = 1L;
-                                       break L10;
-                                      }
-                                      l16 = l18;
-                                      if (l14 == 2) { break L31; }
-                                      l0 = 1L;
-                                      break L10;
-                                     }
-                                     L65: {
-                                      L66: {
-                                       L67: {
-                                        L68: {
-                                         L69: {
-                                          switch ((int) ((l18 & 0xffffffffL) & 255L)) {
-                                          case 1: break L66;
-                                          case 2: case 3: break L68;
-                                          case 4: break L67;
-                                          case 5: break L65;
-                                          default: break L69;
-                                          }
-                                         }
-                                         l16 = 0;
-                                         l17 = 6;
-                                         l0 = 1L;
-                                         switch (l14) {
-                                         case 5: break L25;
-                                         case 6: break L24;
-                                         case 7: break L22;
-                                         default: break L10;
-                                         }
-                                        }
-                                        l16 = 0;
-                                        l17 = 8;
-                                        if (l14 == 5) { break L25; }
-                                        if (l14 == 7) { break L22; }
-                                        l0 = 1L;
-                                        break L10;
-                                       }
-                                       if (l14 == 5) { break L27; }
-                                       l0 = 1L;
-                                       break L10;
-                                      }
-                                      l16 = 0;
-                                      if (l14 == 6) { break L24; }
-                                      if (l14 == 7) { break L22; }
-                                      l0 = 1L;
-                                      break L10;
-                                     }
-                                     if (l14 == 7) { break L23; }
-                                     l0 = 1L;
-                                     break L10;
-                                    }
-                                    L70: {
-                                     L71: {
-                                      L72: {
-                                       L73: {
-                                        switch ((int) ((l15 & 0xffffffffL) & 255L)) {
-                                        case 1: break L71;
-                                        case 2: break L72;
-                                        case 3: break L73;
-                                        default: break L70;
-                                        }
-                                       }
-                                       L74: {
-                                        if ((l14 + -5) + Integer.MIN_VALUE < -2147483635) { break L74; }
-                                        l16 = l18;
-                                        switch (l14) {
-                                        case 2: break L31;
-                                        case 3: break L30;
-                                        case 4: break L29;
-                                        default: break L74;
-                                        }
-                                       }
-                                       L75: {
-                                        L76: {
-                                         L77: {
-                                          L78: {
-                                           L79: {
-                                            switch ((int) ((l18 & 0xffffffffL) & 255L)) {
-                                            case 1: break L76;
-                                            case 2: case 3: break L78;
-                                            case 4: break L77;
-                                            case 5: break L75;
-                                            default: break L79;
-                                            }
-                                           }
-                                           l16 = 0;
-                                           l17 = 6;
-                                           l0 = 1L;
-                                           switch (l14) {
-                                           case 5: break L25;
-                                           case 6: break L24;
-                                           case 7: break L22;
-                                           default: break L10;
-                                           }
-                                          }
-                                          l16 = 0;
-                                          l17 = 8;
-                                          if (l14 == 5) { break L25; }
-                                          if (l14 == 7) { break L22; }
-                                          l0 = 1L;
-                                          break L10;
-                                         }
-                                         if (l14 == 5) { break L27; }
-                                         l0 = 1L;
-                                         break L10;
-                                        }
-                                        l16 = 0;
-                                        if (l14 == 6) { break L24; }
-                                        if (l14 == 7) { break L22; }
-                                        l0 = 1L;
-                                        break L10;
-                                       }
-                                       if (l14 == 7) { break L23; }
-                                       l0 = 1L;
-                                       break L10;
-                                      }
-                                      L80: {
-                                       if ((l14 + -4) + Integer.MIN_VALUE < -2147483634) { break L80; }
-                                       l16 = l18;
-                                       switch (l14) {
-                                       case 2: break L31;
-                                       case 3: break L30;
-                                       default: break L80;
-                                       }
-                                      }
-                                      L81: {
-                                       L82: {
-                                        L83: {
-                                         L84: {
-                                          L85: {
-                                           switch ((int) ((l18 & 0xffffffffL) & 255L)) {
-                                           case 1: break L82;
-                                           case 2: case 3: break L84;
-                                           case 4: break L83;
-                                           case 5: break L81;
-                                           default: break L85;
-                                           }
-                                          }
-                                          l16 = 0;
-                                          l17 = 6;
-                                          l0 = 1L;
-                                          switch (l14) {
-                                          case 5: break L25;
-                                          case 6: break L24;
-                                          case 7: break L22;
-                                          default: break L10;
-                                          }
-                                         }
-                                         l16 = 0;
-                                         l17 = 8;
-                                         if (l14 == 5) { break L25; }
-                                         if (l14 == 7) { break L22; }
-                                         l0 = 1L;
-                                         break L10;
-                                        }
-                                        if (l14 == 5) { break L27; }
-                                        l0 = 1L;
-                                        break L10;
-                                       }
-                                       l16 = 0;
-                                       if (l14 == 6) { break L24; }
-                                       if (l14 == 7) { break L22; }
-                                       l0 = 1L;
-                                       break L10;
-                                      }
-                                      if (l14 == 7) { break L23; }
-                                      l0 = 1L;
-                                      break L10;
-                                     }
-                                     L86: {
-                                      if ((l14 + -5) + Integer.MIN_VALUE < -2147483635) { break L86; }
-                                      l16 = l18;
-                                      l0 = 1L;
-                                      switch (l14) {
-                                      case 2: break L31;
-                                      case 3: case 4: break L10;
-                                      default: break L86;
-                                      }
-                                     }
-                                     L87: {
-                                      L88: {
-                                       L89: {
-                                        L90: {
-                                         L91: {
-                                          switch ((int) ((l18 & 0xffffffffL) & 255L)) {
-                                          case 1: break L88;
-                                          case 2: case 3: break L90;
-                                          case 4: break L89;
-                                          case 5: break L87;
-                                          default: break L91;
-                                          }
-                                         }
-                                         l16 = 0;
-                                         l17 = 6;
-                                         l0 = 1L;
-                                         switch (l14) {
-                                         case 5: break L25;
-                                         case 6: break L24;
-                                         case 7: break L22;
-                                         default: break L10;
-                                         }
-                                        }
-                                        l16 = 0;
-                                        l17 = 8;
-                                        if (l14 == 5) { break L25; }
-                                        if (l14 == 7) { break L22; }
-                                        l0 = 1L;
-                                        break L10;
-                                       }
-                                       if (l14 == 5) { break L27; }
-                                       l0 = 1L;
-                                       break L10;
-                                      }
-                                      l16 = 0;
-                                      if (l14 == 6) { break L24; }
-                                      if (l14 == 7) { break L22; }
-                                      l0 = 1L;
-                                      break L10;
-                                     }
-                                     if (l14 == 7) { break L23; }
-                                     l0 = 1L;
-                                     break L10;
-                                    }
-                                    L92: {
-                                     L93: {
-                                      L94: {
-                                       L95: {
-                                        L96: {
-                                         switch ((int) ((l18 & 0xffffffffL) & 255L)) {
-                                         case 1: break L93;
-                                         case 2: case 3: break L95;
-                                         case 4: break L94;
-                                         case 5: break L92;
-                                         default: break L96;
-                                         }
-                                        }
-                                        l16 = 0;
-                                        l17 = 6;
-                                        l0 = 1L;
-                                        switch (l14) {
-                                        case 5: break L25;
-                                        case 6: break L24;
-                                        case 7: break L22;
-                                        default: break L10;
-                                        }
-                                       }
-                                       l16 = 0;
-                                       l17 = 8;
-                                       if (l14 == 5) { break L25; }
-                                       if (l14 == 7) { break L22; }
-                                       l0 = 1L;
-                                       break L10;
-                                      }
-                                      if (l14 == 5) { break L27; }
-                                      l0 = 1L;
-                                      break L10;
-                                     }
-                                     l16 = 0;
-                                     if (l14 == 6) { break L24; }
-                                     if (l14 == 7) { break L22; }
-                                     l0 = 1L;
-                                     break L10;
-                                    }
-                                    if (l14 == 7) { break L23; }
-                                    l0 = 1L;
-                                    break L10;
-                                   }
-                                   L97: {
-                                    L98: {
-                                     L99: {
-                                      L100: {
-                                       L101: {
-                                        L102: {
-                                         L103: {
-                                          switch ((int) ((l15 & 0xffffffffL) & 255L)) {
-                                          case 1: break L101;
-                                          case 2: break L102;
-                                          case 3: break L103;
-                                          default: break L100;
-                                          }
-                                         }
-                                         L104: {
-                                          if ((l14 + -2) + Integer.MIN_VALUE < -2147483632) { break L104; }
-                                          l15 = 1;
-                                          l17 = 9;
-                                          l20 = 2;
-                                          l19 = 10;
-                                          l21 = l18;
-                                          l16 = l18;
-                                          switch (l14) {
-                                          case 1: break L32;
-                                          default: break L18;
-                                          }
-                                         }
-                                         L105: {
-                                          L106: {
-                                           L107: {
-                                            L108: {
-                                             L109: {
-                                              switch ((int) ((l18 & 0xffffffffL) & 255L)) {
-                                              case 1: break L106;
-                                              case 2: case 3: break L108;
-                                              case 4: break L107;
-                                              case 5: break L105;
-                                              default: break L109;
-                                              }
-                                             }
-                                             l16 = 1;
-                                             l17 = 6;
-                                             l0 = 1L;
-                                             switch (l14 + -2) {
-                                             case 3: break L25;
-                                             case 4: break L24;
-                                             case 5: break L22;
-                                             default: break L10;
-                                             }
-                                            }
-                                            l16 = 1;
-                                            l17 = 8;
-                                            if (l14 == 5) { break L25; }
-                                            if (l14 == 7) { break L22; }
-                                            l0 = 1L;
-                                            break L10;
-                                           }
-                                           if (l14 == 5) { break L99; }
-                                           l0 = 1L;
-                                           break L10;
-                                          }
-                                          l16 = 1;
-                                          if (l14 == 6) { break L24; }
-                                          if (l14 == 7) { break L22; }
-                                          l0 = 1L;
-                                          break L10;
-                                         }
-                                         L110: {
-                                          if (l14 == 7) { break L110; }
-                                          l0 = 1L;
-                                          break L10;
-                                         }
-                                         l16 = 1;
-                                         break L22;
-                                        }
-                                        L111: {
-                                         if ((l14 + -2) + Integer.MIN_VALUE < -2147483632) { break L111; }
-                                         l17 = 9;
-                                         l19 = 10;
-                                         l21 = l18;
-                                         l20 = l14;
-                                         l16 = l18;
-                                         l15 = l14;
-                                         switch (l14) {
-                                         case 1: break L32;
-                                         default: break L18;
-                                         }
-                                        }
-                                        L112: {
-                                         L113: {
-                                          L114: {
-                                           L115: {
-                                            L116: {
-                                             switch ((int) ((l18 & 0xffffffffL) & 255L)) {
-                                             case 1: break L113;
-                                             case 2: case 3: break L115;
-                                             case 4: break L114;
-                                             case 5: break L112;
-                                             default: break L116;
-                                             }
-                                            }
-                                            l16 = 1;
-                                            l17 = 6;
-                                            l0 = 1L;
-                                            switch (l14 + -2) {
-                                            case 3: break L25;
-                                            case 4: break L24;
-                                            case 5: break L22;
-                                            default: break L10;
-                                            }
-                                           }
-                                           l16 = 1;
-                                           l17 = 8;
-                                           if (l14 == 5) { break L25; }
-                                           if (l14 == 7) { break L22; }
-                                           l0 = 1L;
-                                           break L10;
-                                          }
-                                          if (l14 == 5) { break L99; }
-                                          l0 = 1L;
-                                          break L10;
-                                         }
-                                         l16 = 1;
-                                         if (l14 == 6) { break L24; }
-                                         if (l14 == 7) { break L22; }
-                                         l0 = 1L;
-                                         break L10;
-                                        }
-                                        L117: {
-                                         if (l14 == 7) { break L117; }
-                                         l0 = 1L;
-                                         break L10;
-                                        }
-                                        l16 = 1;
-                                        break L22;
-                                       }
-                                       L118: {
-                                        if ((l14 + -2) + Integer.MIN_VALUE < -2147483632) { break L118; }
-                                        l20 = 0;
-                                        l19 = 10;
-                                        l21 = l18;
-                                        l0 = 1L;
-                                        switch (l14) {
-                                        case 1: break L32;
-                                        default: break L10;
-                                        }
-                                       }
-                                       L119: {
-                                        L120: {
-                                         L121: {
-                                          L122: {
-                                           L123: {
-                                            switch ((int) ((l18 & 0xffffffffL) & 255L)) {
-                                            case 1: break L120;
-                                            case 2: case 3: break L122;
-                                            case 4: break L121;
-                                            case 5: break L119;
-                                            default: break L123;
-                                            }
-                                           }
-                                           l16 = 1;
-                                           l17 = 6;
-                                           l0 = 1L;
-                                           switch (l14 + -2) {
-                                           case 3: break L25;
-                                           case 4: break L24;
-                                           case 5: break L22;
-                                           default: break L10;
-                                           }
-                                          }
-                                          l16 = 1;
-                                          l17 = 8;
-                                          if (l14 == 5) { break L25; }
-                                          if (l14 == 7) { break L22; }
-                                          l0 = 1L;
-                                          break L10;
-                                         }
-                                         if (l14 == 5) { break L99; }
-                                         l0 = 1L;
-                                         break L10;
-                                        }
-                                        l16 = 1;
-                                        if (l14 == 6) { break L24; }
-                                        if (l14 == 7) { break L22; }
-                                        l0 = 1L;
-                                        break L10;
-                                       }
-                                       L124: {
-                                        if (l14 == 7) { break L124; }
-                                        l0 = 1L;
-                                        break L10;
-                                       }
-                                       l16 = 1;
-                                       break L22;
-                                      }
-                                      L125: {
-                                       L126: {
-                                        L127: {
-                                         switch ((int) ((l18 & 0xffffffffL) & 255L)) {
-                                         case 1: break L98;
-                                         case 2: case 3: break L126;
-                                         case 4: break L125;
-                                         case 5: break L97;
-                                         default: break L127;
-                                         }
-                                        }
-                                        l16 = 1;
-                                        l17 = 6;
-                                        l0 = 1L;
-                                        switch (l14) {
-                                        case 5: break L25;
-                                        case 6: break L24;
-                                        case 7: break L22;
-                                        default: break L10;
-                                        }
-                                       }
-                                       l16 = 1;
-                                       l17 = 8;
-                                       if (l14 == 5) { break L25; }
-                                       if (l14 == 7) { break L22; }
-                                       l0 = 1L;
-                                       break L10;
-                                      }
-                                      if (l14 == 5) { break L99; }
-                                      l0 = 1L;
-                                      break L10;
-                                     }
-                                     l16 = 1;
-                                     break L26;
-                                    }
-                                    l16 = 1;
-                                    if (l14 == 6) { break L24; }
-                                    if (l14 == 7) { break L22; }
-                                    l0 = 1L;
-                                    break L10;
-                                   }
-                                   L128: {
-                                    if (l14 == 7) { break L128; }
-                                    l0 = 1L;
-                                    break L10;
-                                   }
-                                   l16 = 1;
-                                   break L22;
-                                  }
-                                  l19 = 5;
-                                  l21 = 0;
-                                  l17 = 1;
-                                  l20 = 0;
-                                  l16 = 0;
-                                  l15 = 0;
-                                  l0 = 1L;
-                                  switch (l14) {
-                                  case 1: break L32;
-                                  case 2: case 3: case 4: case 5: case 6: case 7: case 8: case 9: case 10: case 12: case 13: case 14: case 15: case 16: case 17: break L10;
-                                  case 11: break L18;
-                                  default: break L35;
-                                  }
-                                 }
-                                 L129: {
-                                  if (l14 == 12) { break L129; }
-                                  l0 = 1L;
-                                  break L10;
-                                 }
-                                 l16 = 0;
-                                 l17 = 2;
-                                 break L19;
-                                }
-                                L130: {
-                                 if (l14 == 13) { break L130; }
-                                 l0 = 1L;
-                                 break L10;
-                                }
-                                l16 = 0;
-                                l17 = 3;
-                                break L19;
-                               }
-                               l21 = 0;
-                               l19 = 5;
-                               l20 = 0;
-                               l0 = 1L;
-                               switch (l14) {
-                               case 1: break L32;
-                               case 2: case 3: case 4: case 5: case 6: case 7: case 8: case 9: case 10: case 11: case 12: case 13: case 14: case 15: case 16: case 17: break L10;
-                               default: break L35;
-                               }
-                              }
-                              L131: {
-                               if (l14 == 7) { break L131; }
-                               l0 = 1L;
-                               break L10;
-                              }
-                              l16 = 1;
-                              break L22;
-                             }
-                             l19 = 16;
-                             l21 = 0;
-                             l17 = 19;
-                             l20 = 0;
-                             l16 = 0;
-                             l15 = 0;
-                             l0 = 1L;
-                             L132: {
-                              switch (l14) {
-                              case 1: break L32;
-                              case 2: case 3: case 4: case 5: case 6: case 7: case 8: case 9: case 11: case 12: case 13: case 14: case 15: case 16: case 17: break L10;
-                              case 10: break L18;
-                              default: break L132;
-                              }
-                             }
-                             l16 = l18 & 1;
-                             l17 = 14;
-                             break L19;
-                            }
-                            l19 = 18;
-                            l16 = 0;
-                            l17 = 19;
-                            L133: {
-                             if (l14 != 1) { break L133; }
-                             l21 = 0;
-                             l20 = 0;
-                             break L32;
-                            }
-                            l15 = 0;
-                            if (l14 == 10) { break L18; }
-                            l0 = 1L;
-                            break L10;
-                           }
-                           L134: {
-                            if (l14 == 1) { break L134; }
-                            l0 = 1L;
-                            break L10;
-                           }
-                           l21 = l18 & 1;
-                           l20 = 0;
-                           l19 = 15;
-                           break L32;
-                          }
-                          if (l14 == 8) { break L20; }
-                          l0 = 1L;
-                          break L10;
-                         }
-                         if ((l18 & 1) == 0) { break L34; }
-                         if (l14 == 8) { break L20; }
-                         if (l14 == 9) { break L21; }
-                         l0 = 1L;
-                         break L10;
-                        }
-                        l16 = 0;
-                        l17 = 4;
-                        break L19;
-                       }
-                       if (l14 == 9) { break L21; }
-                       l0 = 1L;
-                       break L10;
-                      }
-                      l19 = 11;
-                      l21 = l18;
-                      l20 = l15;
-                     }
-                     l17 = l19;
-                     l16 = l21;
-                     l15 = l20;
-                     l6 = l13;
-                     break L18;
-                    }
-                    l9 = (l6 * 10L) + l9;
-                    l6 = 0L;
-                    l15 = 1;
-                    l17 = 12;
-                    break L18;
-                   }
-                   l9 = (l6 * 100L) + l9;
-                   l6 = 0L;
-                   l15 = 2;
-                   l17 = 12;
-                   break L18;
-                  }
-                  l16 = ((l18 & 255) == 3) ? 5 : l18;
-                 }
-                 l9 = (l6 * 1000L) + l9;
-                 l6 = 0L;
-                 l15 = 3;
-                 l17 = 12;
-                 break L18;
-                }
-                l16 = 0;
-               }
-               l17 = 8;
-              }
-              l10 = ((l9 + l6) * 10000L) + l10;
-              l9 = 0L;
-              l15 = 0;
-              l6 = 0L;
-              break L18;
-             }
-             l10 = ((l9 + l6) + l10) * 100000000L;
-             l9 = 0L;
-             l15 = 0;
-             l17 = 7;
-             l6 = 0L;
-             break L18;
-            }
-            l16 = 0;
-           }
-           l10 = ((l9 + l6) + l10) * 100L;
-           l9 = 0L;
-           l15 = 0;
-           l17 = 13;
-           l6 = 0L;
-           break L18;
+       L113: {
+        L114: {
+         L115: {
+          final int x179 = f207_6(m, l1, l2, l3, l4, l5, l6, l7, l9, l10, l11, l12, l13, l14, l15, l16, l17, l18, l19, l20, l21, l22);
+          l2 = m.kept[0];
+          l3 = (int) m.kept[1];
+          l9 = m.kept[2];
+          l10 = m.kept[3];
+          l11 = m.kept[4];
+          l12 = m.kept[5];
+          l13 = m.kept[6];
+          l14 = m.kept[7];
+          l15 = (int) m.kept[8];
+          l16 = (int) m.kept[9];
+          l17 = (int) m.kept[10];
+          l19 = (int) m.kept[11];
+          l20 = (int) m.kept[12];
+          l21 = (int) m.kept[13];
+          l22 = (int) m.kept[14];
+          switch (x179) {
+          case 1: break L3;
+          case 2: break L1;
+          case 3: break L2;
+          case 4: break L5;
+          case 5: break L115;
           }
-          l10 = l10 + l6;
-          l6 = 0L;
-          l16 = 0;
-          l17 = 19;
-          break L19;
+          final int x193 = f207_7(m, l4, l5, l9, l10, l11, l16);
+          l9 = m.kept[0];
+          l10 = m.kept[1];
+          l11 = m.kept[2];
+          l16 = (int) m.kept[3];
+          switch (x193) {
+          case 1: break L5;
+          }
+          L194: {
+           L195: {
+            if (l15 <= -1) { break L195; }
+            l10 = 1L;
+            break L194;
+           }
+           L196: {
+            if (l15 + Integer.MIN_VALUE >= 2147483616) { break L196; }
+            l10 = 2L;
+            break L194;
+           }
+           l10 = (l15 + Integer.MIN_VALUE < 2147483632) ? 3L : 4L;
+          }
+          if (l5 == l10) { break L114; }
+          L197: {
+           L198: {
+            if ((l15 = (int) b[((int) (l9 = l4 + l10)) - 58912]) <= -1) { break L198; }
+            l11 = 1L;
+            break L197;
+           }
+           L199: {
+            if (l15 + Integer.MIN_VALUE >= 2147483616) { break L199; }
+            l11 = 2L;
+            break L197;
+           }
+           l11 = (l15 + Integer.MIN_VALUE < 2147483632) ? 3L : 4L;
+          }
+          if (l5 == (l10 = l11 + l10)) { break L114; }
+          L200: {
+           L201: {
+            if ((l15 = (int) b[((int) (l9 + l11)) - 58912]) <= -1) { break L201; }
+            l11 = 1L;
+            break L200;
+           }
+           L202: {
+            if (l15 + Integer.MIN_VALUE >= 2147483616) { break L202; }
+            l11 = 2L;
+            break L200;
+           }
+           l11 = (l15 + Integer.MIN_VALUE < 2147483632) ? 3L : 4L;
+          }
+          if (l5 != (l11 + l10)) { break L114; }
+          l15 = f210(m, 92488L, 6L, l4, l5);
+          if (l18 != 0) { break L114; }
+          if (l15 == 0) { break L114; }
+          if (((int) b[((int) ((l10 = l1 + l2) + -1L)) - 58912]) > -1) { break L114; }
+          l11 = -2L;
+          L203: {
+           if ((l15 = b[((int) (l10 + -2L)) - 58912] & 0xff) + Integer.MIN_VALUE > -2147483457) { break L203; }
+           l11 = ((b[((int) (l10 + -3L)) - 58912] & 0xff) + Integer.MIN_VALUE > -2147483457) ? -3L : -4L;
+          }
+          L204: {
+           if ((l16 = (int) b[((int) (l11 = (l1 + l11) + l2)) - 58912]) > -1) { break L204; }
+           if (l16 + Integer.MIN_VALUE < 2147483616) { break L204; }
+           l17 = l16 & 255;
+           l20 = (b[((int) l11) - 58911] & 0xff) & 63;
+           l21 = (b[((int) l11) - 58910] & 0xff) & 63;
+           L205: {
+            L206: {
+             if (l16 + Integer.MIN_VALUE > 2147483631) { break L206; }
+             l16 = ((l20 << 6) | ((l17 << 12) & 61440)) | l21;
+             break L205;
+            }
+            l16 = ((l21 << 6) | ((l20 << 12) | ((l17 << 18) & 1835008))) | ((b[((int) l11) - 58909] & 0xff) & 63);
+           }
+           L207: {
+            if (l16 > 25319) { break L207; }
+            if (l16 == 21483) { break L5; }
+            if (l16 != 25171) { break L204; }
+            break L5;
+           }
+           if (l16 == 25320) { break L5; }
+           if (l16 == 25765) { break L5; }
+          }
+          L208: {
+           L209: {
+            if (l15 + Integer.MIN_VALUE < -2147483456) { break L209; }
+            l10 = -2L;
+            l11 = l2 + -2L;
+            break L208;
+           }
+           l11 = (l10 = ((b[((int) (l10 + -3L)) - 58912] & 0xff) + Integer.MIN_VALUE > -2147483457) ? -3L : -4L) + l2;
+          }
+          if ((l15 = (int) b[((int) (l10 = (l1 + l10) + l2)) - 58912]) > -1) { break L114; }
+          if (l15 + Integer.MIN_VALUE < 2147483616) { break L114; }
+          l16 = l15 & 255;
+          l17 = (b[((int) l10) - 58911] & 0xff) & 63;
+          l20 = (b[((int) l10) - 58910] & 0xff) & 63;
+          L210: {
+           L211: {
+            if (l15 + Integer.MIN_VALUE > 2147483631) { break L211; }
+            l15 = ((l17 << 6) | ((l16 << 12) & 61440)) | l20;
+            break L210;
+           }
+           l15 = ((l20 << 6) | ((l17 << 12) | ((l16 << 18) & 1835008))) | ((b[((int) l10) - 58909] & 0xff) & 63);
+          }
+          L212: {
+           if (l15 == 12289) { break L212; }
+           if (l15 == 25110) { break L212; }
+           if (l15 != 21644) { break L114; }
+          }
+          Words.put64(b, ((int) l8) - 58856, 0L);
+          Words.put64(b, ((int) l8) - 58864, 0L);
+          Words.put64(b, ((int) l8) - 58872, 0L);
+          Core6.f203(m, l8 + 40L, 92584L, 3L, l1, l11);
+          final int x214 = f207_8(m, l1, l8, l11);
+          switch (x214) {
+          case 1: break L114;
+          }
+          Words.put64(b, ((int) l8) - 58856, 0L);
+          Words.put64(b, ((int) l8) - 58864, 0L);
+          Words.put64(b, ((int) l8) - 58872, 0L);
+          Core6.f203(m, l8 + 40L, 92584L, 3L, l1, l11);
+          L215: {
+           L216: {
+            if ((b[((int) l8) - 58872] & 0xff) == 1) { break L216; }
+            Core6.f203(m, l8 + 40L, 92587L, 3L, l1, l11);
+            if ((b[((int) l8) - 58872] & 0xff) == 1) { break L216; }
+            Core6.f203(m, l8 + 40L, 92590L, 3L, l1, l11);
+            if ((b[((int) l8) - 58872] & 0xff) == 1) { break L216; }
+            Core6.f203(m, l8 + 40L, 92593L, 3L, l1, l11);
+            if ((b[((int) l8) - 58872] & 0xff) == 1) { break L216; }
+            Core6.f203(m, l8 + 40L, 92596L, 3L, l1, l11);
+            if ((b[((int) l8) - 58872] & 0xff) == 1) { break L216; }
+            Core6.f203(m, l8 + 40L, 92599L, 3L, l1, l11);
+            l10 = l1;
+            if ((b[((int) l8) - 58872] & 0xff) != 1) { break L215; }
+           }
+           l11 = Words.get64(b, ((int) l8) - 58856);
+           l10 = Words.get64(b, ((int) l8) - 58864);
+          }
+          if (l11 == 0L) { break L114; }
+          if (((int) b[((int) ((l9 = l10 + l11) + -1L)) - 58912]) > -1) { break L114; }
+          l12 = -2L;
+          L217: {
+           if ((b[((int) (l9 + -2L)) - 58912] & 0xff) + Integer.MIN_VALUE > -2147483457) { break L217; }
+           l12 = ((b[((int) (l9 + -3L)) - 58912] & 0xff) + Integer.MIN_VALUE > -2147483457) ? -3L : -4L;
+          }
+          if ((l15 = (int) b[((int) (l10 = (l10 + l12) + l11)) - 58912]) > -1) { break L114; }
+          if (l15 + Integer.MIN_VALUE < 2147483616) { break L114; }
+          l16 = l15 & 255;
+          l17 = (b[((int) l10) - 58911] & 0xff) & 63;
+          l20 = (b[((int) l10) - 58910] & 0xff) & 63;
+          L218: {
+           L219: {
+            if (l15 + Integer.MIN_VALUE > 2147483631) { break L219; }
+            l15 = ((l17 << 6) | ((l16 << 12) & 61440)) | l20;
+            break L218;
+           }
+           l15 = ((l20 << 6) | ((l17 << 12) | ((l16 << 18) & 1835008))) | ((b[((int) l10) - 58909] & 0xff) & 63);
+          }
+          L220: {
+           if (l15 > 25319) { break L220; }
+           if (l15 == 21483) { break L5; }
+           if (l15 != 25171) { break L114; }
+           break L5;
+          }
+          if (l15 == 25320) { break L5; }
+          if (l15 != 25765) { break L114; }
+          break L5;
          }
-         l10 = l10 + (l6 * 10L);
-         l6 = 0L;
-         l16 = 0;
-         l17 = 17;
+         if (l3 != 0) { break L113; }
         }
-        l15 = 0;
+        L221: {
+         L222: {
+          if ((l15 = (int) b[((int) l4) - 58912]) <= -1) { break L222; }
+          l10 = 1L;
+          break L221;
+         }
+         L223: {
+          if (l15 + Integer.MIN_VALUE >= 2147483616) { break L223; }
+          l10 = 2L;
+          break L221;
+         }
+         l10 = (l15 + Integer.MIN_VALUE < 2147483632) ? 3L : 4L;
+        }
+        final int x237 = f207_9(m, l4, l5, l6, l10, l11, l15, l16, l17, l19, l20, l21);
+        l10 = m.kept[0];
+        l11 = m.kept[1];
+        l16 = (int) m.kept[2];
+        l17 = (int) m.kept[3];
+        l20 = (int) m.kept[4];
+        l21 = (int) m.kept[5];
+        switch (x237) {
+        case 1: break L5;
+        }
+        L238: {
+         L239: {
+          if (l15 <= -1) { break L239; }
+          l10 = 1L;
+          break L238;
+         }
+         L240: {
+          if (l15 + Integer.MIN_VALUE >= 2147483616) { break L240; }
+          l10 = 2L;
+          break L238;
+         }
+         l10 = (l15 + Integer.MIN_VALUE < 2147483632) ? 3L : 4L;
+        }
+        final int x262 = f207_10(m, l1, l2, l4, l5, l6, l7, l8, l9, l10, l11, l15, l16);
+        l9 = m.kept[0];
+        l10 = m.kept[1];
+        l11 = m.kept[2];
+        l15 = (int) m.kept[3];
+        l16 = (int) m.kept[4];
+        switch (x262) {
+        case 1: break L5;
+        }
+        L263: {
+         L264: {
+          if ((l16 = (int) (byte) l15) <= -1) { break L264; }
+          l10 = 1L;
+          break L263;
+         }
+         L265: {
+          if ((l17 = l15 & 255) + Integer.MIN_VALUE >= -2147483424) { break L265; }
+          l10 = 2L;
+          break L263;
+         }
+         l10 = (l17 + Integer.MIN_VALUE < -2147483408) ? 3L : 4L;
+        }
+        final int x277 = f207_11(m, l4, l5, l6, l7, l9, l10, l11, l17, l19, l20, l21, l22);
+        l9 = m.kept[0];
+        l10 = m.kept[1];
+        l11 = m.kept[2];
+        l17 = (int) m.kept[3];
+        l20 = (int) m.kept[4];
+        l21 = (int) m.kept[5];
+        l22 = (int) m.kept[6];
+        switch (x277) {
+        case 1: break L5;
+        }
+        L278: {
+         L279: {
+          if (l16 <= -1) { break L279; }
+          l10 = 1L;
+          break L278;
+         }
+         L280: {
+          if ((l16 = l15 & 255) + Integer.MIN_VALUE >= -2147483424) { break L280; }
+          l10 = 2L;
+          break L278;
+         }
+         l10 = (l16 + Integer.MIN_VALUE < -2147483408) ? 3L : 4L;
+        }
+        final int x295 = f207_12(m, l1, l2, l4, l5, l6, l7, l8, l9, l10, l11, l15, l16, l17, l18, l20);
+        l9 = m.kept[0];
+        l10 = m.kept[1];
+        l11 = m.kept[2];
+        l15 = (int) m.kept[3];
+        l16 = (int) m.kept[4];
+        l17 = (int) m.kept[5];
+        l20 = (int) m.kept[6];
+        switch (x295) {
+        case 1: break L5;
+        }
+        L296: {
+         L297: {
+          if (((int) (byte) l15) <= -1) { break L297; }
+          l10 = 1L;
+          break L296;
+         }
+         L298: {
+          if ((l15 = l15 & 255) + Integer.MIN_VALUE >= -2147483424) { break L298; }
+          l10 = 2L;
+          break L296;
+         }
+         l10 = (l15 + Integer.MIN_VALUE < -2147483408) ? 3L : 4L;
+        }
+        if (l5 == l10) { break L113; }
+        L299: {
+         L300: {
+          if ((l15 = (int) b[((int) (l4 + l10)) - 58912]) <= -1) { break L300; }
+          l11 = 1L;
+          break L299;
+         }
+         L301: {
+          if (l15 + Integer.MIN_VALUE >= 2147483616) { break L301; }
+          l11 = 2L;
+          break L299;
+         }
+         l11 = (l15 + Integer.MIN_VALUE < 2147483632) ? 3L : 4L;
+        }
+        if (l5 != (l11 + l10)) { break L113; }
+        l15 = f210(m, 93296L, 12L, l4, l5);
+        if (l19 != 0) { break L113; }
+        if (l15 == 0) { break L113; }
+        if ((l15 = (int) b[((int) l6) - 58912]) > -1) { break L113; }
+        if (l15 + Integer.MIN_VALUE < 2147483616) { break L113; }
+        l16 = l15 & 255;
+        l17 = (b[((int) l6) - 58911] & 0xff) & 63;
+        l19 = (b[((int) l6) - 58910] & 0xff) & 63;
+        L302: {
+         L303: {
+          if (l15 + Integer.MIN_VALUE > 2147483631) { break L303; }
+          l16 = ((l17 << 6) | ((l16 << 12) & 61440)) | l19;
+          break L302;
+         }
+         l16 = ((l19 << 6) | ((l17 << 12) | ((l16 << 18) & 1835008))) | ((b[((int) l6) - 58909] & 0xff) & 63);
+        }
+        L304: {
+         if (l16 == 24460) { break L304; }
+         if (l16 != 21518) { break L113; }
+        }
+        L305: {
+         if (l7 == (l10 = (l15 + Integer.MIN_VALUE < 2147483632) ? 3L : 4L)) { break L305; }
+         if ((l15 = (int) b[((int) (l10 = l6 + l10)) - 58912]) > -1) { break L305; }
+         if (l15 + Integer.MIN_VALUE < 2147483616) { break L305; }
+         l16 = l15 & 255;
+         l17 = (b[((int) l10) - 58911] & 0xff) & 63;
+         l19 = (b[((int) l10) - 58910] & 0xff) & 63;
+         L306: {
+          L307: {
+           if (l15 + Integer.MIN_VALUE > 2147483631) { break L307; }
+           l15 = ((l17 << 6) | ((l16 << 12) & 61440)) | l19;
+           break L306;
+          }
+          l15 = ((l19 << 6) | ((l17 << 12) | ((l16 << 18) & 1835008))) | ((b[((int) l10) - 58909] & 0xff) & 63);
+         }
+         L308: {
+          if (l15 > 23453) { break L308; }
+          if (l15 == 20184) { break L113; }
+          if (l15 != 20877) { break L305; }
+          break L113;
+         }
+         if (l15 == 23454) { break L113; }
+         if (l15 == 23526) { break L113; }
+        }
+        if (l18 != 0) { break L5; }
+        if (((int) b[((int) ((l10 = l1 + l2) + -1L)) - 58912]) > -1) { break L5; }
+        l11 = -2L;
+        L309: {
+         if ((b[((int) (l10 + -2L)) - 58912] & 0xff) + Integer.MIN_VALUE > -2147483457) { break L309; }
+         l11 = ((b[((int) (l10 + -3L)) - 58912] & 0xff) + Integer.MIN_VALUE > -2147483457) ? -3L : -4L;
+        }
+        if ((l15 = (int) b[((int) (l10 = (l1 + l11) + l2)) - 58912]) > -1) { break L5; }
+        if (l15 + Integer.MIN_VALUE < 2147483616) { break L5; }
+        l16 = l15 & 255;
+        l17 = (b[((int) l10) - 58911] & 0xff) & 63;
+        l19 = (b[((int) l10) - 58910] & 0xff) & 63;
+        L310: {
+         L311: {
+          if (l15 + Integer.MIN_VALUE > 2147483631) { break L311; }
+          l15 = ((l17 << 6) | ((l16 << 12) & 61440)) | l19;
+          break L310;
+         }
+         l15 = ((l19 << 6) | ((l17 << 12) | ((l16 << 18) & 1835008))) | ((b[((int) l10) - 58909] & 0xff) & 63);
+        }
+        L312: {
+         if (l15 > 21151) { break L312; }
+         if (l15 == 20184) { break L113; }
+         if (l15 == 20849) { break L113; }
+         if (l15 == 20943) { break L113; }
+         break L5;
+        }
+        L313: {
+         if (l15 > 28384) { break L313; }
+         if (l15 == 21152) { break L113; }
+         if (l15 == 28187) { break L113; }
+         break L5;
+        }
+        if (l15 == 28415) { break L113; }
+        if (l15 != 28385) { break L5; }
        }
-       l3 = l3 + l12;
-       l8 = l8 + 1L;
-       l0 = 0L;
-       if ((l7 = l7 - l12) != 0L) { continue L11; }
-       break L11;
-      }
-      L135: {
-       if ((l17 + -1) + Integer.MIN_VALUE < -2147483632) { break L135; }
-       l11 = l10;
-       l8 = 0L;
-       switch (l17 + -17) {
-       case 1: break L135;
-       default: break L10;
+       l9 = 0L;
+       l10 = 0L;
+       l11 = 0L;
+       if (f214(m, l6, l7) != 0) { break L1; }
+       final int x321 = f207_13(m, l1, l2, l3, l9, l10, l11, l15, l16, l17, l18);
+       l9 = m.kept[0];
+       l10 = m.kept[1];
+       l11 = m.kept[2];
+       l15 = (int) m.kept[3];
+       l16 = (int) m.kept[4];
+       l17 = (int) m.kept[5];
+       l18 = (int) m.kept[6];
+       switch (x321) {
+       case 1: break L2;
+       case 2: break L1;
        }
+       L322: {
+        L323: {
+         if ((l3 = (int) b[((int) l4) - 58912]) <= -1) { break L323; }
+         l10 = 1L;
+         break L322;
+        }
+        L324: {
+         if (l3 + Integer.MIN_VALUE >= 2147483616) { break L324; }
+         l10 = 2L;
+         break L322;
+        }
+        l10 = (l3 + Integer.MIN_VALUE < 2147483632) ? 3L : 4L;
+       }
+       final int x341 = f207_14(m, l3, l4, l5, l8, l9, l10, l11, l15);
+       l3 = (int) m.kept[0];
+       l9 = m.kept[1];
+       l10 = m.kept[2];
+       l11 = m.kept[3];
+       l15 = (int) m.kept[4];
+       switch (x341) {
+       case 1: break L5;
+       }
+       L342: {
+        L343: {
+         if (((int) (byte) l3) <= -1) { break L343; }
+         l12 = 1L;
+         break L342;
+        }
+        L344: {
+         if ((l3 = l3 & 255) + Integer.MIN_VALUE >= -2147483424) { break L344; }
+         l12 = 2L;
+         break L342;
+        }
+        l12 = (l3 + Integer.MIN_VALUE < -2147483408) ? 3L : 4L;
+       }
+       l9 = 0L;
+       l10 = 0L;
+       l11 = 0L;
+       if (l5 == l12) { break L1; }
+       L345: {
+        L346: {
+         if ((l3 = (int) b[((int) (l4 + l12)) - 58912]) <= -1) { break L346; }
+         l4 = 1L;
+         break L345;
+        }
+        L347: {
+         if (l3 + Integer.MIN_VALUE >= 2147483616) { break L347; }
+         l4 = 2L;
+         break L345;
+        }
+        l4 = (l3 + Integer.MIN_VALUE < 2147483632) ? 3L : 4L;
+       }
+       l9 = 0L;
+       l10 = 0L;
+       l11 = 0L;
+       if (l5 == (l4 + l12)) { break L1; }
+       l9 = 0L;
+       l10 = 0L;
+       l11 = 0L;
+       if (f212(m, l1, l2) != 0) { break L5; }
+       break L1;
       }
-      l0 = 1L;
+      l10 = 0L;
       l11 = 0L;
-      l8 = 0L;
+      if ((l15 & 255) != 1) { break L1; }
      }
-     Words.put64(b, ((int) l4) - 60696, l8);
-     Words.put64(b, ((int) l4) - 60704, l11);
-     Words.put64(b, ((int) l4) - 60712, l0);
+     Words.put32(b, ((int) l8) - 58877, Words.get32(b, ((int) l8) - 58885));
+     Words.put32(b, ((int) l8) - 58880, Words.get32(b, ((int) l8) - 58888));
+     l11 = 1L;
+     l9 = l6;
+     l10 = l7;
+     break L1;
+    }
+    throw State.trap();
+   }
+   l9 = 0L;
+  }
+  l10 = 0L;
+  l11 = 0L;
+ }
+ Words.put64(b, ((int) l0) - 58912, l11);
+ b[((int) (l0 + 8L)) - 58912] = (byte) 0;
+ Words.put32(b, ((int) (l0 + 9L)) - 58912, Words.get32(b, ((int) l8) - 58880));
+ Words.put32(b, ((int) (l0 + 12L)) - 58912, Words.get32(b, ((int) l8) - 58877));
+ Words.put64(b, ((int) (l0 + 24L)) - 58912, l10);
+ Words.put64(b, ((int) (l0 + 16L)) - 58912, l9);
+ m.g0 = l8 + 64L;
+}
+
+static int f208(State m, long l0, long l1) {
+ final byte[] b = m.bytes;
+ int l2 = 0;
+ int l3 = 0;
+ int l4 = 0;
+ int l5 = 0;
+ long l6 = 0;
+ long l7 = 0;
+ L1: {
+  if (m.g0 < 16L) { break L1; }
+  l2 = 0;
+  L2: {
+   if (l1 == 0L) { break L2; }
+   L3: {
+    if (((int) b[((int) ((l6 = l0 + l1) + -1L)) - 58912]) > -1) { break L3; }
+    l7 = -2L;
+    L4: {
+     if ((b[((int) (l6 + -2L)) - 58912] & 0xff) + Integer.MIN_VALUE > -2147483457) { break L4; }
+     l7 = ((b[((int) (l6 + -3L)) - 58912] & 0xff) + Integer.MIN_VALUE > -2147483457) ? -3L : -4L;
+    }
+    if ((l2 = (int) b[((int) (l1 = (l0 + l7) + l1)) - 58912]) > -1) { break L3; }
+    if (l2 + Integer.MIN_VALUE < 2147483616) { break L3; }
+    l3 = l2 & 255;
+    l4 = (b[((int) l1) - 58911] & 0xff) & 63;
+    l5 = (b[((int) l1) - 58910] & 0xff) & 63;
+    L5: {
+     L6: {
+      if (l2 + Integer.MIN_VALUE > 2147483631) { break L6; }
+      l3 = ((l4 << 6) | ((l3 << 12) & 61440)) | l5;
+      break L5;
+     }
+     l3 = ((l5 << 6) | ((l4 << 12) | ((l3 << 18) & 1835008))) | ((b[((int) l1) - 58909] & 0xff) & 63);
+    }
+    l2 = 1;
+    L7: {
+     if (l3 > 28856) { break L7; }
+     L8: {
+      if (l3 > 21312) { break L8; }
+      if (l3 == 19975) { break L2; }
+      if (l3 == 20159) { break L2; }
+      if (l3 != 20740) { break L3; }
+      break L2;
+     }
+     switch (l3 + -21313) {
+     case 0: case 2: break L2;
+     default: break L3;
+     }
+    }
+    L9: {
+     if (l3 > 31531) { break L9; }
+     if (l3 == 28857) { break L2; }
+     if (l3 != 30334) { break L3; }
+     break L2;
+    }
+    if (l3 == 31532) { break L2; }
+    if (l3 == 33836) { break L2; }
+    if (l3 == 40670) { break L2; }
+   }
+   l2 = 0;
+  }
+  final int t10 = l2;
+  return t10;
+ }
+ throw State.trap();
+}
+
+static int f209(State m, long l0, long l1, long l2, long l3) {
+ final byte[] b = m.bytes;
+ int l4 = 0;
+ int l5 = 0;
+ int l6 = 0;
+ int l7 = 0;
+ int l8 = 0;
+ int l9 = 0;
+ long l10 = 0;
+ L1: {
+  L2: {
+   L3: {
+    L4: {
+     if (m.g0 < 16L) { break L4; }
+     if ((l4 = (l3 == 0L) ? 1 : 0) != 0) { break L2; }
+     if ((l5 = (int) b[((int) l2) - 58912]) > -1) { break L2; }
+     if (l5 + Integer.MIN_VALUE < 2147483616) { break L2; }
+     l6 = l5 & 255;
+     l7 = (b[((int) l2) - 58911] & 0xff) & 63;
+     l8 = (b[((int) l2) - 58910] & 0xff) & 63;
+     L5: {
+      L6: {
+       if (l5 + Integer.MIN_VALUE > 2147483631) { break L6; }
+       l6 = ((l7 << 6) | ((l6 << 12) & 61440)) | l8;
+       break L5;
+      }
+      l6 = ((l8 << 6) | ((l7 << 12) | ((l6 << 18) & 1835008))) | ((b[((int) l2) - 58909] & 0xff) & 63);
+     }
+     l5 = 0;
+     L7: {
+      if (l6 > 21312) { break L7; }
+      L8: {
+       if (l6 > 20490) { break L8; }
+       if (l6 == 19975) { break L1; }
+       if (l6 == 20010) { break L1; }
+       if (l6 != 20159) { break L2; }
+       break L1;
+      }
+      if (l6 == 20491) { break L1; }
+      if (l6 == 20998) { break L1; }
+      if (l6 != 21051) { break L2; }
+      break L1;
+     }
+     L9: {
+      if (l6 > 26177) { break L9; }
+      if ((l7 = l6 + -21313) + Integer.MIN_VALUE > -2147483639) { break L3; }
+      if (((1 << l7) & 517) == 0) { break L3; }
+      break L1;
+     }
+     L10: {
+      if (l6 > 30333) { break L10; }
+      if (l6 == 26178) { break L1; }
+      if (l6 != 28857) { break L2; }
+      break L1;
+     }
+     if (l6 == 30334) { break L1; }
+     if (l6 == 40670) { break L1; }
      break L2;
     }
     throw State.trap();
    }
-   Words.put64(b, ((int) l4) - 60704, 0L);
-   Words.put64(b, ((int) l4) - 60712, 1L);
-   Words.put64(b, ((int) l4) - 60696, 0L);
+   if (l6 == 26102) { break L1; }
   }
-  l14 = Core2.f69(m, l5, l1, l4 + 8L, l2);
- }
- m.g0 = l4 + 32L;
- return l14;
-}
-
-static int f237(State m, long l0, long l1, long l2) {
- final byte[] b = m.bytes;
- long l3 = 0;
- long l4 = 0;
- long l5 = 0;
- long l6 = 0;
- long l7 = 0;
- long l8 = 0;
- long l9 = 0;
- long l10 = 0;
- long l11 = 0;
- long l12 = 0;
- long l13 = 0;
- long l14 = 0;
- int l15 = 0;
- int l16 = 0;
- int l17 = 0;
- int l18 = 0;
- int l19 = 0;
- int l20 = 0;
- int l21 = 0;
- int l22 = 0;
- m.g0 = l3 = m.g0 - 176L;
- L1: {
-  if ((l3 = l3) < 16L) { break L1; }
-  Words.put64(b, ((int) l2) - 60720, 0L);
-  Words.put64(b, ((int) l2) - 60712, 0L);
-  Words.put64(b, ((int) l2) - 60704, 0L);
-  Words.put64(b, ((int) l3) - 60704, 0L);
-  Words.put64(b, ((int) l3) - 60712, 0L);
-  Words.put64(b, ((int) l3) - 60720, 0L);
-  l4 = l1;
-  l0 = l5 = l0 + ((l0 == 0L) ? 4096L : 0L);
-  L2: {
-   L3: {
-    L4: {
-     L5: {
-      if (l1 + Long.MIN_VALUE < -9223372036854775804L) { break L5; }
-      l0 = l5;
-      l4 = l1;
-      L6: while (true) {
-       if (((Words.get32(b, ((int) l0) - 60720) + 16776990) & 12632312) != 8421376) { break L4; }
-       l0 = l0 + 3L;
-       if ((l4 = l4 + -3L) + Long.MIN_VALUE > -9223372036854775805L) { continue L6; }
-       break L6;
-      }
-     }
-     if (l4 + Long.MIN_VALUE > -9223372036854775805L) { break L4; }
-     L7: {
-      switch ((int) l4) {
-      case 1: case 2: break L4;
-      case 3: break L7;
-      default: break L3;
-      }
-     }
-     if (((((Words.get16(b, ((int) l0) - 60720) & 0xffff) | ((b[((int) (l0 + 2L)) - 60720] & 0xff) << 16)) + 16776990) & 12632312) == 8421376) { break L3; }
-    }
-    l15 = 5;
-    if (Core1.f6(m, l5, l1) == 0) { break L2; }
-   }
-   Words.put32(b, ((int) l3) - 60640, 0);
-   b[((int) l3) - 60636] = (byte) 0;
-   Words.put32(b, ((int) l3) - 60648, 0);
-   Words.put32(b, ((int) l3) - 60645, 0);
-   l6 = 0L;
-   Words.put64(b, ((int) l3) - 60664, 0L);
-   Words.put64(b, ((int) l3) - 60656, 0L);
-   Words.put32(b, ((int) l3) - 60672, 0);
-   b[((int) l3) - 60668] = (byte) 0;
-   Words.put32(b, ((int) l3) - 60680, 0);
-   Words.put32(b, ((int) l3) - 60677, 0);
-   Words.put64(b, ((int) l3) - 60696, 0L);
-   Words.put64(b, ((int) l3) - 60688, 0L);
-   L8: {
-    L9: {
-     L10: {
-      L11: {
-       L12: {
-        if (l1 == 0L) { break L12; }
-        l7 = l3 + 160L;
-        l8 = l3 + 145L;
-        l9 = l3 + 139L;
-        l10 = l3 + 112L;
-        l11 = l3 + 97L;
-        l12 = (l3 + 88L) | 3L;
-        l16 = 1;
-        l17 = 3;
-        l4 = l1;
-        l0 = l5;
-        l13 = 0L;
-        l18 = 1;
-        l19 = 1;
-        L13: while (true) {
-         l14 = l0 + 1L;
-         l15 = (l20 = (int) b[((int) l0) - 60720]) & 255;
-         L14: {
-          L15: {
-           L16: {
-            L17: {
-             L18: {
-              L19: {
-               if (l20 < 0) { break L19; }
-               Words.put64(b, ((int) l3) - 60592, 0L);
-               Words.put64(b, ((int) l3) - 60584, 0L);
-               Words.put64(b, ((int) l3) - 60576, 0L);
-               Words.put64(b, ((int) l3) - 60568, 0L);
-               Words.put64(b, ((int) l3) - 60560, 0L);
-               Words.put64(b, ((int) l3) - 60552, 0L);
-               l4 = l4 + -1L;
-               l0 = l14;
-               break L18;
-              }
-              l21 = (b[((int) l14) - 60720] & 0xff) & 63;
-              L20: {
-               L21: {
-                if (l20 + Integer.MIN_VALUE > 2147483615) { break L21; }
-                l15 = ((l15 << 6) & 1984) | l21;
-                l14 = 2L;
-                break L20;
-               }
-               l22 = (b[((int) l0) - 60718] & 0xff) & 63;
-               L22: {
-                if (l20 + Integer.MIN_VALUE > 2147483631) { break L22; }
-                l15 = ((l21 << 6) | ((l15 << 12) & 61440)) | l22;
-                l14 = 3L;
-                break L20;
-               }
-               l15 = ((l22 << 6) | ((l21 << 12) | ((l15 << 18) & 1835008))) | ((b[((int) l0) - 60717] & 0xff) & 63);
-               l14 = 4L;
-              }
-              Words.put64(b, ((int) l3) - 60592, 0L);
-              Words.put64(b, ((int) l3) - 60584, 0L);
-              Words.put64(b, ((int) l3) - 60576, 0L);
-              Words.put64(b, ((int) l3) - 60568, 0L);
-              Words.put64(b, ((int) l3) - 60560, 0L);
-              Words.put64(b, ((int) l3) - 60552, 0L);
-              l4 = l4 - l14;
-              l0 = l0 + l14;
-              if (l15 + Integer.MIN_VALUE > -2147483521) { break L17; }
-             }
-             if ((l15 + -9) + Integer.MIN_VALUE < -2147483643) { break L15; }
-             if (l15 != 32) { break L16; }
-             break L15;
-            }
-            if ((l15 + -8192) + Integer.MIN_VALUE < -2147483637) { break L15; }
-            L23: {
-             if (l15 > 8231) { break L23; }
-             if (l15 == 133) { break L15; }
-             if (l15 == 160) { break L15; }
-             if (l15 != 5760) { break L16; }
-             break L15;
-            }
-            L24: {
-             if ((l20 = l15 + -8232) + Integer.MIN_VALUE > -2147483593) { break L24; }
-             if (((1L << (l20 & 0xffffffffL)) & 36028797018964099L) != 0L) { break L15; }
-            }
-            if (l15 == 12288) { break L15; }
-           }
-           Words.put32(b, ((int) l12) - 60720, Words.get32(b, ((int) l3) - 60640));
-           b[((int) l12) - 60716] = (byte) (b[((int) l3) - 60636] & 0xff);
-           Words.put32(b, ((int) l11) - 60720, Words.get32(b, ((int) l3) - 60648));
-           Words.put32(b, ((int) l11) - 60717, Words.get32(b, ((int) l3) - 60645));
-           Words.put64(b, ((int) l10) - 60720, Words.get64(b, ((int) l3) - 60664));
-           Words.put64(b, ((int) l10) - 60712, Words.get64(b, ((int) l3) - 60656));
-           b[((int) l3) - 60630] = (byte) l16;
-           b[((int) l3) - 60631] = (byte) l18;
-           b[((int) l3) - 60632] = (byte) l19;
-           b[((int) l3) - 60624] = (byte) l17;
-           Words.put64(b, ((int) l3) - 60616, l13);
-           Core1.f21(m, l3 + 128L, l3 + 88L, l15);
-           if ((b[((int) l3) - 60592] & 0xff) != 1) { break L11; }
-           Words.put32(b, ((int) l3) - 60672, Words.get32(b, ((int) l9) - 60720));
-           b[((int) l3) - 60668] = (byte) (b[((int) l9) - 60716] & 0xff);
-           Words.put32(b, ((int) l3) - 60680, Words.get32(b, ((int) l8) - 60720));
-           Words.put32(b, ((int) l3) - 60677, Words.get32(b, ((int) l8) - 60717));
-           Words.put64(b, ((int) l3) - 60696, Words.get64(b, ((int) l7) - 60720));
-           Words.put64(b, ((int) l3) - 60688, Words.get64(b, ((int) l7) - 60712));
-           l13 = Words.get64(b, ((int) l3) - 60568);
-           l17 = b[((int) l3) - 60576] & 0xff;
-           l16 = b[((int) l3) - 60582] & 0xff;
-           l18 = b[((int) l3) - 60583] & 0xff;
-           l19 = b[((int) l3) - 60584] & 0xff;
-           break L14;
-          }
-          b[((int) l3) - 60668] = (byte) (b[((int) l3) - 60636] & 0xff);
-          Words.put32(b, ((int) l3) - 60672, Words.get32(b, ((int) l3) - 60640));
-          Words.put32(b, ((int) l3) - 60680, Words.get32(b, ((int) l3) - 60648));
-          Words.put32(b, ((int) l3) - 60677, Words.get32(b, ((int) l3) - 60645));
-          Words.put64(b, ((int) l3) - 60696, Words.get64(b, ((int) l3) - 60664));
-          Words.put64(b, ((int) l3) - 60688, Words.get64(b, ((int) l3) - 60656));
-         }
-         Words.put32(b, ((int) l3) - 60640, Words.get32(b, ((int) l3) - 60672));
-         b[((int) l3) - 60636] = (byte) (b[((int) l3) - 60668] & 0xff);
-         Words.put32(b, ((int) l3) - 60648, Words.get32(b, ((int) l3) - 60680));
-         Words.put32(b, ((int) l3) - 60645, Words.get32(b, ((int) l3) - 60677));
-         Words.put64(b, ((int) l3) - 60664, Words.get64(b, ((int) l3) - 60696));
-         Words.put64(b, ((int) l3) - 60656, Words.get64(b, ((int) l3) - 60688));
-         l6 = l6 + 1L;
-         if (l4 != 0L) { continue L13; }
-         break L13;
-        }
-        if ((l15 = l17 & 255) + Integer.MIN_VALUE < -2147483631) { break L12; }
-        switch (l15 + -17) {
-        case 1: break L12;
-        default: break L10;
-        }
-       }
-       l0 = 1L;
-       l13 = 0L;
-       break L9;
-      }
-      l13 = 1L;
-      l0 = 1L;
-      break L8;
-     }
-     l0 = 0L;
-    }
-    l6 = 0L;
-   }
-   Words.put64(b, ((int) l3) - 60704, l6);
-   Words.put64(b, ((int) l3) - 60712, l13);
-   Words.put64(b, ((int) l3) - 60720, l0);
-   l15 = Core2.f69(m, l5, l1, l3, l2);
+  l5 = 1;
+  if (l1 == 0L) { break L1; }
+  if ((l1 = Words.get64(b, ((int) ((l3 = l0 + (l1 * 40L)) + -32L)) - 58912)) == 0L) { break L1; }
+  if (((int) b[((int) ((l3 = (l0 = Words.get64(b, ((int) (l3 + -40L)) - 58912)) + l1) + -1L)) - 58912]) > -1) { break L1; }
+  l10 = -2L;
+  L11: {
+   if ((b[((int) (l3 + -2L)) - 58912] & 0xff) + Integer.MIN_VALUE > -2147483457) { break L11; }
+   l10 = ((b[((int) (l3 + -3L)) - 58912] & 0xff) + Integer.MIN_VALUE > -2147483457) ? -3L : -4L;
   }
-  m.g0 = l3 + 176L;
-  final int t25 = l15;
-  return t25;
- }
- throw State.trap();
-}
-
-static int f239(State m, long l0, long l1, long l2) {
- final byte[] b = m.bytes;
- long l3 = 0;
- long l4 = 0;
- long l5 = 0;
- long l6 = 0;
- long l7 = 0;
- int l8 = 0;
- int l9 = 0;
- int l10 = 0;
- int l11 = 0;
- m.g0 = l3 = m.g0 - 48L;
- L1: {
-  L2: {
-   L3: {
-    if ((l3 = l3) < 16L) { break L3; }
-    Words.put64(b, ((int) l2) - 60696, 0L);
-    Words.put64(b, ((int) l2) - 60704, 0L);
-    Words.put64(b, ((int) l2) - 60712, 0L);
-    Words.put64(b, ((int) l2) - 60720, 0L);
-    l4 = l1;
-    l0 = l5 = l0 + ((l0 == 0L) ? 4096L : 0L);
-    L4: {
-     L5: {
-      L6: {
-       if (l1 + Long.MIN_VALUE < -9223372036854775804L) { break L6; }
-       l0 = l5;
-       l4 = l1;
-       L7: while (true) {
-        if (((Words.get32(b, ((int) l0) - 60720) + 16776990) & 12632312) != 8421376) { break L5; }
-        l0 = l0 + 3L;
-        if ((l4 = l4 + -3L) + Long.MIN_VALUE > -9223372036854775805L) { continue L7; }
-        break L7;
-       }
-      }
-      if (l4 + Long.MIN_VALUE > -9223372036854775805L) { break L5; }
-      L8: {
-       switch ((int) l4) {
-       case 1: case 2: break L5;
-       case 3: break L8;
-       default: break L4;
-       }
-      }
-      if (((((Words.get16(b, ((int) l0) - 60720) & 0xffff) | ((b[((int) (l0 + 2L)) - 60720] & 0xff) << 16)) + 16776990) & 12632312) == 8421376) { break L4; }
-     }
-     if (Core1.f6(m, l5, l1) != 0) { break L4; }
-     l8 = 5;
-     break L1;
-    }
-    Words.put16(b, ((int) l3) - 60680, (short) 0);
-    l6 = 0L;
-    Words.put64(b, ((int) l3) - 60688, 0L);
-    b[((int) l3) - 60680] = (byte) 0;
-    Words.put64(b, ((int) l3) - 60704, 0L);
-    Words.put32(b, ((int) l3) - 60696, 0);
-    L9: {
-     if (l1 != 0L) { break L9; }
-     Words.put64(b, ((int) l2) - 60696, 0L);
-     Words.put64(b, ((int) l2) - 60704, 0L);
-     Words.put64(b, ((int) l2) - 60712, 0L);
-     Words.put64(b, ((int) l2) - 60720, 0L);
-     l8 = 9;
-     break L1;
-    }
-    l7 = l1;
-    l0 = l5;
-    L10: {
-     L11: while (true) {
-      l8 = (l9 = (int) b[((int) l0) - 60720]) & 255;
-      l4 = 1L;
-      L12: {
-       if (l9 > -1) { break L12; }
-       l10 = (b[((int) l0) - 60719] & 0xff) & 63;
-       L13: {
-        if (l9 + Integer.MIN_VALUE > 2147483615) { break L13; }
-        l8 = ((l8 << 6) & 1984) | l10;
-        l4 = 2L;
-        break L12;
-       }
-       l11 = (b[((int) l0) - 60718] & 0xff) & 63;
-       L14: {
-        if (l9 + Integer.MIN_VALUE > 2147483631) { break L14; }
-        l8 = ((l10 << 6) | ((l8 << 12) & 61440)) | l11;
-        l4 = 3L;
-        break L12;
-       }
-       l8 = ((l11 << 6) | ((l10 << 12) | ((l8 << 18) & 1835008))) | ((b[((int) l0) - 60717] & 0xff) & 63);
-       l4 = 4L;
-      }
-      Core1.f22(m, l3 + 16L, l3 + 32L, l8);
-      if ((b[((int) l3) - 60704] & 0xff) != 1) { break L10; }
-      b[((int) l3) - 60680] = (byte) (b[((int) l3) - 60694] & 0xff);
-      Words.put16(b, ((int) l3) - 60682, (short) (Words.get16(b, ((int) l3) - 60696) & 0xffff));
-      Words.put32(b, ((int) l3) - 60686, l8 = Words.get32(b, ((int) l3) - 60700));
-      Words.put16(b, ((int) l3) - 60688, (short) (l9 = (b[((int) l3) - 60702] & 0xff) & 255));
-      l6 = l6 + 1L;
-      l0 = l0 + l4;
-      if ((l7 = l7 - l4) != 0L) { continue L11; }
-      break L11;
-     }
-     Words.put64(b, ((int) l2) - 60696, 0L);
-     Words.put64(b, ((int) l2) - 60704, 0L);
-     Words.put64(b, ((int) l2) - 60712, 0L);
-     Words.put64(b, ((int) l2) - 60720, 0L);
-     if (l9 == 3) { break L2; }
-     l8 = 9;
-     break L1;
-    }
-    l0 = 0L;
-    Words.put64(b, ((int) l2) - 60696, 0L);
-    Words.put64(b, ((int) l2) - 60712, 0L);
-    Words.put64(b, ((int) l2) - 60720, 0L);
-    Words.put64(b, ((int) l2) - 60704, l6);
-    L15: {
-     if (l6 + Long.MIN_VALUE < -9223372036854775792L) { break L15; }
-     Core1.f25(m, l3, l5, l1, l6);
-     l6 = Words.get64(b, ((int) l3) - 60712);
-     l0 = Words.get64(b, ((int) l3) - 60720);
-    }
-    L16: {
-     if (l6 + Long.MIN_VALUE < -9223372036854775805L) { break L16; }
-     L17: while (true) {
-      if ((l1 - l0) + Long.MIN_VALUE < -9223372036854775800L) { break L16; }
-      L18: {
-       L19: {
-        if (((l4 = Words.get64(b, ((int) (l5 + l0)) - 60720)) & 67553998437089520L) != 63050398541283552L) { break L19; }
-        l6 = l6 + -3L;
-        l0 = l0 + 9L;
-        break L18;
-       }
-       if (l6 + Long.MIN_VALUE < -9223372036854775800L) { break L16; }
-       if ((l4 & -9187201950435737472L) != 0L) { break L16; }
-       l6 = l6 + -8L;
-       l0 = l0 + 8L;
-      }
-      if (l6 + Long.MIN_VALUE > -9223372036854775806L) { continue L17; }
-      break L17;
-     }
-    }
-    L20: {
-     if (l6 == 0L) { break L20; }
-     if (l1 + Long.MIN_VALUE <= l0 + Long.MIN_VALUE) { break L20; }
-     l4 = l6 + -1L;
-     L21: while (true) {
-      l0 = Words.get64(b, ((int) (((((b[((int) (l5 + l0)) - 60720] & 0xff) >>> 1) & 0xffffffffL) & 120L) + 66680L)) - 60720) + l0;
-      if (l4 == 0L) { break L20; }
-      l4 = l4 + -1L;
-      if (l1 + Long.MIN_VALUE > l0 + Long.MIN_VALUE) { continue L21; }
-      break L21;
-     }
-    }
-    Words.put64(b, ((int) l2) - 60696, l0);
-    l8 = 2;
-    break L1;
-   }
-   throw State.trap();
-  }
-  Words.put32(b, ((int) l2) - 60712, l8 >>> 24);
-  Words.put32(b, ((int) l2) - 60720, l8 & 65535);
-  Words.put32(b, ((int) l2) - 60716, (l8 >>> 16) & 255);
-  l8 = 0;
- }
- m.g0 = l3 + 48L;
- return l8;
-}
-
-static int f241(State m, long l0, int l1, int l2, long l3, long l4, long l5) {
- final byte[] b = m.bytes;
- long l6 = 0;
- L1: {
-  L2: {
-   L3: {
-    L4: {
-     if ((l6 = m.g0) < 16L) { break L4; }
-     if (l1 + Integer.MIN_VALUE > -2147483647) { break L3; }
-     if (l2 + Integer.MIN_VALUE > -2147483633) { break L2; }
-     L5: {
-      if (l0 + Long.MIN_VALUE <= -8223372036854775809L) { break L5; }
-      Words.put64(b, ((int) l5) - 60720, 0L);
-      m.g0 = l6;
-      return 3;
-     }
-     l1 = Core2.f70(m, l0, b[((int) ((l1 & 0xffffffffL) + 83500L)) - 60720] & 0xff, ((((l2 << 7) & 256) | (l2 & 1)) | ((l2 << 14) & 65536)) | ((l2 << 21) & 16777216), l3 + ((l3 == 0L) ? 4096L : 0L), l4, l5);
-     m.g0 = l6;
-     final int t6 = l1;
-     return t6;
-    }
-    throw State.trap();
-   }
-   Words.put64(b, ((int) l5) - 60720, 0L);
-   break L1;
-  }
-  Words.put64(b, ((int) l5) - 60720, 0L);
- }
- m.g0 = l6;
- return 8;
-}
-
-static int f243(State m, long l0, long l1, long l2) {
- final byte[] b = m.bytes;
- long l3 = 0;
- long l4 = 0;
- long l5 = 0;
- long l6 = 0;
- long l7 = 0;
- int l8 = 0;
- m.g0 = l3 = m.g0 - 48L;
- L1: {
-  L2: {
-   L3: {
-    if ((l4 = l3) < 16L) { break L3; }
-    Words.put64(b, ((int) l2) - 60720, 0L);
-    Words.put64(b, ((int) l2) - 60712, 0L);
-    Words.put64(b, ((int) l2) - 60704, 0L);
-    Words.put64(b, ((int) l4) - 60680, 0L);
-    Words.put64(b, ((int) l4) - 60688, 0L);
-    Words.put64(b, ((int) l4) - 60696, 0L);
-    l3 = l1;
-    l0 = l5 = l0 + ((l0 == 0L) ? 4096L : 0L);
-    L4: {
-     L5: {
-      L6: {
-       if (l1 + Long.MIN_VALUE < -9223372036854775804L) { break L6; }
-       l0 = l5;
-       l3 = l1;
-       L7: while (true) {
-        if (((Words.get32(b, ((int) l0) - 60720) + 16776990) & 12632312) != 8421376) { break L5; }
-        l0 = l0 + 3L;
-        if ((l3 = l3 + -3L) + Long.MIN_VALUE > -9223372036854775805L) { continue L7; }
-        break L7;
-       }
-      }
-      if (l3 + Long.MIN_VALUE > -9223372036854775805L) { break L5; }
-      L8: {
-       switch ((int) l3) {
-       case 1: case 2: break L5;
-       case 3: break L8;
-       default: break L4;
-       }
-      }
-      if (((((Words.get16(b, ((int) l0) - 60720) & 0xffff) | ((b[((int) (l0 + 2L)) - 60720] & 0xff) << 16)) + 16776990) & 12632312) == 8421376) { break L4; }
-     }
-     if (Core1.f6(m, l5, l1) != 0) { break L4; }
-     l8 = 5;
-     break L1;
-    }
-    Core2.f60(m, l4 + 24L, l5, l1);
-    Words.put64(b, ((int) l2) - 60720, 0L);
-    Words.put64(b, ((int) l2) - 60712, 0L);
-    Words.put64(b, ((int) l2) - 60704, 0L);
-    l0 = Words.get64(b, ((int) l4) - 60688);
-    L9: {
-     if ((b[((int) l4) - 60696] & 0xff) != 0) { break L9; }
-     Words.put64(b, ((int) l2) - 60720, l0);
-     l8 = 0;
-     break L1;
-    }
-    l8 = 9;
-    L10: {
-     switch ((int) (l0 & 255L)) {
-     case 1: break L10;
-     case 2: break L2;
-     default: break L1;
-     }
-    }
-    l0 = 0L;
-    l3 = l6 = Words.get64(b, ((int) l4) - 60680);
-    L11: {
-     if (l6 + Long.MIN_VALUE < -9223372036854775792L) { break L11; }
-     Core1.f25(m, l4 + 8L, l5, l1, l6);
-     l3 = Words.get64(b, ((int) l4) - 60704);
-     l0 = Words.get64(b, ((int) l4) - 60712);
-    }
-    L12: {
-     if (l3 + Long.MIN_VALUE < -9223372036854775805L) { break L12; }
-     L13: while (true) {
-      if ((l1 - l0) + Long.MIN_VALUE < -9223372036854775800L) { break L12; }
-      L14: {
-       L15: {
-        if (((l7 = Words.get64(b, ((int) (l5 + l0)) - 60720)) & 67553998437089520L) != 63050398541283552L) { break L15; }
-        l3 = l3 + -3L;
-        l0 = l0 + 9L;
-        break L14;
-       }
-       if (l3 + Long.MIN_VALUE < -9223372036854775800L) { break L12; }
-       if ((l7 & -9187201950435737472L) != 0L) { break L12; }
-       l3 = l3 + -8L;
-       l0 = l0 + 8L;
-      }
-      if (l3 + Long.MIN_VALUE > -9223372036854775806L) { continue L13; }
-      break L13;
-     }
-    }
-    L16: {
-     if (l3 == 0L) { break L16; }
-     if (l1 + Long.MIN_VALUE <= l0 + Long.MIN_VALUE) { break L16; }
-     l3 = l3 + -1L;
-     L17: while (true) {
-      l0 = Words.get64(b, ((int) (((((b[((int) (l5 + l0)) - 60720] & 0xff) >>> 1) & 0xffffffffL) & 120L) + 66680L)) - 60720) + l0;
-      if (l3 == 0L) { break L16; }
-      l3 = l3 + -1L;
-      if (l1 + Long.MIN_VALUE > l0 + Long.MIN_VALUE) { continue L17; }
-      break L17;
-     }
-    }
-    Words.put64(b, ((int) l2) - 60704, l0);
-    Words.put64(b, ((int) l2) - 60712, l6);
-    Words.put64(b, ((int) l2) - 60720, 0L);
-    l8 = 2;
-    break L1;
-   }
-   throw State.trap();
-  }
-  l8 = 3;
- }
- m.g0 = l4 + 48L;
- return l8;
-}
-
-static int f245(State m, long l0, long l1, long l2) {
- final byte[] b = m.bytes;
- long l3 = 0;
- long l4 = 0;
- long l5 = 0;
- long l6 = 0;
- long l7 = 0;
- long l8 = 0;
- int l9 = 0;
- int l10 = 0;
- int l11 = 0;
- int l12 = 0;
- m.g0 = l3 = m.g0 - 112L;
- L1: {
-  if ((l3 = l3) < 16L) { break L1; }
-  Words.put64(b, ((int) l2) - 60720, 0L);
-  Words.put64(b, ((int) l2) - 60712, 0L);
-  Words.put64(b, ((int) l2) - 60704, 0L);
-  Words.put64(b, ((int) l3) - 60704, 0L);
-  Words.put64(b, ((int) l3) - 60712, 0L);
-  Words.put64(b, ((int) l3) - 60720, 0L);
-  l4 = l1;
-  l0 = l5 = l0 + ((l0 == 0L) ? 4096L : 0L);
-  L2: {
-   L3: {
-    L4: {
-     L5: {
-      if (l1 + Long.MIN_VALUE < -9223372036854775804L) { break L5; }
-      l0 = l5;
-      l4 = l1;
-      L6: while (true) {
-       if (((Words.get32(b, ((int) l0) - 60720) + 16776990) & 12632312) != 8421376) { break L4; }
-       l0 = l0 + 3L;
-       if ((l4 = l4 + -3L) + Long.MIN_VALUE > -9223372036854775805L) { continue L6; }
-       break L6;
-      }
-     }
-     if (l4 + Long.MIN_VALUE > -9223372036854775805L) { break L4; }
-     L7: {
-      switch ((int) l4) {
-      case 1: case 2: break L4;
-      case 3: break L7;
-      default: break L3;
-      }
-     }
-     if (((((Words.get16(b, ((int) l0) - 60720) & 0xffff) | ((b[((int) (l0 + 2L)) - 60720] & 0xff) << 16)) + 16776990) & 12632312) == 8421376) { break L3; }
-    }
-    l9 = 5;
-    if (Core1.f6(m, l5, l1) == 0) { break L2; }
-   }
-   l6 = 0L;
-   Words.put64(b, ((int) l3) - 60648, 0L);
-   Words.put64(b, ((int) l3) - 60640, 0L);
-   Words.put64(b, ((int) l3) - 60632, 0L);
-   Words.put64(b, ((int) l3) - 60624, 0L);
-   Words.put64(b, ((int) l3) - 60616, 0L);
-   Words.put64(b, ((int) l3) - 60656, 0L);
-   Words.put64(b, ((int) l3) - 60664, 0L);
-   Words.put64(b, ((int) l3) - 60672, 0L);
-   Words.put64(b, ((int) l3) - 60680, 0L);
-   Words.put64(b, ((int) l3) - 60688, 0L);
-   Words.put64(b, ((int) l3) - 60696, 0L);
-   L8: {
-    L9: {
-     L10: {
-      L11: {
-       L12: {
-        if (l1 == 0L) { break L12; }
-        l0 = l3 + 32L;
-        l7 = l1;
-        l4 = l5;
-        L13: while (true) {
-         l9 = (l10 = (int) b[((int) l4) - 60720]) & 255;
-         l8 = 1L;
-         L14: {
-          if (l10 > -1) { break L14; }
-          l11 = (b[((int) l4) - 60719] & 0xff) & 63;
-          L15: {
-           if (l10 + Integer.MIN_VALUE > 2147483615) { break L15; }
-           l9 = ((l9 << 6) & 1984) | l11;
-           l8 = 2L;
-           break L14;
-          }
-          l12 = (b[((int) l4) - 60718] & 0xff) & 63;
-          L16: {
-           if (l10 + Integer.MIN_VALUE > 2147483631) { break L16; }
-           l9 = ((l11 << 6) | ((l9 << 12) & 61440)) | l12;
-           l8 = 3L;
-           break L14;
-          }
-          l9 = ((l12 << 6) | ((l11 << 12) | ((l9 << 18) & 1835008))) | ((b[((int) l4) - 60717] & 0xff) & 63);
-          l8 = 4L;
-         }
-         Core1.f20(m, l3 + 24L, l3 + 72L, l9);
-         if ((b[((int) l3) - 60696] & 0xff) != 1) { break L11; }
-         Words.put64(b, ((int) l3) - 60616, Words.get64(b, ((int) l0) - 60688));
-         Words.put64(b, ((int) l3) - 60624, Words.get64(b, ((int) l0) - 60696));
-         Words.put64(b, ((int) l3) - 60632, Words.get64(b, ((int) l0) - 60704));
-         Words.put64(b, ((int) l3) - 60640, Words.get64(b, ((int) l0) - 60712));
-         Words.put64(b, ((int) l3) - 60648, Words.get64(b, ((int) l0) - 60720));
-         l6 = l6 + 1L;
-         l4 = l4 + l8;
-         if ((l7 = l7 - l8) != 0L) { continue L13; }
-         break L13;
-        }
-        if ((l0 = Words.get64(b, ((int) l3) - 60647) >>> 56L) + Long.MIN_VALUE < -9223372036854775791L) { break L12; }
-        switch (((int) l0) + -17) {
-        case 1: break L12;
-        default: break L10;
-        }
-       }
-       l0 = 1L;
-       l4 = 0L;
-       break L9;
-      }
-      l4 = 1L;
-      l0 = 1L;
-      break L8;
-     }
-     l0 = 0L;
-     final long t17 = 0L - (l4 = Words.get64(b, ((int) l3) - 60632));
-     final long t18 = l4;
-     final int t19 = ((b[((int) l3) - 60648] & 0xff) == 2) ? 1 : 0;
-     l4 = t19 != 0 ? t17 : t18;
-    }
-    l6 = 0L;
-   }
-   Words.put64(b, ((int) l3) - 60704, l6);
-   Words.put64(b, ((int) l3) - 60712, l4);
-   Words.put64(b, ((int) l3) - 60720, l0);
-   l9 = Core2.f71(m, l5, l1, l3, l2);
-  }
-  m.g0 = l3 + 112L;
-  final int t20 = l9;
-  return t20;
- }
- throw State.trap();
-}
-
-static int f247(State m, long l0, long l1, long l2) {
- final byte[] b = m.bytes;
- long l3 = 0;
- long l4 = 0;
- long l5 = 0;
- long l6 = 0;
- long l7 = 0;
- long l8 = 0;
- long l9 = 0;
- long l10 = 0;
- long l11 = 0;
- long l12 = 0;
- long l13 = 0;
- long l14 = 0;
- int l15 = 0;
- int l16 = 0;
- int l17 = 0;
- int l18 = 0;
- int l19 = 0;
- int l20 = 0;
- int l21 = 0;
- int l22 = 0;
- m.g0 = l3 = m.g0 - 176L;
- L1: {
-  if ((l3 = l3) < 16L) { break L1; }
-  Words.put64(b, ((int) l2) - 60720, 0L);
-  Words.put64(b, ((int) l2) - 60712, 0L);
-  Words.put64(b, ((int) l2) - 60704, 0L);
-  Words.put64(b, ((int) l3) - 60704, 0L);
-  Words.put64(b, ((int) l3) - 60712, 0L);
-  Words.put64(b, ((int) l3) - 60720, 0L);
-  l4 = l1;
-  l0 = l5 = l0 + ((l0 == 0L) ? 4096L : 0L);
-  L2: {
-   L3: {
-    L4: {
-     L5: {
-      if (l1 + Long.MIN_VALUE < -9223372036854775804L) { break L5; }
-      l0 = l5;
-      l4 = l1;
-      L6: while (true) {
-       if (((Words.get32(b, ((int) l0) - 60720) + 16776990) & 12632312) != 8421376) { break L4; }
-       l0 = l0 + 3L;
-       if ((l4 = l4 + -3L) + Long.MIN_VALUE > -9223372036854775805L) { continue L6; }
-       break L6;
-      }
-     }
-     if (l4 + Long.MIN_VALUE > -9223372036854775805L) { break L4; }
-     L7: {
-      switch ((int) l4) {
-      case 1: case 2: break L4;
-      case 3: break L7;
-      default: break L3;
-      }
-     }
-     if (((((Words.get16(b, ((int) l0) - 60720) & 0xffff) | ((b[((int) (l0 + 2L)) - 60720] & 0xff) << 16)) + 16776990) & 12632312) == 8421376) { break L3; }
-    }
-    l15 = 5;
-    if (Core1.f6(m, l5, l1) == 0) { break L2; }
-   }
-   l16 = 0;
-   Words.put32(b, ((int) l3) - 60640, 0);
-   b[((int) l3) - 60636] = (byte) 0;
-   Words.put32(b, ((int) l3) - 60648, 0);
-   Words.put32(b, ((int) l3) - 60645, 0);
-   l6 = 0L;
-   Words.put64(b, ((int) l3) - 60664, 0L);
-   Words.put64(b, ((int) l3) - 60656, 0L);
-   Words.put32(b, ((int) l3) - 60672, 0);
-   b[((int) l3) - 60668] = (byte) 0;
-   Words.put32(b, ((int) l3) - 60680, 0);
-   Words.put32(b, ((int) l3) - 60677, 0);
-   Words.put64(b, ((int) l3) - 60696, 0L);
-   Words.put64(b, ((int) l3) - 60688, 0L);
-   L8: {
-    L9: {
-     L10: {
-      L11: {
-       L12: {
-        if (l1 == 0L) { break L12; }
-        l7 = l3 + 160L;
-        l8 = l3 + 145L;
-        l9 = l3 + 139L;
-        l10 = l3 + 112L;
-        l11 = l3 + 97L;
-        l12 = (l3 + 88L) | 3L;
-        l17 = 1;
-        l18 = 3;
-        l4 = l1;
-        l0 = l5;
-        l13 = 0L;
-        l19 = 1;
-        L13: while (true) {
-         l14 = l0 + 1L;
-         l15 = (l20 = (int) b[((int) l0) - 60720]) & 255;
-         L14: {
-          L15: {
-           L16: {
-            L17: {
-             L18: {
-              L19: {
-               if (l20 < 0) { break L19; }
-               Words.put64(b, ((int) l3) - 60592, 0L);
-               Words.put64(b, ((int) l3) - 60584, 0L);
-               Words.put64(b, ((int) l3) - 60576, 0L);
-               Words.put64(b, ((int) l3) - 60568, 0L);
-               Words.put64(b, ((int) l3) - 60560, 0L);
-               Words.put64(b, ((int) l3) - 60552, 0L);
-               l4 = l4 + -1L;
-               l0 = l14;
-               break L18;
-              }
-              l21 = (b[((int) l14) - 60720] & 0xff) & 63;
-              L20: {
-               L21: {
-                if (l20 + Integer.MIN_VALUE > 2147483615) { break L21; }
-                l15 = ((l15 << 6) & 1984) | l21;
-                l14 = 2L;
-                break L20;
-               }
-               l22 = (b[((int) l0) - 60718] & 0xff) & 63;
-               L22: {
-                if (l20 + Integer.MIN_VALUE > 2147483631) { break L22; }
-                l15 = ((l21 << 6) | ((l15 << 12) & 61440)) | l22;
-                l14 = 3L;
-                break L20;
-               }
-               l15 = ((l22 << 6) | ((l21 << 12) | ((l15 << 18) & 1835008))) | ((b[((int) l0) - 60717] & 0xff) & 63);
-               l14 = 4L;
-              }
-              Words.put64(b, ((int) l3) - 60592, 0L);
-              Words.put64(b, ((int) l3) - 60584, 0L);
-              Words.put64(b, ((int) l3) - 60576, 0L);
-              Words.put64(b, ((int) l3) - 60568, 0L);
-              Words.put64(b, ((int) l3) - 60560, 0L);
-              Words.put64(b, ((int) l3) - 60552, 0L);
-              l4 = l4 - l14;
-              l0 = l0 + l14;
-              if (l15 + Integer.MIN_VALUE > -2147483521) { break L17; }
-             }
-             if ((l15 + -9) + Integer.MIN_VALUE < -2147483643) { break L15; }
-             if (l15 != 32) { break L16; }
-             break L15;
-            }
-            if ((l15 + -8192) + Integer.MIN_VALUE < -2147483637) { break L15; }
-            L23: {
-             if (l15 > 8231) { break L23; }
-             if (l15 == 133) { break L15; }
-             if (l15 == 160) { break L15; }
-             if (l15 != 5760) { break L16; }
-             break L15;
-            }
-            L24: {
-             if ((l20 = l15 + -8232) + Integer.MIN_VALUE > -2147483593) { break L24; }
-             if (((1L << (l20 & 0xffffffffL)) & 36028797018964099L) != 0L) { break L15; }
-            }
-            if (l15 == 12288) { break L15; }
-           }
-           Words.put32(b, ((int) l12) - 60720, Words.get32(b, ((int) l3) - 60640));
-           b[((int) l12) - 60716] = (byte) (b[((int) l3) - 60636] & 0xff);
-           Words.put32(b, ((int) l11) - 60720, Words.get32(b, ((int) l3) - 60648));
-           Words.put32(b, ((int) l11) - 60717, Words.get32(b, ((int) l3) - 60645));
-           Words.put64(b, ((int) l10) - 60720, Words.get64(b, ((int) l3) - 60664));
-           Words.put64(b, ((int) l10) - 60712, Words.get64(b, ((int) l3) - 60656));
-           b[((int) l3) - 60630] = (byte) l17;
-           b[((int) l3) - 60631] = (byte) l16;
-           b[((int) l3) - 60632] = (byte) l19;
-           b[((int) l3) - 60624] = (byte) l18;
-           Words.put64(b, ((int) l3) - 60616, l13);
-           Core1.f21(m, l3 + 128L, l3 + 88L, l15);
-           if ((b[((int) l3) - 60592] & 0xff) != 1) { break L11; }
-           Words.put32(b, ((int) l3) - 60672, Words.get32(b, ((int) l9) - 60720));
-           b[((int) l3) - 60668] = (byte) (b[((int) l9) - 60716] & 0xff);
-           Words.put32(b, ((int) l3) - 60680, Words.get32(b, ((int) l8) - 60720));
-           Words.put32(b, ((int) l3) - 60677, Words.get32(b, ((int) l8) - 60717));
-           Words.put64(b, ((int) l3) - 60696, Words.get64(b, ((int) l7) - 60720));
-           Words.put64(b, ((int) l3) - 60688, Words.get64(b, ((int) l7) - 60712));
-           l13 = Words.get64(b, ((int) l3) - 60568);
-           l18 = b[((int) l3) - 60576] & 0xff;
-           l17 = b[((int) l3) - 60582] & 0xff;
-           l16 = b[((int) l3) - 60583] & 0xff;
-           l19 = b[((int) l3) - 60584] & 0xff;
-           break L14;
-          }
-          b[((int) l3) - 60668] = (byte) (b[((int) l3) - 60636] & 0xff);
-          Words.put32(b, ((int) l3) - 60672, Words.get32(b, ((int) l3) - 60640));
-          Words.put32(b, ((int) l3) - 60680, Words.get32(b, ((int) l3) - 60648));
-          Words.put32(b, ((int) l3) - 60677, Words.get32(b, ((int) l3) - 60645));
-          Words.put64(b, ((int) l3) - 60696, Words.get64(b, ((int) l3) - 60664));
-          Words.put64(b, ((int) l3) - 60688, Words.get64(b, ((int) l3) - 60656));
-         }
-         Words.put32(b, ((int) l3) - 60640, Words.get32(b, ((int) l3) - 60672));
-         b[((int) l3) - 60636] = (byte) (b[((int) l3) - 60668] & 0xff);
-         Words.put32(b, ((int) l3) - 60648, Words.get32(b, ((int) l3) - 60680));
-         Words.put32(b, ((int) l3) - 60645, Words.get32(b, ((int) l3) - 60677));
-         Words.put64(b, ((int) l3) - 60664, Words.get64(b, ((int) l3) - 60696));
-         Words.put64(b, ((int) l3) - 60656, Words.get64(b, ((int) l3) - 60688));
-         l6 = l6 + 1L;
-         if (l4 != 0L) { continue L13; }
-         break L13;
-        }
-        if ((l15 = l18 & 255) + Integer.MIN_VALUE < -2147483631) { break L12; }
-        switch (l15 + -17) {
-        case 1: break L12;
-        default: break L10;
-        }
-       }
-       l0 = 1L;
-       l4 = 0L;
-       break L9;
-      }
-      l4 = 1L;
-      l0 = 1L;
-      break L8;
-     }
-     l0 = 0L;
-     final long t25 = 0L - l13;
-     final long t26 = l13;
-     final int t27 = ((l16 & 255) == 2) ? 1 : 0;
-     l4 = t27 != 0 ? t25 : t26;
-    }
-    l6 = 0L;
-   }
-   Words.put64(b, ((int) l3) - 60704, l6);
-   Words.put64(b, ((int) l3) - 60712, l4);
-   Words.put64(b, ((int) l3) - 60720, l0);
-   l15 = Core2.f71(m, l5, l1, l3, l2);
-  }
-  m.g0 = l3 + 176L;
-  final int t28 = l15;
-  return t28;
- }
- throw State.trap();
-}
-
-static int f249(State m, long l0, long l1, long l2, long l3, long l4, long l5) {
- final byte[] b = m.bytes;
- long l6 = 0;
- long l7 = 0;
- long l8 = 0;
- int l9 = 0;
- int l10 = 0;
- m.g0 = l6 = m.g0 - 112L;
- L1: {
-  if ((l7 = l6) < 16L) { break L1; }
-  Words.put64(b, ((int) l4) - 60672, 0L);
-  Words.put64(b, ((int) l4) - 60680, 0L);
-  Words.put64(b, ((int) l4) - 60688, 0L);
-  Words.put64(b, ((int) l4) - 60696, 0L);
-  Words.put64(b, ((int) l4) - 60704, 0L);
-  Words.put64(b, ((int) l4) - 60712, 0L);
-  Words.put64(b, ((int) l4) - 60720, 0L);
-  Words.put64(b, ((int) l5) - 60672, 0L);
-  Words.put64(b, ((int) l5) - 60680, 0L);
-  Words.put64(b, ((int) l5) - 60688, 0L);
-  Words.put64(b, ((int) l5) - 60696, 0L);
-  Words.put64(b, ((int) l5) - 60704, 0L);
-  Words.put64(b, ((int) l5) - 60712, 0L);
-  Words.put64(b, ((int) l5) - 60720, 0L);
-  l6 = l1;
-  l0 = l8 = l0 + ((l0 == 0L) ? 4096L : 0L);
-  L2: {
-   L3: {
-    L4: {
-     L5: {
-      if (l1 + Long.MIN_VALUE < -9223372036854775804L) { break L5; }
-      l0 = l8;
-      l6 = l1;
-      L6: while (true) {
-       if (((Words.get32(b, ((int) l0) - 60720) + 16776990) & 12632312) != 8421376) { break L4; }
-       l0 = l0 + 3L;
-       if ((l6 = l6 + -3L) + Long.MIN_VALUE > -9223372036854775805L) { continue L6; }
-       break L6;
-      }
-     }
-     if (l6 + Long.MIN_VALUE > -9223372036854775805L) { break L4; }
-     L7: {
-      switch ((int) l6) {
-      case 1: case 2: break L4;
-      case 3: break L7;
-      default: break L3;
-      }
-     }
-     if (((((Words.get16(b, ((int) l0) - 60720) & 0xffff) | ((b[((int) (l0 + 2L)) - 60720] & 0xff) << 16)) + 16776990) & 12632312) == 8421376) { break L3; }
-    }
-    if (Core1.f6(m, l8, l1) != 0) { break L3; }
-    l9 = 5;
-    break L2;
-   }
-   l6 = l3;
-   l0 = l2 = l2 + ((l2 == 0L) ? 4096L : 0L);
-   L8: {
-    L9: {
-     L10: {
-      if (l3 + Long.MIN_VALUE < -9223372036854775804L) { break L10; }
-      l0 = l2;
-      l6 = l3;
-      L11: while (true) {
-       if (((Words.get32(b, ((int) l0) - 60720) + 16776990) & 12632312) != 8421376) { break L9; }
-       l0 = l0 + 3L;
-       if ((l6 = l6 + -3L) + Long.MIN_VALUE > -9223372036854775805L) { continue L11; }
-       break L11;
-      }
-     }
-     if (l6 + Long.MIN_VALUE > -9223372036854775805L) { break L9; }
-     L12: {
-      switch ((int) l6) {
-      case 1: case 2: break L9;
-      case 3: break L12;
-      default: break L8;
-      }
-     }
-     if (((((Words.get16(b, ((int) l0) - 60720) & 0xffff) | ((b[((int) (l0 + 2L)) - 60720] & 0xff) << 16)) + 16776990) & 12632312) == 8421376) { break L8; }
-    }
-    if (Core1.f6(m, l2, l3) != 0) { break L8; }
-    l9 = 5;
-    break L2;
-   }
-   l0 = l5 + 36L;
-   l10 = 0;
-   m.fill((int) l7, 0, (int) 112L);
-   Core2.f72(m, l7, l8, l1, l2, l3);
+  if ((l6 = (int) b[((int) (l1 = (l0 + l10) + l1)) - 58912]) > -1) { break L1; }
+  if (l6 + Integer.MIN_VALUE < 2147483616) { break L1; }
+  l7 = l6 & 255;
+  l8 = (b[((int) l1) - 58911] & 0xff) & 63;
+  l9 = (b[((int) l1) - 58910] & 0xff) & 63;
+  L12: {
    L13: {
-    L14: {
-     if ((b[((int) l7) - 60720] & 0xff) != 1) { break L14; }
-     Words.put32(b, ((int) l4) - 60688, b[((int) l7) - 60672] & 0xff);
-     Words.put64(b, ((int) l4) - 60696, Words.get64(b, ((int) l7) - 60680));
-     Words.put64(b, ((int) l4) - 60704, Words.get64(b, ((int) l7) - 60688));
-     Words.put64(b, ((int) (l6 = l4 + 36L)) - 60720, 0L);
-     Words.put64(b, ((int) l6) - 60712, 0L);
-     l9 = 0;
-     Words.put32(b, ((int) l6) - 60704, 0);
-     final int t15 = (int) l4;
-     final long t16 = 0L - (l6 = Words.get64(b, ((int) l7) - 60704));
-     final long t17 = l6;
-     final int t18 = l10 = ((l1 = Words.get64(b, ((int) l7) - 60696)) < 0L) ? 1 : 0;
-     final long t19 = 0L - (l3 = t18 != 0 ? t16 : t17);
-     final long t20 = l3;
-     final int t21 = l10;
-     Words.put64(b, t15 - 60720, t21 != 0 ? t19 : t20);
-     final int t22 = (int) l4;
-     final long t23 = 0L - (l1 + ((l6 != 0L) ? 1L : 0L));
-     final long t24 = l1;
-     final int t25 = l10;
-     final long t26 = 0L - ((l6 = t25 != 0 ? t23 : t24) + ((l3 != 0L) ? 1L : 0L));
-     final long t27 = l6;
-     final int t28 = l10;
-     Words.put64(b, t22 - 60712, t28 != 0 ? t26 : t27);
-     Words.put32(b, ((int) l0) - 60704, 0);
-     Words.put64(b, ((int) l0) - 60712, 0L);
-     Words.put64(b, ((int) l0) - 60720, 0L);
-     final long t29 = 0L - (l0 = Words.get64(b, ((int) l7) - 60656));
-     final long t30 = l0;
-     final int t31 = l10 = ((l4 = Words.get64(b, ((int) l7) - 60648)) < 0L) ? 1 : 0;
-     final long t32 = 0L - (l1 = t31 != 0 ? t29 : t30);
-     final long t33 = l1;
-     final int t34 = l10;
-     l6 = t34 != 0 ? t32 : t33;
-     final long t35 = 0L - (l4 + ((l0 != 0L) ? 1L : 0L));
-     final long t36 = l4;
-     final int t37 = l10;
-     final long t38 = 0L - ((l0 = t37 != 0 ? t35 : t36) + ((l1 != 0L) ? 1L : 0L));
-     final long t39 = l0;
-     final int t40 = l10;
-     l0 = t40 != 0 ? t38 : t39;
-     l10 = b[((int) l7) - 60624] & 0xff;
-     l4 = Words.get64(b, ((int) l7) - 60632);
-     l1 = Words.get64(b, ((int) l7) - 60640);
-     break L13;
-    }
-    l6 = 0L;
-    Words.put64(b, ((int) l4) - 60672, 0L);
-    Words.put64(b, ((int) l4) - 60680, 0L);
-    Words.put64(b, ((int) l4) - 60688, 0L);
-    Words.put64(b, ((int) l4) - 60696, 0L);
-    Words.put64(b, ((int) l4) - 60704, 0L);
-    Words.put64(b, ((int) l4) - 60712, 0L);
-    Words.put64(b, ((int) l4) - 60720, 0L);
-    Words.put32(b, ((int) l0) - 60704, 0);
-    Words.put64(b, ((int) l0) - 60712, 0L);
-    Words.put64(b, ((int) l0) - 60720, 0L);
-    l9 = 2;
-    l0 = 0L;
-    l1 = 0L;
-    l4 = 0L;
+    if (l6 + Integer.MIN_VALUE > 2147483631) { break L13; }
+    l6 = ((l8 << 6) | ((l7 << 12) & 61440)) | l9;
+    break L12;
    }
-   Words.put32(b, ((int) l5) - 60688, l10);
-   Words.put64(b, ((int) l5) - 60696, l4);
-   Words.put64(b, ((int) l5) - 60704, l1);
-   Words.put64(b, ((int) l5) - 60712, l0);
-   Words.put64(b, ((int) l5) - 60720, l6);
+   l6 = ((l9 << 6) | ((l8 << 12) | ((l7 << 18) & 1835008))) | ((b[((int) l1) - 58909] & 0xff) & 63);
   }
-  m.g0 = l7 + 112L;
-  final int t41 = l9;
-  return t41;
+  if (l4 != 0) { break L1; }
+  if (l6 != 19968) { break L1; }
+  L14: {
+   if ((l5 = (int) b[((int) l2) - 58912]) > -1) { break L14; }
+   if (l5 + Integer.MIN_VALUE < 2147483616) { break L14; }
+   l4 = l5 & 255;
+   l6 = (b[((int) l2) - 58911] & 0xff) & 63;
+   l7 = (b[((int) l2) - 58910] & 0xff) & 63;
+   L15: {
+    L16: {
+     if (l5 + Integer.MIN_VALUE > 2147483631) { break L16; }
+     l4 = ((l6 << 6) | ((l4 << 12) & 61440)) | l7;
+     break L15;
+    }
+    l4 = ((l7 << 6) | ((l6 << 12) | ((l4 << 18) & 1835008))) | ((b[((int) l2) - 58909] & 0xff) & 63);
+   }
+   l5 = 0;
+   L17: {
+    if (l4 > 26678) { break L17; }
+    if (l4 == 19979) { break L1; }
+    if (l4 == 20123) { break L1; }
+    if (l4 != 23450) { break L14; }
+    break L1;
+   }
+   L18: {
+    if (l4 > 30451) { break L18; }
+    if (l4 == 26679) { break L1; }
+    if (l4 != 27171) { break L14; }
+    break L1;
+   }
+   if (l4 == 30452) { break L1; }
+   if (l4 == 36215) { break L1; }
+  }
+  l5 = 1;
+ }
+ return l5;
+}
+
+static int f210(State m, long l0, long l1, long l2, long l3) {
+ final byte[] b = m.bytes;
+ long l4 = 0;
+ long l5 = 0;
+ long l6 = 0;
+ long l7 = 0;
+ long l8 = 0;
+ long l9 = 0;
+ long l10 = 0;
+ long l11 = 0;
+ int l12 = 0;
+ int l13 = 0;
+ int l14 = 0;
+ int l15 = 0;
+ int l16 = 0;
+ int l17 = 0;
+ m.g0 = l4 = m.g0 - 32L;
+ L1: {
+  if ((l5 = l4) < 16L) { break L1; }
+  L2: while (true) {
+   l1 = l1 + -1L;
+   l0 = (l4 = l0) + 16L;
+   l6 = Words.get64(b, ((int) (l4 + 8L)) - 58912);
+   l7 = Words.get64(b, ((int) l4) - 58912);
+   l8 = l2;
+   l9 = l3;
+   L3: {
+    L4: while (true) {
+     if ((l12 = (l6 == 0L) ? 1 : 0) != 0) { break L3; }
+     l14 = (l13 = (int) b[((int) l7) - 58912]) & 255;
+     l10 = 1L;
+     L5: {
+      if (l13 > -1) { break L5; }
+      l15 = (b[((int) l7) - 58911] & 0xff) & 63;
+      L6: {
+       if (l13 + Integer.MIN_VALUE > 2147483615) { break L6; }
+       l14 = ((l14 << 6) & 1984) | l15;
+       l10 = 2L;
+       break L5;
+      }
+      l16 = (b[((int) l7) - 58910] & 0xff) & 63;
+      L7: {
+       if (l13 + Integer.MIN_VALUE > 2147483631) { break L7; }
+       l14 = ((l15 << 6) | ((l14 << 12) & 61440)) | l16;
+       l10 = 3L;
+       break L5;
+      }
+      l14 = ((l16 << 6) | ((l15 << 12) | ((l14 << 18) & 1835008))) | ((b[((int) l7) - 58909] & 0xff) & 63);
+      l10 = 4L;
+     }
+     L8: {
+      if (l9 == 0L) { break L8; }
+      l15 = (l13 = (int) b[((int) l8) - 58912]) & 255;
+      l11 = 1L;
+      L9: {
+       if (l13 > -1) { break L9; }
+       l16 = (b[((int) l8) - 58911] & 0xff) & 63;
+       L10: {
+        if (l13 + Integer.MIN_VALUE > 2147483615) { break L10; }
+        l15 = ((l15 << 6) & 1984) | l16;
+        l11 = 2L;
+        break L9;
+       }
+       l17 = (b[((int) l8) - 58910] & 0xff) & 63;
+       L11: {
+        if (l13 + Integer.MIN_VALUE > 2147483631) { break L11; }
+        l15 = ((l16 << 6) | ((l15 << 12) & 61440)) | l17;
+        l11 = 3L;
+        break L9;
+       }
+       l15 = ((l17 << 6) | ((l16 << 12) | ((l15 << 18) & 1835008))) | ((b[((int) l8) - 58909] & 0xff) & 63);
+       l11 = 4L;
+      }
+      l17 = 1;
+      l16 = 1;
+      L12: {
+       if (l14 == 24186) { break L12; }
+       l4 = -44L;
+       L13: {
+        L14: while (true) {
+         if ((l16 = Words.get32(b, ((int) (l4 + 87508L)) - 58912)) == l14) { break L13; }
+         l13 = (l4 != 0L) ? 1 : 0;
+         l4 = l4 + 4L;
+         if (l13 != 0) { continue L14; }
+         break L14;
+        }
+       }
+       L15: {
+        L16: {
+         if (l16 != l14) { break L16; }
+         Core2.f63(m, l5 + 16L, l14);
+         l13 = b[((int) l5) - 58895] & 0xff;
+         l14 = b[((int) l5) - 58896] & 0xff;
+         break L15;
+        }
+        Core1.f24(m, l5 + 24L, l14);
+        l13 = b[((int) l5) - 58887] & 0xff;
+        l14 = b[((int) l5) - 58888] & 0xff;
+       }
+       l16 = ((l14 & 255) == 1) ? l13 : 0;
+      }
+      L17: {
+       if (l15 == 24186) { break L17; }
+       l4 = -44L;
+       L18: {
+        L19: while (true) {
+         if ((l14 = Words.get32(b, ((int) (l4 + 87508L)) - 58912)) == l15) { break L18; }
+         l13 = (l4 != 0L) ? 1 : 0;
+         l4 = l4 + 4L;
+         if (l13 != 0) { continue L19; }
+         break L19;
+        }
+       }
+       L20: {
+        L21: {
+         if (l14 != l15) { break L21; }
+         Core2.f63(m, l5, l15);
+         l13 = b[((int) l5) - 58911] & 0xff;
+         l14 = b[((int) l5) - 58912] & 0xff;
+         break L20;
+        }
+        Core1.f24(m, l5 + 8L, l15);
+        l13 = b[((int) l5) - 58903] & 0xff;
+        l14 = b[((int) l5) - 58904] & 0xff;
+       }
+       l17 = ((l14 & 255) == 1) ? l13 : 0;
+      }
+      l6 = l6 - l10;
+      l7 = l7 + l10;
+      l9 = l9 - l11;
+      l8 = l8 + l11;
+      if ((l16 & 255) == (l17 & 255)) { continue L4; }
+     }
+     break L4;
+    }
+    if (l1 != 0L) { continue L2; }
+   }
+   break L2;
+  }
+  m.g0 = l5 + 32L;
+  final int t22 = l12;
+  return t22;
  }
  throw State.trap();
 }
 
-static int f251(State m, long l0, long l1, long l2, int l3, int l4, long l5, long l6, long l7) {
+static int f211(State m, long l0, long l1) {
  final byte[] b = m.bytes;
- long l8 = 0;
+ long l2 = 0;
+ int l3 = 0;
+ int l4 = 0;
+ int l5 = 0;
+ int l6 = 0;
+ int l7 = 0;
+ m.g0 = l2 = m.g0 - 16L;
  L1: {
+  if ((l2 = l2) < 16L) { break L1; }
+  l3 = 0;
   L2: {
+   if (l1 == 0L) { break L2; }
+   l5 = (l4 = (int) b[((int) l0) - 58912]) & 255;
    L3: {
-    if ((l8 = m.g0) < 16L) { break L3; }
-    if (l3 + Integer.MIN_VALUE > -2147483647) { break L2; }
+    if (l4 > -1) { break L3; }
+    l6 = (b[((int) l0) - 58911] & 0xff) & 63;
     L4: {
-     if (l4 + Integer.MIN_VALUE >= -2147483632) { break L4; }
-     l3 = Core3.f99(m, l0 + ((l0 == 0L) ? 4096L : 0L), l1, l2, l3, l4, l5 + ((l5 == 0L) ? 4096L : 0L), l6, l7);
-     m.g0 = l8;
-     final int t5 = l3;
-     return t5;
+     if (l4 + Integer.MIN_VALUE > 2147483615) { break L4; }
+     l5 = ((l5 << 6) & 1984) | l6;
+     break L3;
     }
-    Words.put64(b, ((int) l7) - 60720, 0L);
-    break L1;
-   }
-   throw State.trap();
-  }
-  Words.put64(b, ((int) l7) - 60720, 0L);
- }
- m.g0 = l8;
- return 8;
-}
-
-static int f253(State m, long l0, long l1, long l2, int l3, int l4, long l5, long l6, long l7) {
- final byte[] b = m.bytes;
- long l8 = 0;
- L1: {
-  L2: {
-   L3: {
-    L4: {
-     if ((l8 = m.g0) < 16L) { break L4; }
-     if (l3 + Integer.MIN_VALUE > -2147483647) { break L3; }
-     if (l4 + Integer.MIN_VALUE >= -2147483632) { break L2; }
-     L5: {
-      if (l2 != l1) { break L5; }
-      Words.put64(b, ((int) l7) - 60720, 0L);
-      m.g0 = l8;
-      return 0;
+    l7 = (b[((int) l0) - 58910] & 0xff) & 63;
+    L5: {
+     L6: {
+      if (l4 + Integer.MIN_VALUE > 2147483631) { break L6; }
+      l5 = ((l6 << 6) | ((l5 << 12) & 61440)) | l7;
+      break L5;
      }
-     l3 = Core3.f100(m, l0 + ((l0 == 0L) ? 4096L : 0L), l1, l2, l3, l4, l5 + ((l5 == 0L) ? 4096L : 0L), l6, l7);
-     m.g0 = l8;
-     final int t6 = l3;
-     return t6;
+     l5 = ((l7 << 6) | ((l6 << 12) | ((l5 << 18) & 1835008))) | ((b[((int) l0) - 58909] & 0xff) & 63);
     }
-    throw State.trap();
+    if (l5 == 24186) { break L2; }
    }
-   Words.put64(b, ((int) l7) - 60720, 0L);
-   break L1;
-  }
-  Words.put64(b, ((int) l7) - 60720, 0L);
- }
- m.g0 = l8;
- return 8;
-}
-
-static int f255(State m, long l0, long l1, long l2, int l3, int l4, long l5, long l6, long l7) {
- final byte[] b = m.bytes;
- long l8 = 0;
- long l9 = 0;
- long l10 = 0;
- L1: {
-  L2: {
-   if ((l8 = m.g0) < 16L) { break L2; }
-   if (l3 + Integer.MIN_VALUE > -2147483647) { break L1; }
-   if (l4 + Integer.MIN_VALUE > -2147483633) { break L1; }
-   l9 = l1;
-   l0 = l10 = l0 + ((l0 == 0L) ? 4096L : 0L);
-   L3: {
-    L4: {
-     L5: {
-      L6: {
-       if (l1 + Long.MIN_VALUE < -9223372036854775804L) { break L6; }
-       l0 = l10;
-       l9 = l1;
-       L7: while (true) {
-        if (((Words.get32(b, ((int) l0) - 60720) + 16776990) & 12632312) != 8421376) { break L5; }
-        l0 = l0 + 3L;
-        if ((l9 = l9 + -3L) + Long.MIN_VALUE > -9223372036854775805L) { continue L7; }
-        break L7;
-       }
-      }
-      if (l9 + Long.MIN_VALUE > -9223372036854775805L) { break L5; }
-      L8: {
-       switch ((int) l9) {
-       case 1: case 2: break L5;
-       case 3: break L8;
-       default: break L4;
-       }
-      }
-      if (((((Words.get16(b, ((int) l0) - 60720) & 0xffff) | ((b[((int) (l0 + 2L)) - 60720] & 0xff) << 16)) + 16776990) & 12632312) == 8421376) { break L4; }
-     }
-     if (Core1.f6(m, l10, l1) == 0) { break L3; }
+   l0 = -44L;
+   L7: {
+    L8: while (true) {
+     if ((l4 = Words.get32(b, ((int) (l0 + 87508L)) - 58912)) == l5) { break L7; }
+     l3 = (l0 != 0L) ? 1 : 0;
+     l0 = l0 + 4L;
+     if (l3 != 0) { continue L8; }
+     break L8;
     }
-    l3 = Core3.f110(m, l10, l1, l2, (l3 + Integer.MIN_VALUE < -2147483646) ? l3 : 0, (l4 + Integer.MIN_VALUE < -2147483632) ? l4 : 0, l5 + ((l5 == 0L) ? 4096L : 0L), l6, l7);
-    m.g0 = l8;
-    final int t9 = l3;
-    return t9;
    }
-   Words.put64(b, ((int) l7) - 60720, 0L);
-   m.g0 = l8;
-   return 5;
-  }
-  throw State.trap();
- }
- Words.put64(b, ((int) l7) - 60720, 0L);
- m.g0 = l8;
- return 8;
-}
-
-static int f257(State m, long l0, long l1, long l2, int l3, int l4, long l5, long l6, long l7) {
- final byte[] b = m.bytes;
- long l8 = 0;
- L1: {
-  L2: {
-   if ((l8 = m.g0) < 16L) { break L2; }
-   if (l3 + Integer.MIN_VALUE > -2147483647) { break L1; }
-   if (l4 + Integer.MIN_VALUE > -2147483633) { break L1; }
-   l3 = Core3.f110(m, l0 + ((l0 == 0L) ? 4096L : 0L), l1, l2, l3, l4, l5 + ((l5 == 0L) ? 4096L : 0L), l6, l7);
-   m.g0 = l8;
-   final int t3 = l3;
-   return t3;
-  }
-  throw State.trap();
- }
- Words.put64(b, ((int) l7) - 60720, 0L);
- m.g0 = l8;
- return 8;
-}
-
-static int f259(State m, long l0, long l1, long l2, int l3, int l4, long l5, long l6, long l7) {
- return Core5.f161(m, l0 + ((l0 == 0L) ? 4096L : 0L), l1, l2, l3, l4, l5 + ((l5 == 0L) ? 4096L : 0L), l6, l7);
-}
-
-static int f261(State m, long l0, long l1, long l2, int l3, int l4, long l5, long l6, long l7) {
- final byte[] b = m.bytes;
- long l8 = 0;
- long l9 = 0;
- long l10 = 0;
- L1: {
-  L2: {
-   if ((l8 = m.g0) < 16L) { break L2; }
-   if (l3 + Integer.MIN_VALUE > -2147483647) { break L1; }
-   if (l4 + Integer.MIN_VALUE > -2147483633) { break L1; }
-   l0 = l9 = l0 + ((l0 == 0L) ? 4096L : 0L);
-   l10 = l1;
-   L3: {
-    L4: {
-     L5: {
-      L6: {
-       if (l1 + Long.MIN_VALUE < -9223372036854775804L) { break L6; }
-       L7: while (true) {
-        if (((Words.get32(b, ((int) l0) - 60720) + 16776990) & 12632312) != 8421376) { break L5; }
-        l0 = l0 + 3L;
-        if ((l10 = l10 + -3L) + Long.MIN_VALUE > -9223372036854775805L) { continue L7; }
-        break L7;
-       }
-      }
-      if (l10 + Long.MIN_VALUE > -9223372036854775805L) { break L5; }
-      L8: {
-       switch ((int) l10) {
-       case 1: case 2: break L5;
-       case 3: break L8;
-       default: break L4;
-       }
-      }
-      if (((((Words.get16(b, ((int) l0) - 60720) & 0xffff) | ((b[((int) (l0 + 2L)) - 60720] & 0xff) << 16)) + 16776990) & 12632312) == 8421376) { break L4; }
-     }
-     if (Core1.f6(m, l9, l1) == 0) { break L3; }
+   L9: {
+    L10: {
+     if (l4 != l5) { break L10; }
+     Core2.f63(m, l2, l5);
+     l3 = b[((int) l2) - 58911] & 0xff;
+     l5 = b[((int) l2) - 58912] & 0xff;
+     break L9;
     }
-    l3 = Core5.f161(m, l9, l1, l2, l3, l4, l5 + ((l5 == 0L) ? 4096L : 0L), l6, l7);
-    m.g0 = l8;
-    final int t9 = l3;
-    return t9;
+    Core1.f24(m, l2 + 8L, l5);
+    l3 = b[((int) l2) - 58903] & 0xff;
+    l5 = b[((int) l2) - 58904] & 0xff;
    }
-   Words.put64(b, ((int) l7) - 60720, 0L);
-   m.g0 = l8;
-   return 5;
+   l3 = (((l5 & 255) != 1) | ((l3 & 255) == 0)) ? 1 : 0;
   }
-  throw State.trap();
- }
- Words.put64(b, ((int) l7) - 60720, 0L);
- m.g0 = l8;
- return 8;
-}
-
-static int f263(State m, long l0, long l1, int l2, int l3, long l4) {
- final byte[] b = m.bytes;
- long l5 = 0;
- long l6 = 0;
- long l7 = 0;
- int l8 = 0;
- int l9 = 0;
- int l10 = 0;
- int l11 = 0;
- m.g0 = l5 = m.g0 - 16L;
- L1: {
-  if ((l6 = l5) < 16L) { break L1; }
-  Words.put32(b, ((int) l4) - 60720, 0);
-  L2: {
-   L3: {
-    if (l3 + Integer.MIN_VALUE > -2147483644) { break L3; }
-    l8 = b[((int) ((l5 = (l3 & 0xffffffffL) << 1L) + 85585L)) - 60720] & 0xff;
-    l9 = b[((int) (l5 + 85584L)) - 60720] & 0xff;
-    l10 = 1;
-    l11 = 1;
-    break L2;
-   }
-   l11 = (l3 != 5) ? 1 : 0;
-   l10 = (l3 == 5) ? 1 : 0;
-   l9 = 0;
-   l8 = 0;
-  }
-  l3 = 8;
-  L4: {
-   if (l2 + Integer.MIN_VALUE > -2147483639) { break L4; }
-   if (l10 == 0) { break L4; }
-   l7 = l1;
-   l5 = l0 = l0 + ((l0 == 0L) ? 4096L : 0L);
-   L5: {
-    L6: {
-     L7: {
-      if (l1 + Long.MIN_VALUE < -9223372036854775804L) { break L7; }
-      l5 = l0;
-      l7 = l1;
-      L8: while (true) {
-       if (((Words.get32(b, ((int) l5) - 60720) + 16776990) & 12632312) != 8421376) { break L6; }
-       l5 = l5 + 3L;
-       if ((l7 = l7 + -3L) + Long.MIN_VALUE > -9223372036854775805L) { continue L8; }
-       break L8;
-      }
-     }
-     if (l7 + Long.MIN_VALUE > -9223372036854775805L) { break L6; }
-     L9: {
-      switch ((int) l7) {
-      case 1: case 2: break L6;
-      case 3: break L9;
-      default: break L5;
-      }
-     }
-     if (((((Words.get16(b, ((int) l5) - 60720) & 0xffff) | ((b[((int) (l5 + 2L)) - 60720] & 0xff) << 16)) + 16776990) & 12632312) == 8421376) { break L5; }
-    }
-    l3 = 5;
-    if (Core1.f6(m, l0, l1) == 0) { break L4; }
-   }
-   l3 = (l2 + Integer.MIN_VALUE < -2147483638) ? l2 : 0;
-   L10: {
-    if (l11 != 0) { break L10; }
-    Core5.f163(m, l6 + 8L, l3, l0, l1);
-    l8 = b[((int) l6) - 60711] & 0xff;
-    l9 = b[((int) l6) - 60712] & 0xff;
-   }
-   Core5.f164(m, l6, l3, l9, l8, l0, l1);
-   l3 = 0;
-   if ((b[((int) l6) - 60720] & 0xff) != 1) { break L4; }
-   Words.put32(b, ((int) l4) - 60720, ((b[((int) l6) - 60719] & 0xff) & 255) + 1);
-  }
-  m.g0 = l6 + 16L;
+  m.g0 = l2 + 16L;
   final int t11 = l3;
   return t11;
  }
  throw State.trap();
 }
 
-static int f265(State m, long l0, long l1, int l2, int l3, int l4, long l5, long l6, long l7) {
+static int f212(State m, long l0, long l1) {
  final byte[] b = m.bytes;
+ long l2 = 0;
+ long l3 = 0;
+ long l4 = 0;
+ int l5 = 0;
+ int l6 = 0;
+ int l7 = 0;
+ int l8 = 0;
+ int l9 = 0;
+ int l10 = 0;
+ m.g0 = l2 = m.g0 - 32L;
+ L1: {
+  L2: {
+   L3: {
+    L4: {
+     L5: {
+      if ((l2 = l2) < 16L) { break L5; }
+      l3 = 0L;
+      if (l1 == 0L) { break L1; }
+      l6 = l5 = (int) b[((int) ((l4 = l0 + l1) + -1L)) - 58912];
+      L6: {
+       if (l5 >= 0) { break L6; }
+       l3 = -2L;
+       L7: {
+        if ((l7 = b[((int) (l4 + -2L)) - 58912] & 0xff) + Integer.MIN_VALUE > -2147483457) { break L7; }
+        l3 = ((b[((int) (l4 + -3L)) - 58912] & 0xff) + Integer.MIN_VALUE > -2147483457) ? -3L : -4L;
+       }
+       l6 = (l8 = (int) b[((int) (l3 = (l0 + l3) + l1)) - 58912]) & 255;
+       if (l8 > -1) { break L6; }
+       l9 = (b[((int) l3) - 58911] & 0xff) & 63;
+       L8: {
+        if (l8 + Integer.MIN_VALUE > 2147483615) { break L8; }
+        l6 = ((l6 << 6) & 1984) | l9;
+        break L6;
+       }
+       l10 = (b[((int) l3) - 58910] & 0xff) & 63;
+       L9: {
+        L10: {
+         if (l8 + Integer.MIN_VALUE > 2147483631) { break L10; }
+         l6 = ((l9 << 6) | ((l6 << 12) & 61440)) | l10;
+         break L9;
+        }
+        l6 = ((l10 << 6) | ((l9 << 12) | ((l6 << 18) & 1835008))) | ((b[((int) l3) - 58909] & 0xff) & 63);
+       }
+       if (l6 == 65306) { break L2; }
+      }
+      if (l6 + Integer.MIN_VALUE > -2147483589) { break L4; }
+      if (((1L << (l6 & 0xffffffffL)) & 864691132750102528L) == 0L) { break L4; }
+      break L3;
+     }
+     throw State.trap();
+    }
+    if (l6 == 65307) { break L3; }
+    l3 = l1;
+    break L1;
+   }
+   L11: {
+    if (l5 <= -1) { break L11; }
+    l3 = l1 + -1L;
+    break L1;
+   }
+   l7 = b[((int) (l4 + -2L)) - 58912] & 0xff;
+  }
+  l3 = -2L;
+  L12: {
+   if ((l7 & 255) + Integer.MIN_VALUE > -2147483457) { break L12; }
+   l3 = ((b[((int) (l4 + -3L)) - 58912] & 0xff) + Integer.MIN_VALUE > -2147483457) ? -3L : -4L;
+  }
+  l3 = l3 + l1;
+ }
+ Words.put64(b, ((int) l2) - 58888, 0L);
+ Words.put64(b, ((int) l2) - 58896, 0L);
+ Words.put64(b, ((int) l2) - 58904, 0L);
+ Core6.f203(m, l2 + 8L, 89480L, 9L, l0, l3);
+ L13: {
+  L14: {
+   if ((b[((int) l2) - 58904] & 0xff) == 1) { break L14; }
+   Core6.f203(m, l2 + 8L, 89489L, 9L, l0, l3);
+   if ((b[((int) l2) - 58904] & 0xff) == 1) { break L14; }
+   Core6.f203(m, l2 + 8L, 89498L, 6L, l0, l3);
+   if ((b[((int) l2) - 58904] & 0xff) == 1) { break L14; }
+   Core6.f203(m, l2 + 8L, 89504L, 6L, l0, l3);
+   if ((b[((int) l2) - 58904] & 0xff) == 1) { break L14; }
+   Core6.f203(m, l2 + 8L, 89510L, 6L, l0, l3);
+   if ((b[((int) l2) - 58904] & 0xff) == 1) { break L14; }
+   Core6.f203(m, l2 + 8L, 89516L, 6L, l0, l3);
+   if ((b[((int) l2) - 58904] & 0xff) == 1) { break L14; }
+   Core6.f203(m, l2 + 8L, 89522L, 3L, l0, l3);
+   if ((b[((int) l2) - 58904] & 0xff) == 1) { break L14; }
+   Core6.f203(m, l2 + 8L, 89525L, 3L, l0, l3);
+   if ((b[((int) l2) - 58904] & 0xff) == 1) { break L14; }
+   Core6.f203(m, l2 + 8L, 89528L, 3L, l0, l3);
+   if ((b[((int) l2) - 58904] & 0xff) != 1) { break L13; }
+  }
+  l3 = Words.get64(b, ((int) l2) - 58888);
+  l0 = Words.get64(b, ((int) l2) - 58896);
+ }
+ l1 = -1616L;
+ L15: {
+  L16: while (true) {
+   if ((l4 = l1 + 16L) == 0L) { break L15; }
+   Words.put64(b, ((int) l2) - 58888, 0L);
+   Words.put64(b, ((int) l2) - 58896, 0L);
+   Words.put64(b, ((int) l2) - 58904, 0L);
+   Core6.f203(m, l2 + 8L, Words.get64(b, ((int) (l1 + 91152L)) - 58912), Words.get64(b, ((int) (l1 + 91160L)) - 58912), l0, l3);
+   l1 = l4;
+   if ((b[((int) l2) - 58904] & 0xff) != 1) { continue L16; }
+   break L16;
+  }
+ }
+ m.g0 = l2 + 32L;
+ return (l4 != 0L) ? 1 : 0;
+}
+
+static int f213(State m, long l0, long l1) {
+ final byte[] b = m.bytes;
+ long l2 = 0;
+ long l3 = 0;
+ long l4 = 0;
+ long l5 = 0;
+ int l6 = 0;
+ int l7 = 0;
+ int l8 = 0;
+ int l9 = 0;
+ int l10 = 0;
+ L1: {
+  L2: {
+   L3: {
+    L4: {
+     if ((l2 = m.g0) < 16L) { break L4; }
+     l6 = 0;
+     if (l1 == 0L) { break L1; }
+     L5: {
+      L6: {
+       L7: {
+        if ((l7 = (int) b[((int) ((l3 = l0 + l1) + -1L)) - 58912]) > -1) { break L7; }
+        l4 = -2L;
+        L8: {
+         if ((b[((int) (l3 + -2L)) - 58912] & 0xff) + Integer.MIN_VALUE > -2147483457) { break L8; }
+         l4 = ((b[((int) (l3 + -3L)) - 58912] & 0xff) + Integer.MIN_VALUE > -2147483457) ? -3L : -4L;
+        }
+        l7 = (l8 = (int) b[((int) (l4 = (l0 + l4) + l1)) - 58912]) & 255;
+        L9: {
+         if (l8 > -1) { break L9; }
+         l9 = (b[((int) l4) - 58911] & 0xff) & 63;
+         L10: {
+          if (l8 + Integer.MIN_VALUE > 2147483615) { break L10; }
+          l7 = ((l7 << 6) & 1984) | l9;
+          break L9;
+         }
+         l10 = (b[((int) l4) - 58910] & 0xff) & 63;
+         L11: {
+          if (l8 + Integer.MIN_VALUE > 2147483631) { break L11; }
+          l7 = ((l9 << 6) | ((l7 << 12) & 61440)) | l10;
+          break L9;
+         }
+         l7 = ((l10 << 6) | ((l9 << 12) | ((l7 << 18) & 1835008))) | ((b[((int) l4) - 58909] & 0xff) & 63);
+        }
+        if ((l7 + -65) + Integer.MIN_VALUE >= -2147483622) { break L1; }
+        l4 = -2L;
+        L12: {
+         if ((b[((int) (l3 + -2L)) - 58912] & 0xff) + Integer.MIN_VALUE > -2147483457) { break L12; }
+         l4 = ((b[((int) (l3 + -3L)) - 58912] & 0xff) + Integer.MIN_VALUE > -2147483457) ? -3L : -4L;
+        }
+        l7 = (l8 = (int) b[((int) (l4 = l0 + (l3 = l4 + l1))) - 58912]) & 255;
+        if (l8 > -1) { break L5; }
+        l9 = (b[((int) l4) - 58911] & 0xff) & 63;
+        if (l8 + Integer.MIN_VALUE > 2147483615) { break L6; }
+        l7 = ((l7 << 6) & 1984) | l9;
+        break L5;
+       }
+       if (((l7 + -65) & 255) + Integer.MIN_VALUE >= -2147483622) { break L1; }
+       l3 = l1 + -1L;
+       break L5;
+      }
+      l10 = (b[((int) l4) - 58910] & 0xff) & 63;
+      L13: {
+       if (l8 + Integer.MIN_VALUE > 2147483631) { break L13; }
+       l7 = ((l9 << 6) | ((l7 << 12) & 61440)) | l10;
+       break L5;
+      }
+      l7 = ((l10 << 6) | ((l9 << 12) | ((l7 << 18) & 1835008))) | ((b[((int) l4) - 58909] & 0xff) & 63);
+     }
+     if ((l7 + -91) + Integer.MIN_VALUE < 2147483622) { break L2; }
+     if (l3 != 0L) { break L3; }
+     break L2;
+    }
+    throw State.trap();
+   }
+   L14: {
+    if ((l7 = (int) b[((int) (l0 + (l4 = l3 + -1L))) - 58912]) > -1) { break L14; }
+    l4 = -2L;
+    L15: {
+     if ((b[((int) ((l5 = l0 + l3) + -2L)) - 58912] & 0xff) + Integer.MIN_VALUE > -2147483457) { break L15; }
+     l4 = ((b[((int) (l5 + -3L)) - 58912] & 0xff) + Integer.MIN_VALUE > -2147483457) ? -3L : -4L;
+    }
+    l7 = (l8 = (int) b[((int) (l3 = l0 + (l4 = l4 + l3))) - 58912]) & 255;
+    if (l8 > -1) { break L14; }
+    l9 = (b[((int) l3) - 58911] & 0xff) & 63;
+    L16: {
+     if (l8 + Integer.MIN_VALUE < 2147483616) { break L16; }
+     l10 = (b[((int) l3) - 58910] & 0xff) & 63;
+     L17: {
+      if (l8 + Integer.MIN_VALUE < 2147483632) { break L17; }
+      l7 = ((l10 << 6) | ((l9 << 12) | ((l7 << 18) & 1835008))) | ((b[((int) l3) - 58909] & 0xff) & 63);
+      break L14;
+     }
+     l7 = ((l9 << 6) | ((l7 << 12) & 61440)) | l10;
+     break L14;
+    }
+    l7 = ((l7 << 6) & 1984) | l9;
+   }
+   if ((l7 + -91) + Integer.MIN_VALUE < 2147483622) { break L2; }
+   if (l4 == 0L) { break L2; }
+   L18: {
+    if ((l7 = (int) b[((int) (l0 + (l3 = l4 + -1L))) - 58912]) > -1) { break L18; }
+    l3 = -2L;
+    L19: {
+     if ((b[((int) ((l5 = l0 + l4) + -2L)) - 58912] & 0xff) + Integer.MIN_VALUE > -2147483457) { break L19; }
+     l3 = ((b[((int) (l5 + -3L)) - 58912] & 0xff) + Integer.MIN_VALUE > -2147483457) ? -3L : -4L;
+    }
+    l7 = (l8 = (int) b[((int) (l4 = l0 + (l3 = l3 + l4))) - 58912]) & 255;
+    if (l8 > -1) { break L18; }
+    l9 = (b[((int) l4) - 58911] & 0xff) & 63;
+    L20: {
+     if (l8 + Integer.MIN_VALUE < 2147483616) { break L20; }
+     l10 = (b[((int) l4) - 58910] & 0xff) & 63;
+     L21: {
+      if (l8 + Integer.MIN_VALUE < 2147483632) { break L21; }
+      l7 = ((l10 << 6) | ((l9 << 12) | ((l7 << 18) & 1835008))) | ((b[((int) l4) - 58909] & 0xff) & 63);
+      break L18;
+     }
+     l7 = ((l9 << 6) | ((l7 << 12) & 61440)) | l10;
+     break L18;
+    }
+    l7 = ((l7 << 6) & 1984) | l9;
+   }
+   if ((l7 + -91) + Integer.MIN_VALUE < 2147483622) { break L2; }
+   if (l3 == 0L) { break L2; }
+   L22: {
+    if ((l7 = (int) b[((int) ((l4 = l0 + l3) + -1L)) - 58912]) > -1) { break L22; }
+    l5 = -2L;
+    L23: {
+     if ((b[((int) (l4 + -2L)) - 58912] & 0xff) + Integer.MIN_VALUE > -2147483457) { break L23; }
+     l5 = ((b[((int) (l4 + -3L)) - 58912] & 0xff) + Integer.MIN_VALUE > -2147483457) ? -3L : -4L;
+    }
+    l7 = (l8 = (int) b[((int) (l3 = (l0 + l5) + l3)) - 58912]) & 255;
+    if (l8 > -1) { break L22; }
+    l9 = (b[((int) l3) - 58911] & 0xff) & 63;
+    L24: {
+     if (l8 + Integer.MIN_VALUE < 2147483616) { break L24; }
+     l10 = (b[((int) l3) - 58910] & 0xff) & 63;
+     L25: {
+      if (l8 + Integer.MIN_VALUE < 2147483632) { break L25; }
+      l7 = ((l10 << 6) | ((l9 << 12) | ((l7 << 18) & 1835008))) | ((b[((int) l3) - 58909] & 0xff) & 63);
+      break L22;
+     }
+     l7 = ((l9 << 6) | ((l7 << 12) & 61440)) | l10;
+     break L22;
+    }
+    l7 = ((l7 << 6) & 1984) | l9;
+   }
+   if ((l7 + -65) + Integer.MIN_VALUE < -2147483622) { break L1; }
+  }
+  L26: {
+   L27: while (true) {
+    if ((l3 = l1) == 0L) { break L26; }
+    L28: {
+     if ((l6 = (int) b[((int) (l0 + (l1 = l3 + -1L))) - 58912]) >= 0) { break L28; }
+     l1 = -2L;
+     L29: {
+      if ((b[((int) ((l4 = l0 + l3) + -2L)) - 58912] & 0xff) + Integer.MIN_VALUE > -2147483457) { break L29; }
+      l1 = ((b[((int) (l4 + -3L)) - 58912] & 0xff) + Integer.MIN_VALUE > -2147483457) ? -3L : -4L;
+     }
+     l6 = (l7 = (int) b[((int) (l4 = l0 + (l1 = l1 + l3))) - 58912]) & 255;
+     if (l7 > -1) { break L28; }
+     l8 = (b[((int) l4) - 58911] & 0xff) & 63;
+     L30: {
+      if (l7 + Integer.MIN_VALUE > 2147483615) { break L30; }
+      l6 = ((l6 << 6) & 1984) | l8;
+      break L28;
+     }
+     l9 = (b[((int) l4) - 58910] & 0xff) & 63;
+     L31: {
+      if (l7 + Integer.MIN_VALUE > 2147483631) { break L31; }
+      l6 = ((l8 << 6) | ((l6 << 12) & 61440)) | l9;
+      break L28;
+     }
+     l6 = ((l9 << 6) | ((l8 << 12) | ((l6 << 18) & 1835008))) | ((b[((int) l4) - 58909] & 0xff) & 63);
+    }
+    if ((l6 + -65) + Integer.MIN_VALUE < -2147483622) { continue L27; }
+    break L27;
+   }
+  }
+  l6 = Core6.f194(m, l0, l3) ^ 1;
+ }
+ m.g0 = l2;
+ return l6;
+}
+
+static int f214(State m, long l0, long l1) {
+ final byte[] b = m.bytes;
+ long l2 = 0;
+ long l3 = 0;
+ int l4 = 0;
+ int l5 = 0;
+ int l6 = 0;
+ int l7 = 0;
+ int l8 = 0;
+ L1: {
+  L2: {
+   L3: {
+    L4: {
+     if ((l2 = m.g0) < 16L) { break L4; }
+     l4 = 0;
+     if (l1 == 0L) { break L1; }
+     l6 = (l5 = (int) b[((int) l0) - 58912]) & 255;
+     L5: {
+      L6: {
+       L7: {
+        L8: {
+         if (l5 > -1) { break L8; }
+         l7 = (b[((int) l0) - 58911] & 0xff) & 63;
+         L9: {
+          if (l5 + Integer.MIN_VALUE < 2147483616) { break L9; }
+          l8 = (b[((int) l0) - 58910] & 0xff) & 63;
+          L10: {
+           L11: {
+            if (l5 + Integer.MIN_VALUE > 2147483631) { break L11; }
+            l7 = ((l7 << 6) | ((l6 << 12) & 61440)) | l8;
+            break L10;
+           }
+           l7 = ((l8 << 6) | ((l7 << 12) | ((l6 << 18) & 1835008))) | ((b[((int) l0) - 58909] & 0xff) & 63);
+          }
+          if (l7 == 32) { break L7; }
+          l4 = (b[((int) l0) - 58911] & 0xff) & 63;
+          break L3;
+         }
+         L12: {
+          if ((((l6 << 6) & 1984) | l7) != 32) { break L12; }
+          l3 = 2L;
+          break L6;
+         }
+         l4 = (b[((int) l0) - 58911] & 0xff) & 63;
+         break L5;
+        }
+        if (l5 != 32) { break L2; }
+        l3 = 1L;
+        break L6;
+       }
+       l3 = (l5 + Integer.MIN_VALUE < 2147483632) ? 3L : 4L;
+      }
+      if (l1 == l3) { break L1; }
+      l6 = (l5 = (int) b[((int) (l0 = l0 + l3)) - 58912]) & 255;
+      if (l5 > -1) { break L2; }
+      l4 = (b[((int) l0) - 58911] & 0xff) & 63;
+      if (l5 + Integer.MIN_VALUE > 2147483615) { break L3; }
+     }
+     l6 = ((l6 << 6) & 1984) | l4;
+     break L2;
+    }
+    throw State.trap();
+   }
+   l7 = (b[((int) l0) - 58910] & 0xff) & 63;
+   L13: {
+    if (l5 + Integer.MIN_VALUE > 2147483631) { break L13; }
+    l6 = ((l4 << 6) | ((l6 << 12) & 61440)) | l7;
+    break L2;
+   }
+   l6 = ((l7 << 6) | ((l4 << 12) | ((l6 << 18) & 1835008))) | ((b[((int) l0) - 58909] & 0xff) & 63);
+  }
+  l4 = Core6.f188(m, l6);
+ }
+ m.g0 = l2;
+ return l4;
+}
+
+static int f215(State m, long l0, long l1) {
+ final byte[] b = m.bytes;
+ long l2 = 0;
+ long l3 = 0;
+ long l4 = 0;
+ long l5 = 0;
+ int l6 = 0;
+ int l7 = 0;
+ L1: {
+  if ((l2 = m.g0) < 16L) { break L1; }
+  l6 = 0;
+  L2: {
+   if (l1 == 0L) { break L2; }
+   L3: {
+    L4: {
+     if ((l7 = (int) b[((int) l0) - 58912]) <= -1) { break L4; }
+     l3 = 1L;
+     break L3;
+    }
+    L5: {
+     if (l7 + Integer.MIN_VALUE >= 2147483616) { break L5; }
+     l3 = 2L;
+     break L3;
+    }
+    l3 = (l7 + Integer.MIN_VALUE < 2147483632) ? 3L : 4L;
+   }
+   if (l1 == l3) { break L2; }
+   L6: {
+    L7: {
+     if ((l7 = (int) b[((int) (l4 = l0 + l3)) - 58912]) <= -1) { break L7; }
+     l5 = 1L;
+     break L6;
+    }
+    L8: {
+     if (l7 + Integer.MIN_VALUE >= 2147483616) { break L8; }
+     l5 = 2L;
+     break L6;
+    }
+    l5 = (l7 + Integer.MIN_VALUE < 2147483632) ? 3L : 4L;
+   }
+   if (l1 == (l3 = l3 + l5)) { break L2; }
+   L9: {
+    L10: {
+     if ((l7 = (int) b[((int) (l4 = l4 + l5)) - 58912]) <= -1) { break L10; }
+     l5 = 1L;
+     break L9;
+    }
+    L11: {
+     if (l7 + Integer.MIN_VALUE >= 2147483616) { break L11; }
+     l5 = 2L;
+     break L9;
+    }
+    l5 = (l7 + Integer.MIN_VALUE < 2147483632) ? 3L : 4L;
+   }
+   if (l1 == (l3 = l3 + l5)) { break L2; }
+   L12: {
+    L13: {
+     if ((l7 = (int) b[((int) (l4 = l4 + l5)) - 58912]) <= -1) { break L13; }
+     l5 = 1L;
+     break L12;
+    }
+    L14: {
+     if (l7 + Integer.MIN_VALUE >= 2147483616) { break L14; }
+     l5 = 2L;
+     break L12;
+    }
+    l5 = (l7 + Integer.MIN_VALUE < 2147483632) ? 3L : 4L;
+   }
+   if (l1 == (l3 = l3 + l5)) { break L2; }
+   L15: {
+    L16: {
+     if ((l7 = (int) b[((int) (l4 = l4 + l5)) - 58912]) <= -1) { break L16; }
+     l5 = 1L;
+     break L15;
+    }
+    L17: {
+     if (l7 + Integer.MIN_VALUE >= 2147483616) { break L17; }
+     l5 = 2L;
+     break L15;
+    }
+    l5 = (l7 + Integer.MIN_VALUE < 2147483632) ? 3L : 4L;
+   }
+   if (l1 == (l3 = l3 + l5)) { break L2; }
+   L18: {
+    L19: {
+     if ((l7 = (int) b[((int) (l4 = l4 + l5)) - 58912]) <= -1) { break L19; }
+     l5 = 1L;
+     break L18;
+    }
+    L20: {
+     if (l7 + Integer.MIN_VALUE >= 2147483616) { break L20; }
+     l5 = 2L;
+     break L18;
+    }
+    l5 = (l7 + Integer.MIN_VALUE < 2147483632) ? 3L : 4L;
+   }
+   if (l1 == (l3 = l3 + l5)) { break L2; }
+   L21: {
+    L22: {
+     if ((l7 = (int) b[((int) (l4 = l4 + l5)) - 58912]) <= -1) { break L22; }
+     l5 = 1L;
+     break L21;
+    }
+    L23: {
+     if (l7 + Integer.MIN_VALUE >= 2147483616) { break L23; }
+     l5 = 2L;
+     break L21;
+    }
+    l5 = (l7 + Integer.MIN_VALUE < 2147483632) ? 3L : 4L;
+   }
+   if (l1 == (l3 = l3 + l5)) { break L2; }
+   L24: {
+    L25: {
+     if ((l7 = (int) b[((int) (l4 = l4 + l5)) - 58912]) <= -1) { break L25; }
+     l5 = 1L;
+     break L24;
+    }
+    L26: {
+     if (l7 + Integer.MIN_VALUE >= 2147483616) { break L26; }
+     l5 = 2L;
+     break L24;
+    }
+    l5 = (l7 + Integer.MIN_VALUE < 2147483632) ? 3L : 4L;
+   }
+   if (l1 == (l3 = l3 + l5)) { break L2; }
+   L27: {
+    L28: {
+     if ((l7 = (int) b[((int) (l4 = l4 + l5)) - 58912]) <= -1) { break L28; }
+     l5 = 1L;
+     break L27;
+    }
+    L29: {
+     if (l7 + Integer.MIN_VALUE >= 2147483616) { break L29; }
+     l5 = 2L;
+     break L27;
+    }
+    l5 = (l7 + Integer.MIN_VALUE < 2147483632) ? 3L : 4L;
+   }
+   if (l1 == (l3 = l3 + l5)) { break L2; }
+   L30: {
+    L31: {
+     if ((l7 = (int) b[((int) (l4 = l4 + l5)) - 58912]) <= -1) { break L31; }
+     l5 = 1L;
+     break L30;
+    }
+    L32: {
+     if (l7 + Integer.MIN_VALUE >= 2147483616) { break L32; }
+     l5 = 2L;
+     break L30;
+    }
+    l5 = (l7 + Integer.MIN_VALUE < 2147483632) ? 3L : 4L;
+   }
+   if (l1 == (l3 = l3 + l5)) { break L2; }
+   L33: {
+    L34: {
+     if ((l7 = (int) b[((int) (l4 + l5)) - 58912]) <= -1) { break L34; }
+     l5 = 1L;
+     break L33;
+    }
+    L35: {
+     if (l7 + Integer.MIN_VALUE >= 2147483616) { break L35; }
+     l5 = 2L;
+     break L33;
+    }
+    l5 = (l7 + Integer.MIN_VALUE < 2147483632) ? 3L : 4L;
+   }
+   if (l1 != (l3 + l5)) { break L2; }
+   l6 = f210(m, 89168L, 7L, l0, l1);
+  }
+  m.g0 = l2;
+  final int t36 = l6;
+  return t36;
+ }
+ throw State.trap();
+}
+
+static int f216(State m, long l0, long l1, long l2, long l3) {
+ final byte[] b = m.bytes;
+ long l4 = 0;
+ long l5 = 0;
+ long l6 = 0;
+ int l7 = 0;
+ int l8 = 0;
+ int l9 = 0;
+ int l10 = 0;
+ int l11 = 0;
+ m.g0 = l4 = m.g0 - 32L;
+ L1: {
+  if ((l4 = l4) < 16L) { break L1; }
+  L2: {
+   L3: {
+    L4: {
+     if (l1 == 0L) { break L4; }
+     if (((int) b[((int) ((l5 = l0 + l1) + -1L)) - 58912]) > -1) { break L4; }
+     l6 = -2L;
+     L5: {
+      if ((b[((int) (l5 + -2L)) - 58912] & 0xff) + Integer.MIN_VALUE > -2147483457) { break L5; }
+      l6 = ((b[((int) (l5 + -3L)) - 58912] & 0xff) + Integer.MIN_VALUE > -2147483457) ? -3L : -4L;
+     }
+     if ((l7 = (int) b[((int) (l5 = (l0 + l6) + l1)) - 58912]) > -1) { break L4; }
+     if (l7 + Integer.MIN_VALUE < 2147483616) { break L4; }
+     l8 = l7 & 255;
+     l9 = (b[((int) l5) - 58911] & 0xff) & 63;
+     l10 = (b[((int) l5) - 58910] & 0xff) & 63;
+     L6: {
+      L7: {
+       if (l7 + Integer.MIN_VALUE > 2147483631) { break L7; }
+       l7 = ((l9 << 6) | ((l8 << 12) & 61440)) | l10;
+       break L6;
+      }
+      l7 = ((l10 << 6) | ((l9 << 12) | ((l8 << 18) & 1835008))) | ((b[((int) l5) - 58909] & 0xff) & 63);
+     }
+     L8: {
+      if (l7 > 26846) { break L8; }
+      if (l7 == 24162) { break L3; }
+      if (l7 == 24231) { break L3; }
+      if (l7 != 26635) { break L4; }
+      break L3;
+     }
+     if (l7 == 26847) { break L3; }
+     if (l7 == 27004) { break L3; }
+     if (l7 == 27155) { break L3; }
+    }
+    Words.put64(b, ((int) l4) - 58888, 0L);
+    Words.put64(b, ((int) l4) - 58896, 0L);
+    Words.put64(b, ((int) l4) - 58904, 0L);
+    Core6.f203(m, l4 + 8L, 92208L, 6L, l0, l1);
+    if ((b[((int) l4) - 58904] & 0xff) == 1) { break L3; }
+    Words.put64(b, ((int) l4) - 58888, 0L);
+    Words.put64(b, ((int) l4) - 58896, 0L);
+    Words.put64(b, ((int) l4) - 58904, 0L);
+    Core6.f203(m, l4 + 8L, 92214L, 6L, l0, l1);
+    if ((b[((int) l4) - 58904] & 0xff) == 1) { break L3; }
+    Words.put64(b, ((int) l4) - 58888, 0L);
+    Words.put64(b, ((int) l4) - 58896, 0L);
+    Words.put64(b, ((int) l4) - 58904, 0L);
+    Core6.f203(m, l4 + 8L, 92220L, 6L, l0, l1);
+    l7 = 0;
+    if ((b[((int) l4) - 58904] & 0xff) != 1) { break L2; }
+   }
+   l7 = 0;
+   if (f214(m, l2, l3) != 0) { break L2; }
+   L9: {
+    if (l3 == 0L) { break L9; }
+    if ((l8 = (int) b[((int) l2) - 58912]) > -1) { break L9; }
+    if (l8 + Integer.MIN_VALUE < 2147483616) { break L9; }
+    l9 = l8 & 255;
+    l10 = (b[((int) l2) - 58911] & 0xff) & 63;
+    l11 = (b[((int) l2) - 58910] & 0xff) & 63;
+    L10: {
+     L11: {
+      if (l8 + Integer.MIN_VALUE > 2147483631) { break L11; }
+      l8 = ((l10 << 6) | ((l9 << 12) & 61440)) | l11;
+      break L10;
+     }
+     l8 = ((l11 << 6) | ((l10 << 12) | ((l9 << 18) & 1835008))) | ((b[((int) l2) - 58909] & 0xff) & 63);
+    }
+    L12: {
+     if (l8 > 22809) { break L12; }
+     if (l8 == 20313) { break L2; }
+     if (l8 != 20358) { break L9; }
+     break L2;
+    }
+    if (l8 == 22810) { break L2; }
+    if (l8 == 26469) { break L2; }
+    if (l8 == 39192) { break L2; }
+   }
+   l7 = 1;
+  }
+  m.g0 = l4 + 32L;
+  final int t13 = l7;
+  return t13;
+ }
+ throw State.trap();
+}
+
+static int f217(State m, long l0, long l1, long l2, long l3) {
+ final byte[] b = m.bytes;
+ long l4 = 0;
+ int l5 = 0;
+ int l6 = 0;
+ int l7 = 0;
+ int l8 = 0;
+ int l9 = 0;
+ m.g0 = l4 = m.g0 - 32L;
+ L1: {
+  if ((l4 = l4) < 16L) { break L1; }
+  Words.put64(b, ((int) l4) - 58888, 0L);
+  Words.put64(b, ((int) l4) - 58896, 0L);
+  Words.put64(b, ((int) l4) - 58904, 0L);
+  Core6.f196(m, l4 + 8L, 93568L, 9L, l2, l3);
+  l5 = 1;
+  L2: {
+   if ((b[((int) l4) - 58904] & 0xff) == 1) { break L2; }
+   Words.put64(b, ((int) l4) - 58888, 0L);
+   Words.put64(b, ((int) l4) - 58896, 0L);
+   Words.put64(b, ((int) l4) - 58904, 0L);
+   Core6.f196(m, l4 + 8L, 93577L, 9L, l2, l3);
+   l5 = 1;
+   if ((b[((int) l4) - 58904] & 0xff) == 1) { break L2; }
+   l3 = 0L;
+   L3: {
+    if (l1 == 0L) { break L3; }
+    L4: {
+     if (((int) b[((int) ((l3 = l0 + l1) + -1L)) - 58912]) <= -1) { break L4; }
+     l3 = l1;
+     break L3;
+    }
+    l2 = -2L;
+    L5: {
+     if ((l6 = b[((int) (l3 + -2L)) - 58912] & 0xff) + Integer.MIN_VALUE > -2147483457) { break L5; }
+     l2 = ((b[((int) (l3 + -3L)) - 58912] & 0xff) + Integer.MIN_VALUE > -2147483457) ? -3L : -4L;
+    }
+    L6: {
+     if ((l5 = (int) b[((int) (l2 = (l0 + l2) + l1)) - 58912]) <= -1) { break L6; }
+     l3 = l1;
+     break L3;
+    }
+    L7: {
+     if (l5 + Integer.MIN_VALUE >= 2147483616) { break L7; }
+     l3 = l1;
+     break L3;
+    }
+    l7 = l5 & 255;
+    l8 = (b[((int) l2) - 58911] & 0xff) & 63;
+    l9 = (b[((int) l2) - 58910] & 0xff) & 63;
+    L8: {
+     L9: {
+      if (l5 + Integer.MIN_VALUE > 2147483631) { break L9; }
+      l5 = ((l8 << 6) | ((l7 << 12) & 61440)) | l9;
+      break L8;
+     }
+     l5 = ((l9 << 6) | ((l8 << 12) | ((l7 << 18) & 1835008))) | ((b[((int) l2) - 58909] & 0xff) & 63);
+    }
+    L10: {
+     if (l5 == 20026) { break L10; }
+     if (l5 == 28858) { break L10; }
+     if (l5 == 26159) { break L10; }
+     l3 = l1;
+     break L3;
+    }
+    l2 = -2L;
+    L11: {
+     if (l6 + Integer.MIN_VALUE > -2147483457) { break L11; }
+     l2 = ((b[((int) (l3 + -3L)) - 58912] & 0xff) + Integer.MIN_VALUE > -2147483457) ? -3L : -4L;
+    }
+    l3 = l2 + l1;
+   }
+   Words.put64(b, ((int) l4) - 58888, 0L);
+   Words.put64(b, ((int) l4) - 58896, 0L);
+   Words.put64(b, ((int) l4) - 58904, 0L);
+   Core6.f203(m, l4 + 8L, 93752L, 6L, l0, l3);
+   l5 = 1;
+   if ((b[((int) l4) - 58904] & 0xff) == 1) { break L2; }
+   Words.put64(b, ((int) l4) - 58888, 0L);
+   Words.put64(b, ((int) l4) - 58896, 0L);
+   Words.put64(b, ((int) l4) - 58904, 0L);
+   Core6.f203(m, l4 + 8L, 93758L, 6L, l0, l3);
+   l5 = 1;
+   if ((b[((int) l4) - 58904] & 0xff) == 1) { break L2; }
+   Words.put64(b, ((int) l4) - 58888, 0L);
+   Words.put64(b, ((int) l4) - 58896, 0L);
+   Words.put64(b, ((int) l4) - 58904, 0L);
+   Core6.f203(m, l4 + 8L, 93764L, 6L, l0, l3);
+   l5 = 1;
+   if ((b[((int) l4) - 58904] & 0xff) == 1) { break L2; }
+   Words.put64(b, ((int) l4) - 58888, 0L);
+   Words.put64(b, ((int) l4) - 58896, 0L);
+   Words.put64(b, ((int) l4) - 58904, 0L);
+   Core6.f203(m, l4 + 8L, 93770L, 6L, l0, l3);
+   l5 = 1;
+   if ((b[((int) l4) - 58904] & 0xff) == 1) { break L2; }
+   Words.put64(b, ((int) l4) - 58888, 0L);
+   Words.put64(b, ((int) l4) - 58896, 0L);
+   Words.put64(b, ((int) l4) - 58904, 0L);
+   Core6.f203(m, l4 + 8L, 93776L, 6L, l0, l3);
+   l5 = 1;
+   if ((b[((int) l4) - 58904] & 0xff) == 1) { break L2; }
+   Words.put64(b, ((int) l4) - 58888, 0L);
+   Words.put64(b, ((int) l4) - 58896, 0L);
+   Words.put64(b, ((int) l4) - 58904, 0L);
+   Core6.f203(m, l4 + 8L, 93782L, 6L, l0, l3);
+   l5 = 1;
+   if ((b[((int) l4) - 58904] & 0xff) == 1) { break L2; }
+   Words.put64(b, ((int) l4) - 58888, 0L);
+   Words.put64(b, ((int) l4) - 58896, 0L);
+   Words.put64(b, ((int) l4) - 58904, 0L);
+   Core6.f203(m, l4 + 8L, 93788L, 6L, l0, l3);
+   l5 = 1;
+   if ((b[((int) l4) - 58904] & 0xff) == 1) { break L2; }
+   Words.put64(b, ((int) l4) - 58888, 0L);
+   Words.put64(b, ((int) l4) - 58896, 0L);
+   Words.put64(b, ((int) l4) - 58904, 0L);
+   Core6.f203(m, l4 + 8L, 93794L, 6L, l0, l3);
+   l5 = 1;
+   if ((b[((int) l4) - 58904] & 0xff) == 1) { break L2; }
+   Words.put64(b, ((int) l4) - 58888, 0L);
+   Words.put64(b, ((int) l4) - 58896, 0L);
+   Words.put64(b, ((int) l4) - 58904, 0L);
+   Core6.f203(m, l4 + 8L, 93800L, 9L, l0, l3);
+   l5 = 1;
+   if ((b[((int) l4) - 58904] & 0xff) == 1) { break L2; }
+   Words.put64(b, ((int) l4) - 58888, 0L);
+   Words.put64(b, ((int) l4) - 58896, 0L);
+   Words.put64(b, ((int) l4) - 58904, 0L);
+   Core6.f203(m, l4 + 8L, 93809L, 9L, l0, l3);
+   l5 = ((b[((int) l4) - 58904] & 0xff) == 1) ? 1 : 0;
+  }
+  m.g0 = l4 + 32L;
+  final int t12 = l5;
+  return t12;
+ }
+ throw State.trap();
+}
+
+static void f218(State m, long l0, long l1, long l2) {
+ final byte[] b = m.bytes;
+ long l3 = 0;
+ long l4 = 0;
+ long l5 = 0;
+ long l6 = 0;
+ int l7 = 0;
+ int l8 = 0;
+ int l9 = 0;
+ int l10 = 0;
+ m.g0 = l3 = m.g0 - 16L;
+ L1: {
+  if ((l4 = l3) < 16L) { break L1; }
+  l3 = l1;
+  l5 = l2;
+  L2: {
+   L3: while (true) {
+    if (l5 == 0L) { break L2; }
+    l8 = (l7 = (int) b[((int) l3) - 58912]) & 255;
+    l6 = 1L;
+    L4: {
+     if (l7 > -1) { break L4; }
+     l9 = (b[((int) l3) - 58911] & 0xff) & 63;
+     L5: {
+      if (l7 + Integer.MIN_VALUE > 2147483615) { break L5; }
+      l8 = ((l8 << 6) & 1984) | l9;
+      l6 = 2L;
+      break L4;
+     }
+     l10 = (b[((int) l3) - 58910] & 0xff) & 63;
+     L6: {
+      if (l7 + Integer.MIN_VALUE > 2147483631) { break L6; }
+      l8 = ((l9 << 6) | ((l8 << 12) & 61440)) | l10;
+      l6 = 3L;
+      break L4;
+     }
+     l8 = ((l10 << 6) | ((l9 << 12) | ((l8 << 18) & 1835008))) | ((b[((int) l3) - 58909] & 0xff) & 63);
+     l6 = 4L;
+    }
+    L7: {
+     if (l8 == 65294) { break L7; }
+     l5 = l5 - l6;
+     l3 = l3 + l6;
+     if (l8 != 46) { continue L3; }
+    }
+    break L3;
+   }
+   L8: while (true) {
+    L9: {
+     if (!((l6 = l2) == 0L)) { break L9; }
+     l2 = 0L;
+     break L2;
+    }
+    L10: {
+     L11: {
+      if ((l7 = (int) b[((int) (l1 + (l2 = l6 + -1L))) - 58912]) >= 0) { break L11; }
+      l3 = -2L;
+      L12: {
+       if ((b[((int) ((l2 = l1 + l6) + -2L)) - 58912] & 0xff) + Integer.MIN_VALUE > -2147483457) { break L12; }
+       l3 = ((b[((int) (l2 + -3L)) - 58912] & 0xff) + Integer.MIN_VALUE > -2147483457) ? -3L : -4L;
+      }
+      l7 = (l8 = (int) b[((int) (l3 = l1 + (l2 = l3 + l6))) - 58912]) & 255;
+      if (l8 > -1) { break L11; }
+      l9 = (b[((int) l3) - 58911] & 0xff) & 63;
+      L13: {
+       if (l8 + Integer.MIN_VALUE > 2147483615) { break L13; }
+       l7 = ((l7 << 6) & 1984) | l9;
+       break L11;
+      }
+      l10 = (b[((int) l3) - 58910] & 0xff) & 63;
+      L14: {
+       L15: {
+        if (l8 + Integer.MIN_VALUE > 2147483631) { break L15; }
+        l7 = ((l9 << 6) | ((l7 << 12) & 61440)) | l10;
+        break L14;
+       }
+       l7 = ((l10 << 6) | ((l9 << 12) | ((l7 << 18) & 1835008))) | ((b[((int) l3) - 58909] & 0xff) & 63);
+      }
+      if (l7 == 24186) { break L10; }
+     }
+     l3 = -44L;
+     L16: {
+      L17: while (true) {
+       if ((l9 = Words.get32(b, ((int) (l3 + 87508L)) - 58912)) == l7) { break L16; }
+       l8 = (l3 != 0L) ? 1 : 0;
+       l3 = l3 + 4L;
+       if (l8 != 0) { continue L17; }
+       break L17;
+      }
+     }
+     L18: {
+      L19: {
+       if (l9 != l7) { break L19; }
+       Core2.f63(m, l4, l7);
+       l9 = b[((int) l4) - 58911] & 0xff;
+       l8 = b[((int) l4) - 58912] & 0xff;
+       break L18;
+      }
+      Core1.f24(m, l4 + 8L, l7);
+      l9 = b[((int) l4) - 58903] & 0xff;
+      l8 = b[((int) l4) - 58904] & 0xff;
+     }
+     L20: {
+      if ((l8 & 255) != 1) { break L20; }
+      if ((l9 & 255) != 0) { break L10; }
+     }
+     if ((l7 + -48) + Integer.MIN_VALUE < -2147483638) { continue L8; }
+     if ((l7 + -65296) + Integer.MIN_VALUE < -2147483638) { continue L8; }
+    }
+    break L8;
+   }
+   L21: while (true) {
+    L22: {
+     if ((l8 = (int) b[((int) (l1 + (l3 = l6 + -1L))) - 58912]) >= 0) { break L22; }
+     l3 = -2L;
+     L23: {
+      if ((b[((int) ((l2 = l1 + l6) + -2L)) - 58912] & 0xff) + Integer.MIN_VALUE > -2147483457) { break L23; }
+      l3 = ((b[((int) (l2 + -3L)) - 58912] & 0xff) + Integer.MIN_VALUE > -2147483457) ? -3L : -4L;
+     }
+     l8 = (l7 = (int) b[((int) (l2 = l1 + (l3 = l3 + l6))) - 58912]) & 255;
+     if (l7 > -1) { break L22; }
+     l9 = (b[((int) l2) - 58911] & 0xff) & 63;
+     L24: {
+      if (l7 + Integer.MIN_VALUE > 2147483615) { break L24; }
+      l8 = ((l8 << 6) & 1984) | l9;
+      break L22;
+     }
+     l10 = (b[((int) l2) - 58910] & 0xff) & 63;
+     L25: {
+      if (l7 + Integer.MIN_VALUE > 2147483631) { break L25; }
+      l8 = ((l9 << 6) | ((l8 << 12) & 61440)) | l10;
+      break L22;
+     }
+     l8 = ((l10 << 6) | ((l9 << 12) | ((l8 << 18) & 1835008))) | ((b[((int) l2) - 58909] & 0xff) & 63);
+    }
+    L26: {
+     if (l8 == 65294) { break L26; }
+     l2 = l6;
+     if (l8 != 46) { break L2; }
+    }
+    l2 = 0L;
+    l6 = l3;
+    if (l3 != 0L) { continue L21; }
+    break L21;
+   }
+  }
+  Words.put64(b, ((int) l0) - 58904, l2);
+  Words.put64(b, ((int) l0) - 58912, l1);
+  m.g0 = l4 + 16L;
+  return;
+ }
+ throw State.trap();
+}
+
+static int f219(State m, long l0, long l1, long l2, long l3, long l4, long l5) {
+ final byte[] b = m.bytes;
+ long l6 = 0;
+ long l7 = 0;
  long l8 = 0;
  long l9 = 0;
  long l10 = 0;
  long l11 = 0;
- long l12 = 0;
- long l13 = 0;
+ int l12 = 0;
+ int l13 = 0;
  int l14 = 0;
  int l15 = 0;
  int l16 = 0;
  int l17 = 0;
  int l18 = 0;
- m.g0 = l8 = m.g0 - 688L;
+ L1: {
+  if ((l6 = m.g0) < 16L) { break L1; }
+  L2: {
+   L3: {
+    if ((l12 = (l1 == 0L) ? 1 : 0) != 0) { break L3; }
+    l14 = l13 = (int) b[((int) ((l7 = l0 + l1) + -1L)) - 58912];
+    L4: {
+     if (l13 >= 0) { break L4; }
+     l8 = -2L;
+     L5: {
+      if ((b[((int) (l7 + -2L)) - 58912] & 0xff) + Integer.MIN_VALUE > -2147483457) { break L5; }
+      l8 = ((b[((int) (l7 + -3L)) - 58912] & 0xff) + Integer.MIN_VALUE > -2147483457) ? -3L : -4L;
+     }
+     l14 = (l15 = (int) b[((int) (l8 = (l0 + l8) + l1)) - 58912]) & 255;
+     if (l15 > -1) { break L4; }
+     l16 = (b[((int) l8) - 58911] & 0xff) & 63;
+     L6: {
+      if (l15 + Integer.MIN_VALUE > 2147483615) { break L6; }
+      l14 = ((l14 << 6) & 1984) | l16;
+      break L4;
+     }
+     l17 = (b[((int) l8) - 58910] & 0xff) & 63;
+     L7: {
+      if (l15 + Integer.MIN_VALUE > 2147483631) { break L7; }
+      l14 = ((l16 << 6) | ((l14 << 12) & 61440)) | l17;
+      break L4;
+     }
+     l14 = ((l17 << 6) | ((l16 << 12) | ((l14 << 18) & 1835008))) | ((b[((int) l8) - 58909] & 0xff) & 63);
+    }
+    L8: {
+     if (((l14 & -33) + -65) + Integer.MIN_VALUE > -2147483623) { break L8; }
+     l14 = 1;
+     if (f213(m, l0, l1) == 0) { break L2; }
+     if (l5 == 0L) { break L8; }
+     l15 = (l16 = (int) b[((int) l4) - 58912]) & 255;
+     L9: {
+      if (l16 > -1) { break L9; }
+      l17 = (b[((int) l4) - 58911] & 0xff) & 63;
+      L10: {
+       if (l16 + Integer.MIN_VALUE > 2147483615) { break L10; }
+       l15 = ((l15 << 6) & 1984) | l17;
+       break L9;
+      }
+      l18 = (b[((int) l4) - 58910] & 0xff) & 63;
+      L11: {
+       if (l16 + Integer.MIN_VALUE > 2147483631) { break L11; }
+       l15 = ((l17 << 6) | ((l15 << 12) & 61440)) | l18;
+       break L9;
+      }
+      l15 = ((l18 << 6) | ((l17 << 12) | ((l15 << 18) & 1835008))) | ((b[((int) l4) - 58909] & 0xff) & 63);
+     }
+     if (((l15 & 2097119) + -65) + Integer.MIN_VALUE < -2147483622) { break L2; }
+     if ((l15 + -48) + Integer.MIN_VALUE < -2147483638) { break L2; }
+     if ((l15 + -65296) + Integer.MIN_VALUE < -2147483638) { break L2; }
+    }
+    L12: {
+     L13: {
+      L14: {
+       if (l13 > -1) { break L14; }
+       l8 = -2L;
+       L15: {
+        if ((b[((int) (l7 + -2L)) - 58912] & 0xff) + Integer.MIN_VALUE > -2147483457) { break L15; }
+        l8 = ((b[((int) (l7 + -3L)) - 58912] & 0xff) + Integer.MIN_VALUE > -2147483457) ? -3L : -4L;
+       }
+       l13 = (l14 = (int) b[((int) (l8 = (l0 + l8) + l1)) - 58912]) & 255;
+       L16: {
+        if (l14 > -1) { break L16; }
+        l15 = (b[((int) l8) - 58911] & 0xff) & 63;
+        L17: {
+         if (l14 + Integer.MIN_VALUE > 2147483615) { break L17; }
+         l13 = ((l13 << 6) & 1984) | l15;
+         break L16;
+        }
+        l16 = (b[((int) l8) - 58910] & 0xff) & 63;
+        L18: {
+         if (l14 + Integer.MIN_VALUE > 2147483631) { break L18; }
+         l13 = ((l15 << 6) | ((l13 << 12) & 61440)) | l16;
+         break L16;
+        }
+        l13 = ((l16 << 6) | ((l15 << 12) | ((l13 << 18) & 1835008))) | ((b[((int) l8) - 58909] & 0xff) & 63);
+       }
+       l14 = 1;
+       if ((l13 + -48) + Integer.MIN_VALUE < -2147483638) { break L2; }
+       if ((l13 + -65296) + Integer.MIN_VALUE < -2147483638) { break L2; }
+       l8 = -2L;
+       L19: {
+        if ((b[((int) (l7 + -2L)) - 58912] & 0xff) + Integer.MIN_VALUE > -2147483457) { break L19; }
+        l8 = ((b[((int) (l7 + -3L)) - 58912] & 0xff) + Integer.MIN_VALUE > -2147483457) ? -3L : -4L;
+       }
+       l13 = (l14 = (int) b[((int) (l7 = (l0 + l8) + l1)) - 58912]) & 255;
+       if (l14 > -1) { break L12; }
+       l15 = (b[((int) l7) - 58911] & 0xff) & 63;
+       if (l14 + Integer.MIN_VALUE > 2147483615) { break L13; }
+       l13 = ((l13 << 6) & 1984) | l15;
+       break L12;
+      }
+      if (((l13 + -48) & 255) + Integer.MIN_VALUE >= -2147483638) { break L12; }
+      m.g0 = l6;
+      return 1;
+     }
+     l16 = (b[((int) l7) - 58910] & 0xff) & 63;
+     L20: {
+      if (l14 + Integer.MIN_VALUE > 2147483631) { break L20; }
+      l13 = ((l15 << 6) | ((l13 << 12) & 61440)) | l16;
+      break L12;
+     }
+     l13 = ((l16 << 6) | ((l15 << 12) | ((l13 << 18) & 1835008))) | ((b[((int) l7) - 58909] & 0xff) & 63);
+    }
+    l7 = -68L;
+    L21: {
+     L22: while (true) {
+      if ((l15 = (Words.get32(b, ((int) (l7 + 93892L)) - 58912) == l13) ? 1 : 0) != 0) { break L21; }
+      l14 = (l7 != 0L) ? 1 : 0;
+      l7 = l7 + 4L;
+      if (l14 != 0) { continue L22; }
+      break L22;
+     }
+    }
+    if (l15 == 0) { break L3; }
+    m.g0 = l6;
+    return 1;
+   }
+   l7 = l2;
+   l9 = l3;
+   L23: {
+    L24: while (true) {
+     if ((l10 = l9) == 0L) { break L23; }
+     l14 = (l13 = (int) b[((int) l7) - 58912]) & 255;
+     l8 = 1L;
+     L25: {
+      if (l13 > -1) { break L25; }
+      l15 = (b[((int) l7) - 58911] & 0xff) & 63;
+      L26: {
+       if (l13 + Integer.MIN_VALUE > 2147483615) { break L26; }
+       l14 = ((l14 << 6) & 1984) | l15;
+       l8 = 2L;
+       break L25;
+      }
+      l16 = (b[((int) l7) - 58910] & 0xff) & 63;
+      L27: {
+       if (l13 + Integer.MIN_VALUE > 2147483631) { break L27; }
+       l14 = ((l15 << 6) | ((l14 << 12) & 61440)) | l16;
+       l8 = 3L;
+       break L25;
+      }
+      l14 = ((l16 << 6) | ((l15 << 12) | ((l14 << 18) & 1835008))) | ((b[((int) l7) - 58909] & 0xff) & 63);
+      l8 = 4L;
+     }
+     l9 = l10 - l8;
+     l7 = l7 + l8;
+     if ((l14 + -48) + Integer.MIN_VALUE < -2147483638) { continue L24; }
+     if ((l14 + -65296) + Integer.MIN_VALUE < -2147483638) { continue L24; }
+     break L24;
+    }
+   }
+   L28: {
+    if (l12 != 0) { break L28; }
+    L29: {
+     L30: {
+      L31: {
+       L32: {
+        L33: {
+         if ((l14 = (int) b[((int) ((l7 = l0 + l1) + -1L)) - 58912]) > -1) { break L33; }
+         l8 = -2L;
+         L34: {
+          if ((l16 = b[((int) (l7 + -2L)) - 58912] & 0xff) + Integer.MIN_VALUE > -2147483457) { break L34; }
+          l8 = ((b[((int) (l7 + -3L)) - 58912] & 0xff) + Integer.MIN_VALUE > -2147483457) ? -3L : -4L;
+         }
+         l13 = (l15 = (int) b[((int) (l8 = (l0 + l8) + l1)) - 58912]) & 255;
+         L35: {
+          if (l15 > -1) { break L35; }
+          l12 = (b[((int) l8) - 58911] & 0xff) & 63;
+          L36: {
+           if (l15 + Integer.MIN_VALUE > 2147483615) { break L36; }
+           l13 = ((l13 << 6) & 1984) | l12;
+           break L35;
+          }
+          l17 = (b[((int) l8) - 58910] & 0xff) & 63;
+          L37: {
+           if (l15 + Integer.MIN_VALUE > 2147483631) { break L37; }
+           l13 = ((l12 << 6) | ((l13 << 12) & 61440)) | l17;
+           break L35;
+          }
+          l13 = ((l17 << 6) | ((l12 << 12) | ((l13 << 18) & 1835008))) | ((b[((int) l8) - 58909] & 0xff) & 63);
+         }
+         if (l13 != 32) { break L31; }
+         l8 = -2L;
+         L38: {
+          if (l16 + Integer.MIN_VALUE > -2147483457) { break L38; }
+          l8 = ((b[((int) (l7 + -3L)) - 58912] & 0xff) + Integer.MIN_VALUE > -2147483457) ? -3L : -4L;
+         }
+         l8 = l8 + l1;
+         break L32;
+        }
+        if (l14 != 32) { break L28; }
+        l8 = l1 + -1L;
+       }
+       L39: {
+        if (l8 == 0L) { break L39; }
+        L40: {
+         if ((l13 = (int) b[((int) ((l9 = l0 + l8) + -1L)) - 58912]) >= 0) { break L40; }
+         l11 = -2L;
+         L41: {
+          if ((b[((int) (l9 + -2L)) - 58912] & 0xff) + Integer.MIN_VALUE > -2147483457) { break L41; }
+          l11 = ((b[((int) (l9 + -3L)) - 58912] & 0xff) + Integer.MIN_VALUE > -2147483457) ? -3L : -4L;
+         }
+         l13 = (l15 = (int) b[((int) (l8 = (l0 + l11) + l8)) - 58912]) & 255;
+         if (l15 > -1) { break L40; }
+         l16 = (b[((int) l8) - 58911] & 0xff) & 63;
+         L42: {
+          if (l15 + Integer.MIN_VALUE > 2147483615) { break L42; }
+          l13 = ((l13 << 6) & 1984) | l16;
+          break L40;
+         }
+         l12 = (b[((int) l8) - 58910] & 0xff) & 63;
+         L43: {
+          if (l15 + Integer.MIN_VALUE > 2147483631) { break L43; }
+          l13 = ((l16 << 6) | ((l13 << 12) & 61440)) | l12;
+          break L40;
+         }
+         l13 = ((l12 << 6) | ((l16 << 12) | ((l13 << 18) & 1835008))) | ((b[((int) l8) - 58909] & 0xff) & 63);
+        }
+        if (l3 == l10) { break L39; }
+        if (((l13 & -33) + -91) + Integer.MIN_VALUE < 2147483622) { break L39; }
+        L44: {
+         L45: {
+          if ((l13 = (int) b[((int) l2) - 58912]) <= -1) { break L45; }
+          l8 = 1L;
+          break L44;
+         }
+         L46: {
+          if (l13 + Integer.MIN_VALUE >= 2147483616) { break L46; }
+          l8 = 2L;
+          break L44;
+         }
+         l8 = (l13 + Integer.MIN_VALUE < 2147483632) ? 3L : 4L;
+        }
+        if (l3 == (l9 = l8 + l10)) { break L39; }
+        L47: {
+         L48: {
+          if ((l13 = (int) b[((int) (l2 + l8)) - 58912]) <= -1) { break L48; }
+          l8 = 1L;
+          break L47;
+         }
+         L49: {
+          if (l13 + Integer.MIN_VALUE >= 2147483616) { break L49; }
+          l8 = 2L;
+          break L47;
+         }
+         l8 = (l13 + Integer.MIN_VALUE < 2147483632) ? 3L : 4L;
+        }
+        if (l3 == (l8 + l9)) { break L39; }
+        l8 = l2;
+        l10 = l3;
+        L50: while (true) {
+         L51: {
+          if (!(l10 == 0L)) { break L51; }
+          m.g0 = l6;
+          return 1;
+         }
+         l13 = (l15 = (int) b[((int) l8) - 58912]) & 255;
+         l9 = 1L;
+         L52: {
+          if (l15 > -1) { break L52; }
+          l16 = (b[((int) l8) - 58911] & 0xff) & 63;
+          L53: {
+           if (l15 + Integer.MIN_VALUE > 2147483615) { break L53; }
+           l13 = ((l13 << 6) & 1984) | l16;
+           l9 = 2L;
+           break L52;
+          }
+          l12 = (b[((int) l8) - 58910] & 0xff) & 63;
+          L54: {
+           if (l15 + Integer.MIN_VALUE > 2147483631) { break L54; }
+           l13 = ((l16 << 6) | ((l13 << 12) & 61440)) | l12;
+           l9 = 3L;
+           break L52;
+          }
+          l13 = ((l12 << 6) | ((l16 << 12) | ((l13 << 18) & 1835008))) | ((b[((int) l8) - 58909] & 0xff) & 63);
+          l9 = 4L;
+         }
+         l10 = l10 - l9;
+         l8 = l8 + l9;
+         if (l13 != 46) { continue L50; }
+         break L50;
+        }
+       }
+       if (l14 > -1) { break L30; }
+      }
+      l8 = -2L;
+      L55: {
+       if ((l15 = b[((int) (l7 + -2L)) - 58912] & 0xff) + Integer.MIN_VALUE > -2147483457) { break L55; }
+       l8 = ((b[((int) (l7 + -3L)) - 58912] & 0xff) + Integer.MIN_VALUE > -2147483457) ? -3L : -4L;
+      }
+      l14 = (l13 = (int) b[((int) (l8 = (l0 + l8) + l1)) - 58912]) & 255;
+      L56: {
+       if (l13 > -1) { break L56; }
+       l16 = (b[((int) l8) - 58911] & 0xff) & 63;
+       L57: {
+        if (l13 + Integer.MIN_VALUE > 2147483615) { break L57; }
+        l14 = ((l14 << 6) & 1984) | l16;
+        break L56;
+       }
+       l12 = (b[((int) l8) - 58910] & 0xff) & 63;
+       L58: {
+        if (l13 + Integer.MIN_VALUE > 2147483631) { break L58; }
+        l14 = ((l16 << 6) | ((l14 << 12) & 61440)) | l12;
+        break L56;
+       }
+       l14 = ((l12 << 6) | ((l16 << 12) | ((l14 << 18) & 1835008))) | ((b[((int) l8) - 58909] & 0xff) & 63);
+      }
+      if (l14 != 32) { break L28; }
+      l8 = -2L;
+      L59: {
+       if (l15 + Integer.MIN_VALUE > -2147483457) { break L59; }
+       l8 = ((b[((int) (l7 + -3L)) - 58912] & 0xff) + Integer.MIN_VALUE > -2147483457) ? -3L : -4L;
+      }
+      l7 = l8 + l1;
+      break L29;
+     }
+     if (l14 != 32) { break L28; }
+     l7 = l1 + -1L;
+    }
+    if (l7 == 0L) { break L28; }
+    L60: {
+     if ((l14 = (int) b[((int) ((l8 = l0 + l7) + -1L)) - 58912]) >= 0) { break L60; }
+     l9 = -2L;
+     L61: {
+      if ((b[((int) (l8 + -2L)) - 58912] & 0xff) + Integer.MIN_VALUE > -2147483457) { break L61; }
+      l9 = ((b[((int) (l8 + -3L)) - 58912] & 0xff) + Integer.MIN_VALUE > -2147483457) ? -3L : -4L;
+     }
+     l14 = (l13 = (int) b[((int) (l7 = (l0 + l9) + l7)) - 58912]) & 255;
+     if (l13 > -1) { break L60; }
+     l15 = (b[((int) l7) - 58911] & 0xff) & 63;
+     L62: {
+      if (l13 + Integer.MIN_VALUE > 2147483615) { break L62; }
+      l14 = ((l14 << 6) & 1984) | l15;
+      break L60;
+     }
+     l16 = (b[((int) l7) - 58910] & 0xff) & 63;
+     L63: {
+      if (l13 + Integer.MIN_VALUE > 2147483631) { break L63; }
+      l14 = ((l15 << 6) | ((l14 << 12) & 61440)) | l16;
+      break L60;
+     }
+     l14 = ((l16 << 6) | ((l15 << 12) | ((l14 << 18) & 1835008))) | ((b[((int) l7) - 58909] & 0xff) & 63);
+    }
+    L64: {
+     if ((l14 + -48) + Integer.MIN_VALUE < -2147483638) { break L64; }
+     if ((l14 + -65296) + Integer.MIN_VALUE > -2147483639) { break L28; }
+    }
+    if (f223(m, l2, l3) == 0) { break L28; }
+    m.g0 = l6;
+    return 1;
+   }
+   L65: {
+    if (!(l3 == 0L)) { break L65; }
+    m.g0 = l6;
+    return 0;
+   }
+   l14 = 0;
+   L66: {
+    if ((l13 = (int) b[((int) ((l7 = l2 + l3) + -1L)) - 58912]) >= 0) { break L66; }
+    l8 = -2L;
+    L67: {
+     if ((b[((int) (l7 + -2L)) - 58912] & 0xff) + Integer.MIN_VALUE > -2147483457) { break L67; }
+     l8 = ((b[((int) (l7 + -3L)) - 58912] & 0xff) + Integer.MIN_VALUE > -2147483457) ? -3L : -4L;
+    }
+    l13 = (l15 = (int) b[((int) (l7 = (l2 + l8) + l3)) - 58912]) & 255;
+    if (l15 > -1) { break L66; }
+    l16 = (b[((int) l7) - 58911] & 0xff) & 63;
+    L68: {
+     if (l15 + Integer.MIN_VALUE > 2147483615) { break L68; }
+     l13 = ((l13 << 6) & 1984) | l16;
+     break L66;
+    }
+    l12 = (b[((int) l7) - 58910] & 0xff) & 63;
+    L69: {
+     if (l15 + Integer.MIN_VALUE > 2147483631) { break L69; }
+     l13 = ((l16 << 6) | ((l13 << 12) & 61440)) | l12;
+     break L66;
+    }
+    l13 = ((l12 << 6) | ((l16 << 12) | ((l13 << 18) & 1835008))) | ((b[((int) l7) - 58909] & 0xff) & 63);
+   }
+   if (l5 == 0L) { break L2; }
+   if (((l13 + -58) + Integer.MIN_VALUE < 2147483638) & ((l13 + -65306) + Integer.MIN_VALUE < 2147483638)) { break L2; }
+   L70: {
+    L71: {
+     if ((l13 = (int) b[((int) l4) - 58912]) > -1) { break L71; }
+     l15 = l13 & 255;
+     l16 = (b[((int) l4) - 58911] & 0xff) & 63;
+     L72: {
+      if (l13 + Integer.MIN_VALUE < 2147483616) { break L72; }
+      l12 = (b[((int) l4) - 58910] & 0xff) & 63;
+      L73: {
+       L74: {
+        if (l13 + Integer.MIN_VALUE > 2147483631) { break L74; }
+        l15 = ((l16 << 6) | ((l15 << 12) & 61440)) | l12;
+        break L73;
+       }
+       l15 = ((l12 << 6) | ((l16 << 12) | ((l15 << 18) & 1835008))) | ((b[((int) l4) - 58909] & 0xff) & 63);
+      }
+      if (l15 != 32) { break L2; }
+      l7 = (l13 + Integer.MIN_VALUE < 2147483632) ? 3L : 4L;
+      break L70;
+     }
+     if ((((l15 << 6) & 1984) | l16) != 32) { break L2; }
+     l7 = 2L;
+     break L70;
+    }
+    if (l13 != 32) { break L2; }
+    l7 = 1L;
+   }
+   l14 = f223(m, l4 + l7, l5 - l7);
+  }
+  m.g0 = l6;
+  final int t75 = l14;
+  return t75;
+ }
+ throw State.trap();
+}
+
+static int f220(State m, long l0, long l1, long l2, long l3) {
+ final byte[] b = m.bytes;
+ int l4 = 0;
+ int l5 = 0;
+ int l6 = 0;
+ int l7 = 0;
+ int l8 = 0;
+ int l9 = 0;
+ int l10 = 0;
+ long l11 = 0;
+ long l12 = 0;
+ long l13 = 0;
+ L1: {
+  L2: {
+   L3: {
+    L4: {
+     L5: {
+      if (m.g0 < 16L) { break L5; }
+      l4 = 0;
+      if (l3 == 0L) { break L1; }
+      l4 = l6 = (l5 = (int) b[((int) l2) - 58912]) & 255;
+      L6: {
+       if (l5 > -1) { break L6; }
+       l4 = (b[((int) l2) - 58911] & 0xff) & 63;
+       L7: {
+        if (l5 + Integer.MIN_VALUE > 2147483615) { break L7; }
+        l4 = ((l6 << 6) & 1984) | l4;
+        break L6;
+       }
+       l7 = (b[((int) l2) - 58910] & 0xff) & 63;
+       L8: {
+        if (l5 + Integer.MIN_VALUE > 2147483631) { break L8; }
+        l4 = ((l4 << 6) | ((l6 << 12) & 61440)) | l7;
+        break L6;
+       }
+       l4 = ((l7 << 6) | ((l4 << 12) | ((l6 << 18) & 1835008))) | ((b[((int) l2) - 58909] & 0xff) & 63);
+      }
+      L9: {
+       L10: {
+        if (((l4 & 2097119) + -65) + Integer.MIN_VALUE < -2147483622) { break L10; }
+        if ((l4 + -48) + Integer.MIN_VALUE < -2147483638) { break L10; }
+        if ((l4 + -65296) + Integer.MIN_VALUE > -2147483639) { break L9; }
+       }
+       L11: {
+        L12: {
+         if (l5 < 0) { break L12; }
+         l11 = l3 + -1L;
+         l12 = l2 + 1L;
+         l7 = l6;
+         break L11;
+        }
+        L13: {
+         if (l5 + Integer.MIN_VALUE > 2147483615) { break L13; }
+         l7 = ((l6 << 6) & 1984) | ((b[((int) l2) - 58911] & 0xff) & 63);
+         l12 = l2 + 2L;
+         l11 = l3 + -2L;
+         break L11;
+        }
+        l4 = (b[((int) l2) - 58910] & 0xff) & 63;
+        l7 = (b[((int) l2) - 58911] & 0xff) & 63;
+        l11 = l3 - (l12 = (l5 + Integer.MIN_VALUE < 2147483632) ? 3L : 4L);
+        l12 = l2 + l12;
+        L14: {
+         if (l5 + Integer.MIN_VALUE > 2147483631) { break L14; }
+         l7 = ((l7 << 6) | ((l6 << 12) & 61440)) | l4;
+         break L11;
+        }
+        l7 = ((l4 << 6) | ((l7 << 12) | ((l6 << 18) & 1835008))) | ((b[((int) l2) - 58909] & 0xff) & 63);
+       }
+       l4 = 1;
+       if ((l7 + -65) + Integer.MIN_VALUE > -2147483623) { break L1; }
+       L15: {
+        if (l1 == 0L) { break L15; }
+        L16: {
+         L17: {
+          if ((l7 = (int) b[((int) l0) - 58912]) <= -1) { break L17; }
+          l13 = 1L;
+          break L16;
+         }
+         L18: {
+          if (l7 + Integer.MIN_VALUE >= 2147483616) { break L18; }
+          l13 = 2L;
+          break L16;
+         }
+         l13 = (l7 + Integer.MIN_VALUE < 2147483632) ? 3L : 4L;
+        }
+        if (l1 == l13) { break L15; }
+        L19: {
+         L20: {
+          if ((l7 = (int) b[((int) (l0 + l13)) - 58912]) <= -1) { break L20; }
+          l0 = 1L;
+          break L19;
+         }
+         L21: {
+          if (l7 + Integer.MIN_VALUE >= 2147483616) { break L21; }
+          l0 = 2L;
+          break L19;
+         }
+         l0 = (l7 + Integer.MIN_VALUE < 2147483632) ? 3L : 4L;
+        }
+        if (l1 != (l0 + l13)) { break L1; }
+       }
+       if (l11 == 0L) { break L9; }
+       l7 = l9 = (l8 = (int) b[((int) l12) - 58912]) & 255;
+       L22: {
+        if (l8 > -1) { break L22; }
+        l7 = (b[((int) l12) - 58911] & 0xff) & 63;
+        L23: {
+         if (l8 + Integer.MIN_VALUE > 2147483615) { break L23; }
+         l7 = ((l9 << 6) & 1984) | l7;
+         break L22;
+        }
+        l10 = (b[((int) l12) - 58910] & 0xff) & 63;
+        L24: {
+         if (l8 + Integer.MIN_VALUE > 2147483631) { break L24; }
+         l7 = ((l7 << 6) | ((l9 << 12) & 61440)) | l10;
+         break L22;
+        }
+        l7 = ((l10 << 6) | ((l7 << 12) | ((l9 << 18) & 1835008))) | ((b[((int) l12) - 58909] & 0xff) & 63);
+       }
+       if (((l7 & 2097119) + -65) + Integer.MIN_VALUE < -2147483622) { break L1; }
+       if ((l7 + -58) + Integer.MIN_VALUE > 2147483637) { break L1; }
+       if ((l7 + -65306) + Integer.MIN_VALUE > 2147483637) { break L1; }
+       L25: {
+        if (l8 > -1) { break L25; }
+        l7 = (b[((int) l12) - 58911] & 0xff) & 63;
+        L26: {
+         if (l8 + Integer.MIN_VALUE > 2147483615) { break L26; }
+         l9 = ((l9 << 6) & 1984) | l7;
+         break L25;
+        }
+        l10 = (b[((int) l12) - 58910] & 0xff) & 63;
+        L27: {
+         if (l8 + Integer.MIN_VALUE > 2147483631) { break L27; }
+         l9 = ((l7 << 6) | ((l9 << 12) & 61440)) | l10;
+         break L25;
+        }
+        l9 = ((l10 << 6) | ((l7 << 12) | ((l9 << 18) & 1835008))) | ((b[((int) l12) - 58909] & 0xff) & 63);
+       }
+       L28: {
+        switch (l9 + -45) {
+        case 0: case 2: break L1;
+        case 1: break L9;
+        default: break L28;
+        }
+       }
+       if (l9 == 95) { break L1; }
+      }
+      l7 = l6;
+      L29: {
+       if (l5 > -1) { break L29; }
+       l4 = (b[((int) l2) - 58911] & 0xff) & 63;
+       L30: {
+        if (l5 + Integer.MIN_VALUE > 2147483615) { break L30; }
+        l7 = ((l6 << 6) & 1984) | l4;
+        break L29;
+       }
+       l7 = (b[((int) l2) - 58910] & 0xff) & 63;
+       L31: {
+        if (l5 + Integer.MIN_VALUE > 2147483631) { break L31; }
+        l7 = ((l4 << 6) | ((l6 << 12) & 61440)) | l7;
+        break L29;
+       }
+       l7 = ((l7 << 6) | ((l4 << 12) | ((l6 << 18) & 1835008))) | ((b[((int) l2) - 58909] & 0xff) & 63);
+      }
+      l1 = -44L;
+      L32: {
+       L33: while (true) {
+        if ((l8 = (Words.get32(b, ((int) (l1 + 93940L)) - 58912) == l7) ? 1 : 0) != 0) { break L32; }
+        l4 = (l1 != 0L) ? 1 : 0;
+        l1 = l1 + 4L;
+        if (l4 != 0) { continue L33; }
+        break L33;
+       }
+      }
+      l4 = 1;
+      if (l8 != 0) { break L1; }
+      l7 = l6;
+      L34: {
+       if (l5 > -1) { break L34; }
+       l7 = (b[((int) l2) - 58911] & 0xff) & 63;
+       L35: {
+        if (l5 + Integer.MIN_VALUE > 2147483615) { break L35; }
+        l7 = ((l6 << 6) & 1984) | l7;
+        break L34;
+       }
+       l8 = (b[((int) l2) - 58910] & 0xff) & 63;
+       L36: {
+        if (l5 + Integer.MIN_VALUE > 2147483631) { break L36; }
+        l7 = ((l7 << 6) | ((l6 << 12) & 61440)) | l8;
+        break L34;
+       }
+       l7 = ((l8 << 6) | ((l7 << 12) | ((l6 << 18) & 1835008))) | ((b[((int) l2) - 58909] & 0xff) & 63);
+      }
+      if (l7 + Integer.MIN_VALUE > -2147483590) { break L4; }
+      if (((1L << (l7 & 0xffffffffL)) & 288335929267978240L) == 0L) { break L4; }
+      break L3;
+     }
+     throw State.trap();
+    }
+    if (l7 != 65306) { break L2; }
+   }
+   L37: {
+    L38: {
+     if (l5 <= -1) { break L38; }
+     l1 = 1L;
+     break L37;
+    }
+    L39: {
+     if (l5 + Integer.MIN_VALUE >= 2147483616) { break L39; }
+     l1 = 2L;
+     break L37;
+    }
+    l1 = (l5 + Integer.MIN_VALUE < 2147483632) ? 3L : 4L;
+   }
+   if (l3 == l1) { break L2; }
+   l7 = (l8 = (int) b[((int) (l1 = l2 + l1)) - 58912]) & 255;
+   L40: {
+    if (l8 > -1) { break L40; }
+    l9 = (b[((int) l1) - 58911] & 0xff) & 63;
+    L41: {
+     if (l8 + Integer.MIN_VALUE > 2147483615) { break L41; }
+     l7 = ((l7 << 6) & 1984) | l9;
+     break L40;
+    }
+    l10 = (b[((int) l1) - 58910] & 0xff) & 63;
+    L42: {
+     if (l8 + Integer.MIN_VALUE > 2147483631) { break L42; }
+     l7 = ((l9 << 6) | ((l7 << 12) & 61440)) | l10;
+     break L40;
+    }
+    l7 = ((l10 << 6) | ((l9 << 12) | ((l7 << 18) & 1835008))) | ((b[((int) l1) - 58909] & 0xff) & 63);
+   }
+   if (((l7 & 2097119) + -65) + Integer.MIN_VALUE < -2147483622) { break L1; }
+   if ((l7 + -48) + Integer.MIN_VALUE < -2147483638) { break L1; }
+   if ((l7 + -65296) + Integer.MIN_VALUE < -2147483638) { break L1; }
+  }
+  L43: {
+   L44: {
+    if (l5 > -1) { break L44; }
+    l7 = (b[((int) l2) - 58911] & 0xff) & 63;
+    L45: {
+     if (l5 + Integer.MIN_VALUE < 2147483616) { break L45; }
+     l4 = (b[((int) l2) - 58910] & 0xff) & 63;
+     L46: {
+      L47: {
+       if (l5 + Integer.MIN_VALUE > 2147483631) { break L47; }
+       l7 = ((l7 << 6) | ((l6 << 12) & 61440)) | l4;
+       break L46;
+      }
+      l7 = ((l4 << 6) | ((l7 << 12) | ((l6 << 18) & 1835008))) | ((b[((int) l2) - 58909] & 0xff) & 63);
+     }
+     l4 = 0;
+     if (l7 != 47) { break L1; }
+     l1 = (l5 + Integer.MIN_VALUE < 2147483632) ? 3L : 4L;
+     break L43;
+    }
+    l4 = 0;
+    if ((((l6 << 6) & 1984) | l7) != 47) { break L1; }
+    l1 = 2L;
+    break L43;
+   }
+   l4 = 0;
+   if (l5 != 47) { break L1; }
+   l1 = 1L;
+  }
+  l4 = 1;
+  if (l3 == l1) { break L1; }
+  l4 = (l7 = (int) b[((int) (l1 = l2 + l1)) - 58912]) & 255;
+  L48: {
+   if (l7 > -1) { break L48; }
+   l8 = (b[((int) l1) - 58911] & 0xff) & 63;
+   L49: {
+    if (l7 + Integer.MIN_VALUE > 2147483615) { break L49; }
+    l4 = ((l4 << 6) & 1984) | l8;
+    break L48;
+   }
+   l5 = (b[((int) l1) - 58910] & 0xff) & 63;
+   L50: {
+    if (l7 + Integer.MIN_VALUE > 2147483631) { break L50; }
+    l4 = ((l8 << 6) | ((l4 << 12) & 61440)) | l5;
+    break L48;
+   }
+   l4 = ((l5 << 6) | ((l8 << 12) | ((l4 << 18) & 1835008))) | ((b[((int) l1) - 58909] & 0xff) & 63);
+  }
+  l4 = ((l4 + -40960) + Integer.MIN_VALUE < 2147462656) ? 1 : 0;
+ }
+ return l4;
+}
+
+static void f221(State m, long l0, long l1, long l2) {
+ final byte[] b = m.bytes;
+ long l3 = 0;
+ long l4 = 0;
+ int l5 = 0;
+ int l6 = 0;
+ int l7 = 0;
+ int l8 = 0;
+ m.g0 = l3 = m.g0 - 32L;
+ L1: {
+  if ((l3 = l3) < 16L) { break L1; }
+  f224(m, l3 + 16L, l1, l2);
+  l2 = Words.get64(b, ((int) l3) - 58896);
+  L2: {
+   if ((l1 = Words.get64(b, ((int) l3) - 58888)) == 0L) { break L2; }
+   l6 = (l5 = (int) b[((int) l2) - 58912]) & 255;
+   L3: {
+    if (l5 > -1) { break L3; }
+    l7 = (b[((int) l2) - 58911] & 0xff) & 63;
+    L4: {
+     if (l5 + Integer.MIN_VALUE > 2147483615) { break L4; }
+     l6 = ((l6 << 6) & 1984) | l7;
+     break L3;
+    }
+    l8 = (b[((int) l2) - 58910] & 0xff) & 63;
+    L5: {
+     if (l5 + Integer.MIN_VALUE > 2147483631) { break L5; }
+     l6 = ((l7 << 6) | ((l6 << 12) & 61440)) | l8;
+     break L3;
+    }
+    l6 = ((l8 << 6) | ((l7 << 12) | ((l6 << 18) & 1835008))) | ((b[((int) l2) - 58909] & 0xff) & 63);
+   }
+   L6: {
+    if (l6 == 65509) { break L6; }
+    if (l6 != 165) { break L2; }
+   }
+   L7: {
+    L8: {
+     if (l5 <= -1) { break L8; }
+     l4 = 1L;
+     break L7;
+    }
+    L9: {
+     if (l5 + Integer.MIN_VALUE >= 2147483616) { break L9; }
+     l4 = 2L;
+     break L7;
+    }
+    l4 = (l5 + Integer.MIN_VALUE < 2147483632) ? 3L : 4L;
+   }
+   f218(m, l3, l2 + l4, l1 - l4);
+   l1 = Words.get64(b, ((int) l3) - 58904);
+   l2 = Words.get64(b, ((int) l3) - 58912);
+  }
+  Words.put64(b, ((int) l0) - 58912, l2);
+  Words.put64(b, ((int) l0) - 58904, l1);
+  m.g0 = l3 + 32L;
+  return;
+ }
+ throw State.trap();
+}
+
+static int f222(State m, long l0, long l1) {
+ final byte[] b = m.bytes;
+ long l2 = 0;
+ long l3 = 0;
+ int l4 = 0;
+ int l5 = 0;
+ int l6 = 0;
+ int l7 = 0;
+ int l8 = 0;
+ m.g0 = l2 = m.g0 - 32L;
+ L1: {
+  L2: {
+   L3: {
+    L4: {
+     if ((l3 = l2) < 16L) { break L4; }
+     l4 = 0;
+     if (l1 == 0L) { break L1; }
+     l6 = (l5 = (int) b[((int) l0) - 58912]) & 255;
+     L5: {
+      L6: {
+       L7: {
+        L8: {
+         if (l5 > -1) { break L8; }
+         l7 = (b[((int) l0) - 58911] & 0xff) & 63;
+         L9: {
+          if (l5 + Integer.MIN_VALUE < 2147483616) { break L9; }
+          l8 = (b[((int) l0) - 58910] & 0xff) & 63;
+          L10: {
+           L11: {
+            if (l5 + Integer.MIN_VALUE > 2147483631) { break L11; }
+            l7 = ((l7 << 6) | ((l6 << 12) & 61440)) | l8;
+            break L10;
+           }
+           l7 = ((l8 << 6) | ((l7 << 12) | ((l6 << 18) & 1835008))) | ((b[((int) l0) - 58909] & 0xff) & 63);
+          }
+          if (l7 == 32) { break L7; }
+          l7 = (b[((int) l0) - 58911] & 0xff) & 63;
+          break L3;
+         }
+         L12: {
+          if ((((l6 << 6) & 1984) | l7) != 32) { break L12; }
+          l2 = 2L;
+          break L6;
+         }
+         l7 = (b[((int) l0) - 58911] & 0xff) & 63;
+         break L5;
+        }
+        if (l5 != 32) { break L2; }
+        l2 = 1L;
+        break L6;
+       }
+       l2 = (l5 + Integer.MIN_VALUE < 2147483632) ? 3L : 4L;
+      }
+      if ((l1 = l1 - l2) == 0L) { break L1; }
+      l6 = (l5 = (int) b[((int) (l0 = l0 + l2)) - 58912]) & 255;
+      if (l5 > -1) { break L2; }
+      l7 = (b[((int) l0) - 58911] & 0xff) & 63;
+      if (l5 + Integer.MIN_VALUE > 2147483615) { break L3; }
+     }
+     l6 = ((l6 << 6) & 1984) | l7;
+     break L2;
+    }
+    throw State.trap();
+   }
+   l8 = (b[((int) l0) - 58910] & 0xff) & 63;
+   L13: {
+    if (l5 + Integer.MIN_VALUE > 2147483631) { break L13; }
+    l6 = ((l7 << 6) | ((l6 << 12) & 61440)) | l8;
+    break L2;
+   }
+   l6 = ((l8 << 6) | ((l7 << 12) | ((l6 << 18) & 1835008))) | ((b[((int) l0) - 58909] & 0xff) & 63);
+  }
+  l2 = -668L;
+  L14: {
+   L15: while (true) {
+    if ((l7 = Words.get32(b, ((int) (l2 + 87276L)) - 58912)) == l6) { break L14; }
+    l5 = (l2 != 0L) ? 1 : 0;
+    l2 = l2 + 4L;
+    if (l5 != 0) { continue L15; }
+    break L15;
+   }
+  }
+  if (l7 != l6) { break L1; }
+  Words.put64(b, ((int) l3) - 58888, 0L);
+  Words.put64(b, ((int) l3) - 58896, 0L);
+  Words.put64(b, ((int) l3) - 58904, 0L);
+  Core6.f196(m, l3 + 8L, 97848L, 6L, l0, l1);
+  if ((b[((int) l3) - 58904] & 0xff) == 1) { break L1; }
+  Words.put64(b, ((int) l3) - 58888, 0L);
+  Words.put64(b, ((int) l3) - 58896, 0L);
+  Words.put64(b, ((int) l3) - 58904, 0L);
+  Core6.f196(m, l3 + 8L, 97854L, 6L, l0, l1);
+  if ((b[((int) l3) - 58904] & 0xff) == 1) { break L1; }
+  Words.put64(b, ((int) l3) - 58888, 0L);
+  Words.put64(b, ((int) l3) - 58896, 0L);
+  Words.put64(b, ((int) l3) - 58904, 0L);
+  Core6.f196(m, l3 + 8L, 97860L, 6L, l0, l1);
+  if ((b[((int) l3) - 58904] & 0xff) == 1) { break L1; }
+  Words.put64(b, ((int) l3) - 58888, 0L);
+  Words.put64(b, ((int) l3) - 58896, 0L);
+  Words.put64(b, ((int) l3) - 58904, 0L);
+  Core6.f196(m, l3 + 8L, 97866L, 6L, l0, l1);
+  if ((b[((int) l3) - 58904] & 0xff) == 1) { break L1; }
+  Words.put64(b, ((int) l3) - 58888, 0L);
+  Words.put64(b, ((int) l3) - 58896, 0L);
+  Words.put64(b, ((int) l3) - 58904, 0L);
+  Core6.f196(m, l3 + 8L, 97872L, 6L, l0, l1);
+  if ((b[((int) l3) - 58904] & 0xff) == 1) { break L1; }
+  Words.put64(b, ((int) l3) - 58888, 0L);
+  Words.put64(b, ((int) l3) - 58896, 0L);
+  Words.put64(b, ((int) l3) - 58904, 0L);
+  Core6.f196(m, l3 + 8L, 97878L, 6L, l0, l1);
+  if ((b[((int) l3) - 58904] & 0xff) == 1) { break L1; }
+  Words.put64(b, ((int) l3) - 58888, 0L);
+  Words.put64(b, ((int) l3) - 58896, 0L);
+  Words.put64(b, ((int) l3) - 58904, 0L);
+  Core6.f196(m, l3 + 8L, 97884L, 6L, l0, l1);
+  if ((b[((int) l3) - 58904] & 0xff) == 1) { break L1; }
+  Words.put64(b, ((int) l3) - 58888, 0L);
+  Words.put64(b, ((int) l3) - 58896, 0L);
+  Words.put64(b, ((int) l3) - 58904, 0L);
+  Core6.f196(m, l3 + 8L, 97890L, 6L, l0, l1);
+  if ((b[((int) l3) - 58904] & 0xff) == 1) { break L1; }
+  Words.put64(b, ((int) l3) - 58888, 0L);
+  Words.put64(b, ((int) l3) - 58896, 0L);
+  Words.put64(b, ((int) l3) - 58904, 0L);
+  Core6.f196(m, l3 + 8L, 97896L, 6L, l0, l1);
+  if ((b[((int) l3) - 58904] & 0xff) == 1) { break L1; }
+  Words.put64(b, ((int) l3) - 58888, 0L);
+  Words.put64(b, ((int) l3) - 58896, 0L);
+  Words.put64(b, ((int) l3) - 58904, 0L);
+  Core6.f196(m, l3 + 8L, 97902L, 6L, l0, l1);
+  if ((b[((int) l3) - 58904] & 0xff) == 1) { break L1; }
+  Words.put64(b, ((int) l3) - 58888, 0L);
+  Words.put64(b, ((int) l3) - 58896, 0L);
+  Words.put64(b, ((int) l3) - 58904, 0L);
+  Core6.f196(m, l3 + 8L, 97908L, 6L, l0, l1);
+  if ((b[((int) l3) - 58904] & 0xff) == 1) { break L1; }
+  Words.put64(b, ((int) l3) - 58888, 0L);
+  Words.put64(b, ((int) l3) - 58896, 0L);
+  Words.put64(b, ((int) l3) - 58904, 0L);
+  Core6.f196(m, l3 + 8L, 97914L, 6L, l0, l1);
+  if ((b[((int) l3) - 58904] & 0xff) == 1) { break L1; }
+  Words.put64(b, ((int) l3) - 58888, 0L);
+  Words.put64(b, ((int) l3) - 58896, 0L);
+  Words.put64(b, ((int) l3) - 58904, 0L);
+  Core6.f196(m, l3 + 8L, 97920L, 6L, l0, l1);
+  if ((b[((int) l3) - 58904] & 0xff) == 1) { break L1; }
+  Words.put64(b, ((int) l3) - 58888, 0L);
+  Words.put64(b, ((int) l3) - 58896, 0L);
+  Words.put64(b, ((int) l3) - 58904, 0L);
+  Core6.f196(m, l3 + 8L, 97926L, 6L, l0, l1);
+  if ((b[((int) l3) - 58904] & 0xff) == 1) { break L1; }
+  Words.put64(b, ((int) l3) - 58888, 0L);
+  Words.put64(b, ((int) l3) - 58896, 0L);
+  Words.put64(b, ((int) l3) - 58904, 0L);
+  Core6.f196(m, l3 + 8L, 97932L, 6L, l0, l1);
+  if ((b[((int) l3) - 58904] & 0xff) == 1) { break L1; }
+  Words.put64(b, ((int) l3) - 58888, 0L);
+  Words.put64(b, ((int) l3) - 58896, 0L);
+  Words.put64(b, ((int) l3) - 58904, 0L);
+  Core6.f196(m, l3 + 8L, 97938L, 6L, l0, l1);
+  if ((b[((int) l3) - 58904] & 0xff) == 1) { break L1; }
+  Words.put64(b, ((int) l3) - 58888, 0L);
+  Words.put64(b, ((int) l3) - 58896, 0L);
+  Words.put64(b, ((int) l3) - 58904, 0L);
+  Core6.f196(m, l3 + 8L, 97944L, 6L, l0, l1);
+  if ((b[((int) l3) - 58904] & 0xff) == 1) { break L1; }
+  Words.put64(b, ((int) l3) - 58888, 0L);
+  Words.put64(b, ((int) l3) - 58896, 0L);
+  Words.put64(b, ((int) l3) - 58904, 0L);
+  Core6.f196(m, l3 + 8L, 97950L, 6L, l0, l1);
+  if ((b[((int) l3) - 58904] & 0xff) == 1) { break L1; }
+  Words.put64(b, ((int) l3) - 58888, 0L);
+  Words.put64(b, ((int) l3) - 58896, 0L);
+  Words.put64(b, ((int) l3) - 58904, 0L);
+  Core6.f196(m, l3 + 8L, 97956L, 6L, l0, l1);
+  if ((b[((int) l3) - 58904] & 0xff) == 1) { break L1; }
+  Words.put64(b, ((int) l3) - 58888, 0L);
+  Words.put64(b, ((int) l3) - 58896, 0L);
+  Words.put64(b, ((int) l3) - 58904, 0L);
+  Core6.f196(m, l3 + 8L, 97962L, 9L, l0, l1);
+  l4 = ((b[((int) l3) - 58904] & 0xff) != 1) ? 1 : 0;
+ }
+ m.g0 = l3 + 32L;
+ return l4;
+}
+
+static int f223(State m, long l0, long l1) {
+ final byte[] b = m.bytes;
+ long l2 = 0;
+ long l3 = 0;
+ long l4 = 0;
+ long l5 = 0;
+ int l6 = 0;
+ int l7 = 0;
+ int l8 = 0;
+ int l9 = 0;
+ L1: {
+  if (m.g0 < 16L) { break L1; }
+  l2 = l0;
+  l3 = l1;
+  L2: {
+   L3: while (true) {
+    if ((l4 = l3) == 0L) { break L2; }
+    l7 = (l6 = (int) b[((int) l2) - 58912]) & 255;
+    l5 = 1L;
+    L4: {
+     if (l6 > -1) { break L4; }
+     l8 = (b[((int) l2) - 58911] & 0xff) & 63;
+     L5: {
+      if (l6 + Integer.MIN_VALUE > 2147483615) { break L5; }
+      l7 = ((l7 << 6) & 1984) | l8;
+      l5 = 2L;
+      break L4;
+     }
+     l9 = (b[((int) l2) - 58910] & 0xff) & 63;
+     L6: {
+      if (l6 + Integer.MIN_VALUE > 2147483631) { break L6; }
+      l7 = ((l8 << 6) | ((l7 << 12) & 61440)) | l9;
+      l5 = 3L;
+      break L4;
+     }
+     l7 = ((l9 << 6) | ((l8 << 12) | ((l7 << 18) & 1835008))) | ((b[((int) l2) - 58909] & 0xff) & 63);
+     l5 = 4L;
+    }
+    l3 = l4 - l5;
+    l2 = l2 + l5;
+    if ((l7 + -48) + Integer.MIN_VALUE < -2147483638) { continue L3; }
+    if ((l7 + -65296) + Integer.MIN_VALUE < -2147483638) { continue L3; }
+    break L3;
+   }
+  }
+  l7 = 0;
+  L7: {
+   if (l1 == l4) { break L7; }
+   L8: {
+    L9: {
+     if ((l6 = (int) b[((int) l0) - 58912]) <= -1) { break L9; }
+     l2 = 1L;
+     break L8;
+    }
+    L10: {
+     if (l6 + Integer.MIN_VALUE >= 2147483616) { break L10; }
+     l2 = 2L;
+     break L8;
+    }
+    l2 = (l6 + Integer.MIN_VALUE < 2147483632) ? 3L : 4L;
+   }
+   if (l1 == (l5 = l4 + l2)) { break L7; }
+   L11: {
+    L12: {
+     if ((l6 = (int) b[((int) (l4 = l0 + l2)) - 58912]) <= -1) { break L12; }
+     l2 = 1L;
+     break L11;
+    }
+    L13: {
+     if (l6 + Integer.MIN_VALUE >= 2147483616) { break L13; }
+     l2 = 2L;
+     break L11;
+    }
+    l2 = (l6 + Integer.MIN_VALUE < 2147483632) ? 3L : 4L;
+   }
+   if (l1 == (l5 = l5 + l2)) { break L7; }
+   L14: {
+    L15: {
+     if ((l7 = (int) b[((int) (l4 + l2)) - 58912]) <= -1) { break L15; }
+     l2 = 1L;
+     break L14;
+    }
+    L16: {
+     if (l7 + Integer.MIN_VALUE >= 2147483616) { break L16; }
+     l2 = 2L;
+     break L14;
+    }
+    l2 = (l7 + Integer.MIN_VALUE < 2147483632) ? 3L : 4L;
+   }
+   l7 = (l1 == (l5 + l2)) ? 1 : 0;
+  }
+  final int t17 = l7;
+  return t17;
+ }
+ throw State.trap();
+}
+
+static void f224(State m, long l0, long l1, long l2) {
+ final byte[] b = m.bytes;
+ long l3 = 0;
+ long l4 = 0;
+ long l5 = 0;
+ int l6 = 0;
+ L1: {
+  if ((l3 = m.g0) < 16L) { break L1; }
+  L2: {
+   L3: {
+    if (Core5.f157(m, 97520L, 1L, 86088L, 1L, l1, l2) == 0) { break L3; }
+    L4: {
+     if (!(l2 == 0L)) { break L4; }
+     l2 = 0L;
+     break L2;
+    }
+    L5: {
+     L6: {
+      if ((l6 = (int) b[((int) l1) - 58912]) <= -1) { break L6; }
+      l4 = 1L;
+      break L5;
+     }
+     L7: {
+      if (l6 + Integer.MIN_VALUE >= 2147483616) { break L7; }
+      l4 = 2L;
+      break L5;
+     }
+     l4 = (l6 + Integer.MIN_VALUE < 2147483632) ? 3L : 4L;
+    }
+    l1 = l1 + l4;
+    L8: {
+     if (l2 != l4) { break L8; }
+     l2 = 0L;
+     break L2;
+    }
+    L9: {
+     L10: {
+      if ((l6 = (int) b[((int) l1) - 58912]) <= -1) { break L10; }
+      l5 = 1L;
+      break L9;
+     }
+     L11: {
+      if (l6 + Integer.MIN_VALUE >= 2147483616) { break L11; }
+      l5 = 2L;
+      break L9;
+     }
+     l5 = (l6 + Integer.MIN_VALUE < 2147483632) ? 3L : 4L;
+    }
+    l1 = l1 + l5;
+    l2 = l2 - (l4 + l5);
+    break L2;
+   }
+   if (f225(m, l1, l2) == 0) { break L2; }
+   L12: {
+    if (!(l2 == 0L)) { break L12; }
+    l2 = 0L;
+    break L2;
+   }
+   L13: {
+    L14: {
+     if ((l6 = (int) b[((int) l1) - 58912]) <= -1) { break L14; }
+     l4 = 1L;
+     break L13;
+    }
+    L15: {
+     if (l6 + Integer.MIN_VALUE >= 2147483616) { break L15; }
+     l4 = 2L;
+     break L13;
+    }
+    l4 = (l6 + Integer.MIN_VALUE < 2147483632) ? 3L : 4L;
+   }
+   l2 = l2 - l4;
+   l1 = l1 + l4;
+  }
+  Words.put64(b, ((int) l0) - 58904, l2);
+  Words.put64(b, ((int) l0) - 58912, l1);
+  m.g0 = l3;
+  return;
+ }
+ throw State.trap();
+}
+
+static int f225(State m, long l0, long l1) {
+ final byte[] b = m.bytes;
+ int l2 = 0;
+ int l3 = 0;
+ int l4 = 0;
+ int l5 = 0;
+ L1: {
+  if (m.g0 < 16L) { break L1; }
+  L2: {
+   if (!(l1 == 0L)) { break L2; }
+   return 0;
+  }
+  l4 = l3 = (l2 = (int) b[((int) l0) - 58912]) & 255;
+  L3: {
+   if (l2 > -1) { break L3; }
+   l4 = (b[((int) l0) - 58911] & 0xff) & 63;
+   L4: {
+    if (l2 + Integer.MIN_VALUE > 2147483615) { break L4; }
+    l4 = ((l3 << 6) & 1984) | l4;
+    break L3;
+   }
+   l5 = (b[((int) l0) - 58910] & 0xff) & 63;
+   L5: {
+    if (l2 + Integer.MIN_VALUE > 2147483631) { break L5; }
+    l4 = ((l4 << 6) | ((l3 << 12) & 61440)) | l5;
+    break L3;
+   }
+   l4 = ((l5 << 6) | ((l4 << 12) | ((l3 << 18) & 1835008))) | ((b[((int) l0) - 58909] & 0xff) & 63);
+  }
+  l5 = 1;
+  L6: {
+   if (l4 == 45) { break L6; }
+   if (l4 == 8722) { break L6; }
+   if (l4 == 65293) { break L6; }
+   L7: {
+    if (l2 <= -1) { break L7; }
+    return 0;
+   }
+   l5 = 0;
+   if (l2 + Integer.MIN_VALUE < 2147483616) { break L6; }
+   l4 = (b[((int) l0) - 58911] & 0xff) & 63;
+   l5 = (b[((int) l0) - 58910] & 0xff) & 63;
+   L8: {
+    L9: {
+     if (l2 + Integer.MIN_VALUE > 2147483631) { break L9; }
+     l4 = ((l4 << 6) | ((l3 << 12) & 61440)) | l5;
+     break L8;
+    }
+    l4 = ((l5 << 6) | ((l4 << 12) | ((l3 << 18) & 1835008))) | ((b[((int) l0) - 58909] & 0xff) & 63);
+   }
+   l5 = ((l4 == 36127) | (l4 == 36000)) ? 1 : 0;
+  }
+  final int t10 = l5;
+  return t10;
+ }
+ throw State.trap();
+}
+
+static void f226(State m, long l0, long l1, long l2, long l3) {
+ final byte[] b = m.bytes;
+ long l4 = 0;
+ long l5 = 0;
+ long l6 = 0;
+ long l7 = 0;
+ long l8 = 0;
+ long l9 = 0;
+ long l10 = 0;
+ long l11 = 0;
+ int l12 = 0;
+ m.g0 = l4 = m.g0 - 48L;
+ L1: {
+  if ((l4 = l4) < 16L) { break L1; }
+  L2: {
+   if ((b[((int) l1) - 58912] & 0xff) != 1) { break L2; }
+   l5 = Words.get64(b, ((int) (l1 + 136L)) - 58912);
+   l6 = Words.get64(b, ((int) (l1 + 64L)) - 58912);
+   l7 = Words.get64(b, ((int) (l1 + 48L)) - 58912);
+   l8 = Words.get64(b, ((int) (l1 + 40L)) - 58912);
+   l9 = Words.get64(b, ((int) (l1 + 32L)) - 58912);
+   l2 = Words.get64(b, ((int) (l1 + 16L)) - 58912);
+   l3 = l10 = Words.get64(b, ((int) (l1 + 24L)) - 58912);
+   L3: {
+    L4: {
+     switch (b[((int) (l1 + 8L)) - 58912] & 0xff) {
+     case 1: break L3;
+     case 2: break L2;
+     default: break L4;
+     }
+    }
+    L5: {
+     if (((b[((int) (l1 + 160L)) - 58912] & 0xff) & 255) != 1) { break L5; }
+     l3 = Words.get64(b, ((int) (l1 + 208L)) - 58912);
+     l2 = Words.get64(b, ((int) (l1 + 200L)) - 58912);
+     break L2;
+    }
+    l3 = Words.get64(b, ((int) (l1 + 72L)) - 58912);
+    l11 = l2 & 255L;
+    l2 = l6;
+    L6: {
+     L7: {
+      switch ((int) l11) {
+      case 1: break L7;
+      case 2: break L6;
+      default: break L2;
+      }
+     }
+     l2 = l9;
+     l3 = l8;
+     break L2;
+    }
+    l2 = Words.get64(b, ((int) (l1 + 128L)) - 58912);
+    L8: {
+     L9: {
+      L10: {
+       L11: {
+        switch ((int) (l10 & 255L)) {
+        case 1: break L10;
+        case 2: break L9;
+        case 3: break L8;
+        default: break L11;
+        }
+       }
+       l2 = l8;
+       l3 = l7;
+       break L2;
+      }
+      l3 = l5;
+      break L2;
+     }
+     l1 = Words.get64(b, ((int) (l1 + 120L)) - 58912);
+     Words.put64(b, ((int) l4) - 58872, 0L);
+     Words.put64(b, ((int) l4) - 58880, 0L);
+     Words.put64(b, ((int) l4) - 58888, 0L);
+     Words.put64(b, ((int) l4) - 58896, 0L);
+     Words.put64(b, ((int) l4) - 58904, 0L);
+     Core6.f192(m, l4 + 8L, l1, l2);
+     final long t12 = Words.get64(b, ((int) l4) - 58872);
+     final long t13 = l2;
+     final int t14 = l12 = ((b[((int) l4) - 58904] & 0xff) == 1) ? 1 : 0;
+     l3 = t14 != 0 ? t12 : t13;
+     final long t15 = Words.get64(b, ((int) l4) - 58880);
+     final long t16 = l1;
+     final int t17 = l12;
+     l2 = t17 != 0 ? t15 : t16;
+     break L2;
+    }
+    Words.put64(b, ((int) l4) - 58872, 0L);
+    Words.put64(b, ((int) l4) - 58880, 0L);
+    Words.put64(b, ((int) l4) - 58888, 0L);
+    Words.put64(b, ((int) l4) - 58896, 0L);
+    Words.put64(b, ((int) l4) - 58904, 0L);
+    Core6.f192(m, l4 + 8L, l9, l8);
+    final long t18 = Words.get64(b, ((int) l4) - 58872);
+    final long t19 = l8;
+    final int t20 = l12 = ((b[((int) l4) - 58904] & 0xff) == 1) ? 1 : 0;
+    l3 = t20 != 0 ? t18 : t19;
+    final long t21 = Words.get64(b, ((int) l4) - 58880);
+    final long t22 = l9;
+    final int t23 = l12;
+    l2 = t23 != 0 ? t21 : t22;
+    break L2;
+   }
+   L24: {
+    if (((b[((int) (l1 + 176L)) - 58912] & 0xff) & 255) != 1) { break L24; }
+    l3 = Words.get64(b, ((int) (l1 + 224L)) - 58912);
+    l2 = Words.get64(b, ((int) (l1 + 216L)) - 58912);
+    break L2;
+   }
+   l3 = Words.get64(b, ((int) (l1 + 88L)) - 58912);
+   l2 = Words.get64(b, ((int) (l1 + 80L)) - 58912);
+   l10 = Words.get64(b, ((int) (l1 + 56L)) - 58912);
+   L25: {
+    L26: {
+     switch ((int) (l9 & 255L)) {
+     case 1: break L26;
+     case 2: break L25;
+     default: break L2;
+     }
+    }
+    l2 = l7;
+    l3 = l10;
+    break L2;
+   }
+   l2 = Words.get64(b, ((int) (l1 + 144L)) - 58912);
+   L27: {
+    L28: {
+     L29: {
+      L30: {
+       switch ((int) (l8 & 255L)) {
+       case 1: break L29;
+       case 2: break L28;
+       case 3: break L27;
+       default: break L30;
+       }
+      }
+      l2 = l10;
+      l3 = l6;
+      break L2;
+     }
+     l3 = Words.get64(b, ((int) (l1 + 152L)) - 58912);
+     break L2;
+    }
+    Words.put64(b, ((int) l4) - 58872, 0L);
+    Words.put64(b, ((int) l4) - 58880, 0L);
+    Words.put64(b, ((int) l4) - 58888, 0L);
+    Words.put64(b, ((int) l4) - 58896, 0L);
+    Words.put64(b, ((int) l4) - 58904, 0L);
+    Core6.f192(m, l4 + 8L, l5, l2);
+    final long t31 = Words.get64(b, ((int) l4) - 58872);
+    final long t32 = l2;
+    final int t33 = l12 = ((b[((int) l4) - 58904] & 0xff) == 1) ? 1 : 0;
+    l3 = t33 != 0 ? t31 : t32;
+    final long t34 = Words.get64(b, ((int) l4) - 58880);
+    final long t35 = l5;
+    final int t36 = l12;
+    l2 = t36 != 0 ? t34 : t35;
+    break L2;
+   }
+   Words.put64(b, ((int) l4) - 58872, 0L);
+   Words.put64(b, ((int) l4) - 58880, 0L);
+   Words.put64(b, ((int) l4) - 58888, 0L);
+   Words.put64(b, ((int) l4) - 58896, 0L);
+   Words.put64(b, ((int) l4) - 58904, 0L);
+   Core6.f192(m, l4 + 8L, l7, l10);
+   final long t37 = Words.get64(b, ((int) l4) - 58872);
+   final long t38 = l10;
+   final int t39 = l12 = ((b[((int) l4) - 58904] & 0xff) == 1) ? 1 : 0;
+   l3 = t39 != 0 ? t37 : t38;
+   final long t40 = Words.get64(b, ((int) l4) - 58880);
+   final long t41 = l7;
+   final int t42 = l12;
+   l2 = t42 != 0 ? t40 : t41;
+  }
+  Words.put64(b, ((int) l0) - 58904, l3);
+  Words.put64(b, ((int) l0) - 58912, l2);
+  m.g0 = l4 + 48L;
+  return;
+ }
+ throw State.trap();
+}
+
+static void f227(State m, long l0, int l1, long l2, long l3) {
+ final byte[] b = m.bytes;
+ long l4 = 0;
+ long l5 = 0;
+ long l6 = 0;
+ long l7 = 0;
+ int l8 = 0;
+ int l9 = 0;
+ int l10 = 0;
+ int l11 = 0;
+ m.g0 = l4 = m.g0 - 16L;
+ L1: {
+  L2: {
+   L3: {
+    L4: {
+     L5: {
+      L6: {
+       L7: {
+        L8: {
+         if ((l5 = l4) < 16L) { break L8; }
+         L9: {
+          if ((l1 & 255) + Integer.MIN_VALUE >= -2147483643) { break L9; }
+          l4 = l2;
+          l6 = l3;
+          break L2;
+         }
+         l8 = 0;
+         if (l3 == 0L) { break L1; }
+         L10: while (true) {
+          L11: {
+           L12: {
+            if ((l1 = b[((int) l2) - 58912] & 0xff) + Integer.MIN_VALUE > -2147483616) { break L12; }
+            if (((1L << (l1 & 0xffffffffL)) & 4294983168L) == 0L) { break L12; }
+            l4 = 1L;
+            break L11;
+           }
+           L13: {
+            L14: {
+             L15: {
+              if (l1 == 194) { break L15; }
+              if (l3 + Long.MIN_VALUE < -9223372036854775805L) { break L14; }
+              if (((l1 + 28) & 255) + Integer.MIN_VALUE < -2147483395) { break L14; }
+              l9 = b[((int) (l2 + 1L)) - 58912] & 0xff;
+              l11 = (int) (byte) (l10 = b[((int) (l2 + 2L)) - 58912] & 0xff);
+              if (l1 != 226) { break L13; }
+              if ((l9 & 255) != 128) { break L13; }
+              l4 = 3L;
+              if (l11 < -117) { break L11; }
+              if ((l1 = l10 + -168) + Integer.MIN_VALUE > -2147483641) { break L7; }
+              if (((1 << l1) & 131) == 0) { break L7; }
+              break L11;
+             }
+             l7 = 1L;
+             l1 = b[((int) l2) - 58911] & 0xff;
+             L16: {
+              if (l3 != 1L) { break L16; }
+              l11 = l1 & 63;
+              l1 = 194;
+              break L5;
+             }
+             l4 = 2L;
+             if (l1 == 133) { break L11; }
+             if (l1 == 160) { break L11; }
+            }
+            if (l3 + Long.MIN_VALUE >= -9223372036854775805L) { break L7; }
+            l9 = b[((int) l2) - 58912] & 0xff;
+            break L6;
+           }
+           L17: {
+            L18: {
+             L19: {
+              L20: {
+               switch (l1 + -225) {
+               case 1: break L19;
+               case 2: break L18;
+               default: break L20;
+               }
+              }
+              if ((l9 & 255) != 154) { break L7; }
+              if (l11 != -128) { break L7; }
+              break L17;
+             }
+             if ((l9 & 255) != 129) { break L7; }
+             if (l11 == -97) { break L17; }
+             break L7;
+            }
+            if ((l9 & 255) != 128) { break L7; }
+            if (l11 != -128) { break L7; }
+           }
+           l4 = 3L;
+          }
+          l2 = l2 + l4;
+          if (!((l3 = l3 - l4) == 0L)) { continue L10; }
+          break L1;
+         }
+        }
+        throw State.trap();
+       }
+       if (((l9 = b[((int) l2) - 58912] & 0xff) & 240) != 224) { break L6; }
+       l1 = (((b[((int) l2) - 58910] & 0xff) + ((b[((int) l2) - 58911] & 0xff) << 6)) + (l9 << 12)) + -925824;
+       l6 = l3 + -3L;
+       l4 = l2 + 3L;
+       l7 = l3;
+       break L3;
+      }
+      l1 = l9 & 255;
+      l4 = 1L;
+      L21: {
+       if (((int) (byte) l9) > -1) { break L21; }
+       l11 = (b[((int) l2) - 58911] & 0xff) & 63;
+       L22: {
+        if ((l9 & 255) + Integer.MIN_VALUE > -2147483425) { break L22; }
+        l7 = l3;
+        break L5;
+       }
+       l10 = (b[((int) l2) - 58910] & 0xff) & 63;
+       L23: {
+        if ((l9 & 255) + Integer.MIN_VALUE > -2147483409) { break L23; }
+        l1 = ((l11 << 6) | ((l1 << 12) & 61440)) | l10;
+        l4 = 3L;
+        break L21;
+       }
+       l1 = ((l10 << 6) | ((l11 << 12) | ((l1 << 18) & 1835008))) | ((b[((int) l2) - 58909] & 0xff) & 63);
+       l4 = 4L;
+      }
+      l7 = l3;
+      break L4;
+     }
+     l1 = ((l1 << 6) & 1984) | l11;
+     l4 = 2L;
+    }
+    l6 = l7 - l4;
+    l4 = l2 + l4;
+   }
+   if (l1 == 27491) { break L2; }
+   if (l1 == 36000) { break L2; }
+   if (l1 == 36127) { break L2; }
+   l4 = l2;
+   l6 = l7;
+  }
+  l8 = 0;
+  if (l6 == 0L) { break L1; }
+  L24: while (true) {
+   l1 = (l9 = (int) b[((int) l4) - 58912]) & 255;
+   l2 = 1L;
+   L25: {
+    if (l9 > -1) { break L25; }
+    l11 = (b[((int) l4) - 58911] & 0xff) & 63;
+    L26: {
+     if (l9 + Integer.MIN_VALUE > 2147483615) { break L26; }
+     l1 = ((l1 << 6) & 1984) | l11;
+     l2 = 2L;
+     break L25;
+    }
+    l10 = (b[((int) l4) - 58910] & 0xff) & 63;
+    L27: {
+     if (l9 + Integer.MIN_VALUE > 2147483631) { break L27; }
+     l1 = ((l11 << 6) | ((l1 << 12) & 61440)) | l10;
+     l2 = 3L;
+     break L25;
+    }
+    l1 = ((l10 << 6) | ((l11 << 12) | ((l1 << 18) & 1835008))) | ((b[((int) l4) - 58909] & 0xff) & 63);
+    l2 = 4L;
+   }
+   Core2.f63(m, l5 + 8L, l1);
+   L28: {
+    if ((b[((int) l5) - 58904] & 0xff) == 1) { break L28; }
+    L29: {
+     if (l1 + Integer.MIN_VALUE > -2147483521) { break L29; }
+     if ((l1 + -9) + Integer.MIN_VALUE < -2147483643) { break L28; }
+     if (l1 == 32) { break L28; }
+     l8 = 1;
+     break L1;
+    }
+    if (l1 == 12288) { break L28; }
+    if (l1 == 8287) { break L28; }
+    if (l1 == 8239) { break L28; }
+    if ((l1 & 2097150) == 8232) { break L28; }
+    if ((l1 + -8192) + Integer.MIN_VALUE < -2147483637) { break L28; }
+    if (l1 == 5760) { break L28; }
+    if (l1 == 133) { break L28; }
+    if (l1 == 160) { break L28; }
+    l8 = 1;
+    break L1;
+   }
+   l4 = l4 + l2;
+   if ((l6 = l6 - l2) != 0L) { continue L24; }
+   break L24;
+  }
+ }
+ b[((int) l0) - 58911] = (byte) l8;
+ b[((int) l0) - 58912] = (byte) l8;
+ m.g0 = l5 + 16L;
+}
+
+static void f228(State m, long l0, int l1, int l2, int l3, long l4, long l5) {
+ final byte[] b = m.bytes;
+ long l6 = 0;
+ long l7 = 0;
+ long l8 = 0;
+ long l9 = 0;
+ long l10 = 0;
+ long l11 = 0;
+ long l12 = 0;
+ int l13 = 0;
+ int l14 = 0;
+ int l15 = 0;
+ int l16 = 0;
+ m.g0 = l6 = m.g0 - 32L;
  L1: {
   L2: {
    L3: {
@@ -2396,3164 +5435,695 @@ static int f265(State m, long l0, long l1, int l2, int l3, int l4, long l5, long
          L9: {
           L10: {
            L11: {
-            if ((l8 = l8) < 16L) { break L11; }
-            m.fill((int) (l8 + 72L), 0, (int) 512L);
-            Words.put64(b, ((int) l7) - 60720, 0L);
-            Words.put64(b, ((int) l8) - 60656, 0L);
-            Words.put64(b, ((int) l8) - 60664, 0L);
-            Words.put64(b, ((int) l8) - 60672, 0L);
             L12: {
              L13: {
-              if (l3 + Integer.MIN_VALUE > -2147483644) { break L13; }
-              l14 = b[((int) ((l9 = (l3 & 0xffffffffL) << 1L) + 85585L)) - 60720] & 0xff;
-              l15 = b[((int) (l9 + 85584L)) - 60720] & 0xff;
-              l16 = 1;
-              l17 = 1;
-              break L12;
-             }
-             l17 = (l3 != 5) ? 1 : 0;
-             l16 = (l3 == 5) ? 1 : 0;
-             l15 = 0;
-             l14 = 0;
-            }
-            l3 = 8;
-            if (l2 + Integer.MIN_VALUE > -2147483639) { break L1; }
-            if (l16 == 0) { break L1; }
-            if (l4 + Integer.MIN_VALUE > -2147483646) { break L1; }
-            l9 = l1;
-            l0 = l10 = l0 + ((l0 == 0L) ? 4096L : 0L);
-            L14: {
-             L15: {
-              L16: {
-               if (l1 + Long.MIN_VALUE < -9223372036854775804L) { break L16; }
-               l0 = l10;
-               l9 = l1;
-               L17: while (true) {
-                if (((Words.get32(b, ((int) l0) - 60720) + 16776990) & 12632312) != 8421376) { break L15; }
-                l0 = l0 + 3L;
-                if ((l9 = l9 + -3L) + Long.MIN_VALUE > -9223372036854775805L) { continue L17; }
-                break L17;
-               }
-              }
-              if (l9 + Long.MIN_VALUE > -9223372036854775805L) { break L15; }
-              L18: {
-               switch ((int) l9) {
-               case 1: case 2: break L15;
-               case 3: break L18;
-               default: break L14;
-               }
-              }
-              if (((((Words.get16(b, ((int) l0) - 60720) & 0xffff) | ((b[((int) (l0 + 2L)) - 60720] & 0xff) << 16)) + 16776990) & 12632312) == 8421376) { break L14; }
-             }
-             if (Core1.f6(m, l10, l1) != 0) { break L14; }
-             l3 = 5;
-             break L1;
-            }
-            l2 = (l2 + Integer.MIN_VALUE < -2147483638) ? l2 : 0;
-            m.fill((int) (l8 + 72L), 0, (int) 512L);
-            Words.put64(b, ((int) l8) - 60656, 0L);
-            Words.put64(b, ((int) l8) - 60664, 512L);
-            Words.put64(b, ((int) l8) - 60672, l8 + 72L);
-            L19: {
-             if (l17 != 0) { break L19; }
-             Core5.f163(m, l8 + 40L, l2, l10, l1);
-             l14 = b[((int) l8) - 60679] & 0xff;
-             l15 = b[((int) l8) - 60680] & 0xff;
-            }
-            m.fill((int) (l8 + 584L), 0, (int) 72L);
-            if ((l15 & 255) != 0) { break L10; }
-            l11 = 0L;
-            Words.put64(b, ((int) l8) - 60040, 0L);
-            Words.put64(b, ((int) l8) - 60048, 0L);
-            Words.put64(b, ((int) l8) - 60056, 0L);
-            Words.put64(b, ((int) l8) - 60064, 0L);
-            l0 = l10;
-            l12 = l1;
-            L20: {
-             L21: {
-              L22: {
-               if ((l2 & 255) + Integer.MIN_VALUE < -2147483643) { break L22; }
-               l11 = 0L;
-               L23: {
-                if (!(l1 == 0L)) { break L23; }
-                l0 = l10;
-                l12 = 0L;
-                break L22;
-               }
-               l12 = l1;
-               l0 = l10;
-               L24: {
-                L25: {
-                 L26: {
-                  L27: {
-                   L28: {
-                    L29: {
-                     L30: {
-                      L31: while (true) {
-                       L32: {
-                        L33: {
-                         if ((l3 = b[((int) l0) - 60720] & 0xff) + Integer.MIN_VALUE > -2147483616) { break L33; }
-                         if (((1L << (l3 & 0xffffffffL)) & 4294983168L) == 0L) { break L33; }
-                         l9 = 1L;
-                         break L32;
-                        }
-                        L34: {
-                         L35: {
-                          if (l3 == 194) { break L35; }
-                          if ((l16 = (l12 + Long.MIN_VALUE < -9223372036854775805L) ? 1 : 0) != 0) { break L30; }
-                          if (((l3 + 28) & 255) + Integer.MIN_VALUE < -2147483395) { break L30; }
-                          l16 = b[((int) (l0 + 1L)) - 60720] & 0xff;
-                          l17 = (int) (byte) (l18 = b[((int) (l0 + 2L)) - 60720] & 0xff);
-                          if (l3 != 226) { break L34; }
-                          if ((l16 & 255) != 128) { break L34; }
-                          l9 = 3L;
-                          if (l17 < -117) { break L32; }
-                          l3 = -128;
-                          l16 = 128;
-                          if ((l18 = l18 + -168) + Integer.MIN_VALUE > -2147483641) { break L29; }
-                          if (((1 << l18) & 131) != 0) { break L32; }
-                          break L29;
-                         }
-                         l3 = b[((int) l0) - 60719] & 0xff;
-                         L36: {
-                          if (l12 != 1L) { break L36; }
-                          l16 = l3 & 63;
-                          l3 = 194;
-                          break L27;
-                         }
-                         l9 = 2L;
-                         if (l3 == 133) { break L32; }
-                         if (l3 == 160) { break L32; }
-                         l16 = l3 & 63;
-                         l3 = 194;
-                         break L27;
-                        }
-                        L37: {
-                         L38: {
-                          L39: {
-                           L40: {
-                            switch (l3 + -225) {
-                            case 1: break L39;
-                            case 2: break L38;
-                            default: break L40;
-                            }
-                           }
-                           l3 = -4224;
-                           if ((l16 & 255) != 154) { break L29; }
-                           if (l17 == -128) { break L37; }
-                           break L29;
-                          }
-                          l3 = -128;
-                          if ((l16 & 255) != 129) { break L29; }
-                          if (l17 == -97) { break L37; }
-                          break L29;
-                         }
-                         l3 = 3968;
-                         if ((l16 & 255) != 128) { break L29; }
-                         if (l17 != -128) { break L29; }
-                        }
-                        l9 = 3L;
-                       }
-                       l11 = l11 + 1L;
-                       l0 = l0 + l9;
-                       if (!((l12 = l12 - l9) == 0L)) { continue L31; }
-                       break L31;
-                      }
-                      l12 = 0L;
-                      break L22;
-                     }
-                     if (l16 != 0) { break L28; }
-                     if ((l3 & 240) != 224) { break L28; }
-                     l3 = (l3 << 12) + -925824;
-                     l17 = b[((int) l0) - 60718] & 0xff;
-                     l16 = b[((int) l0) - 60719] & 0xff;
-                    }
-                    l3 = (l3 + (l17 & 255)) + ((l16 & 255) << 6);
-                    l13 = l12 + -3L;
-                    l9 = l0 + 3L;
-                    break L24;
+              L14: {
+               L15: {
+                L16: {
+                 L17: {
+                  L18: {
+                   if ((l7 = l6) < 16L) { break L18; }
+                   if ((l2 & 255) != 0) { break L17; }
+                   l8 = 0L;
+                   Words.put64(b, ((int) l7) - 58888, 0L);
+                   Words.put64(b, ((int) l7) - 58896, 0L);
+                   Words.put64(b, ((int) l7) - 58904, 0L);
+                   Words.put64(b, ((int) l7) - 58912, 0L);
+                   l6 = l4;
+                   l9 = l5;
+                   if ((l1 & 255) + Integer.MIN_VALUE < -2147483643) { break L10; }
+                   l9 = 0L;
+                   L19: {
+                    if (!(l5 == 0L)) { break L19; }
+                    l8 = 0L;
+                    l6 = l4;
+                    break L10;
                    }
-                   l9 = 1L;
-                   if (((int) (byte) l3) > -1) { break L25; }
-                   l16 = (b[((int) l0) - 60719] & 0xff) & 63;
-                   if (l3 + Integer.MIN_VALUE > -2147483425) { break L26; }
-                  }
-                  l3 = ((l3 << 6) & 1984) | l16;
-                  l9 = 2L;
-                  break L25;
-                 }
-                 l17 = (b[((int) l0) - 60718] & 0xff) & 63;
-                 L41: {
-                  if (l3 + Integer.MIN_VALUE > -2147483409) { break L41; }
-                  l3 = ((l16 << 6) | ((l3 << 12) & 61440)) | l17;
-                  l9 = 3L;
-                  break L25;
-                 }
-                 l3 = ((l17 << 6) | ((l16 << 12) | ((l3 << 18) & 1835008))) | ((b[((int) l0) - 60717] & 0xff) & 63);
-                 l9 = 4L;
-                }
-                l13 = l12 - l9;
-                l9 = l0 + l9;
-               }
-               if (l3 == 27491) { break L21; }
-               if (l3 == 36000) { break L20; }
-               if (l3 == 36127) { break L20; }
-              }
-              Core2.f39(m, l8 + 656L, l11, l0, l12);
-              break L9;
-             }
-             Core2.f39(m, l8 + 656L, l11 + 1L, l9, l13);
-             break L9;
-            }
-            Core2.f39(m, l8 + 656L, l11 + 1L, l9, l13);
-            l3 = 3;
-            l16 = 1;
-            break L8;
-           }
-           throw State.trap();
-          }
-          l11 = 0L;
-          Words.put64(b, ((int) l8) - 60040, 0L);
-          Words.put64(b, ((int) l8) - 60048, 0L);
-          Words.put64(b, ((int) l8) - 60056, 0L);
-          Words.put64(b, ((int) l8) - 60064, 0L);
-          l0 = l10;
-          l12 = l1;
-          L42: {
-           L43: {
-            L44: {
-             L45: {
-              L46: {
-               if ((l2 & 255) + Integer.MIN_VALUE < -2147483643) { break L46; }
-               l11 = 0L;
-               L47: {
-                if (!(l1 == 0L)) { break L47; }
-                l0 = l10;
-                l12 = 0L;
-                break L46;
-               }
-               l12 = l1;
-               l0 = l10;
-               L48: {
-                L49: {
-                 L50: {
-                  L51: {
-                   L52: {
-                    L53: {
-                     L54: {
-                      L55: while (true) {
-                       L56: {
-                        L57: {
-                         if ((l3 = b[((int) l0) - 60720] & 0xff) + Integer.MIN_VALUE > -2147483616) { break L57; }
-                         if (((1L << (l3 & 0xffffffffL)) & 4294983168L) == 0L) { break L57; }
-                         l9 = 1L;
-                         break L56;
-                        }
-                        L58: {
-                         L59: {
-                          if (l3 == 194) { break L59; }
-                          if ((l16 = (l12 + Long.MIN_VALUE < -9223372036854775805L) ? 1 : 0) != 0) { break L54; }
-                          if (((l3 + 28) & 255) + Integer.MIN_VALUE < -2147483395) { break L54; }
-                          l16 = b[((int) (l0 + 1L)) - 60720] & 0xff;
-                          l17 = (int) (byte) (l18 = b[((int) (l0 + 2L)) - 60720] & 0xff);
-                          if (l3 != 226) { break L58; }
-                          if ((l16 & 255) != 128) { break L58; }
-                          l9 = 3L;
-                          if (l17 < -117) { break L56; }
-                          l3 = -128;
-                          l16 = 128;
-                          if ((l18 = l18 + -168) + Integer.MIN_VALUE > -2147483641) { break L53; }
-                          if (((1 << l18) & 131) != 0) { break L56; }
-                          break L53;
+                   l10 = 1L;
+                   l8 = l5;
+                   l6 = l4;
+                   L20: while (true) {
+                    L21: {
+                     L22: {
+                      if ((l13 = b[((int) l6) - 58912] & 0xff) + Integer.MIN_VALUE > -2147483616) { break L22; }
+                      l9 = 1L;
+                      if (((1L << (l13 & 0xffffffffL)) & 4294983168L) != 0L) { break L21; }
+                     }
+                     L23: {
+                      if (l13 != 194) { break L23; }
+                      l9 = 1L;
+                      l13 = b[((int) l6) - 58911] & 0xff;
+                      L24: {
+                       if (l8 != 1L) { break L24; }
+                       l14 = l13 & 63;
+                       l13 = 194;
+                       break L13;
+                      }
+                      l9 = 2L;
+                      if (l13 == 133) { break L21; }
+                      if (l13 == 160) { break L21; }
+                      break L16;
+                     }
+                     if (l8 + Long.MIN_VALUE < -9223372036854775805L) { break L16; }
+                     if (((l13 + 28) & 255) + Integer.MIN_VALUE < -2147483395) { break L16; }
+                     l3 = b[((int) (l6 + 1L)) - 58912] & 0xff;
+                     l14 = (int) (byte) (l15 = b[((int) (l6 + 2L)) - 58912] & 0xff);
+                     L25: {
+                      if (l13 != 226) { break L25; }
+                      if ((l3 & 255) != 128) { break L25; }
+                      l9 = 3L;
+                      if (l14 < -117) { break L21; }
+                      if ((l13 = l15 + -168) + Integer.MIN_VALUE > -2147483641) { break L15; }
+                      if (((1 << l13) & 131) == 0) { break L15; }
+                      break L21;
+                     }
+                     L26: {
+                      L27: {
+                       L28: {
+                        L29: {
+                         switch (l13 + -225) {
+                         case 1: break L28;
+                         case 2: break L27;
+                         default: break L29;
                          }
-                         l3 = b[((int) l0) - 60719] & 0xff;
-                         L60: {
-                          if (l12 != 1L) { break L60; }
-                          l16 = l3 & 63;
-                          l3 = 194;
+                        }
+                        if ((l3 & 255) != 154) { break L15; }
+                        if (l14 != -128) { break L15; }
+                        break L26;
+                       }
+                       if ((l3 & 255) != 129) { break L15; }
+                       if (l14 == -97) { break L26; }
+                       break L15;
+                      }
+                      if ((l3 & 255) != 128) { break L15; }
+                      if (l14 != -128) { break L15; }
+                     }
+                     l9 = 3L;
+                    }
+                    l10 = l10 + 1L;
+                    l6 = l6 + l9;
+                    if (!((l8 = l8 - l9) == 0L)) { continue L20; }
+                    break L20;
+                   }
+                   l8 = l10 + -1L;
+                   l9 = 0L;
+                   break L10;
+                  }
+                  throw State.trap();
+                 }
+                 l8 = 0L;
+                 Words.put64(b, ((int) l7) - 58888, 0L);
+                 Words.put64(b, ((int) l7) - 58896, 0L);
+                 Words.put64(b, ((int) l7) - 58904, 0L);
+                 Words.put64(b, ((int) l7) - 58912, 0L);
+                 l6 = l4;
+                 l9 = l5;
+                 L30: {
+                  L31: {
+                   L32: {
+                    L33: {
+                     if ((l1 & 255) + Integer.MIN_VALUE < -2147483643) { break L33; }
+                     l9 = 0L;
+                     L34: {
+                      if (!(l5 == 0L)) { break L34; }
+                      l8 = 0L;
+                      l6 = l4;
+                      break L33;
+                     }
+                     l10 = 1L;
+                     l8 = l5;
+                     l6 = l4;
+                     L35: {
+                      L36: {
+                       L37: {
+                        L38: {
+                         L39: {
+                          L40: {
+                           L41: while (true) {
+                            L42: {
+                             L43: {
+                              if ((l13 = b[((int) l6) - 58912] & 0xff) + Integer.MIN_VALUE > -2147483616) { break L43; }
+                              l9 = 1L;
+                              if (((1L << (l13 & 0xffffffffL)) & 4294983168L) != 0L) { break L42; }
+                             }
+                             L44: {
+                              if (l13 != 194) { break L44; }
+                              l9 = 1L;
+                              l13 = b[((int) l6) - 58911] & 0xff;
+                              L45: {
+                               if (l8 != 1L) { break L45; }
+                               l15 = l13 & 63;
+                               l13 = 194;
+                               break L37;
+                              }
+                              l9 = 2L;
+                              if (l13 == 133) { break L42; }
+                              if (l13 == 160) { break L42; }
+                              break L40;
+                             }
+                             if (l8 + Long.MIN_VALUE < -9223372036854775805L) { break L40; }
+                             if (((l13 + 28) & 255) + Integer.MIN_VALUE < -2147483395) { break L40; }
+                             l14 = b[((int) (l6 + 1L)) - 58912] & 0xff;
+                             l15 = (int) (byte) (l16 = b[((int) (l6 + 2L)) - 58912] & 0xff);
+                             L46: {
+                              if (l13 != 226) { break L46; }
+                              if ((l14 & 255) != 128) { break L46; }
+                              l9 = 3L;
+                              if (l15 < -117) { break L42; }
+                              if ((l13 = l16 + -168) + Integer.MIN_VALUE > -2147483641) { break L39; }
+                              if (((1 << l13) & 131) == 0) { break L39; }
+                              break L42;
+                             }
+                             L47: {
+                              L48: {
+                               L49: {
+                                L50: {
+                                 switch (l13 + -225) {
+                                 case 1: break L49;
+                                 case 2: break L48;
+                                 default: break L50;
+                                 }
+                                }
+                                if ((l14 & 255) != 154) { break L39; }
+                                if (l15 != -128) { break L39; }
+                                break L47;
+                               }
+                               if ((l14 & 255) != 129) { break L39; }
+                               if (l15 == -97) { break L47; }
+                               break L39;
+                              }
+                              if ((l14 & 255) != 128) { break L39; }
+                              if (l15 != -128) { break L39; }
+                             }
+                             l9 = 3L;
+                            }
+                            l10 = l10 + 1L;
+                            l6 = l6 + l9;
+                            if (!((l8 = l8 - l9) == 0L)) { continue L41; }
+                            break L41;
+                           }
+                           l8 = l10 + -1L;
+                           l9 = 0L;
+                           break L33;
+                          }
+                          if (l8 + Long.MIN_VALUE >= -9223372036854775805L) { break L39; }
+                          l14 = b[((int) l6) - 58912] & 0xff;
+                          break L38;
+                         }
+                         if (((l14 = b[((int) l6) - 58912] & 0xff) & 240) != 224) { break L38; }
+                         l13 = (((b[((int) l6) - 58910] & 0xff) + ((b[((int) l6) - 58911] & 0xff) << 6)) + (l14 << 12)) + -925824;
+                         l11 = l8 + -3L;
+                         l12 = l6 + 3L;
+                         l9 = l8;
+                         break L35;
+                        }
+                        l13 = l14 & 255;
+                        l12 = 1L;
+                        L51: {
+                         if (((int) (byte) l14) > -1) { break L51; }
+                         l15 = (b[((int) l6) - 58911] & 0xff) & 63;
+                         L52: {
+                          if ((l14 & 255) + Integer.MIN_VALUE > -2147483425) { break L52; }
+                          l9 = l8;
+                          break L37;
+                         }
+                         l16 = (b[((int) l6) - 58910] & 0xff) & 63;
+                         L53: {
+                          if ((l14 & 255) + Integer.MIN_VALUE > -2147483409) { break L53; }
+                          l13 = ((l15 << 6) | ((l13 << 12) & 61440)) | l16;
+                          l12 = 3L;
                           break L51;
                          }
-                         l9 = 2L;
-                         if (l3 == 133) { break L56; }
-                         if (l3 == 160) { break L56; }
-                         l16 = l3 & 63;
-                         l3 = 194;
-                         break L51;
+                         l13 = ((l16 << 6) | ((l15 << 12) | ((l13 << 18) & 1835008))) | ((b[((int) l6) - 58909] & 0xff) & 63);
+                         l12 = 4L;
                         }
-                        L61: {
-                         L62: {
-                          L63: {
-                           L64: {
-                            switch (l3 + -225) {
-                            case 1: break L63;
-                            case 2: break L62;
-                            default: break L64;
-                            }
-                           }
-                           l3 = -4224;
-                           if ((l16 & 255) != 154) { break L53; }
-                           if (l17 == -128) { break L61; }
-                           break L53;
-                          }
-                          l3 = -128;
-                          if ((l16 & 255) != 129) { break L53; }
-                          if (l17 == -97) { break L61; }
-                          break L53;
-                         }
-                         l3 = 3968;
-                         if ((l16 & 255) != 128) { break L53; }
-                         if (l17 != -128) { break L53; }
-                        }
-                        l9 = 3L;
+                        l9 = l8;
+                        break L36;
                        }
-                       l11 = l11 + 1L;
-                       l0 = l0 + l9;
-                       if (!((l12 = l12 - l9) == 0L)) { continue L55; }
-                       break L55;
+                       l13 = ((l13 << 6) & 1984) | l15;
+                       l12 = 2L;
                       }
-                      l12 = 0L;
-                      break L46;
+                      l11 = l9 - l12;
+                      l12 = l6 + l12;
                      }
-                     if (l16 != 0) { break L52; }
-                     if ((l3 & 240) != 224) { break L52; }
-                     l3 = (l3 << 12) + -925824;
-                     l17 = b[((int) l0) - 60718] & 0xff;
-                     l16 = b[((int) l0) - 60719] & 0xff;
+                     L54: {
+                      if (l13 != 27491) { break L54; }
+                      l14 = 0;
+                      break L31;
+                     }
+                     if (l13 == 36000) { break L32; }
+                     if (l13 == 36127) { break L32; }
+                     l8 = l10 + -1L;
                     }
-                    l3 = (l3 + (l17 & 255)) + ((l16 & 255) << 6);
-                    l13 = l12 + -3L;
-                    l9 = l0 + 3L;
-                    break L48;
+                    Core2.f38(m, l7, l3, l8, l6, l9);
+                    l13 = 2;
+                    l14 = 0;
+                    break L30;
                    }
-                   l9 = 1L;
-                   if (((int) (byte) l3) > -1) { break L49; }
-                   l16 = (b[((int) l0) - 60719] & 0xff) & 63;
-                   if (l3 + Integer.MIN_VALUE > -2147483425) { break L50; }
+                   l14 = 1;
                   }
-                  l3 = ((l3 << 6) & 1984) | l16;
-                  l9 = 2L;
-                  break L49;
+                  Core2.f38(m, l7, l3, l10, l12, l11);
+                  l13 = l14 != 0 ? 3 : 2;
                  }
-                 l17 = (b[((int) l0) - 60718] & 0xff) & 63;
-                 L65: {
-                  if (l3 + Integer.MIN_VALUE > -2147483409) { break L65; }
-                  l3 = ((l16 << 6) | ((l3 << 12) & 61440)) | l17;
-                  l9 = 3L;
-                  break L49;
+                 l9 = Words.get64(b, ((int) l7) - 58888);
+                 l6 = Words.get64(b, ((int) l7) - 58896);
+                 L55: {
+                  if ((b[((int) l7) - 58912] & 0xff) != 0) { break L55; }
+                  final int t56 = (l6 + Long.MIN_VALUE > Words.get64(b, ((int) (l8 = (((l1 & 0xffffffffL) & 255L) << 5L) + (l14 != 0 ? 67904L : 67888L))) - 58912) + Long.MIN_VALUE) ? 1 : 0;
+                  final int t57 = (l9 + Long.MIN_VALUE > (l6 = Words.get64(b, ((int) l8) - 58904)) + Long.MIN_VALUE) ? 1 : 0;
+                  final int t58 = (l9 == l6) ? 1 : 0;
+                  if ((t58 != 0 ? t56 : t57) != 0) { break L6; }
+                  l6 = l14 & 0xffffffffL;
+                  break L4;
                  }
-                 l3 = ((l17 << 6) | ((l16 << 12) | ((l3 << 18) & 1835008))) | ((b[((int) l0) - 60717] & 0xff) & 63);
-                 l9 = 4L;
+                 final int t59 = l13;
+                 final int t60 = l1 = b[((int) l7) - 58904] & 0xff;
+                 final int t61 = l1 = (l1 == 2) ? 1 : 0;
+                 l13 = t61 != 0 ? t59 : t60;
+                 l6 = l1 != 0 ? 0L : l6;
+                 break L2;
                 }
-                l13 = l12 - l9;
-                l9 = l0 + l9;
+                if (l8 + Long.MIN_VALUE >= -9223372036854775805L) { break L15; }
+                l3 = b[((int) l6) - 58912] & 0xff;
+                break L14;
                }
-               if (l3 == 27491) { break L45; }
-               if (l3 == 36000) { break L44; }
-               if (l3 == 36127) { break L44; }
+               if (((l3 = b[((int) l6) - 58912] & 0xff) & 240) != 224) { break L14; }
+               l13 = (((b[((int) l6) - 58910] & 0xff) + ((b[((int) l6) - 58911] & 0xff) << 6)) + (l3 << 12)) + -925824;
+               l11 = l8 + -3L;
+               l12 = l6 + 3L;
+               l9 = l8;
+               break L11;
               }
-              Core2.f38(m, l8 + 656L, l14, l11, l0, l12);
-              break L43;
-             }
-             Core2.f38(m, l8 + 656L, l14, l11 + 1L, l9, l13);
-             break L43;
-            }
-            Core2.f38(m, l8 + 656L, l14, l11 + 1L, l9, l13);
-            l3 = 3;
-            l16 = 1;
-            break L42;
-           }
-           l3 = 2;
-           l16 = 0;
-          }
-          l9 = Words.get64(b, ((int) l8) - 60040);
-          l0 = Words.get64(b, ((int) l8) - 60048);
-          L66: {
-           if ((b[((int) l8) - 60064] & 0xff) != 0) { break L66; }
-           final int t67 = (l0 + Long.MIN_VALUE > Words.get64(b, ((int) (l12 = (((l2 & 0xffffffffL) & 255L) << 5L) + (l16 != 0 ? 67904L : 67888L))) - 60720) + Long.MIN_VALUE) ? 1 : 0;
-           final int t68 = (l9 + Long.MIN_VALUE > (l0 = Words.get64(b, ((int) l12) - 60712)) + Long.MIN_VALUE) ? 1 : 0;
-           final int t69 = (l9 == l0) ? 1 : 0;
-           if ((t69 != 0 ? t67 : t68) != 0) { break L7; }
-           l0 = l16 & 0xffffffffL;
-           break L5;
-          }
-          final int t70 = l3;
-          final int t71 = l16 = b[((int) l8) - 60056] & 0xff;
-          final int t72 = l16 = (l16 == 2) ? 1 : 0;
-          l3 = t72 != 0 ? t70 : t71;
-          l0 = l16 != 0 ? 0L : l0;
-          break L3;
-         }
-         l3 = 2;
-         l16 = 0;
-        }
-        l9 = Words.get64(b, ((int) l8) - 60040);
-        l0 = Words.get64(b, ((int) l8) - 60048);
-        if ((b[((int) l8) - 60064] & 0xff) != 0) { break L4; }
-        final int t73 = (l0 + Long.MIN_VALUE > Words.get64(b, ((int) (l12 = (((l2 & 0xffffffffL) & 255L) << 5L) + (l16 != 0 ? 67904L : 67888L))) - 60720) + Long.MIN_VALUE) ? 1 : 0;
-        final int t74 = (l9 + Long.MIN_VALUE > (l0 = Words.get64(b, ((int) l12) - 60712)) + Long.MIN_VALUE) ? 1 : 0;
-        final int t75 = (l9 == l0) ? 1 : 0;
-        if ((t75 != 0 ? t73 : t74) == 0) { break L6; }
-       }
-       l16 = 1;
-       l0 = 0L;
-       break L2;
-      }
-      l0 = l16 & 0xffffffffL;
-     }
-     l16 = 0;
-     l3 = 0;
-     break L2;
-    }
-    final int t76 = l3;
-    final int t77 = l16 = b[((int) l8) - 60056] & 0xff;
-    final int t78 = l16 = (l16 == 2) ? 1 : 0;
-    l3 = t78 != 0 ? t76 : t77;
-    l0 = l16 != 0 ? 0L : l0;
-   }
-   l16 = 1;
-  }
-  Core5.f164(m, l8 + 32L, l2, l15, l14, l10, l1);
-  L79: {
-   if (l16 == 0) { break L79; }
-   if (((b[((int) l8) - 60688] & 0xff) & 255) != 1) { break L79; }
-   l2 = (l4 + Integer.MIN_VALUE < -2147483645) ? l4 : 0;
-   l16 = b[((int) l8) - 60687] & 0xff;
-   l0 = (l3 == 1) ? l0 : 0L;
-   L80: {
-    L81: {
-     L82: {
-      L83: {
-       L84: {
-        L85: {
-         L86: {
-          L87: {
-           L88: {
-            L89: {
-             L90: {
-              if ((l15 & 255) != 0) { break L90; }
-              l3 = 28;
-              switch ((int) ((l16 & 0xffffffffL) & 255L)) {
-              case 1: break L88;
-              case 2: break L87;
-              case 3: break L86;
-              case 4: break L80;
-              case 5: break L84;
-              case 6: break L89;
-              case 7: break L83;
-              case 8: break L82;
-              default: break L81;
+              l13 = l3 & 255;
+              l12 = 1L;
+              L62: {
+               if (((int) (byte) l3) > -1) { break L62; }
+               l14 = (b[((int) l6) - 58911] & 0xff) & 63;
+               L63: {
+                if ((l3 & 255) + Integer.MIN_VALUE > -2147483425) { break L63; }
+                l9 = l8;
+                break L13;
+               }
+               l15 = (b[((int) l6) - 58910] & 0xff) & 63;
+               L64: {
+                if ((l3 & 255) + Integer.MIN_VALUE > -2147483409) { break L64; }
+                l13 = ((l14 << 6) | ((l13 << 12) & 61440)) | l15;
+                l12 = 3L;
+                break L62;
+               }
+               l13 = ((l15 << 6) | ((l14 << 12) | ((l13 << 18) & 1835008))) | ((b[((int) l6) - 58909] & 0xff) & 63);
+               l12 = 4L;
               }
+              l9 = l8;
+              break L12;
              }
-             l3 = 23;
-             switch ((int) ((l16 & 0xffffffffL) & 255L)) {
-             case 1: break L88;
-             case 2: break L87;
-             case 3: break L86;
-             case 4: break L85;
-             case 5: break L84;
-             case 6: break L89;
-             case 7: break L83;
-             case 8: break L82;
-             default: break L80;
-             }
+             l13 = ((l13 << 6) & 1984) | l14;
+             l12 = 2L;
             }
-            Core1.f30(m, l8 + 16L, l10, l1, l0);
-            l9 = Words.get64(b, ((int) l8) - 60696);
-            l12 = Words.get64(b, ((int) l8) - 60704);
-            Core2.f55(m, l8, l10, l1, l0);
-            l3 = Core1.f31(m, l12, l9, Words.get64(b, ((int) l8) - 60720), Words.get64(b, ((int) l8) - 60712)) != 0 ? 31 : 30;
-            break L80;
+            l11 = l9 - l12;
+            l12 = l6 + l12;
            }
-           l3 = 24;
-           break L80;
+           L65: {
+            if (l13 != 27491) { break L65; }
+            l3 = 0;
+            break L8;
+           }
+           if (l13 == 36000) { break L9; }
+           if (l13 == 36127) { break L9; }
+           l8 = l10 + -1L;
           }
-          l3 = 25;
-          break L80;
+          Core2.f39(m, l7, l8, l6, l9);
+          l13 = 2;
+          l3 = 0;
+          break L7;
          }
-         l3 = 26;
-         break L80;
+         l3 = 1;
         }
-        l3 = 27;
-        break L80;
+        Core2.f39(m, l7, l10, l12, l11);
+        l13 = l3 != 0 ? 3 : 2;
        }
-       l3 = 29;
-       break L80;
+       l9 = Words.get64(b, ((int) l7) - 58888);
+       l6 = Words.get64(b, ((int) l7) - 58896);
+       if ((b[((int) l7) - 58912] & 0xff) != 0) { break L3; }
+       final int t66 = (l6 + Long.MIN_VALUE > Words.get64(b, ((int) (l8 = (((l1 & 0xffffffffL) & 255L) << 5L) + (l3 != 0 ? 67904L : 67888L))) - 58912) + Long.MIN_VALUE) ? 1 : 0;
+       final int t67 = (l9 + Long.MIN_VALUE > (l6 = Words.get64(b, ((int) l8) - 58904)) + Long.MIN_VALUE) ? 1 : 0;
+       final int t68 = (l9 == l6) ? 1 : 0;
+       if ((t68 != 0 ? t66 : t67) == 0) { break L5; }
       }
-      l3 = 32;
-      break L80;
+      l1 = 1;
+      l6 = 0L;
+      break L1;
      }
-     l3 = 33;
-     break L80;
+     l6 = l3 & 0xffffffffL;
     }
-    l3 = 23;
-   }
-   Words.put32(b, ((int) l8) - 60135, 0);
-   b[((int) l8) - 60136] = (byte) l2;
-   Words.put32(b, ((int) l8) - 60132, 0);
-   Words.put64(b, ((int) l8) - 60072, 0L);
-   Words.put64(b, ((int) l8) - 60080, 83372L);
-   Words.put64(b, ((int) l8) - 60088, 0L);
-   Words.put64(b, ((int) l8) - 60096, 83372L);
-   Words.put64(b, ((int) l8) - 60104, 0L);
-   Words.put64(b, ((int) l8) - 60112, l0);
-   Words.put64(b, ((int) l8) - 60120, l1);
-   Words.put64(b, ((int) l8) - 60128, l10);
-   Core2.f50(m, l8 + 584L, l8 + 48L, l3);
-  }
-  final int t91 = (int) l7;
-  final long t92 = l0 = Words.get64(b, ((int) l8) - 60656);
-  final int t93 = l3 = (l0 + Long.MIN_VALUE < -9223372036854775295L) ? 1 : 0;
-  Words.put64(b, t91 - 60720, l0 = t93 != 0 ? t92 : 0L);
-  L94: {
-   if (l6 + Long.MIN_VALUE >= l0 + Long.MIN_VALUE) { break L94; }
-   l3 = 6;
-   break L1;
-  }
-  L95: {
-   L96: {
-    final long t97 = l11 = l5 + (l10 = (l5 == 0L) ? 4096L : 0L);
-    final long t98 = l8 + 72L;
-    final int t99 = l3;
-    if ((t97 - (l12 = t99 != 0 ? t98 : 83372L)) + Long.MIN_VALUE >= l0 + Long.MIN_VALUE) { break L96; }
-    l7 = l0 & 3L;
-    l9 = 0L;
-    L100: {
-     if (l0 + Long.MIN_VALUE < -9223372036854775804L) { break L100; }
-     l6 = l0 & -4L;
-     l9 = 0L;
-     L101: while (true) {
-      b[((int) (l0 = l11 + l9)) - 60720] = (byte) (b[((int) (l1 = l12 + l9)) - 60720] & 0xff);
-      b[((int) (l0 + 1L)) - 60720] = (byte) (b[((int) (l1 + 1L)) - 60720] & 0xff);
-      b[((int) (l0 + 2L)) - 60720] = (byte) (b[((int) (l1 + 2L)) - 60720] & 0xff);
-      b[((int) (l0 + 3L)) - 60720] = (byte) (b[((int) (l1 + 3L)) - 60720] & 0xff);
-      if (l6 != (l9 = l9 + 4L)) { continue L101; }
-      break L101;
-     }
-     if (l7 == 0L) { break L95; }
-    }
-    l0 = l12 + l9;
-    l9 = l5 + (l10 + l9);
-    L102: while (true) {
-     b[((int) l9) - 60720] = (byte) (b[((int) l0) - 60720] & 0xff);
-     l9 = l9 + 1L;
-     l0 = l0 + 1L;
-     if ((l7 = l7 + -1L) != 0L) { continue L102; }
-     break L95;
-    }
-   }
-   if (l0 == 0L) { break L95; }
-   m.copy((int) l11, (int) l12, (int) l0);
-   l3 = 0;
-   break L1;
-  }
-  l3 = 0;
- }
- m.g0 = l8 + 688L;
- return l3;
-}
-
-static int f267(State m, long l0, long l1, int l2, int l3, long l4) {
- final byte[] b = m.bytes;
- long l5 = 0;
- long l6 = 0;
- int l7 = 0;
- L1: {
-  L2: {
-   if ((l5 = m.g0) < 16L) { break L2; }
-   l0 = l0 + ((l0 == 0L) ? 4096L : 0L);
-   L3: {
-    L4: {
-     L5: {
-      if (l3 + Integer.MIN_VALUE < -2147483643) { break L5; }
-      if (l2 + Integer.MIN_VALUE > -2147483639) { break L4; }
-      if (l3 != 5) { break L4; }
-      l2 = Core5.f169(m, l0, l1, l2, l4);
-      m.g0 = l5;
-      final int t6 = l2;
-      return t6;
-     }
-     if (l2 + Integer.MIN_VALUE < -2147483638) { break L3; }
-    }
-    Words.put64(b, ((int) l4) - 60696, 0L);
-    Words.put64(b, ((int) l4) - 60704, 0L);
-    Words.put64(b, ((int) l4) - 60712, 0L);
-    Words.put64(b, ((int) l4) - 60720, 0L);
-    m.g0 = l5;
-    return 8;
-   }
-   l3 = b[((int) ((l6 = (l3 & 0xffffffffL) << 1L) + 85585L)) - 60720] & 0xff;
-   l7 = b[((int) (l6 + 85584L)) - 60720] & 0xff;
-   if (l2 + Integer.MIN_VALUE < -2147483643) { break L1; }
-   l2 = Core5.f167(m, l0, l1, l2, l7, l3, l4);
-   m.g0 = l5;
-   final int t7 = l2;
-   return t7;
-  }
-  throw State.trap();
- }
- l2 = Core5.f168(m, l0, l1, l2, l7, l3, l4);
- m.g0 = l5;
- return l2;
-}
-
-static int f269(State m, long l0, long l1, int l2, int l3, int l4, int l5, long l6, long l7, long l8) {
- final byte[] b = m.bytes;
- long l9 = 0;
- long l10 = 0;
- long l11 = 0;
- long l12 = 0;
- long l13 = 0;
- long l14 = 0;
- long l15 = 0;
- long l16 = 0;
- long l17 = 0;
- long l18 = 0;
- long l19 = 0;
- long l20 = 0;
- long l21 = 0;
- long l22 = 0;
- long l23 = 0;
- long l24 = 0;
- long l25 = 0;
- int l26 = 0;
- int l27 = 0;
- int l28 = 0;
- int l29 = 0;
- int l30 = 0;
- int l31 = 0;
- int l32 = 0;
- int l33 = 0;
- m.g0 = l9 = m.g0 - 272L;
- L1: {
-  if ((l10 = l9) < 16L) { break L1; }
-  Words.put64(b, ((int) l8) - 60720, 0L);
-  l26 = 8;
-  L2: {
-   if (l2 + Integer.MIN_VALUE > -2147483647) { break L2; }
-   if (l3 + Integer.MIN_VALUE > -2147483633) { break L2; }
-   L3: {
-    L4: {
-     if (l4 + Integer.MIN_VALUE < -2147483643) { break L4; }
-     l27 = l4 = (l4 == 5) ? 1 : 0;
-     break L3;
-    }
-    final int t5 = b[((int) ((l9 = (l4 & 0xffffffffL) << 1L) + 85585L)) - 60720] & 0xff;
-    final int t6 = l4 = (((1L << l9) & 340L) != 0L) ? 1 : 0;
-    l27 = t6 != 0 ? t5 : 0;
-   }
-   if ((l5 & -253) != 0) { break L2; }
-   if (l4 == 0) { break L2; }
-   l11 = l1;
-   l9 = l12 = l0 + ((l0 == 0L) ? 4096L : 0L);
-   L7: {
-    L8: {
-     L9: {
-      if (l1 + Long.MIN_VALUE < -9223372036854775804L) { break L9; }
-      l9 = l12;
-      l11 = l1;
-      L10: while (true) {
-       if (((Words.get32(b, ((int) l9) - 60720) + 16776990) & 12632312) != 8421376) { break L8; }
-       l9 = l9 + 3L;
-       if ((l11 = l11 + -3L) + Long.MIN_VALUE > -9223372036854775805L) { continue L10; }
-       break L10;
-      }
-     }
-     if (l11 + Long.MIN_VALUE > -9223372036854775805L) { break L8; }
-     L11: {
-      switch ((int) l11) {
-      case 1: case 2: break L8;
-      case 3: break L11;
-      default: break L7;
-      }
-     }
-     if (((((Words.get16(b, ((int) l9) - 60720) & 0xffff) | ((b[((int) (l9 + 2L)) - 60720] & 0xff) << 16)) + 16776990) & 12632312) == 8421376) { break L7; }
-    }
-    l26 = 5;
-    if (Core1.f6(m, l12, l1) == 0) { break L2; }
-   }
-   l28 = (l3 + Integer.MIN_VALUE < -2147483632) ? l3 : 0;
-   Words.put64(b, ((int) l10) - 60640, 0L);
-   Words.put64(b, ((int) l10) - 60648, l7);
-   Words.put64(b, ((int) l10) - 60656, l6 + ((l6 == 0L) ? 4096L : 0L));
-   b[((int) l10) - 60625] = (byte) ((l26 = l5 & 255) >>> 7);
-   b[((int) l10) - 60626] = (byte) ((l29 = l26 >>> 6) & 1);
-   Words.put32(b, ((int) l10) - 60630, ((((l5 << 12) & 65536) | ((l5 << 5) & 256)) | ((l5 >>> 2) & 1)) | (l30 = (l5 << 19) & 16777216));
-   b[((int) l10) - 60631] = (byte) l27;
-   l13 = l10 + 208L;
-   l31 = 0;
-   l14 = 0L;
-   l26 = 0;
-   l15 = l12;
-   l16 = l1;
-   L12: while (true) {
-    Words.put64(b, ((int) l10) - 60480, 0L);
-    Words.put64(b, ((int) l10) - 60488, 0L);
-    Words.put64(b, ((int) l10) - 60496, 0L);
-    Words.put64(b, ((int) l10) - 60504, 0L);
-    Words.put64(b, ((int) l10) - 60512, 0L);
-    Words.put64(b, ((int) l10) - 60520, 0L);
-    Words.put64(b, ((int) l10) - 60528, 0L);
-    Core5.f162(m, l10 + 192L, l2, l28, l12, l1, l15, l16);
-    L13: {
-     L14: {
-      L15: {
-       L16: {
-        if ((b[((int) l10) - 60528] & 0xff) != 1) { break L16; }
-        l16 = Words.get64(b, ((int) l10) - 60480);
-        l15 = Words.get64(b, ((int) l10) - 60488);
-        l17 = Words.get64(b, ((int) l10) - 60496);
-        l18 = Words.get64(b, ((int) l10) - 60504);
-        l19 = Words.get64(b, ((int) l10) - 60512);
-        l20 = Words.get64(b, ((int) l10) - 60520);
-        L17: {
-         if ((l31 & 1) == 0) { break L17; }
-         Words.put64(b, ((int) l10) - 60488, l16);
-         Words.put64(b, ((int) l10) - 60496, l15);
-         Words.put64(b, ((int) l10) - 60504, l17);
-         Words.put64(b, ((int) l10) - 60512, l18);
-         Words.put64(b, ((int) l10) - 60520, l19);
-         Words.put64(b, ((int) l10) - 60528, l20);
-         if (Core5.f170(m, l14, l10 + 192L) != 0) { break L13; }
-        }
-        l9 = l18;
-        l0 = l17;
-        L18: {
-         L19: while (true) {
-          if (l0 == 0L) { break L18; }
-          l26 = (l4 = (int) b[((int) l9) - 60720]) & 255;
-          l11 = 1L;
-          L20: {
-           if (l4 > -1) { break L20; }
-           l3 = (b[((int) l9) - 60719] & 0xff) & 63;
-           L21: {
-            if (l4 + Integer.MIN_VALUE > 2147483615) { break L21; }
-            l26 = ((l26 << 6) & 1984) | l3;
-            l11 = 2L;
-            break L20;
-           }
-           l5 = (b[((int) l9) - 60718] & 0xff) & 63;
-           L22: {
-            if (l4 + Integer.MIN_VALUE > 2147483631) { break L22; }
-            l26 = ((l3 << 6) | ((l26 << 12) & 61440)) | l5;
-            l11 = 3L;
-            break L20;
-           }
-           l26 = ((l5 << 6) | ((l3 << 12) | ((l26 << 18) & 1835008))) | ((b[((int) l9) - 60717] & 0xff) & 63);
-           l11 = 4L;
-          }
-          if ((l26 + -48) + Integer.MIN_VALUE < -2147483638) { break L15; }
-          l0 = l0 - l11;
-          l9 = l9 + l11;
-          if ((l26 + -65296) + Integer.MIN_VALUE > -2147483639) { continue L19; }
-          break L15;
-         }
-        }
-        Words.put64(b, ((int) l10) - 60488, l16);
-        Words.put64(b, ((int) l10) - 60496, l15);
-        Words.put64(b, ((int) l10) - 60504, l17);
-        Words.put64(b, ((int) l10) - 60512, l18);
-        Words.put64(b, ((int) l10) - 60520, l19);
-        Words.put64(b, ((int) l10) - 60528, l20);
-        if (Core5.f173(m, l10 + 89L, l10 + 192L) != 0) { break L15; }
-        break L14;
-       }
-       Core2.f53(m, l10 + 64L, l15, l16);
-       Words.put64(b, ((int) l8) - 60720, l9 = Words.get64(b, ((int) l10) - 60640));
-       l26 = (l9 + Long.MIN_VALUE > l7 + Long.MIN_VALUE) ? 6 : 0;
-       break L2;
-      }
-      l9 = l17 + l19;
-      l21 = l15;
-      l22 = l16;
-      L23: while (true) {
-       Words.put64(b, ((int) l10) - 60480, 0L);
-       Words.put64(b, ((int) l10) - 60488, 0L);
-       Words.put64(b, ((int) l10) - 60496, 0L);
-       Words.put64(b, ((int) l10) - 60504, 0L);
-       Words.put64(b, ((int) l10) - 60512, 0L);
-       Words.put64(b, ((int) l10) - 60520, 0L);
-       Words.put64(b, ((int) l10) - 60528, 0L);
-       Core5.f162(m, l10 + 192L, l2, l28, l12, l1, l21, l22);
-       l26 = 0;
-       if ((b[((int) l10) - 60528] & 0xff) != 1) { break L13; }
-       l21 = Words.get64(b, ((int) l10) - 60488);
-       l6 = Words.get64(b, ((int) l10) - 60496);
-       l23 = Words.get64(b, ((int) l10) - 60504);
-       l24 = Words.get64(b, ((int) l10) - 60512);
-       l25 = Words.get64(b, ((int) l10) - 60520);
-       Words.put64(b, ((int) l10) - 60536, l22 = Words.get64(b, ((int) l10) - 60480));
-       Words.put64(b, ((int) l10) - 60544, l21);
-       Words.put64(b, ((int) l10) - 60552, l6);
-       Words.put64(b, ((int) l10) - 60560, l23);
-       Words.put64(b, ((int) l10) - 60568, l24);
-       Words.put64(b, ((int) l10) - 60576, l25);
-       if (Core5.f170(m, l9, l10 + 144L) == 0) { break L13; }
-       l9 = l23;
-       l0 = l6;
-       L24: {
-        L25: {
-         L26: while (true) {
-          if (l0 == 0L) { break L25; }
-          l26 = (l4 = (int) b[((int) l9) - 60720]) & 255;
-          l11 = 1L;
-          L27: {
-           if (l4 > -1) { break L27; }
-           l3 = (b[((int) l9) - 60719] & 0xff) & 63;
-           L28: {
-            if (l4 + Integer.MIN_VALUE > 2147483615) { break L28; }
-            l26 = ((l26 << 6) & 1984) | l3;
-            l11 = 2L;
-            break L27;
-           }
-           l5 = (b[((int) l9) - 60718] & 0xff) & 63;
-           L29: {
-            if (l4 + Integer.MIN_VALUE > 2147483631) { break L29; }
-            l26 = ((l3 << 6) | ((l26 << 12) & 61440)) | l5;
-            l11 = 3L;
-            break L27;
-           }
-           l26 = ((l5 << 6) | ((l3 << 12) | ((l26 << 18) & 1835008))) | ((b[((int) l9) - 60717] & 0xff) & 63);
-           l11 = 4L;
-          }
-          if ((l26 + -48) + Integer.MIN_VALUE < -2147483638) { break L24; }
-          l0 = l0 - l11;
-          l9 = l9 + l11;
-          if ((l26 + -65296) + Integer.MIN_VALUE >= -2147483638) { continue L26; }
-          break L24;
-         }
-        }
-        Words.put64(b, ((int) l10) - 60488, l22);
-        Words.put64(b, ((int) l10) - 60496, l21);
-        Words.put64(b, ((int) l10) - 60504, l6);
-        Words.put64(b, ((int) l10) - 60512, l23);
-        Words.put64(b, ((int) l10) - 60520, l24);
-        Words.put64(b, ((int) l10) - 60528, l25);
-        if (Core5.f173(m, l10 + 89L, l10 + 192L) == 0) { break L14; }
-       }
-       l9 = l6 + l24;
-       continue L23;
-      }
-     }
-     l26 = 1;
-    }
-    Core2.f53(m, l10 + 64L, l20 + (l9 = ((l31 & 1) != 0) ? l14 : 0L), l19 - l9);
-    L30: {
-     L31: {
-      if ((l26 & 1) == 0) { break L31; }
-      Core2.f53(m, l10 + 64L, l18, l17);
-      break L30;
-     }
-     Words.put64(b, ((int) l10) - 60584, l16);
-     Words.put64(b, ((int) l10) - 60592, l15);
-     Words.put64(b, ((int) l10) - 60616, l19);
-     Words.put64(b, ((int) l10) - 60624, l20);
-     Words.put64(b, ((int) l10) - 60600, l17);
-     Words.put64(b, ((int) l10) - 60608, l18);
-     L32: {
-      if (Core5.f173(m, l10 + 89L, l10 + 96L) == 0) { break L32; }
-      L33: {
-       L34: {
-        L35: {
-         if (Core6.f175(m, l18, l17) != 0) { break L35; }
-         l4 = Core6.f176(m, l18, l17);
-         L36: {
-          if (l30 != 0) { break L36; }
-          if (l4 != 0) { break L32; }
-          l9 = l18;
-          l0 = l17;
-          L37: {
-           L38: while (true) {
-            if (l0 == 0L) { break L37; }
-            l4 = (l3 = (int) b[((int) l9) - 60720]) & 255;
-            l11 = 1L;
-            L39: {
-             if (l3 > -1) { break L39; }
-             l5 = (b[((int) l9) - 60719] & 0xff) & 63;
-             L40: {
-              if (l3 + Integer.MIN_VALUE > 2147483615) { break L40; }
-              l4 = ((l4 << 6) & 1984) | l5;
-              l11 = 2L;
-              break L39;
-             }
-             l31 = (b[((int) l9) - 60718] & 0xff) & 63;
-             L41: {
-              if (l3 + Integer.MIN_VALUE > 2147483631) { break L41; }
-              l4 = ((l5 << 6) | ((l4 << 12) & 61440)) | l31;
-              l11 = 3L;
-              break L39;
-             }
-             l4 = ((l31 << 6) | ((l5 << 12) | ((l4 << 18) & 1835008))) | ((b[((int) l9) - 60717] & 0xff) & 63);
-             l11 = 4L;
-            }
-            l0 = l0 - l11;
-            l9 = l9 + l11;
-            if (l4 != 21448) { continue L38; }
-            break L32;
-           }
-          }
-          Words.put64(b, ((int) l10) - 60512, 0L);
-          Words.put64(b, ((int) l10) - 60520, 0L);
-          Words.put64(b, ((int) l10) - 60528, 0L);
-          Core6.f177(m, l10 + 192L, l18, l17);
-          L42: {
-           if ((b[((int) l10) - 60528] & 0xff) != 1) { break L42; }
-           l9 = Words.get64(b, ((int) l10) - 60520);
-           Core2.f53(m, l10 + 64L, l18, l17 - (l11 = Words.get64(b, ((int) l10) - 60512)));
-           Core6.f187(m, l10 + 16L, l10 + 64L, l27, l9, l11);
-           l4 = b[((int) l10) - 60703] & 0xff;
-           break L33;
-          }
-          if (l17 == 0L) { break L34; }
-          l4 = (l3 = (int) b[((int) l18) - 60720]) & 255;
-          l9 = 1L;
-          L43: {
-           if (l3 > -1) { break L43; }
-           l5 = (b[((int) l18) - 60719] & 0xff) & 63;
-           L44: {
-            if (l3 + Integer.MIN_VALUE > 2147483615) { break L44; }
-            l4 = ((l4 << 6) & 1984) | l5;
-            l9 = 2L;
-            break L43;
-           }
-           l31 = (b[((int) l18) - 60718] & 0xff) & 63;
-           L45: {
-            if (l3 + Integer.MIN_VALUE > 2147483631) { break L45; }
-            l4 = ((l5 << 6) | ((l4 << 12) & 61440)) | l31;
-            l9 = 3L;
-            break L43;
-           }
-           l4 = ((l31 << 6) | ((l5 << 12) | ((l4 << 18) & 1835008))) | ((b[((int) l18) - 60717] & 0xff) & 63);
-           l9 = 4L;
-          }
-          L46: {
-           L47: {
-            if (l4 > 35999) { break L47; }
-            if (l4 == 45) { break L46; }
-            if (l4 == 8722) { break L46; }
-            break L34;
-           }
-           if (l4 == 36000) { break L46; }
-           if (l4 == 65293) { break L46; }
-           if (l4 != 36127) { break L34; }
-          }
-          Core2.f53(m, l10 + 64L, 77252L, 1L);
-          Core6.f187(m, l10 + 32L, l10 + 64L, l27, l18 + l9, l17 - l9);
-          l4 = b[((int) l10) - 60687] & 0xff;
-          break L33;
-         }
-         L48: {
-          if (l4 == 0) { break L48; }
-          l9 = l18;
-          l0 = l17;
-          L49: while (true) {
-           if (l0 == 0L) { break L32; }
-           l4 = (l3 = (int) b[((int) l9) - 60720]) & 255;
-           l11 = 1L;
-           L50: {
-            if (l3 > -1) { break L50; }
-            l5 = (b[((int) l9) - 60719] & 0xff) & 63;
-            L51: {
-             if (l3 + Integer.MIN_VALUE > 2147483615) { break L51; }
-             l4 = ((l4 << 6) & 1984) | l5;
-             l11 = 2L;
-             break L50;
-            }
-            l31 = (b[((int) l9) - 60718] & 0xff) & 63;
-            L52: {
-             if (l3 + Integer.MIN_VALUE > 2147483631) { break L52; }
-             l4 = ((l5 << 6) | ((l4 << 12) & 61440)) | l31;
-             l11 = 3L;
-             break L50;
-            }
-            l4 = ((l31 << 6) | ((l5 << 12) | ((l4 << 18) & 1835008))) | ((b[((int) l9) - 60717] & 0xff) & 63);
-            l11 = 4L;
-           }
-           Core2.f61(m, l10 + 56L, l4);
-           L53: {
-            if ((b[((int) l10) - 60664] & 0xff) != 1) { break L53; }
-            if (((b[((int) l10) - 60663] & 0xff) & 255) != 0) { break L48; }
-           }
-           if (l4 == 38646) { break L48; }
-           l9 = l9 + l11;
-           l0 = l0 - l11;
-           if (l4 != 12295) { continue L49; }
-           break L49;
-          }
-         }
-         Words.put64(b, ((int) l10) - 60472, 0L);
-         Words.put64(b, ((int) l10) - 60480, 0L);
-         Words.put64(b, ((int) l10) - 60488, 0L);
-         Words.put64(b, ((int) l10) - 60496, 0L);
-         Words.put64(b, ((int) l10) - 60504, 0L);
-         Words.put64(b, ((int) l10) - 60512, 0L);
-         Words.put64(b, ((int) l10) - 60520, 0L);
-         Words.put64(b, ((int) l10) - 60528, 0L);
-         Core2.f75(m, l10 + 192L, l18, l17, l27);
-         Words.put64(b, ((int) l10) - 60576, Words.get64(b, ((int) l13) - 60720));
-         Words.put64(b, ((int) l10) - 60568, Words.get64(b, ((int) l13) - 60712));
-         Words.put64(b, ((int) l10) - 60560, Words.get64(b, ((int) l13) - 60704));
-         Words.put64(b, ((int) l10) - 60552, Words.get64(b, ((int) l13) - 60696));
-         Words.put64(b, ((int) l10) - 60544, Words.get64(b, ((int) l13) - 60688));
-         Words.put64(b, ((int) l10) - 60536, Words.get64(b, ((int) l13) - 60680));
-         if ((b[((int) l10) - 60528] & 0xff) != 0) { break L32; }
-         m.fill((int) (l10 + 192L), 0, (int) 80L);
-         Core2.f52(m, l10 + 40L, l10 + 192L, l10 + 144L);
-         Core2.f53(m, l10 + 64L, Words.get64(b, ((int) l10) - 60680), Words.get64(b, ((int) l10) - 60672));
-         break L30;
-        }
-        if ((l29 & 1) == 0) { break L32; }
-        if (l17 == 0L) { break L30; }
-        l5 = 0;
-        l11 = l17;
-        L54: while (true) {
-         l4 = (l3 = (int) b[((int) l18) - 60720]) & 255;
-         l9 = 1L;
-         L55: {
-          if (l3 > -1) { break L55; }
-          l31 = (b[((int) l18) - 60719] & 0xff) & 63;
-          L56: {
-           if (l3 + Integer.MIN_VALUE > 2147483615) { break L56; }
-           l4 = ((l4 << 6) & 1984) | l31;
-           l9 = 2L;
-           break L55;
-          }
-          l32 = (b[((int) l18) - 60718] & 0xff) & 63;
-          L57: {
-           if (l3 + Integer.MIN_VALUE > 2147483631) { break L57; }
-           l4 = ((l31 << 6) | ((l4 << 12) & 61440)) | l32;
-           l9 = 3L;
-           break L55;
-          }
-          l4 = ((l32 << 6) | ((l31 << 12) | ((l4 << 18) & 1835008))) | ((b[((int) l18) - 60717] & 0xff) & 63);
-          l9 = 4L;
-         }
-         l11 = l11 - l9;
-         l18 = l18 + l9;
-         l3 = 0;
-         L58: {
-          if ((l5 & 1) != 0) { break L58; }
-          L59: {
-           if (l4 == 65296) { break L59; }
-           if (l4 != 48) { break L58; }
-          }
-          if (l11 == 0L) { break L58; }
-          l3 = (l31 = (int) b[((int) l18) - 60720]) & 255;
-          L60: {
-           if (l31 > -1) { break L60; }
-           l32 = (b[((int) l18) - 60719] & 0xff) & 63;
-           L61: {
-            if (l31 + Integer.MIN_VALUE > 2147483615) { break L61; }
-            l3 = ((l3 << 6) & 1984) | l32;
-            break L60;
-           }
-           l33 = (b[((int) l18) - 60718] & 0xff) & 63;
-           L62: {
-            if (l31 + Integer.MIN_VALUE > 2147483631) { break L62; }
-            l3 = ((l32 << 6) | ((l3 << 12) & 61440)) | l33;
-            break L60;
-           }
-           l3 = ((l33 << 6) | ((l32 << 12) | ((l3 << 18) & 1835008))) | ((b[((int) l18) - 60717] & 0xff) & 63);
-          }
-          l3 = (((l3 + -48) + Integer.MIN_VALUE < -2147483638) | ((l3 + -65296) + Integer.MIN_VALUE < -2147483638)) ? 1 : 0;
-         }
-         Core6.f179(m, l10, l3, l4);
-         Core2.f53(m, l10 + 64L, Words.get64(b, ((int) l10) - 60720), Words.get64(b, ((int) l10) - 60712));
-         L63: {
-          L64: {
-           if (((l5 | l3) & 1) == 0) { break L64; }
-           l5 = l5 & (l3 ^ 1);
-           break L63;
-          }
-          l5 = (((l4 + -48) + Integer.MIN_VALUE < -2147483638) | ((l4 + -65296) + Integer.MIN_VALUE < -2147483638)) ? 1 : 0;
-         }
-         if (!(l11 == 0L)) { continue L54; }
-         break L30;
-        }
-       }
-       Core6.f187(m, l10 + 24L, l10 + 64L, l27, l18, l17);
-       l4 = b[((int) l10) - 60695] & 0xff;
-      }
-      if ((l4 & 1) != 0) { break L30; }
-     }
-     Core2.f53(m, l10 + 64L, l18, l17);
-    }
-    l14 = l17 + l19;
-    l31 = 1;
-    continue L12;
-   }
-  }
-  m.g0 = l10 + 272L;
-  final int t65 = l26;
-  return t65;
- }
- throw State.trap();
-}
-
-static int f271(State m, long l0, long l1, int l2, long l3) {
- final byte[] b = m.bytes;
- long l4 = 0;
- long l5 = 0;
- long l6 = 0;
- int l7 = 0;
- int l8 = 0;
- m.g0 = l4 = m.g0 - 16L;
- L1: {
-  L2: {
-   L3: {
-    if ((l5 = l4) < 16L) { break L3; }
-    Words.put32(b, ((int) l3) - 60720, 0);
-    b[((int) l5) - 60706] = (byte) 0;
-    Words.put16(b, ((int) l5) - 60708, (short) 0);
-    L4: {
-     L5: {
-      if (l2 + Integer.MIN_VALUE > -2147483644) { break L5; }
-      if (((1L << (l4 = (l2 & 0xffffffffL) << 1L)) & 340L) == 0L) { break L4; }
-      l7 = b[((int) (l4 + 85585L)) - 60720] & 0xff;
-      break L2;
-     }
-     l7 = 1;
-     if (l2 == 5) { break L2; }
-    }
-    l2 = 8;
+    l1 = 0;
+    l13 = 0;
     break L1;
    }
-   throw State.trap();
+   final int t69 = l13;
+   final int t70 = l1 = b[((int) l7) - 58904] & 0xff;
+   final int t71 = l1 = (l1 == 2) ? 1 : 0;
+   l13 = t71 != 0 ? t69 : t70;
+   l6 = l1 != 0 ? 0L : l6;
   }
-  l4 = l1;
-  l0 = l6 = l0 + ((l0 == 0L) ? 4096L : 0L);
-  L6: {
-   L7: {
-    L8: {
-     if (l1 + Long.MIN_VALUE < -9223372036854775804L) { break L8; }
-     l0 = l6;
-     l4 = l1;
-     L9: while (true) {
-      if (((Words.get32(b, ((int) l0) - 60720) + 16776990) & 12632312) != 8421376) { break L7; }
-      l0 = l0 + 3L;
-      if ((l4 = l4 + -3L) + Long.MIN_VALUE > -9223372036854775805L) { continue L9; }
-      break L9;
-     }
-    }
-    if (l4 + Long.MIN_VALUE > -9223372036854775805L) { break L7; }
-    L10: {
-     switch ((int) l4) {
-     case 1: case 2: break L7;
-     case 3: break L10;
-     default: break L6;
-     }
-    }
-    if (((((Words.get16(b, ((int) l0) - 60720) & 0xffff) | ((b[((int) (l0 + 2L)) - 60720] & 0xff) << 16)) + 16776990) & 12632312) == 8421376) { break L6; }
-   }
-   if (Core1.f6(m, l6, l1) != 0) { break L6; }
-   l2 = 5;
-   break L1;
-  }
-  Core6.f190(m, l5 + 12L, l6, l1, l7);
-  l2 = 0;
-  if ((b[((int) l5) - 60708] & 0xff) != 1) { break L1; }
-  l7 = 16;
-  l8 = b[((int) l5) - 60706] & 0xff;
-  L11: {
-   L12: {
-    L13: {
-     switch ((int) (b[((int) l5) - 60707] & 0xffL)) {
-     case 1: break L12;
-     case 2: break L11;
-     default: break L13;
-     }
-    }
-    l7 = l8 + 1;
-    break L11;
-   }
-   l7 = l8 + 10;
-  }
-  Words.put32(b, ((int) l3) - 60720, l7);
+  l1 = 1;
  }
- m.g0 = l5 + 16L;
- return l2;
+ L72: {
+  L73: {
+   if (l1 != 0) { break L73; }
+   l13 = 0;
+   break L72;
+  }
+  L74: {
+   if ((l2 & 255) == 0) { break L74; }
+   l13 = f229(m, l4, l5, l13, l6) & 255;
+   break L72;
+  }
+  l13 = 33620992 >>> (l13 << 3);
+ }
+ b[((int) l0) - 58911] = (byte) l13;
+ b[((int) l0) - 58912] = (byte) l1;
+ m.g0 = l7 + 32L;
 }
 
-static int f273(State m, long l0, long l1, int l2, int l3, long l4, long l5, long l6) {
- final byte[] b = m.bytes;
- long l7 = 0;
- long l8 = 0;
- long l9 = 0;
- long l10 = 0;
- long l11 = 0;
- long l12 = 0;
- long l13 = 0;
- long l14 = 0;
- long l15 = 0;
- int l16 = 0;
- int l17 = 0;
- int l18 = 0;
- m.g0 = l7 = m.g0 - 864L;
- L1: {
-  L2: {
-   L3: {
-    L4: {
-     L5: {
-      if ((l7 = l7) < 16L) { break L5; }
-      m.fill((int) (l7 + 140L), 0, (int) 512L);
-      Words.put64(b, ((int) l6) - 60720, 0L);
-      Words.put64(b, ((int) l7) - 60592, 0L);
-      Words.put64(b, ((int) l7) - 60600, 0L);
-      Words.put64(b, ((int) l7) - 60608, 0L);
-      L6: {
-       L7: {
-        if (l2 + Integer.MIN_VALUE < -2147483643) { break L7; }
-        l17 = l16 = (l2 == 5) ? 1 : 0;
-        break L6;
-       }
-       final int t8 = b[((int) ((l8 = (l2 & 0xffffffffL) << 1L) + 85585L)) - 60720] & 0xff;
-       final int t9 = l16 = (((1L << l8) & 340L) != 0L) ? 1 : 0;
-       l17 = t9 != 0 ? t8 : 0;
-      }
-      l2 = 8;
-      if (l3 + Integer.MIN_VALUE > -2147483646) { break L1; }
-      if (l16 == 0) { break L1; }
-      l8 = l1;
-      l0 = l9 = l0 + ((l0 == 0L) ? 4096L : 0L);
-      L10: {
-       L11: {
-        L12: {
-         if (l1 + Long.MIN_VALUE < -9223372036854775804L) { break L12; }
-         l0 = l9;
-         l8 = l1;
-         L13: while (true) {
-          if (((Words.get32(b, ((int) l0) - 60720) + 16776990) & 12632312) != 8421376) { break L11; }
-          l0 = l0 + 3L;
-          if ((l8 = l8 + -3L) + Long.MIN_VALUE > -9223372036854775805L) { continue L13; }
-          break L13;
-         }
-        }
-        if (l8 + Long.MIN_VALUE > -9223372036854775805L) { break L11; }
-        L14: {
-         switch ((int) l8) {
-         case 1: case 2: break L11;
-         case 3: break L14;
-         default: break L10;
-         }
-        }
-        if (((((Words.get16(b, ((int) l0) - 60720) & 0xffff) | ((b[((int) (l0 + 2L)) - 60720] & 0xff) << 16)) + 16776990) & 12632312) == 8421376) { break L10; }
-       }
-       if (Core1.f6(m, l9, l1) != 0) { break L10; }
-       l2 = 5;
-       break L1;
-      }
-      m.fill((int) (l7 + 140L), 0, (int) 512L);
-      Words.put64(b, ((int) l7) - 60592, 0L);
-      Words.put64(b, ((int) l7) - 60600, 512L);
-      Words.put64(b, ((int) l7) - 60608, l7 + 140L);
-      Words.put64(b, ((int) l7) - 60064, 0L);
-      Words.put64(b, ((int) l7) - 60056, 0L);
-      Words.put64(b, ((int) l7) - 60048, 0L);
-      Words.put64(b, ((int) l7) - 60040, 0L);
-      Words.put64(b, ((int) l7) - 60032, 0L);
-      Words.put64(b, ((int) l7) - 60024, 0L);
-      Words.put64(b, ((int) l7) - 60016, 0L);
-      Words.put64(b, ((int) l7) - 60008, 0L);
-      Words.put16(b, ((int) l7) - 60068, (short) 0);
-      b[((int) l7) - 60066] = (byte) 0;
-      Core2.f75(m, l7 + 656L, l9, l1, l17);
-      Core6.f190(m, l7 + 652L, l9, l1, l17);
-      l0 = 0L;
-      if ((b[((int) l7) - 60064] & 0xff) != 1) { break L2; }
-      l0 = 0L;
-      if (((b[((int) l7) - 60068] & 0xff) & 255) != 1) { break L2; }
-      l2 = b[((int) l7) - 60067] & 0xff;
-      l16 = b[((int) l7) - 60066] & 0xff;
-      l10 = Words.get64(b, ((int) l7) - 60048);
-      l17 = b[((int) l7) - 60056] & 0xff;
-      m.fill((int) (l7 + 720L), 0, (int) 72L);
-      Words.put32(b, ((int) l7) - 59924, 0);
-      Words.put32(b, ((int) l7) - 59927, 0);
-      Words.put64(b, ((int) l7) - 59864, 0L);
-      Words.put64(b, ((int) l7) - 59872, 83372L);
-      Words.put64(b, ((int) l7) - 59880, 0L);
-      Words.put64(b, ((int) l7) - 59888, 83372L);
-      Words.put64(b, ((int) l7) - 59896, 0L);
-      Words.put64(b, ((int) l7) - 59904, l11 = (l17 == 1) ? l10 : 0L);
-      Words.put64(b, ((int) l7) - 59912, l1);
-      Words.put64(b, ((int) l7) - 59920, l9);
-      b[((int) l7) - 59928] = (byte) (l3 = (l3 + Integer.MIN_VALUE < -2147483645) ? l3 : 0);
-      L15: {
-       L16: {
-        if (l2 != 0) { break L16; }
-        if ((l16 & 255) == 4) { break L15; }
-       }
-       l3 = 40;
-       L17: {
-        L18: {
-         L19: {
-          switch (l2) {
-          case 1: break L19;
-          case 2: break L17;
-          default: break L18;
-          }
-         }
-         l3 = l16 + 34;
-         break L17;
-        }
-        l3 = b[State.far((int) ((l16 & 0xffffffffL) & 255L), 88296)] & 0xff;
-       }
-       Core2.f50(m, l7 + 792L, l7 + 112L, l3);
-       break L3;
-      }
-      l8 = 0L;
-      if (l11 == 0L) { break L4; }
-      Core1.f30(m, l7 + 96L, l9, l1, l12 = l11 - ((l11 != 0L) ? 1L : 0L));
-      l13 = Words.get64(b, ((int) l7) - 60616);
-      l0 = Words.get64(b, ((int) l7) - 60624);
-      Core1.f30(m, l7 + 80L, l9, l1, l11);
-      l14 = Words.get64(b, ((int) l7) - 60632);
-      l15 = Words.get64(b, ((int) l7) - 60640);
-      L20: {
-       L21: {
-        L22: {
-         if (Core1.f31(m, l0, l13, 85719L, 3L) == 0) { break L22; }
-         l16 = 20998;
-         if (Core1.f31(m, l15, l14, 85722L, 3L) != 0) { break L20; }
-         l16 = 19975;
-         L23: {
-          if (Core1.f31(m, l15, l14, 85725L, 1L) == 0) { break L23; }
-          l12 = l10;
-          break L20;
-         }
-         l12 = l10;
-         if (Core1.f31(m, l15, l14, 85726L, 1L) != 0) { break L20; }
-         if (Core1.f31(m, l15, l14, 85718L, 1L) != 0) { break L21; }
-         if (Core1.f31(m, l15, l14, 85727L, 3L) != 0) { break L21; }
-         break L4;
-        }
-        l16 = 19975;
-        L24: {
-         if (Core1.f31(m, l15, l14, 85725L, 1L) == 0) { break L24; }
-         l12 = l10;
-         break L20;
-        }
-        l12 = l10;
-        if (Core1.f31(m, l15, l14, 85726L, 1L) != 0) { break L20; }
-        if (Core1.f31(m, l15, l14, 85718L, 1L) != 0) { break L21; }
-        if (Core1.f31(m, l15, l14, 85727L, 3L) == 0) { break L4; }
-       }
-       L25: while (true) {
-        if (l13 == 0L) { break L4; }
-        l2 = (l16 = (int) b[((int) l0) - 60720]) & 255;
-        l10 = 1L;
-        L26: {
-         if (l16 > -1) { break L26; }
-         l17 = (b[((int) l0) - 60719] & 0xff) & 63;
-         L27: {
-          if (l16 + Integer.MIN_VALUE > 2147483615) { break L27; }
-          l2 = ((l2 << 6) & 1984) | l17;
-          l10 = 2L;
-          break L26;
-         }
-         l18 = (b[((int) l0) - 60718] & 0xff) & 63;
-         L28: {
-          if (l16 + Integer.MIN_VALUE > 2147483631) { break L28; }
-          l2 = ((l17 << 6) | ((l2 << 12) & 61440)) | l18;
-          l10 = 3L;
-          break L26;
-         }
-         l2 = ((l18 << 6) | ((l17 << 12) | ((l2 << 18) & 1835008))) | ((b[((int) l0) - 60717] & 0xff) & 63);
-         l10 = 4L;
-        }
-        Core2.f63(m, l7 + 72L, l2);
-        l16 = 28857;
-        L29: {
-         if ((b[((int) l7) - 60648] & 0xff) == 1) { break L29; }
-         Core2.f61(m, l7 + 64L, l2);
-         l0 = l0 + l10;
-         l13 = l13 - l10;
-         if ((b[((int) l7) - 60656] & 0xff) != 1) { continue L25; }
-        }
-        break L25;
-       }
-       l12 = l11;
-      }
-      Words.put64(b, ((int) l7) - 59936, 0L);
-      Words.put64(b, ((int) l7) - 59944, 83372L);
-      Words.put64(b, ((int) l7) - 59952, 0L);
-      Words.put64(b, ((int) l7) - 59960, 83372L);
-      Words.put32(b, ((int) l7) - 59964, l16);
-      Words.put32(b, ((int) l7) - 59968, 1);
-      Words.put64(b, ((int) l7) - 59976, l12);
-      Words.put64(b, ((int) l7) - 59984, l1);
-      Words.put64(b, ((int) l7) - 59992, l9);
-      b[((int) l7) - 60000] = (byte) l3;
-      Core2.f50(m, l7 + 720L, l7 + 112L, 2);
-      break L3;
-     }
-     throw State.trap();
-    }
-    l0 = 0L;
-    L30: {
-     if (l1 + Long.MIN_VALUE < -9223372036854775776L) { break L30; }
-     Core1.f25(m, l7 + 48L, l9, l1, l1);
-     l8 = l1 - Words.get64(b, ((int) l7) - 60664);
-     l0 = Words.get64(b, ((int) l7) - 60672);
-    }
-    l13 = l11 + 1L;
-    L31: {
-     if ((l1 - l0) + Long.MIN_VALUE < -9223372036854775800L) { break L31; }
-     L32: while (true) {
-      L33: {
-       L34: {
-        if (((l10 = Words.get64(b, ((int) (l9 + l0)) - 60720)) & 67553998437089520L) != 63050398541283552L) { break L34; }
-        l8 = l8 + 3L;
-        l0 = l0 + 9L;
-        break L33;
-       }
-       if ((l10 & -9187201950435737472L) != 0L) { break L31; }
-       l8 = l8 + 8L;
-       l0 = l0 + 8L;
-      }
-      if ((l1 - l0) + Long.MIN_VALUE > -9223372036854775801L) { continue L32; }
-      break L32;
-     }
-    }
-    l2 = (l13 == 0L) ? 1 : 0;
-    L35: {
-     if (l0 + Long.MIN_VALUE >= l1 + Long.MIN_VALUE) { break L35; }
-     L36: while (true) {
-      l8 = l8 + 1L;
-      if ((l0 = Words.get64(b, ((int) (((((b[((int) (l9 + l0)) - 60720] & 0xff) >>> 1) & 0xffffffffL) & 120L) + 66680L)) - 60720) + l0) + Long.MIN_VALUE < l1 + Long.MIN_VALUE) { continue L36; }
-      break L36;
-     }
-    }
-    l13 = l2 != 0 ? -1L : l13;
-    Core1.f30(m, l7 + 32L, l9, l1, l11);
-    L37: {
-     L38: {
-      L39: {
-       if (Core1.f31(m, l0 = Words.get64(b, ((int) l7) - 60688), l10 = Words.get64(b, ((int) l7) - 60680), 85722L, 3L) == 0) { break L39; }
-       if (l13 != l8) { break L38; }
-       l2 = 41;
-       break L37;
-      }
-      L40: {
-       L41: {
-        if (Core1.f31(m, l0, l10, 77254L, 1L) != 0) { break L41; }
-        if (Core1.f31(m, l0, l10, 85730L, 3L) != 0) { break L41; }
-        if (Core1.f31(m, l0, l10, 85733L, 3L) != 0) { break L41; }
-        L42: {
-         if (Core1.f31(m, l0, l10, 85736L, 3L) != 0) { break L42; }
-         if (Core1.f31(m, l0, l10, 85739L, 3L) != 0) { break L42; }
-         if (Core1.f31(m, l0, l10, 85718L, 1L) != 0) { break L40; }
-         if (Core1.f31(m, l0, l10, 85727L, 3L) == 0) { break L38; }
-         break L40;
-        }
-        if (Core6.f194(m, l9, l1, l11) == 0) { break L40; }
-        l2 = 43;
-        break L37;
-       }
-       l2 = 3;
-       if (l13 == l8) { break L37; }
-       Core1.f30(m, l7 + 16L, l9, l1, l11);
-       l0 = Words.get64(b, ((int) l7) - 60696);
-       l8 = Words.get64(b, ((int) l7) - 60704);
-       Core2.f55(m, l7, l9, l1, l11);
-       if (Core1.f31(m, l8, l0, Words.get64(b, ((int) l7) - 60720), Words.get64(b, ((int) l7) - 60712)) != 0) { break L37; }
-       break L38;
-      }
-      if (Core6.f194(m, l9, l1, l11) != 0) { break L38; }
-      l2 = 42;
-      break L37;
-     }
-     l2 = 4;
-    }
-    Core2.f50(m, l7 + 792L, l7 + 112L, l2);
-   }
-   l0 = Words.get64(b, ((int) l7) - 60592);
-  }
-  Words.put64(b, ((int) l6) - 60720, l0 = ((l2 = (l0 + Long.MIN_VALUE < -9223372036854775295L) ? 1 : 0) != 0) ? l0 : 0L);
-  L43: {
-   if (l5 + Long.MIN_VALUE >= l0 + Long.MIN_VALUE) { break L43; }
-   l2 = 6;
-   break L1;
-  }
-  L44: {
-   L45: {
-    final long t46 = l5 = l4 + (l11 = (l4 == 0L) ? 4096L : 0L);
-    final long t47 = l7 + 140L;
-    final int t48 = l2;
-    if ((t46 - (l6 = t48 != 0 ? t47 : 83372L)) + Long.MIN_VALUE >= l0 + Long.MIN_VALUE) { break L45; }
-    l9 = l0 & 3L;
-    l8 = 0L;
-    L49: {
-     if (l0 + Long.MIN_VALUE < -9223372036854775804L) { break L49; }
-     l10 = l0 & -4L;
-     l8 = 0L;
-     L50: while (true) {
-      b[((int) (l0 = l5 + l8)) - 60720] = (byte) (b[((int) (l1 = l6 + l8)) - 60720] & 0xff);
-      b[((int) (l0 + 1L)) - 60720] = (byte) (b[((int) (l1 + 1L)) - 60720] & 0xff);
-      b[((int) (l0 + 2L)) - 60720] = (byte) (b[((int) (l1 + 2L)) - 60720] & 0xff);
-      b[((int) (l0 + 3L)) - 60720] = (byte) (b[((int) (l1 + 3L)) - 60720] & 0xff);
-      if (l10 != (l8 = l8 + 4L)) { continue L50; }
-      break L50;
-     }
-     if (l9 == 0L) { break L44; }
-    }
-    l0 = l6 + l8;
-    l8 = l4 + (l11 + l8);
-    L51: while (true) {
-     b[((int) l8) - 60720] = (byte) (b[((int) l0) - 60720] & 0xff);
-     l8 = l8 + 1L;
-     l0 = l0 + 1L;
-     if ((l9 = l9 + -1L) != 0L) { continue L51; }
-     break L44;
-    }
-   }
-   if (l0 == 0L) { break L44; }
-   m.copy((int) l5, (int) l6, (int) l0);
-   l2 = 0;
-   break L1;
-  }
-  l2 = 0;
- }
- m.g0 = l7 + 864L;
- return l2;
-}
-
-static int f275(State m, long l0, long l1, int l2, long l3) {
+static int f229(State m, long l0, long l1, int l2, long l3) {
  final byte[] b = m.bytes;
  long l4 = 0;
  long l5 = 0;
  long l6 = 0;
- long l7 = 0;
+ int l7 = 0;
  int l8 = 0;
+ int l9 = 0;
  m.g0 = l4 = m.g0 - 80L;
  L1: {
   L2: {
    L3: {
-    if ((l4 = l4) < 16L) { break L3; }
-    Words.put64(b, ((int) l3) - 60720, 0L);
-    Words.put64(b, ((int) l3) - 60712, 0L);
-    Words.put64(b, ((int) l3) - 60704, 0L);
-    Words.put64(b, ((int) l3) - 60696, 0L);
-    Words.put64(b, ((int) l3) - 60688, 0L);
-    Words.put64(b, ((int) l3) - 60680, 0L);
-    Words.put64(b, ((int) l3) - 60672, 0L);
-    Words.put64(b, ((int) l4) - 60648, 0L);
-    Words.put64(b, ((int) l4) - 60656, 0L);
-    Words.put64(b, ((int) l4) - 60664, 0L);
-    Words.put64(b, ((int) l4) - 60672, 0L);
-    Words.put64(b, ((int) l4) - 60680, 0L);
-    Words.put64(b, ((int) l4) - 60688, 0L);
-    Words.put64(b, ((int) l4) - 60696, 0L);
-    Words.put64(b, ((int) l4) - 60704, 0L);
+    if ((l5 = l4) < 16L) { break L3; }
     L4: {
      L5: {
-      if (l2 + Integer.MIN_VALUE > -2147483644) { break L5; }
-      if (((1L << (l5 = (l2 & 0xffffffffL) << 1L)) & 340L) == 0L) { break L4; }
-      l8 = b[((int) (l5 + 85585L)) - 60720] & 0xff;
-      break L2;
+      L6: {
+       switch ((int) ((l2 & 0xffffffffL) & 255L)) {
+       case 1: break L6;
+       case 2: break L5;
+       case 3: break L4;
+       default: break L1;
+       }
+      }
+      l4 = 0L;
+      L7: {
+       if (l3 + Long.MIN_VALUE < -9223372036854775792L) { break L7; }
+       Core1.f25(m, l5, l0, l1, l3);
+       l3 = Words.get64(b, ((int) l5) - 58904);
+       l4 = Words.get64(b, ((int) l5) - 58912);
+      }
+      L8: {
+       if (l3 + Long.MIN_VALUE < -9223372036854775805L) { break L8; }
+       L9: while (true) {
+        if ((l1 - l4) + Long.MIN_VALUE < -9223372036854775800L) { break L8; }
+        L10: {
+         L11: {
+          if (((l6 = Words.get64(b, ((int) (l0 + l4)) - 58912)) & 67553998437089520L) != 63050398541283552L) { break L11; }
+          l3 = l3 + -3L;
+          l4 = l4 + 9L;
+          break L10;
+         }
+         if (l3 + Long.MIN_VALUE < -9223372036854775800L) { break L8; }
+         if ((l6 & -9187201950435737472L) != 0L) { break L8; }
+         l3 = l3 + -8L;
+         l4 = l4 + 8L;
+        }
+        if (l3 + Long.MIN_VALUE > -9223372036854775806L) { continue L9; }
+        break L9;
+       }
+      }
+      L12: {
+       if (l3 == 0L) { break L12; }
+       if (l1 + Long.MIN_VALUE <= l4 + Long.MIN_VALUE) { break L12; }
+       l3 = l3 + -1L;
+       L13: while (true) {
+        l4 = Words.get64(b, ((int) (((((b[((int) (l0 + l4)) - 58912] & 0xff) >>> 1) & 0xffffffffL) & 120L) + 66680L)) - 58912) + l4;
+        if (l3 == 0L) { break L12; }
+        l3 = l3 + -1L;
+        if (l1 + Long.MIN_VALUE > l4 + Long.MIN_VALUE) { continue L13; }
+        break L13;
+       }
+      }
+      Words.put64(b, ((int) l5) - 58872, 0L);
+      Words.put64(b, ((int) l5) - 58880, 0L);
+      Words.put64(b, ((int) l5) - 58888, 0L);
+      Words.put64(b, ((int) l5) - 58896, 0L);
+      f230(m, l5 + 16L, l0 + l4, l1 - l4);
+      l2 = 3;
+      if ((b[((int) l5) - 58896] & 0xff) != 1) { break L1; }
+      l2 = 4;
+      L14: {
+       L15: {
+        switch ((int) (b[((int) l5) - 58888] & 0xffL)) {
+        case 1: break L14;
+        case 2: break L1;
+        default: break L15;
+        }
+       }
+       l2 = b[((int) l5) - 58887] & 0xff;
+       l4 = Words.get64(b, ((int) l5) - 58872);
+       l3 = Words.get64(b, ((int) l5) - 58880);
+       Words.put64(b, ((int) l5) - 58840, 0L);
+       Words.put64(b, ((int) l5) - 58848, 0L);
+       Words.put64(b, ((int) l5) - 58856, 0L);
+       Words.put64(b, ((int) l5) - 58864, 0L);
+       f230(m, l5 + 48L, l3, l4);
+       final int t16 = (((b[((int) l5) - 58856] & 0xff) & 255) != 0) ? 3 : 5;
+       final int t17 = ((b[((int) l5) - 58864] & 0xff) != 1) ? 1 : 0;
+       final int t18 = t17 != 0 ? 3 : t16;
+       final int t19 = l2;
+       l2 = t19 != 0 ? t18 : 3;
+       break L1;
+      }
+      l7 = b[((int) l5) - 58887] & 0xff;
+      l4 = Words.get64(b, ((int) l5) - 58872);
+      l3 = Words.get64(b, ((int) l5) - 58880);
+      Words.put64(b, ((int) l5) - 58840, 0L);
+      Words.put64(b, ((int) l5) - 58848, 0L);
+      Words.put64(b, ((int) l5) - 58856, 0L);
+      Words.put64(b, ((int) l5) - 58864, 0L);
+      f230(m, l5 + 48L, l3, l4);
+      L20: {
+       if ((l8 = (((b[((int) l5) - 58864] & 0xff) == 1) & (((b[((int) l5) - 58856] & 0xff) & 255) == 1)) ? 1 : 0) != 1) { break L20; }
+       final int t21 = l7 & 255;
+       final int t22 = b[((int) l5) - 58855] & 0xff;
+       final int t23 = l8;
+       if (t21 + Integer.MIN_VALUE < ((l9 = t23 != 0 ? t22 : 0) & 255) + Integer.MIN_VALUE) { break L20; }
+       l2 = 6;
+       if ((l7 & 255) != 1) { break L1; }
+       if ((l9 & 255) != 0) { break L1; }
+      }
+      L24: {
+       if (((l7 | l8) & 255) != 0) { break L24; }
+       l2 = 7;
+       break L1;
+      }
+      Words.put64(b, ((int) l5) - 58840, 0L);
+      Words.put64(b, ((int) l5) - 58848, 0L);
+      Words.put64(b, ((int) l5) - 58856, 0L);
+      Words.put64(b, ((int) l5) - 58864, 0L);
+      f230(m, l5 + 48L, l3, l4);
+      if ((b[((int) l5) - 58864] & 0xff) != 1) { break L2; }
+      L25: {
+       L26: while (true) {
+        L27: {
+         if ((b[((int) l5) - 58856] & 0xff) != 1) { break L27; }
+         if ((l2 = (b[((int) l5) - 58855] & 0xff) & 255) + Integer.MIN_VALUE >= (l8 = l7 & 255) + Integer.MIN_VALUE) { break L25; }
+        }
+        f230(m, l5 + 48L, Words.get64(b, ((int) l5) - 58848), Words.get64(b, ((int) l5) - 58840));
+        if ((b[((int) l5) - 58864] & 0xff) == 1) { continue L26; }
+        break L2;
+       }
+      }
+      if (l8 + Integer.MIN_VALUE < l2 + Integer.MIN_VALUE) { break L2; }
+      l2 = 8;
+      break L1;
      }
-     l8 = 1;
-     if (l2 == 5) { break L2; }
+     l2 = 1;
+     break L1;
     }
-    l2 = 8;
+    l2 = 2;
     break L1;
    }
    throw State.trap();
   }
-  l5 = l1;
-  l0 = l6 = l0 + ((l0 == 0L) ? 4096L : 0L);
-  L6: {
-   L7: {
-    L8: {
-     if (l1 + Long.MIN_VALUE < -9223372036854775804L) { break L8; }
-     l0 = l6;
-     l5 = l1;
-     L9: while (true) {
-      if (((Words.get32(b, ((int) l0) - 60720) + 16776990) & 12632312) != 8421376) { break L7; }
-      l0 = l0 + 3L;
-      if ((l5 = l5 + -3L) + Long.MIN_VALUE > -9223372036854775805L) { continue L9; }
-      break L9;
-     }
-    }
-    if (l5 + Long.MIN_VALUE > -9223372036854775805L) { break L7; }
-    L10: {
-     switch ((int) l5) {
-     case 1: case 2: break L7;
-     case 3: break L10;
-     default: break L6;
-     }
-    }
-    if (((((Words.get16(b, ((int) l0) - 60720) & 0xffff) | ((b[((int) (l0 + 2L)) - 60720] & 0xff) << 16)) + 16776990) & 12632312) == 8421376) { break L6; }
-   }
-   if (Core1.f6(m, l6, l1) != 0) { break L6; }
-   l2 = 5;
-   break L1;
-  }
-  Core2.f75(m, l4 + 16L, l6, l1, l8);
-  Words.put64(b, ((int) l3) - 60720, 0L);
-  Words.put64(b, ((int) l3) - 60712, 0L);
-  Words.put64(b, ((int) l3) - 60704, 0L);
-  Words.put64(b, ((int) l3) - 60696, 0L);
-  Words.put64(b, ((int) l3) - 60688, 0L);
-  Words.put64(b, ((int) l3) - 60680, 0L);
-  Words.put64(b, ((int) l3) - 60672, 0L);
-  l5 = Words.get64(b, ((int) l4) - 60688);
-  L11: {
-   if ((b[((int) l4) - 60704] & 0xff) != 0) { break L11; }
-   l6 = Words.get64(b, ((int) l4) - 60664);
-   l1 = Words.get64(b, ((int) l4) - 60672);
-   l0 = Words.get64(b, ((int) l4) - 60680);
-   Words.put32(b, ((int) l3) - 60688, b[((int) l4) - 60656] & 0xff);
-   Words.put64(b, ((int) l3) - 60704, l1);
-   Words.put64(b, ((int) (l1 = l3 + 36L)) - 60720, 0L);
-   Words.put64(b, ((int) l1) - 60712, 0L);
-   l2 = 0;
-   Words.put32(b, ((int) l1) - 60704, 0);
-   Words.put64(b, ((int) l3) - 60696, l6);
-   final int t12 = (int) l3;
-   final long t13 = 0L - l5;
-   final long t14 = l5;
-   final int t15 = l8 = (l0 < 0L) ? 1 : 0;
-   final long t16 = 0L - (l1 = t15 != 0 ? t13 : t14);
-   final long t17 = l1;
-   final int t18 = l8;
-   Words.put64(b, t12 - 60720, t18 != 0 ? t16 : t17);
-   final int t19 = (int) l3;
-   final long t20 = 0L - (l0 + ((l5 != 0L) ? 1L : 0L));
-   final long t21 = l0;
-   final int t22 = l8;
-   final long t23 = 0L - ((l0 = t22 != 0 ? t20 : t21) + ((l1 != 0L) ? 1L : 0L));
-   final long t24 = l0;
-   final int t25 = l8;
-   Words.put64(b, t19 - 60712, t25 != 0 ? t23 : t24);
-   break L1;
-  }
-  l2 = 1;
-  L26: {
-   L27: {
-    L28: {
-     switch (b[((int) l4) - 60696] & 0xff) {
-     case 1: break L28;
-     case 2: break L27;
-     case 3: break L26;
-     default: break L1;
-     }
-    }
-    Words.put64(b, ((int) l3) - 60680, l5);
-    l0 = 0L;
-    L29: {
-     if (l5 + Long.MIN_VALUE < -9223372036854775792L) { break L29; }
-     Core1.f25(m, l4, l6, l1, l5);
-     l5 = Words.get64(b, ((int) l4) - 60712);
-     l0 = Words.get64(b, ((int) l4) - 60720);
-    }
-    L30: {
-     if (l5 + Long.MIN_VALUE < -9223372036854775805L) { break L30; }
-     L31: while (true) {
-      if ((l1 - l0) + Long.MIN_VALUE < -9223372036854775800L) { break L30; }
-      L32: {
-       L33: {
-        if (((l7 = Words.get64(b, ((int) (l6 + l0)) - 60720)) & 67553998437089520L) != 63050398541283552L) { break L33; }
-        l5 = l5 + -3L;
-        l0 = l0 + 9L;
-        break L32;
-       }
-       if (l5 + Long.MIN_VALUE < -9223372036854775800L) { break L30; }
-       if ((l7 & -9187201950435737472L) != 0L) { break L30; }
-       l5 = l5 + -8L;
-       l0 = l0 + 8L;
-      }
-      if (l5 + Long.MIN_VALUE > -9223372036854775806L) { continue L31; }
-      break L31;
-     }
-    }
-    L34: {
-     if (l5 == 0L) { break L34; }
-     if (l1 + Long.MIN_VALUE <= l0 + Long.MIN_VALUE) { break L34; }
-     l5 = l5 + -1L;
-     L35: while (true) {
-      l0 = Words.get64(b, ((int) (((((b[((int) (l6 + l0)) - 60720] & 0xff) >>> 1) & 0xffffffffL) & 120L) + 66680L)) - 60720) + l0;
-      if (l5 == 0L) { break L34; }
-      l5 = l5 + -1L;
-      if (l1 + Long.MIN_VALUE > l0 + Long.MIN_VALUE) { continue L35; }
-      break L35;
-     }
-    }
-    Words.put64(b, ((int) l3) - 60672, l0);
-    l2 = 2;
-    break L1;
-   }
-   l2 = 3;
-   break L1;
-  }
-  l2 = 4;
+  l2 = 3;
  }
- m.g0 = l4 + 80L;
+ m.g0 = l5 + 80L;
  return l2;
 }
 
-static int f277_1(State m, long l0, long l1, int l2, int l3, int l4, long l6, long l7, long l8, long l9, long l10, long l11, long l12, long l20, long l29, long l30, long l31, long l32, long l33, long l34, long l35, long l36, long l37, long l38, long l39, long l40, long l41, int l42, int l43, int l44, int l47, int l48, int l50, int l53, int l54) {
+static void f230(State m, long l0, long l1, long l2) {
  final byte[] b = m.bytes;
- int exit = 0;
- PART: {
-  L13: {
-   L14: {
-    L15: {
-     L16: {
-      if ((b[((int) l10) - 60096] & 0xff) != 1) { break L16; }
-      l32 = Words.get64(b, ((int) l10) - 60048);
-      l31 = Words.get64(b, ((int) l10) - 60056);
-      l33 = Words.get64(b, ((int) l10) - 60064);
-      l34 = Words.get64(b, ((int) l10) - 60072);
-      l35 = Words.get64(b, ((int) l10) - 60080);
-      l36 = Words.get64(b, ((int) l10) - 60088);
-      L17: {
-       if ((l53 & 1) == 0) { break L17; }
-       Words.put64(b, ((int) l10) - 60056, l32);
-       Words.put64(b, ((int) l10) - 60064, l31);
-       Words.put64(b, ((int) l10) - 60072, l33);
-       Words.put64(b, ((int) l10) - 60080, l34);
-       Words.put64(b, ((int) l10) - 60088, l35);
-       Words.put64(b, ((int) l10) - 60096, l36);
-       if (Core5.f170(m, l30, l10 + 624L) != 0) { break L13; }
-      }
-      b[((int) l10) - 60256] = (byte) l48;
-      b[((int) l10) - 60257] = (byte) l50;
-      Words.put32(b, ((int) l10) - 60261, l47);
-      b[((int) l10) - 60262] = (byte) l43;
-      b[((int) l10) - 60263] = (byte) l44;
-      b[((int) l10) - 60264] = (byte) l2;
-      l9 = l34;
-      l0 = l33;
-      L18: {
-       L19: while (true) {
-        if (l0 == 0L) { break L18; }
-        l42 = (l4 = (int) b[((int) l9) - 60720]) & 255;
-        l11 = 1L;
-        L20: {
-         if (l4 > -1) { break L20; }
-         l3 = (b[((int) l9) - 60719] & 0xff) & 63;
-         L21: {
-          if (l4 + Integer.MIN_VALUE > 2147483615) { break L21; }
-          l42 = ((l42 << 6) & 1984) | l3;
-          l11 = 2L;
-          break L20;
-         }
-         l54 = (b[((int) l9) - 60718] & 0xff) & 63;
-         L22: {
-          if (l4 + Integer.MIN_VALUE > 2147483631) { break L22; }
-          l42 = ((l3 << 6) | ((l42 << 12) & 61440)) | l54;
-          l11 = 3L;
-          break L20;
-         }
-         l42 = ((l54 << 6) | ((l3 << 12) | ((l42 << 18) & 1835008))) | ((b[((int) l9) - 60717] & 0xff) & 63);
-         l11 = 4L;
-        }
-        if ((l42 + -48) + Integer.MIN_VALUE < -2147483638) { break L15; }
-        l0 = l0 - l11;
-        l9 = l9 + l11;
-        if ((l42 + -65296) + Integer.MIN_VALUE > -2147483639) { continue L19; }
-        break L15;
-       }
-      }
-      Words.put64(b, ((int) l10) - 60328, l32);
-      Words.put64(b, ((int) l10) - 60336, l31);
-      Words.put64(b, ((int) l10) - 60344, l33);
-      Words.put64(b, ((int) l10) - 60352, l34);
-      Words.put64(b, ((int) l10) - 60368, l36);
-      Words.put64(b, ((int) l10) - 60360, l35);
-      m.fill((int) (l10 + 624L), 0, (int) 120L);
-      Core3.f112(m, l10 + 624L, l12, l1, l12 + l35, l1 - l35, l2, l44);
-      Words.put64(b, ((int) l10) - 60216, b[((int) l10) - 60096] & 0xffL);
-      Words.put64(b, ((int) l10) - 60208, b[((int) l10) - 60088] & 0xffL);
-      m.copy((int) l29, (int) l20, (int) 104L);
-      if (Core6.f195(m, l10 + 456L, l12, l1, l10 + 352L, l10 + 504L) != 0) { break L15; }
-      break L14;
-     }
-     Core2.f53(m, l10 + 152L, l31, l32);
-     Words.put64(b, ((int) l8) - 60720, l9 = Words.get64(b, ((int) l10) - 60552));
-     l42 = (l9 + Long.MIN_VALUE > l7 + Long.MIN_VALUE) ? 6 : 0;
-     exit = 1; break PART;
-    }
-    l9 = l33 + l35;
-    l37 = l31;
-    l38 = l32;
-    L23: while (true) {
-     Words.put64(b, ((int) l10) - 60048, 0L);
-     Words.put64(b, ((int) l10) - 60056, 0L);
-     Words.put64(b, ((int) l10) - 60064, 0L);
-     Words.put64(b, ((int) l10) - 60072, 0L);
-     Words.put64(b, ((int) l10) - 60080, 0L);
-     Words.put64(b, ((int) l10) - 60088, 0L);
-     Words.put64(b, ((int) l10) - 60096, 0L);
-     Core3.f111(m, l10 + 624L, l12, l1, l37, l38, l2, l44);
-     l42 = 0;
-     if ((b[((int) l10) - 60096] & 0xff) != 1) { break L13; }
-     l37 = Words.get64(b, ((int) l10) - 60056);
-     l39 = Words.get64(b, ((int) l10) - 60064);
-     l40 = Words.get64(b, ((int) l10) - 60072);
-     l6 = Words.get64(b, ((int) l10) - 60080);
-     l41 = Words.get64(b, ((int) l10) - 60088);
-     Words.put64(b, ((int) l10) - 60224, l38 = Words.get64(b, ((int) l10) - 60048));
-     Words.put64(b, ((int) l10) - 60232, l37);
-     Words.put64(b, ((int) l10) - 60240, l39);
-     Words.put64(b, ((int) l10) - 60248, l40);
-     Words.put64(b, ((int) l10) - 60256, l6);
-     Words.put64(b, ((int) l10) - 60264, l41);
-     if (Core5.f170(m, l9, l10 + 456L) == 0) { break L13; }
-     b[((int) l10) - 60536] = (byte) l48;
-     b[((int) l10) - 60537] = (byte) l50;
-     Words.put32(b, ((int) l10) - 60541, l47);
-     b[((int) l10) - 60542] = (byte) l43;
-     b[((int) l10) - 60543] = (byte) l44;
-     b[((int) l10) - 60544] = (byte) l2;
-     l9 = l40;
-     l0 = l39;
-     L24: {
-      L25: {
-       L26: while (true) {
-        if (l0 == 0L) { break L25; }
-        l42 = (l4 = (int) b[((int) l9) - 60720]) & 255;
-        l11 = 1L;
-        L27: {
-         if (l4 > -1) { break L27; }
-         l3 = (b[((int) l9) - 60719] & 0xff) & 63;
-         L28: {
-          if (l4 + Integer.MIN_VALUE > 2147483615) { break L28; }
-          l42 = ((l42 << 6) & 1984) | l3;
-          l11 = 2L;
-          break L27;
-         }
-         l54 = (b[((int) l9) - 60718] & 0xff) & 63;
-         L29: {
-          if (l4 + Integer.MIN_VALUE > 2147483631) { break L29; }
-          l42 = ((l3 << 6) | ((l42 << 12) & 61440)) | l54;
-          l11 = 3L;
-          break L27;
-         }
-         l42 = ((l54 << 6) | ((l3 << 12) | ((l42 << 18) & 1835008))) | ((b[((int) l9) - 60717] & 0xff) & 63);
-         l11 = 4L;
-        }
-        if ((l42 + -48) + Integer.MIN_VALUE < -2147483638) { break L24; }
-        l0 = l0 - l11;
-        l9 = l9 + l11;
-        if ((l42 + -65296) + Integer.MIN_VALUE >= -2147483638) { continue L26; }
-        break L24;
-       }
-      }
-      Words.put64(b, ((int) l10) - 60328, l38);
-      Words.put64(b, ((int) l10) - 60336, l37);
-      Words.put64(b, ((int) l10) - 60344, l39);
-      Words.put64(b, ((int) l10) - 60352, l40);
-      Words.put64(b, ((int) l10) - 60368, l41);
-      Words.put64(b, ((int) l10) - 60360, l6);
-      m.fill((int) (l10 + 624L), 0, (int) 120L);
-      Core3.f112(m, l10 + 624L, l12, l1, l12 + l6, l1 - l6, l2, l44);
-      Words.put64(b, ((int) l10) - 60216, b[((int) l10) - 60096] & 0xffL);
-      Words.put64(b, ((int) l10) - 60208, b[((int) l10) - 60088] & 0xffL);
-      m.copy((int) l29, (int) l20, (int) 104L);
-      if (Core6.f195(m, l10 + 176L, l12, l1, l10 + 352L, l10 + 504L) == 0) { break L14; }
-     }
-     l9 = l39 + l6;
-     continue L23;
-    }
-   }
-   l42 = 1;
-  }
- }
- m.kept[0] = l0;
- m.kept[1] = l3;
- m.kept[2] = l4;
- m.kept[3] = l6;
- m.kept[4] = l9;
- m.kept[5] = l11;
- m.kept[6] = l31;
- m.kept[7] = l32;
- m.kept[8] = l33;
- m.kept[9] = l34;
- m.kept[10] = l35;
- m.kept[11] = l36;
- m.kept[12] = l37;
- m.kept[13] = l38;
- m.kept[14] = l39;
- m.kept[15] = l40;
- m.kept[16] = l41;
- m.kept[17] = l42;
- m.kept[18] = l54;
- return exit;
-}
-
-static int f277_2(State m, long l0, int l3, int l4, int l5, long l6, long l9, long l10, long l11, long l13, long l14, long l15, long l34, long l35, long l36, long l37, long l38, long l39, long l40, long l41, int l46, int l48, int l50, int l51, int l52, int l53, int l54, int l55, int l56) {
- final byte[] b = m.bytes;
- int exit = 0;
- PART: {
-  L35: {
-   L36: {
-    switch (l3) {
-    case 1: break L35;
-    case 2: exit = 1; break PART;
-    default: break L36;
-    }
-   }
-   Words.put32(b, ((int) l15) - 60720, Words.get32(b, ((int) l10) - 60440));
-   Words.put16(b, ((int) l15) - 60716, (short) (Words.get16(b, ((int) l10) - 60436) & 0xffff));
-   b[((int) l10) - 60393] = (byte) l48;
-   b[((int) l10) - 60394] = (byte) l50;
-   b[((int) l10) - 60395] = (byte) l51;
-   b[((int) l10) - 60396] = (byte) l52;
-   Words.put16(b, ((int) l10) - 60398, (short) l46);
-   b[((int) l10) - 60423] = (byte) l53;
-   b[((int) l10) - 60424] = (byte) l54;
-   Words.put64(b, ((int) l10) - 60408, l9);
-   Words.put64(b, ((int) l10) - 60416, l39);
-   if (Core6.f196(m, l10 + 322L, l36, l35, l10 + 296L, l37, l40) == 0) { exit = 2; break PART; }
-   L37: {
-    if (((int) (byte) l5) > -1) { break L37; }
-    Words.put32(b, ((int) l14) - 60720, Words.get32(b, ((int) l10) - 60440));
-    Words.put16(b, ((int) l14) - 60716, (short) (Words.get16(b, ((int) l10) - 60436) & 0xffff));
-    b[((int) l10) - 60095] = (byte) l53;
-    b[((int) l10) - 60096] = (byte) l54;
-    Words.put64(b, ((int) l10) - 60080, l9);
-    Words.put64(b, ((int) l10) - 60088, l39);
-    if ((Core6.f197(m, l36, l35, l10 + 624L, l37, l40) & 1) == 0) { break L37; }
-    Words.put32(b, ((int) l10) - 60256, 0);
-    Words.put64(b, ((int) l10) - 60264, 0L);
-    Core3.f113(m, l10 + 456L, l53, l10 + 280L);
-    if ((b[((int) l10) - 60264] & 0xff) != 1) { exit = 3; break PART; }
-    l11 = Words.get64(b, ((int) l10) - 60260);
-    L38: {
-     L39: {
-      L40: {
-       switch ((int) (b[((int) l10) - 60262] & 0xffL)) {
-       case 1: case 2: case 3: case 5: case 7: case 8: exit = 3; break PART;
-       case 4: break L39;
-       case 6: break L38;
-       default: break L40;
-       }
-      }
-      if (Core6.f202(m, l39, l9) != 0) { exit = 3; break PART; }
-      if ((l11 & 71777214277878015L) != 281479271677953L) { exit = 3; break PART; }
-      if (((((int) (l0 = l11 >>> 16L)) + -10000) & 65535) + Integer.MIN_VALUE < -2147427112) { exit = 3; break PART; }
-      Words.put64(b, ((int) l13) - 60713, 0L);
-      Words.put64(b, ((int) l13) - 60720, 0L);
-      Words.put64(b, ((int) l10) - 60344, 0L);
-      l6 = 1L;
-      Words.put64(b, ((int) l10) - 60352, 1L);
-      Words.put64(b, ((int) l10) - 60360, 0L);
-      b[((int) l10) - 60336] = (byte) 0;
-      Words.put64(b, ((int) l10) - 60368, l0 & 65535L);
-      m.fill((int) (l10 + 624L), 0, (int) 80L);
-      Core2.f52(m, l10 + 8L, l10 + 624L, l10 + 352L);
-      Core2.f53(m, l10 + 152L, Words.get64(b, ((int) l10) - 60712), Words.get64(b, ((int) l10) - 60704));
-      Core6.f208(m, l10 + 152L, (int) (l11 >>> 40L));
-      Core6.f208(m, l10 + 152L, (int) (l11 >>> 56L));
-      Words.put64(b, ((int) l10) - 60080, 0L);
-      Words.put64(b, ((int) l10) - 60088, 0L);
-      Words.put64(b, ((int) l10) - 60096, 0L);
-      l11 = 85825L;
-      L41: {
-       if (Core4.f119(m, l39, l9) != 0) { break L41; }
-       Core4.f123(m, l10 + 624L, 21, l39, l9);
-       l11 = ((l4 = (((b[((int) l10) - 60096] & 0xff) & 255) == 1) ? 1 : 0) != 0) ? 85825L : 83372L;
-       l6 = l4 & 0xffffffffL;
-      }
-      Core2.f53(m, l10 + 152L, l11, l6);
-      exit = 3; break PART;
-     }
-     b[((int) l10) - 60392] = (byte) (b[((int) l10) - 60261] & 0xff);
-     Words.put16(b, ((int) l10) - 60391, (short) l11);
-     if (Core6.f203(m, l54, l36, l35, l37, l40, l39, l9) != 0) { exit = 3; break PART; }
-     if (Core6.f204(m, l39, l9) != 0) { exit = 3; break PART; }
-     Core3.f115(m, l10 + 40L, l54, l37, l40, l10 + 328L);
-     if ((b[((int) l10) - 60680] & 0xff) != 1) { exit = 3; break PART; }
-     l4 = b[((int) l10) - 60679] & 0xff;
-     L42: {
-      if ((l54 & 255) != 2) { break L42; }
-      Words.put64(b, ((int) l10) - 60080, 0L);
-      Words.put64(b, ((int) l10) - 60088, 0L);
-      Words.put64(b, ((int) l10) - 60096, 0L);
-      Core4.f123(m, l10 + 624L, 22, l37, l40);
-      if ((b[((int) l10) - 60096] & 0xff) != 1) { break L42; }
-      Core2.f53(m, l10 + 152L, l37, l40 - Words.get64(b, ((int) l10) - 60080));
-     }
-     l0 = l11 >>> 8L;
-     l3 = (int) l11;
-     L43: {
-      L44: {
-       if ((l4 & 255) + Integer.MIN_VALUE > -2147483639) { break L44; }
-       Core2.f53(m, l10 + 152L, 85708L, 1L);
-       break L43;
-      }
-      Core2.f53(m, l10 + 152L, 83372L, 0L);
-     }
-     l54 = (int) l0;
-     Words.put64(b, ((int) l13) - 60713, 0L);
-     Words.put64(b, ((int) l13) - 60720, 0L);
-     Words.put64(b, ((int) l10) - 60344, 0L);
-     Words.put64(b, ((int) l10) - 60352, 1L);
-     Words.put64(b, ((int) l10) - 60360, 0L);
-     b[((int) l10) - 60336] = (byte) 0;
-     Words.put64(b, ((int) l10) - 60368, (l4 & 0xffffffffL) & 255L);
-     m.fill((int) (l10 + 624L), 0, (int) 80L);
-     Core2.f52(m, l10 + 24L, l10 + 624L, l10 + 352L);
-     Core2.f53(m, l10 + 152L, Words.get64(b, ((int) l10) - 60696), Words.get64(b, ((int) l10) - 60688));
-     Core6.f209(m, l10 + 152L, l3);
-     L45: {
-      if (((1 << l53) & -1064961) != 0) { break L45; }
-      Core6.f209(m, l10 + 152L, l54);
-     }
-     Words.put64(b, ((int) l10) - 60080, 0L);
-     Words.put64(b, ((int) l10) - 60088, 0L);
-     Words.put64(b, ((int) l10) - 60096, 0L);
-     L46: {
-      L47: {
-       if (Core4.f119(m, l39, l9) == 0) { break L47; }
-       l9 = 85825L;
-       l11 = 1L;
-       break L46;
-      }
-      Core4.f123(m, l10 + 624L, 21, l39, l9);
-      l9 = ((l4 = (((b[((int) l10) - 60096] & 0xff) & 255) == 1) ? 1 : 0) != 0) ? 85825L : 83372L;
-      l11 = l4 & 0xffffffffL;
-     }
-     Core2.f53(m, l10 + 152L, l9, l11);
-     exit = 3; break PART;
-    }
-    Words.put64(b, ((int) l13) - 60713, 0L);
-    Words.put64(b, ((int) l13) - 60720, 0L);
-    Words.put64(b, ((int) l10) - 60344, 0L);
-    Words.put64(b, ((int) l10) - 60360, 0L);
-    b[((int) l10) - 60336] = (byte) 1;
-    Words.put64(b, ((int) l10) - 60352, 10L);
-    Words.put64(b, ((int) l10) - 60368, ((l11 & 65535L) * 10L) + 5L);
-    m.fill((int) (l10 + 624L), 0, (int) 80L);
-    Core2.f52(m, l10 + 64L, l10 + 624L, l10 + 352L);
-    Core2.f53(m, l10 + 152L, Words.get64(b, ((int) l10) - 60656), Words.get64(b, ((int) l10) - 60648));
-    Core6.f205(m, l10 + 48L, l37, l40);
-    l11 = Words.get64(b, ((int) l10) - 60664);
-    l9 = Words.get64(b, ((int) l10) - 60672);
-    Words.put64(b, ((int) l10) - 60352, 0L);
-    Words.put64(b, ((int) l10) - 60360, 0L);
-    Words.put64(b, ((int) l10) - 60368, 0L);
-    L48: {
-     if (l53 != 26) { break L48; }
-     Core4.f133(m, l10 + 352L, 83608L, 2L, 83568L, 1L, l9, l11);
-     if ((b[((int) l10) - 60368] & 0xff) != 1) { exit = 3; break PART; }
-     l6 = Words.get64(b, ((int) l10) - 60360);
-     l0 = Words.get64(b, ((int) l10) - 60352);
-     Words.put64(b, ((int) l10) - 60080, 0L);
-     Words.put64(b, ((int) l10) - 60088, 0L);
-     Words.put64(b, ((int) l10) - 60096, 0L);
-     L49: {
-      L50: {
-       L51: {
-        if (l0 == 0L) { break L51; }
-        if ((l4 = (int) b[((int) l6) - 60720]) > -1) { break L51; }
-        if (l4 + Integer.MIN_VALUE < 2147483616) { break L51; }
-        l3 = l4 & 255;
-        l54 = (b[((int) l6) - 60719] & 0xff) & 63;
-        l53 = (b[((int) l6) - 60718] & 0xff) & 63;
-        L52: {
-         L53: {
-          if (l4 + Integer.MIN_VALUE > 2147483631) { break L53; }
-          l4 = ((l54 << 6) | ((l3 << 12) & 61440)) | l53;
-          break L52;
-         }
-         l4 = ((l53 << 6) | ((l54 << 12) | ((l3 << 18) & 1835008))) | ((b[((int) l6) - 60717] & 0xff) & 63);
-        }
-        if (l11 == 0L) { break L49; }
-        if (l4 != 23567) { break L50; }
-        break L49;
-       }
-       if (l11 == 0L) { break L49; }
-      }
-      L54: {
-       L55: {
-        if ((l4 = (int) b[((int) l9) - 60720]) <= -1) { break L55; }
-        l11 = 1L;
-        break L54;
-       }
-       L56: {
-        if (l4 + Integer.MIN_VALUE >= 2147483616) { break L56; }
-        l11 = 2L;
-        break L54;
-       }
-       l11 = (l4 + Integer.MIN_VALUE < 2147483632) ? 3L : 4L;
-      }
-      Core2.f53(m, l10 + 152L, l9, l11);
-     }
-     Core4.f135(m, l10 + 624L, l6, l0);
-     if ((b[((int) l10) - 60096] & 0xff) != 1) { exit = 3; break PART; }
-     Core2.f53(m, l10 + 152L, l6, l0 - Words.get64(b, ((int) l10) - 60080));
-     exit = 3; break PART;
-    }
-    if (l11 == 0L) { exit = 3; break PART; }
-    L57: {
-     L58: {
-      if ((l4 = (int) b[((int) l9) - 60720]) <= -1) { break L58; }
-      l11 = 1L;
-      break L57;
-     }
-     L59: {
-      if (l4 + Integer.MIN_VALUE >= 2147483616) { break L59; }
-      l11 = 2L;
-      break L57;
-     }
-     l11 = (l4 + Integer.MIN_VALUE < 2147483632) ? 3L : 4L;
-    }
-    Core2.f53(m, l10 + 152L, l9, l11);
-    exit = 3; break PART;
-   }
-   l6 = 0L;
-   Words.put64(b, ((int) l10) - 60376, 0L);
-   Words.put64(b, ((int) l10) - 60384, 0L);
-   Words.put64(b, ((int) l10) - 60392, 0L);
-   Core4.f129(m, l10 + 328L, l54, l37, l40);
-   if ((b[((int) l10) - 60392] & 0xff) != 1) { exit = 3; break PART; }
-   l38 = Words.get64(b, ((int) l10) - 60384);
-   Core2.f53(m, l10 + 152L, l37, l40 - (l39 = Words.get64(b, ((int) l10) - 60376)));
-   Words.put64(b, ((int) l10) - 60368, 0L);
-   Words.put64(b, ((int) l10) - 60360, 0L);
-   Words.put64(b, ((int) l10) - 60352, 0L);
-   Words.put64(b, ((int) l10) - 60344, 0L);
-   l37 = Words.get64(b, State.far((int) (l9 = (l53 & 0xffffffffL) << 3L), 88568));
-   l40 = Words.get64(b, State.far((int) l9, 88312));
-   l54 = 0;
-   l9 = 0L;
-   l53 = 0;
-   L60: while (true) {
-    Words.put64(b, ((int) l10) - 60248, l11 = l39);
-    Words.put64(b, ((int) l10) - 60256, l0 = l38);
-    b[((int) l10) - 60257] = (byte) l53;
-    b[((int) l10) - 60258] = (byte) (l4 = l54);
-    Words.put32(b, ((int) l10) - 60264, (int) l9);
-    Words.put16(b, ((int) l10) - 60260, (short) (l9 >>> 32L));
-    Core4.f130(m, l10 + 352L, b[((int) (l9 = l37 + (l6 << 1L))) - 60720] & 0xff, b[((int) (l9 + 1L)) - 60720] & 0xff, l10 + 456L);
-    if ((b[((int) l10) - 60368] & 0xff) != 1) { exit = 3; break PART; }
-    l39 = Words.get64(b, ((int) l10) - 60344);
-    l38 = Words.get64(b, ((int) l10) - 60352);
-    l53 = b[((int) l10) - 60353] & 0xff;
-    l54 = b[((int) l10) - 60354] & 0xff;
-    L61: {
-     L62: {
-      L63: {
-       switch ((int) (b[((int) l9) - 60720] & 0xffL)) {
-       case 1: break L62;
-       case 2: case 3: break L61;
-       default: break L63;
-       }
-      }
-      L64: {
-       if ((b[((int) (l9 + 1L)) - 60720] & 0xff) != 9) { break L64; }
-       Core2.f53(m, l10 + 152L, l0, l11 - l39);
-       break L61;
-      }
-      Words.put64(b, ((int) l10) - 60072, 0L);
-      Words.put64(b, ((int) l10) - 60080, 0L);
-      Words.put64(b, ((int) l10) - 60088, 0L);
-      Words.put64(b, ((int) l10) - 60096, 0L);
-      Core4.f121(m, l10 + 80L, l4 & 1, l0, l11);
-      l9 = Words.get64(b, ((int) l10) - 60640);
-      Core2.f53(m, l10 + 152L, l0, l11 - (l41 = Words.get64(b, ((int) l10) - 60632)));
-      Core4.f120(m, l10 + 624L, l9, l41);
-      l9 = l41 = Words.get64(b, ((int) l10) - 60096);
-      l0 = l34 = Words.get64(b, ((int) l10) - 60088);
-      L65: {
-       L66: while (true) {
-        if (l0 == 0L) { break L65; }
-        l4 = (l3 = (int) b[((int) l9) - 60720]) & 255;
-        l11 = 1L;
-        L67: {
-         if (l3 > -1) { break L67; }
-         l55 = (b[((int) l9) - 60719] & 0xff) & 63;
-         L68: {
-          if (l3 + Integer.MIN_VALUE > 2147483615) { break L68; }
-          l4 = ((l4 << 6) & 1984) | l55;
-          l11 = 2L;
-          break L67;
-         }
-         l56 = (b[((int) l9) - 60718] & 0xff) & 63;
-         L69: {
-          if (l3 + Integer.MIN_VALUE > 2147483631) { break L69; }
-          l4 = ((l55 << 6) | ((l4 << 12) & 61440)) | l56;
-          l11 = 3L;
-          break L67;
-         }
-         l4 = ((l56 << 6) | ((l55 << 12) | ((l4 << 18) & 1835008))) | ((b[((int) l9) - 60717] & 0xff) & 63);
-         l11 = 4L;
-        }
-        L70: {
-         if ((l4 + -48) + Integer.MIN_VALUE < -2147483638) { break L70; }
-         l0 = l0 - l11;
-         l9 = l9 + l11;
-         if ((l4 + -65296) + Integer.MIN_VALUE > -2147483639) { continue L66; }
-        }
-        break L66;
-       }
-       Core2.f53(m, l10 + 152L, l41, l34);
-       break L61;
-      }
-      L71: {
-       if ((Core6.f198(m, 1, l41, l34) & 1) != 0) { break L71; }
-       Core2.f53(m, l10 + 152L, l41, l34);
-       break L61;
-      }
-      final int t72 = Core6.f210(m, l10 + 152L, 1, l41, l34);
-      break L61;
-     }
-     Core2.f53(m, l10 + 152L, l0, l11 - l39);
-    }
-    l9 = (Words.get32(b, ((int) l10) - 60360) & 0xffffffffL) | ((Words.get16(b, ((int) (l10 + 364L)) - 60720) & 0xffffL) << 32L);
-    if ((l6 = l6 + 1L) != l40) { continue L60; }
-    exit = 3; break PART;
-   }
-  }
- }
- m.kept[0] = l0;
- m.kept[1] = l3;
- m.kept[2] = l4;
- m.kept[3] = l6;
- m.kept[4] = l9;
- m.kept[5] = l11;
- m.kept[6] = l34;
- m.kept[7] = l37;
- m.kept[8] = l38;
- m.kept[9] = l39;
- m.kept[10] = l40;
- m.kept[11] = l41;
- m.kept[12] = l53;
- m.kept[13] = l54;
- m.kept[14] = l55;
- m.kept[15] = l56;
- return exit;
-}
-
-static int f277(State m, long l0, long l1, int l2, int l3, int l4, int l5, long l6, long l7, long l8) {
- final byte[] b = m.bytes;
- long l9 = 0;
- long l10 = 0;
- long l11 = 0;
- long l12 = 0;
- long l13 = 0;
- long l14 = 0;
- long l15 = 0;
- long l16 = 0;
- long l17 = 0;
- long l18 = 0;
- long l19 = 0;
- long l20 = 0;
- long l21 = 0;
- long l22 = 0;
- long l23 = 0;
- long l24 = 0;
- long l25 = 0;
- long l26 = 0;
- long l27 = 0;
- long l28 = 0;
- long l29 = 0;
- long l30 = 0;
- long l31 = 0;
- long l32 = 0;
- long l33 = 0;
- long l34 = 0;
- long l35 = 0;
- long l36 = 0;
- long l37 = 0;
- long l38 = 0;
- long l39 = 0;
- long l40 = 0;
- long l41 = 0;
- int l42 = 0;
- int l43 = 0;
- int l44 = 0;
- int l45 = 0;
- int l46 = 0;
- int l47 = 0;
- int l48 = 0;
- int l49 = 0;
- int l50 = 0;
- int l51 = 0;
- int l52 = 0;
- int l53 = 0;
- int l54 = 0;
- int l55 = 0;
- int l56 = 0;
- m.g0 = l9 = m.g0 - 752L;
+ int l3 = 0;
+ int l4 = 0;
+ int l5 = 0;
+ int l6 = 0;
+ long l7 = 0;
+ long l8 = 0;
  L1: {
-  if ((l10 = l9) < 16L) { break L1; }
-  Words.put64(b, ((int) l8) - 60720, 0L);
-  l42 = 8;
   L2: {
-   if (l2 + Integer.MIN_VALUE > -2147483647) { break L2; }
-   if (l3 + Integer.MIN_VALUE > -2147483633) { break L2; }
    L3: {
     L4: {
-     if (l4 + Integer.MIN_VALUE < -2147483643) { break L4; }
-     l43 = l4 = (l4 == 5) ? 1 : 0;
-     break L3;
-    }
-    final int t5 = b[((int) ((l9 = (l4 & 0xffffffffL) << 1L) + 85585L)) - 60720] & 0xff;
-    final int t6 = l4 = (((1L << l9) & 340L) != 0L) ? 1 : 0;
-    l43 = t6 != 0 ? t5 : 0;
-   }
-   if ((l5 & -253) != 0) { break L2; }
-   if (l4 == 0) { break L2; }
-   l11 = l1;
-   l9 = l12 = l0 + ((l0 == 0L) ? 4096L : 0L);
-   L7: {
-    L8: {
-     L9: {
-      if (l1 + Long.MIN_VALUE < -9223372036854775804L) { break L9; }
-      l9 = l12;
-      l11 = l1;
-      L10: while (true) {
-       if (((Words.get32(b, ((int) l9) - 60720) + 16776990) & 12632312) != 8421376) { break L8; }
-       l9 = l9 + 3L;
-       if ((l11 = l11 + -3L) + Long.MIN_VALUE > -9223372036854775805L) { continue L10; }
-       break L10;
-      }
-     }
-     if (l11 + Long.MIN_VALUE > -9223372036854775805L) { break L8; }
-     L11: {
-      switch ((int) l11) {
-      case 1: case 2: break L8;
-      case 3: break L11;
-      default: break L7;
-      }
-     }
-     if (((((Words.get16(b, ((int) l9) - 60720) & 0xffff) | ((b[((int) (l9 + 2L)) - 60720] & 0xff) << 16)) + 16776990) & 12632312) == 8421376) { break L7; }
-    }
-    l42 = 5;
-    if (Core1.f6(m, l12, l1) == 0) { break L2; }
-   }
-   l44 = (l3 + Integer.MIN_VALUE < -2147483632) ? l3 : 0;
-   l47 = ((l42 = (l5 << 12) & 65536) | (l45 = (l5 << 19) & 16777216)) | (l46 = ((l5 << 5) & 256) | ((l5 >>> 2) & 1));
-   l48 = (l4 = l5 & 255) >>> 7;
-   l50 = (l49 = l4 >>> 6) & 1;
-   Words.put64(b, ((int) l10) - 60552, 0L);
-   Words.put64(b, ((int) l10) - 60560, l7);
-   Words.put64(b, ((int) l10) - 60568, l6 + ((l6 == 0L) ? 4096L : 0L));
-   l51 = l45 >>> 24;
-   l52 = l42 >>> 16;
-   l13 = l10 + 385L;
-   l14 = (l10 + 624L) | 2L;
-   l15 = (l10 + 296L) | 2L;
-   l16 = l10 + 440L;
-   l17 = l10 + 404L;
-   l18 = l10 + 384L;
-   l19 = (l10 + 352L) | 2L;
-   l20 = (l10 + 624L) + 16L;
-   l21 = (l10 + 504L) + 104L;
-   l22 = (l10 + 504L) + 68L;
-   l23 = (l10 + 504L) + 48L;
-   l24 = (l10 + 504L) + 18L;
-   l25 = (l10 + 624L) + 104L;
-   l26 = (l10 + 624L) + 68L;
-   l27 = (l10 + 624L) + 48L;
-   l28 = (l10 + 624L) + 18L;
-   l29 = (l10 + 504L) + 16L;
-   l53 = 0;
-   l30 = 0L;
-   l42 = 0;
-   l31 = l12;
-   l32 = l1;
-   L12: while (true) {
-    Words.put64(b, ((int) l10) - 60048, 0L);
-    Words.put64(b, ((int) l10) - 60056, 0L);
-    Words.put64(b, ((int) l10) - 60064, 0L);
-    Words.put64(b, ((int) l10) - 60072, 0L);
-    Words.put64(b, ((int) l10) - 60080, 0L);
-    Words.put64(b, ((int) l10) - 60088, 0L);
-    Words.put64(b, ((int) l10) - 60096, 0L);
-    Core3.f111(m, l10 + 624L, l12, l1, l31, l32, l2, l44);
-    final int x30 = f277_1(m, l0, l1, l2, l3, l4, l6, l7, l8, l9, l10, l11, l12, l20, l29, l30, l31, l32, l33, l34, l35, l36, l37, l38, l39, l40, l41, l42, l43, l44, l47, l48, l50, l53, l54);
-    l0 = m.kept[0];
-    l3 = (int) m.kept[1];
-    l4 = (int) m.kept[2];
-    l6 = m.kept[3];
-    l9 = m.kept[4];
-    l11 = m.kept[5];
-    l31 = m.kept[6];
-    l32 = m.kept[7];
-    l33 = m.kept[8];
-    l34 = m.kept[9];
-    l35 = m.kept[10];
-    l36 = m.kept[11];
-    l37 = m.kept[12];
-    l38 = m.kept[13];
-    l39 = m.kept[14];
-    l40 = m.kept[15];
-    l41 = m.kept[16];
-    l42 = (int) m.kept[17];
-    l54 = (int) m.kept[18];
-    switch (x30) {
-    case 1: break L2;
-    }
-    Core2.f53(m, l10 + 152L, l36 + (l9 = ((l53 & 1) != 0) ? l30 : 0L), l35 - l9);
-    L31: {
-     L32: {
-      if ((l42 & 1) == 0) { break L32; }
-      Core2.f53(m, l10 + 152L, l34, l33);
-      break L31;
-     }
-     b[((int) l10) - 60425] = (byte) l48;
-     b[((int) l10) - 60426] = (byte) l50;
-     Words.put32(b, ((int) l10) - 60430, l47);
-     b[((int) l10) - 60431] = (byte) l43;
-     b[((int) l10) - 60432] = (byte) l44;
-     b[((int) l10) - 60433] = (byte) l2;
-     m.fill((int) (l10 + 624L), 0, (int) 120L);
-     Core3.f112(m, l10 + 624L, l12, l1, l37 = l12 + l35, l40 = l1 - l35, l2, l44);
-     Words.put32(b, ((int) l10) - 60440, Words.get32(b, ((int) l28) - 60720));
-     Words.put16(b, ((int) l10) - 60436, (short) (Words.get16(b, ((int) l28) - 60716) & 0xffff));
-     Words.put64(b, ((int) l10) - 60456, Words.get64(b, ((int) l27) - 60720));
-     Words.put64(b, ((int) l10) - 60448, Words.get64(b, ((int) l27) - 60712));
-     Words.put32(b, ((int) l10) - 60464, Words.get32(b, ((int) l26) - 60704));
-     Words.put64(b, ((int) l10) - 60472, Words.get64(b, ((int) l26) - 60712));
-     Words.put64(b, ((int) l10) - 60480, Words.get64(b, ((int) l26) - 60720));
-     l55 = Words.get32(b, ((int) l10) - 60032);
-     l39 = Words.get64(b, ((int) l10) - 60072);
-     l9 = Words.get64(b, ((int) l10) - 60064);
-     l11 = Words.get64(b, ((int) l10) - 60056);
-     l4 = b[((int) l10) - 60096] & 0xff;
-     l54 = b[((int) l10) - 60080] & 0xff;
-     l53 = b[((int) l10) - 60079] & 0xff;
-     l3 = b[((int) l10) - 60088] & 0xff;
-     Words.put64(b, ((int) l10) - 60496, Words.get64(b, ((int) l25) - 60720));
-     Words.put64(b, ((int) l10) - 60488, Words.get64(b, ((int) l25) - 60712));
-     l0 = Words.get64(b, ((int) l10) - 60008);
-     l6 = Words.get64(b, ((int) l10) - 60000);
-     Words.put32(b, ((int) l24) - 60720, Words.get32(b, ((int) l10) - 60440));
-     Words.put16(b, ((int) l24) - 60716, (short) (Words.get16(b, ((int) l10) - 60436) & 0xffff));
-     Words.put64(b, ((int) l10) - 60544, l36);
-     Words.put64(b, ((int) l10) - 60536, l35);
-     Words.put64(b, ((int) l10) - 60528, l34);
-     Words.put64(b, ((int) l10) - 60520, l33);
-     Words.put64(b, ((int) l10) - 60512, l31);
-     Words.put64(b, ((int) l10) - 60504, l32);
-     Words.put64(b, ((int) l10) - 60208, l3 & 0xffffffffL);
-     b[((int) l10) - 60199] = (byte) l53;
-     b[((int) l10) - 60200] = (byte) l54;
-     Words.put64(b, ((int) l10) - 60216, (l4 & 0xffffffffL) & 255L);
-     Words.put64(b, ((int) l10) - 60176, l11);
-     Words.put64(b, ((int) l10) - 60184, l9);
-     Words.put64(b, ((int) l10) - 60192, l39);
-     Words.put64(b, ((int) l23) - 60720, Words.get64(b, ((int) l10) - 60456));
-     Words.put64(b, ((int) l23) - 60712, Words.get64(b, ((int) l10) - 60448));
-     Words.put32(b, ((int) l10) - 60152, l55);
-     Words.put32(b, ((int) l22) - 60704, Words.get32(b, ((int) l10) - 60464));
-     Words.put64(b, ((int) l22) - 60712, Words.get64(b, ((int) l10) - 60472));
-     Words.put64(b, ((int) l22) - 60720, Words.get64(b, ((int) l10) - 60480));
-     Words.put64(b, ((int) l10) - 60120, l6);
-     Words.put64(b, ((int) l10) - 60128, l0);
-     Words.put64(b, ((int) l21) - 60712, Words.get64(b, ((int) l10) - 60488));
-     Words.put64(b, ((int) l21) - 60720, Words.get64(b, ((int) l10) - 60496));
-     L33: {
-      if (Core6.f195(m, l10 + 287L, l12, l1, l10 + 176L, l10 + 504L) == 0) { break L33; }
-      if ((l4 & 255) == 0) { break L33; }
-      L34: {
-       final int x73 = f277_2(m, l0, l3, l4, l5, l6, l9, l10, l11, l13, l14, l15, l34, l35, l36, l37, l38, l39, l40, l41, l46, l48, l50, l51, l52, l53, l54, l55, l56);
-       l0 = m.kept[0];
-       l3 = (int) m.kept[1];
-       l4 = (int) m.kept[2];
-       l6 = m.kept[3];
-       l9 = m.kept[4];
-       l11 = m.kept[5];
-       l34 = m.kept[6];
-       l37 = m.kept[7];
-       l38 = m.kept[8];
-       l39 = m.kept[9];
-       l40 = m.kept[10];
-       l41 = m.kept[11];
-       l53 = (int) m.kept[12];
-       l54 = (int) m.kept[13];
-       l55 = (int) m.kept[14];
-       l56 = (int) m.kept[15];
-       switch (x73) {
-       case 1: break L34;
-       case 2: break L33;
-       case 3: break L31;
-       }
-       m.fill((int) (l10 + 624L), 0, (int) 112L);
-       Core2.f72(m, l10 + 624L, l9, l11, l0, l6);
-       if ((b[((int) l10) - 60096] & 0xff) != 1) { break L33; }
-       L74: {
-        if (l52 != 0) { break L74; }
-        Words.put32(b, ((int) l19) - 60720, Words.get32(b, ((int) l10) - 60440));
-        Words.put16(b, ((int) l19) - 60716, (short) (Words.get16(b, ((int) l10) - 60436) & 0xffff));
-        Words.put64(b, ((int) l18) - 60720, Words.get64(b, ((int) l10) - 60456));
-        Words.put64(b, ((int) l18) - 60712, Words.get64(b, ((int) l10) - 60448));
-        Words.put64(b, ((int) l17) - 60720, Words.get64(b, ((int) l10) - 60480));
-        Words.put64(b, ((int) l17) - 60712, Words.get64(b, ((int) l10) - 60472));
-        Words.put32(b, ((int) l17) - 60704, Words.get32(b, ((int) l10) - 60464));
-        b[((int) l10) - 60367] = (byte) l53;
-        b[((int) l10) - 60368] = (byte) l54;
-        Words.put64(b, ((int) l10) - 60344, l11);
-        Words.put64(b, ((int) l10) - 60352, l9);
-        Words.put64(b, ((int) l10) - 60360, l39);
-        Words.put32(b, ((int) l10) - 60320, l55);
-        Words.put64(b, ((int) l16) - 60720, Words.get64(b, ((int) l10) - 60496));
-        Words.put64(b, ((int) l16) - 60712, Words.get64(b, ((int) l10) - 60488));
-        Words.put64(b, ((int) l10) - 60288, l6);
-        Words.put64(b, ((int) l10) - 60296, l0);
-        if (Core3.f116(m, l10 + 352L) != 0) { break L33; }
-       }
-       L75: {
-        if (Core6.f199(m, l9, l11, l0, l6) == 0) { break L75; }
-        if (Core6.f200(m, l51, l9, l11, l0, l6) == 0) { break L33; }
-       }
-       Core2.f73(m, l10 + 96L, l9, l11, l0, l6);
-       if ((Core6.f214(m, l10 + 152L, l51, l9, l11, Words.get64(b, ((int) l10) - 60624), Words.get64(b, ((int) l10) - 60616)) & 1) == 0) { break L33; }
-       Words.put32(b, ((int) l10) - 60368, 0);
-       L76: {
-        L77: {
-         if (l55 + Integer.MIN_VALUE > -2147483521) { break L77; }
-         b[((int) l10) - 60368] = (byte) l55;
-         l39 = 1L;
-         break L76;
-        }
-        L78: {
-         if (l55 + Integer.MIN_VALUE > -2147481601) { break L78; }
-         b[((int) l10) - 60367] = (byte) ((l55 & 63) | 128);
-         b[((int) l10) - 60368] = (byte) ((l55 >>> 6) | 192);
-         l39 = 2L;
-         break L76;
-        }
-        L79: {
-         if (l55 + Integer.MIN_VALUE > -2147418113) { break L79; }
-         b[((int) l10) - 60366] = (byte) ((l55 & 63) | 128);
-         b[((int) l10) - 60368] = (byte) ((l55 >>> 12) | 224);
-         b[((int) l10) - 60367] = (byte) (((l55 >>> 6) & 63) | 128);
-         l39 = 3L;
-         break L76;
-        }
-        b[((int) l10) - 60365] = (byte) ((l55 & 63) | 128);
-        b[((int) l10) - 60368] = (byte) ((l55 >>> 18) + -16);
-        b[((int) l10) - 60366] = (byte) (((l55 >>> 6) & 63) | 128);
-        b[((int) l10) - 60367] = (byte) (((l55 >>> 12) & 63) | 128);
-        l39 = 4L;
-       }
-       Core2.f53(m, l10 + 152L, l10 + 352L, l39);
-       l39 = 0L;
-       Words.put64(b, ((int) l10) - 60040, 0L);
-       Words.put64(b, ((int) l10) - 60048, 0L);
-       Words.put64(b, ((int) l10) - 60056, 0L);
-       Words.put64(b, ((int) l10) - 60064, 0L);
-       Words.put64(b, ((int) l10) - 60072, 0L);
-       Words.put64(b, ((int) l10) - 60080, 0L);
-       Words.put64(b, ((int) l10) - 60088, 0L);
-       Words.put64(b, ((int) l10) - 60096, 0L);
-       Core2.f75(m, l10 + 624L, l9, l11, 1);
-       l9 = 83372L;
-       L80: {
-        if ((b[((int) l10) - 60096] & 0xff) != 0) { break L80; }
-        if (((b[((int) l10) - 60048] & 0xff) & 255) != 2) { break L80; }
-        Words.put64(b, ((int) l10) - 60040, 0L);
-        Words.put64(b, ((int) l10) - 60048, 0L);
-        Words.put64(b, ((int) l10) - 60056, 0L);
-        Words.put64(b, ((int) l10) - 60064, 0L);
-        Words.put64(b, ((int) l10) - 60072, 0L);
-        Words.put64(b, ((int) l10) - 60080, 0L);
-        Words.put64(b, ((int) l10) - 60088, 0L);
-        Words.put64(b, ((int) l10) - 60096, 0L);
-        Core2.f75(m, l10 + 624L, l0, l6, 1);
-        l9 = ((l4 = ((((b[((int) l10) - 60096] & 0xff) & 255) != 0) | (((b[((int) l10) - 60048] & 0xff) & 255) != 2)) ? 1 : 0) != 0) ? 77254L : 83372L;
-        l39 = l4 & 0xffffffffL;
-       }
-       if ((Core6.f214(m, l10 + 152L, l51, l0, l6, l9, l39) & 1) == 0) { break L33; }
-       break L31;
-      }
-      b[((int) l10) - 60390] = (byte) l52;
-      Words.put16(b, ((int) l10) - 60392, (short) l46);
-      Words.put64(b, ((int) l10) - 60224, l32);
-      Words.put64(b, ((int) l10) - 60232, l31);
-      Words.put64(b, ((int) l10) - 60240, l33);
-      Words.put64(b, ((int) l10) - 60248, l34);
-      Words.put64(b, ((int) l10) - 60256, l35);
-      Words.put64(b, ((int) l10) - 60264, l36);
-      if (Core6.f174(m, l43, l10 + 328L, l10 + 456L) == 0) { break L33; }
-      L81: {
-       if (Core6.f175(m, l34, l33) != 0) { break L81; }
-       l4 = Core6.f176(m, l34, l33);
-       L82: {
-        if (l45 != 0) { break L82; }
-        if (l4 != 0) { break L33; }
-        l9 = l34;
-        l0 = l33;
-        L83: {
-         L84: while (true) {
-          if (l0 == 0L) { break L83; }
-          l4 = (l3 = (int) b[((int) l9) - 60720]) & 255;
-          l11 = 1L;
-          L85: {
-           if (l3 > -1) { break L85; }
-           l54 = (b[((int) l9) - 60719] & 0xff) & 63;
-           L86: {
-            if (l3 + Integer.MIN_VALUE > 2147483615) { break L86; }
-            l4 = ((l4 << 6) & 1984) | l54;
-            l11 = 2L;
-            break L85;
+     L5: {
+      L6: {
+       if (m.g0 < 16L) { break L6; }
+       L7: {
+        if (l2 == 0L) { break L7; }
+        L8: while (true) {
+         L9: {
+          L10: {
+           if ((l3 = b[((int) l1) - 58912] & 0xff) + Integer.MIN_VALUE > -2147483616) { break L10; }
+           if (((1L << (l3 & 0xffffffffL)) & 4294983168L) == 0L) { break L10; }
+           l7 = 1L;
+           break L9;
+          }
+          L11: {
+           L12: {
+            L13: {
+             if (l3 == 194) { break L13; }
+             if (l2 + Long.MIN_VALUE < -9223372036854775805L) { break L12; }
+             if (((l3 + 28) & 255) + Integer.MIN_VALUE < -2147483395) { break L12; }
+             l4 = b[((int) (l1 + 1L)) - 58912] & 0xff;
+             l6 = (int) (byte) (l5 = b[((int) (l1 + 2L)) - 58912] & 0xff);
+             if (l3 != 226) { break L11; }
+             if ((l4 & 255) != 128) { break L11; }
+             l7 = 3L;
+             if (l6 < -117) { break L9; }
+             if ((l3 = l5 + -168) + Integer.MIN_VALUE > -2147483641) { break L5; }
+             if (((1 << l3) & 131) == 0) { break L5; }
+             break L9;
+            }
+            l7 = 1L;
+            l3 = b[((int) l1) - 58911] & 0xff;
+            L14: {
+             if (l2 != 1L) { break L14; }
+             l6 = l3 & 63;
+             l3 = 194;
+             break L3;
+            }
+            l7 = 2L;
+            if (l3 == 133) { break L9; }
+            if (l3 == 160) { break L9; }
            }
-           l53 = (b[((int) l9) - 60718] & 0xff) & 63;
-           L87: {
-            if (l3 + Integer.MIN_VALUE > 2147483631) { break L87; }
-            l4 = ((l54 << 6) | ((l4 << 12) & 61440)) | l53;
-            l11 = 3L;
-            break L85;
+           if (l2 + Long.MIN_VALUE >= -9223372036854775805L) { break L5; }
+           l4 = b[((int) l1) - 58912] & 0xff;
+           break L4;
+          }
+          L15: {
+           L16: {
+            L17: {
+             L18: {
+              switch (l3 + -225) {
+              case 1: break L17;
+              case 2: break L16;
+              default: break L18;
+              }
+             }
+             if ((l4 & 255) != 154) { break L5; }
+             if (l6 != -128) { break L5; }
+             break L15;
+            }
+            if ((l4 & 255) != 129) { break L5; }
+            if (l6 == -97) { break L15; }
+            break L5;
            }
-           l4 = ((l53 << 6) | ((l54 << 12) | ((l4 << 18) & 1835008))) | ((b[((int) l9) - 60717] & 0xff) & 63);
-           l11 = 4L;
+           if ((l4 & 255) != 128) { break L5; }
+           if (l6 != -128) { break L5; }
           }
-          l0 = l0 - l11;
-          l9 = l9 + l11;
-          if (l4 != 21448) { continue L84; }
-          break L33;
+          l7 = 3L;
          }
-        }
-        if ((Core6.f210(m, l10 + 152L, l43, l34, l33) & 1) != 0) { break L31; }
-        break L33;
-       }
-       L88: {
-        if (l4 == 0) { break L88; }
-        l9 = l34;
-        l0 = l33;
-        L89: while (true) {
-         if (l0 == 0L) { break L33; }
-         l4 = (l3 = (int) b[((int) l9) - 60720]) & 255;
-         l11 = 1L;
-         L90: {
-          if (l3 > -1) { break L90; }
-          l54 = (b[((int) l9) - 60719] & 0xff) & 63;
-          L91: {
-           if (l3 + Integer.MIN_VALUE > 2147483615) { break L91; }
-           l4 = ((l4 << 6) & 1984) | l54;
-           l11 = 2L;
-           break L90;
-          }
-          l53 = (b[((int) l9) - 60718] & 0xff) & 63;
-          L92: {
-           if (l3 + Integer.MIN_VALUE > 2147483631) { break L92; }
-           l4 = ((l54 << 6) | ((l4 << 12) & 61440)) | l53;
-           l11 = 3L;
-           break L90;
-          }
-          l4 = ((l53 << 6) | ((l54 << 12) | ((l4 << 18) & 1835008))) | ((b[((int) l9) - 60717] & 0xff) & 63);
-          l11 = 4L;
-         }
-         Core2.f61(m, l10 + 144L, l4);
-         L93: {
-          if ((b[((int) l10) - 60576] & 0xff) != 1) { break L93; }
-          if (((b[((int) l10) - 60575] & 0xff) & 255) != 0) { break L88; }
-         }
-         if (l4 == 38646) { break L88; }
-         l9 = l9 + l11;
-         l0 = l0 - l11;
-         if (l4 != 12295) { continue L89; }
-         break L89;
+         l1 = l1 + l7;
+         if (!((l2 = l2 - l7) == 0L)) { continue L8; }
+         break L8;
         }
        }
-       Words.put64(b, ((int) l10) - 60040, 0L);
-       Words.put64(b, ((int) l10) - 60048, 0L);
-       Words.put64(b, ((int) l10) - 60056, 0L);
-       Words.put64(b, ((int) l10) - 60064, 0L);
-       Words.put64(b, ((int) l10) - 60072, 0L);
-       Words.put64(b, ((int) l10) - 60080, 0L);
-       Words.put64(b, ((int) l10) - 60088, 0L);
-       Words.put64(b, ((int) l10) - 60096, 0L);
-       Core2.f75(m, l10 + 624L, l34, l33, l43);
-       Words.put64(b, ((int) l10) - 60368, Words.get64(b, ((int) l20) - 60720));
-       Words.put64(b, ((int) l10) - 60360, Words.get64(b, ((int) l20) - 60712));
-       Words.put64(b, ((int) l10) - 60352, Words.get64(b, ((int) l20) - 60704));
-       Words.put64(b, ((int) l10) - 60344, Words.get64(b, ((int) l20) - 60696));
-       Words.put64(b, ((int) l10) - 60336, Words.get64(b, ((int) l20) - 60688));
-       Words.put64(b, ((int) l10) - 60328, Words.get64(b, ((int) l20) - 60680));
-       if ((b[((int) l10) - 60096] & 0xff) != 0) { break L33; }
-       m.fill((int) (l10 + 624L), 0, (int) 80L);
-       Core2.f52(m, l10 + 128L, l10 + 624L, l10 + 352L);
-       Core2.f53(m, l10 + 152L, Words.get64(b, ((int) l10) - 60592), Words.get64(b, ((int) l10) - 60584));
-       break L31;
+       Words.put64(b, ((int) l0) - 58912, 0L);
+       Words.put64(b, ((int) (l0 + 16L)) - 58912, 0L);
+       Words.put16(b, ((int) (l0 + 8L)) - 58912, (short) 0);
+       Words.put64(b, ((int) (l0 + 24L)) - 58912, 0L);
+       return;
       }
-      if ((l49 & 1) == 0) { break L33; }
-      if (l33 == 0L) { break L31; }
-      l54 = 0;
-      l11 = l33;
-      L94: while (true) {
-       l4 = (l3 = (int) b[((int) l34) - 60720]) & 255;
-       l9 = 1L;
-       L95: {
-        if (l3 > -1) { break L95; }
-        l53 = (b[((int) l34) - 60719] & 0xff) & 63;
-        L96: {
-         if (l3 + Integer.MIN_VALUE > 2147483615) { break L96; }
-         l4 = ((l4 << 6) & 1984) | l53;
-         l9 = 2L;
-         break L95;
-        }
-        l55 = (b[((int) l34) - 60718] & 0xff) & 63;
-        L97: {
-         if (l3 + Integer.MIN_VALUE > 2147483631) { break L97; }
-         l4 = ((l53 << 6) | ((l4 << 12) & 61440)) | l55;
-         l9 = 3L;
-         break L95;
-        }
-        l4 = ((l55 << 6) | ((l53 << 12) | ((l4 << 18) & 1835008))) | ((b[((int) l34) - 60717] & 0xff) & 63);
-        l9 = 4L;
-       }
-       l11 = l11 - l9;
-       l34 = l34 + l9;
-       l3 = 0;
-       L98: {
-        if ((l54 & 1) != 0) { break L98; }
-        L99: {
-         if (l4 == 65296) { break L99; }
-         if (l4 != 48) { break L98; }
-        }
-        if (l11 == 0L) { break L98; }
-        l3 = (l53 = (int) b[((int) l34) - 60720]) & 255;
-        L100: {
-         if (l53 > -1) { break L100; }
-         l55 = (b[((int) l34) - 60719] & 0xff) & 63;
-         L101: {
-          if (l53 + Integer.MIN_VALUE > 2147483615) { break L101; }
-          l3 = ((l3 << 6) & 1984) | l55;
-          break L100;
-         }
-         l56 = (b[((int) l34) - 60718] & 0xff) & 63;
-         L102: {
-          if (l53 + Integer.MIN_VALUE > 2147483631) { break L102; }
-          l3 = ((l55 << 6) | ((l3 << 12) & 61440)) | l56;
-          break L100;
-         }
-         l3 = ((l56 << 6) | ((l55 << 12) | ((l3 << 18) & 1835008))) | ((b[((int) l34) - 60717] & 0xff) & 63);
-        }
-        l3 = (((l3 + -48) + Integer.MIN_VALUE < -2147483638) | ((l3 + -65296) + Integer.MIN_VALUE < -2147483638)) ? 1 : 0;
-       }
-       Core6.f179(m, l10 + 112L, l3, l4);
-       Core2.f53(m, l10 + 152L, Words.get64(b, ((int) l10) - 60608), Words.get64(b, ((int) l10) - 60600));
-       L103: {
-        L104: {
-         if (((l54 | l3) & 1) == 0) { break L104; }
-         l54 = l54 & (l3 ^ 1);
-         break L103;
-        }
-        l54 = (((l4 + -48) + Integer.MIN_VALUE < -2147483638) | ((l4 + -65296) + Integer.MIN_VALUE < -2147483638)) ? 1 : 0;
-       }
-       if (!(l11 == 0L)) { continue L94; }
-       break L31;
-      }
+      throw State.trap();
      }
-     Core2.f53(m, l10 + 152L, l34, l33);
+     if (((l4 = b[((int) l1) - 58912] & 0xff) & 240) != 224) { break L4; }
+     l3 = (((b[((int) l1) - 58910] & 0xff) + ((b[((int) l1) - 58911] & 0xff) << 6)) + (l4 << 12)) + -925824;
+     l7 = l2 + -3L;
+     l1 = l1 + 3L;
+     break L1;
     }
-    l30 = l33 + l35;
-    l53 = 1;
-    continue L12;
+    l3 = l4 & 255;
+    l8 = 1L;
+    L19: {
+     if (((int) (byte) l4) > -1) { break L19; }
+     l6 = (b[((int) l1) - 58911] & 0xff) & 63;
+     L20: {
+      if ((l4 & 255) + Integer.MIN_VALUE > -2147483425) { break L20; }
+      l7 = l2;
+      break L3;
+     }
+     l5 = (b[((int) l1) - 58910] & 0xff) & 63;
+     L21: {
+      if ((l4 & 255) + Integer.MIN_VALUE > -2147483409) { break L21; }
+      l3 = ((l6 << 6) | ((l3 << 12) & 61440)) | l5;
+      l8 = 3L;
+      break L19;
+     }
+     l3 = ((l5 << 6) | ((l6 << 12) | ((l3 << 18) & 1835008))) | ((b[((int) l1) - 58909] & 0xff) & 63);
+     l8 = 4L;
+    }
+    l7 = l2;
+    break L2;
    }
+   l3 = ((l3 << 6) & 1984) | l6;
+   l8 = 2L;
   }
-  m.g0 = l10 + 752L;
-  final int t105 = l42;
-  return t105;
+  l7 = l7 - l8;
+  l1 = l1 + l8;
  }
- throw State.trap();
+ L22: {
+  L23: {
+   if ((l3 + -2048) + Integer.MIN_VALUE > -2147420161) { break L23; }
+   final int t24 = b[((int) ((l2 = ((((l3 = (((l3 >>> 12) | ((l3 << 2) & 16128)) | ((l3 << 16) & 4128768)) | 8421600) & 0xffffffffL) * 953497L) >>> 22L) & 1016L) + 66857L)) - 58912] & 0xff;
+   final int t25 = l4 = (Words.get32(b, State.far((int) l2, 66852)) == l3) ? 1 : 0;
+   l3 = t25 != 0 ? t24 : 0;
+   final int t26 = b[((int) (l2 + 66856L)) - 58912] & 0xff;
+   final int t27 = l4;
+   l4 = t27 != 0 ? t26 : 2;
+   break L22;
+  }
+  final int t28 = l3 = l3 + -48;
+  final int t29 = l4 = (l3 + Integer.MIN_VALUE < -2147483638) ? 1 : 0;
+  l3 = t29 != 0 ? t28 : 0;
+  l4 = l4 != 0 ? 0 : 2;
+ }
+ Words.put64(b, ((int) l0) - 58912, 1L);
+ Words.put64(b, ((int) (l0 + 24L)) - 58912, l7);
+ Words.put64(b, ((int) (l0 + 16L)) - 58912, l1);
+ b[((int) (l0 + 9L)) - 58912] = (byte) l3;
+ b[((int) (l0 + 8L)) - 58912] = (byte) l4;
 }
 
-static int f279_1(State m, long l0, int l1, int l2, int l3, long l7, long l8, long l9, long l11, long l12, long l13, long l14, long l15, long l16, long l17, long l18, long l19, long l20, long l21, long l22, long l23, long l24, long l25, long l26, int l27, int l28, int l29, int l30, int l31) {
+static int f231(State m, long l0, long l1, int l2, int l3, int l4, long l5) {
  final byte[] b = m.bytes;
- int exit = 0;
- PART: {
-  L60: {
-   L61: {
-    L62: {
-     L63: {
-      L64: {
-       L65: {
-        L66: {
-         L67: {
-          L68: {
-           switch (l28) {
-           case 1: break L67;
-           case 2: break L68;
-           case 3: break L62;
-           default: break L66;
-           }
-          }
-          l17 = 100L;
-          if (!(((l9 ^ 100L) | l7) == 0L)) { break L65; }
-          l0 = 1L;
-          l15 = 471L;
-          break L63;
-         }
-         l16 = 10L;
-         l21 = 1L;
-         if (((l9 ^ 10L) | l7) == 0L) { break L64; }
-         l17 = 0L;
-         l0 = 0L;
-         L69: {
-          L70: while (true) {
-           Core1.f3(m, l8 + 192L, l16, 0L, 10L, 0L);
-           Core1.f3(m, l8 + 176L, l17, 0L, 0L, 10L);
-           if ((((l16 = (l17 = Words.get64(b, ((int) l8) - 60528)) & -2L) ^ l9) | ((l17 = (Words.get64(b, ((int) l8) - 60520) + Words.get64(b, ((int) l8) - 60536)) + (((l17 + Words.get64(b, ((int) l8) - 60544)) + Long.MIN_VALUE < l17 + Long.MIN_VALUE) ? 1L : 0L)) ^ l7)) == 0L) { break L69; }
-           if (l0 == 36L) { break L62; }
-           Core1.f3(m, l8 + 160L, l16, 0L, 10L, 0L);
-           Core1.f3(m, l8 + 144L, l17, 0L, 0L, 10L);
-           l0 = l0 + 2L;
-           if (!((((l16 = (l17 = Words.get64(b, ((int) l8) - 60560)) & -4L) ^ l9) | ((l17 = (Words.get64(b, ((int) l8) - 60552) + Words.get64(b, ((int) l8) - 60568)) + (((l17 + Words.get64(b, ((int) l8) - 60576)) + Long.MIN_VALUE < l17 + Long.MIN_VALUE) ? 1L : 0L)) ^ l7)) == 0L)) { continue L70; }
-           break L70;
-          }
-          l0 = l0 + -1L;
-         }
-         l21 = l0 + 2L;
-         break L64;
-        }
-        l0 = 1L;
-        if (!(((l9 ^ 1L) | l7) == 0L)) { break L62; }
-        l15 = 471L;
-        break L63;
-       }
-       l0 = 0L;
-       l21 = 1L;
-       L71: while (true) {
-        if (l21 == 37L) { break L62; }
-        Core1.f3(m, l8 + 256L, l17, 0L, 10L, 0L);
-        Core1.f3(m, l8 + 240L, l0, 0L, 0L, 10L);
-        if ((((l17 = (l0 = Words.get64(b, ((int) l8) - 60464)) & -2L) ^ l9) | ((l0 = (Words.get64(b, ((int) l8) - 60456) + Words.get64(b, ((int) l8) - 60472)) + (((l0 + Words.get64(b, ((int) l8) - 60480)) + Long.MIN_VALUE < l0 + Long.MIN_VALUE) ? 1L : 0L)) ^ l7)) == 0L) { break L64; }
-        Core1.f3(m, l8 + 224L, l17, 0L, 10L, 0L);
-        Core1.f3(m, l8 + 208L, l0, 0L, 0L, 10L);
-        l21 = l21 + 2L;
-        if ((((l17 = (l0 = Words.get64(b, ((int) l8) - 60496)) & -4L) ^ l9) | ((l0 = (Words.get64(b, ((int) l8) - 60488) + Words.get64(b, ((int) l8) - 60504)) + (((l0 + Words.get64(b, ((int) l8) - 60512)) + Long.MIN_VALUE < l0 + Long.MIN_VALUE) ? 1L : 0L)) ^ l7)) != 0L) { continue L71; }
-        break L71;
-       }
-       l21 = l21 + -1L;
-      }
-      final long t72 = ((l27 = (l3 == 1) ? 1 : 0) != 0) ? 69676L : 69892L;
-      final long t73 = l27 != 0 ? 69244L : 69460L;
-      final int t74 = l2;
-      l26 = (t74 != 0 ? t72 : t73) + 108L;
-      l16 = 471L;
-      l12 = l24;
-      l17 = l25;
-      l15 = 0L;
-      L75: while (true) {
-       l20 = l16;
-       final long t76 = l17;
-       final int t77 = ((l12 | l17) == 0L) ? 1 : 0;
-       final long t78 = (long) Long.numberOfLeadingZeros(l17);
-       final long t79 = ((long) Long.numberOfLeadingZeros(l12)) + 64L;
-       final int t80 = (l17 != 0L) ? 1 : 0;
-       final int t81 = ((l0 = 124L - (l7 = t80 != 0 ? t78 : t79)) + Long.MIN_VALUE > -9223372036854775681L) ? 1 : 0;
-       final int t82 = ((l16 = 0L - ((l7 + Long.MIN_VALUE > -9223372036854775684L) ? 1L : 0L)) != 0L) ? 1 : 0;
-       final int t83 = (l16 == 0L) ? 1 : 0;
-       l9 = ((l27 = t77 | (t83 != 0 ? t81 : t82)) != 0) ? 0L : t76;
-       l7 = l27 != 0 ? 0L : l12;
-       L84: {
-        if (l27 != 0) { break L84; }
-        if (((l0 ^ 127L) | l16) == 0L) { break L84; }
-        Core1.f4(m, l8 + 128L, l12, l17, 127 - ((int) l0));
-        l9 = Words.get64(b, ((int) l8) - 60584);
-        l7 = Words.get64(b, ((int) l8) - 60592);
-        L85: {
-         L86: {
-          if (((l0 = l0 + 1L) | (l13 = l16 + ((l0 == 0L) ? 1L : 0L))) == 0L) { break L86; }
-          Core1.f5(m, l8 + 112L, l12, l17, (int) l0);
-          l22 = 10L + -1L;
-          l23 = 0L - ((10L == 0L) ? 1L : 0L);
-          l16 = Words.get64(b, ((int) l8) - 60600);
-          l17 = Words.get64(b, ((int) l8) - 60608);
-          l14 = 0L;
-          L87: while (true) {
-           l11 = l14;
-           l14 = (l17 = ((l23 - (l18 = (l16 << 1L) | (l17 >>> 63L))) - ((l22 + Long.MIN_VALUE < (l16 = (l17 << 1L) | (l9 >>> 63L)) + Long.MIN_VALUE) ? 1L : 0L)) >> 63L) & 1L;
-           l17 = l16 - (l19 = l17 & 10L);
-           l16 = l18 - ((l16 + Long.MIN_VALUE < l19 + Long.MIN_VALUE) ? 1L : 0L);
-           l9 = 0L | ((l9 << 1L) | (l7 >>> 63L));
-           l27 = (l0 == 0L) ? 1 : 0;
-           l7 = l11 | (l7 << 1L);
-           l0 = l11 = l0 + -1L;
-           if (!((l11 | (l13 = l13 - (l27 & 0xffffffffL))) == 0L)) { continue L87; }
-           break L85;
-          }
-         }
-         l14 = 0L;
-        }
-        l9 = (l9 << 1L) | (l7 >>> 63L);
-        l7 = l14 | (l7 << 1L);
-       }
-       Core1.f3(m, l8 + 96L, l7, l7, 10L, 0L);
-       if (((l27 = Words.get32(b, ((int) (l26 + ((l12 - Words.get64(b, ((int) l8) - 60624)) << 2L))) - 60720)) + -55296) + Integer.MIN_VALUE <= 2147430399) { exit = 1; break PART; }
-       b[((int) (l0 = (l8 + 494L) + (l16 = l20 + -3L))) - 60718] = (byte) ((l27 & 63) | 128);
-       b[((int) l0) - 60720] = (byte) ((l27 >>> 12) | 224);
-       b[((int) l0) - 60719] = (byte) (((l27 >>> 6) & 63) | 128);
-       l0 = 1L;
-       l12 = l7;
-       l17 = l9;
-       if ((l15 = l15 + 1L) != l21) { continue L75; }
-       break L75;
-      }
-      b[((int) (l7 = (l8 + 494L) + (l15 = l20 + -6L))) - 60718] = (byte) ((l27 = l2 != 0 ? 28857 : 40670) & 191);
-      b[((int) l7) - 60720] = (byte) ((l27 >>> 12) | 224);
-      b[((int) l7) - 60719] = (byte) (((l27 >>> 6) & 59) | 128);
-      l22 = 0L;
-      L88: {
-       L89: {
-        switch ((int) (l21 & 4294967295L)) {
-        case 0: break L63;
-        case 1: break L89;
-        default: break L88;
-        }
-       }
-       l0 = 10L;
-       break L63;
-      }
-      l27 = (int) l21;
-      l7 = 10L;
-      l9 = 1L;
-      l17 = 0L;
-      l0 = 0L;
-      L90: while (true) {
-       Core1.f3(m, l8 + 64L, ((l1 = l27 & 1) != 0) ? l7 : 1L, l1 != 0 ? l0 : 0L, l9, l17);
-       Core1.f3(m, l8 + 80L, l7, l0, l7, l0);
-       l1 = (l27 + Integer.MIN_VALUE > -2147483645) ? 1 : 0;
-       l0 = Words.get64(b, ((int) l8) - 60632);
-       l7 = Words.get64(b, ((int) l8) - 60640);
-       l17 = Words.get64(b, ((int) l8) - 60648);
-       l9 = Words.get64(b, ((int) l8) - 60656);
-       l27 = l27 >>> 1;
-       if (l1 != 0) { continue L90; }
-       break L90;
-      }
-      Core1.f3(m, l8 + 48L, l9, l17, l7, l0);
-      if (((l0 = Words.get64(b, ((int) l8) - 60672)) | (l22 = Words.get64(b, ((int) l8) - 60664))) == 0L) { exit = 1; break PART; }
-     }
-     final long t91 = l25;
-     final int t92 = (((l0 | l22) == 0L) | ((l24 | l25) == 0L)) ? 1 : 0;
-     final long t93 = (long) Long.numberOfLeadingZeros(l22);
-     final long t94 = ((long) Long.numberOfLeadingZeros(l0)) + 64L;
-     final int t95 = (l22 != 0L) ? 1 : 0;
-     final long t96 = l7 = t95 != 0 ? t93 : t94;
-     final long t97 = (long) Long.numberOfLeadingZeros(l25);
-     final long t98 = ((long) Long.numberOfLeadingZeros(l24)) + 64L;
-     final int t99 = (l25 != 0L) ? 1 : 0;
-     final int t100 = ((l14 = t96 - (l9 = t99 != 0 ? t97 : t98)) + Long.MIN_VALUE > -9223372036854775681L) ? 1 : 0;
-     final int t101 = ((l16 = 0L - ((l7 + Long.MIN_VALUE < l9 + Long.MIN_VALUE) ? 1L : 0L)) != 0L) ? 1 : 0;
-     final int t102 = (l16 == 0L) ? 1 : 0;
-     l9 = ((l27 = t92 | (t102 != 0 ? t100 : t101)) != 0) ? 0L : t91;
-     l7 = l27 != 0 ? 0L : l24;
-     if (l27 != 0) { break L60; }
-     if (((l14 ^ 127L) | l16) == 0L) { break L60; }
-     Core1.f4(m, l8 + 16L, l24, l25, 127 - ((int) l14));
-     l17 = Words.get64(b, ((int) l8) - 60696);
-     l7 = Words.get64(b, ((int) l8) - 60704);
-     L103: {
-      if (((l9 = l14 + 1L) | (l13 = l16 + ((l9 == 0L) ? 1L : 0L))) == 0L) { break L103; }
-      Core1.f5(m, l8, l24, l25, (int) l9);
-      l23 = l0 + -1L;
-      l12 = l22 - ((l0 == 0L) ? 1L : 0L);
-      l11 = Words.get64(b, ((int) l8) - 60712);
-      l16 = Words.get64(b, ((int) l8) - 60720);
-      l14 = 0L;
-      L104: while (true) {
-       l18 = l14;
-       l11 = ((l14 = (l11 << 1L) | (l16 >>> 63L)) - ((l14 = ((l12 - l14) - ((l23 + Long.MIN_VALUE < (l16 = (l16 << 1L) | (l17 >>> 63L)) + Long.MIN_VALUE) ? 1L : 0L)) >> 63L) & l22)) - ((l16 + Long.MIN_VALUE < (l19 = l14 & l0) + Long.MIN_VALUE) ? 1L : 0L);
-       l14 = l14 & 1L;
-       l16 = l16 - l19;
-       l17 = 0L | ((l17 << 1L) | (l7 >>> 63L));
-       l27 = (l9 == 0L) ? 1 : 0;
-       l7 = l18 | (l7 << 1L);
-       l9 = l18 = l9 + -1L;
-       if (!((l18 | (l13 = l13 - (l27 & 0xffffffffL))) == 0L)) { continue L104; }
-       break L61;
-      }
-     }
-     l14 = 0L;
-     break L61;
-    }
-    m.fill((int) (l8 + 965L), 0, (int) 235L);
-    L105: {
-     final int t106 = (l24 + Long.MIN_VALUE < -9213372036854775808L) ? 1 : 0;
-     final int t107 = (l25 == 0L) ? 1 : 0;
-     if ((t107 != 0 ? t106 : 0) != 0) { break L105; }
-     if ((l31 & 255) == 0) { exit = 2; break PART; }
-    }
-    Words.put32(b, ((int) l8) - 59518, 0);
-    b[((int) l8) - 59519] = (byte) l30;
-    b[((int) l8) - 59520] = (byte) l29;
-    Words.put16(b, ((int) l8) - 59514, (short) 0);
-    final int t108 = (int) l8;
-    final long t109 = ((l27 = (l3 == 1) ? 1 : 0) != 0) ? 69676L : 69892L;
-    final long t110 = l27 != 0 ? 69244L : 69460L;
-    final int t111 = l2;
-    Words.put64(b, t108 - 59512, l16 = t111 != 0 ? t109 : t110);
-    L112: {
-     if ((l17 = 235L - (l0 = Core2.f49(m, l8 + 965L, l8 + 1200L, l31, 0, l24, l25))) == 0L) { break L112; }
-     m.copy((int) (((l8 + 494L) + l0) + 236L), (int) ((l8 + 965L) + l0), (int) l17);
-    }
-    L113: {
-     L114: {
-      if (((l17 = (l8 + 494L) + (l0 = l0 + 230L)) - 85826L) + Long.MIN_VALUE > -9223372036854775803L) { break L114; }
-      Words.put16(b, ((int) l17) - 60716, (short) 35769);
-      Words.put32(b, ((int) l17) - 60720, -460945179);
-      break L113;
-     }
-     Words.put16(b, ((int) l17) - 60716, (short) (Words.get16(b, State.far((int) 0L, 85830)) & 0xffff));
-     Words.put32(b, ((int) l17) - 60720, Words.get32(b, State.far((int) 0L, 85826)));
-    }
-    m.fill((int) (l8 + 965L), 0, (int) 235L);
-    L115: {
-     if ((l31 & 255) != 0) { break L115; }
-     final int t116 = (l9 + Long.MIN_VALUE > -9213372036854775809L) ? 1 : 0;
-     final int t117 = (l7 != 0L) ? 1 : 0;
-     final int t118 = (l7 == 0L) ? 1 : 0;
-     if ((t118 != 0 ? t116 : t117) != 0) { exit = 2; break PART; }
-    }
-    Words.put32(b, ((int) l8) - 59518, 0);
-    b[((int) l8) - 59519] = (byte) l30;
-    b[((int) l8) - 59520] = (byte) l29;
-    Words.put16(b, ((int) l8) - 59514, (short) 0);
-    Words.put64(b, ((int) l8) - 59512, l16);
-    l9 = Core2.f49(m, l8 + 965L, l8 + 1200L, l31, 0, l9, l7);
-    if (((l27 = Words.get32(b, ((int) (l16 + 112L)) - 60720)) + -55296) + Integer.MIN_VALUE <= 2147430399) { exit = 1; break PART; }
-    l16 = (l8 + 965L) + l9;
-    l7 = 0L;
-    L119: {
-     L120: {
-      if (l9 == 235L) { break L120; }
-      l3 = (l1 = (int) b[((int) l16) - 60720]) & 255;
-      l17 = 1L;
-      L121: {
-       if (l1 > -1) { break L121; }
-       l28 = (b[((int) l16) - 60719] & 0xff) & 63;
-       L122: {
-        if (l1 + Integer.MIN_VALUE > 2147483615) { break L122; }
-        l3 = ((l3 << 6) & 1984) | l28;
-        l17 = 2L;
-        break L121;
-       }
-       l29 = (b[((int) l16) - 60718] & 0xff) & 63;
-       L123: {
-        if (l1 + Integer.MIN_VALUE > 2147483631) { break L123; }
-        l3 = ((l28 << 6) | ((l3 << 12) & 61440)) | l29;
-        l17 = 3L;
-        break L121;
-       }
-       l3 = ((l29 << 6) | ((l28 << 12) | ((l3 << 18) & 1835008))) | ((b[((int) l16) - 60717] & 0xff) & 63);
-       l17 = 4L;
-      }
-      l7 = 235L - l9;
-      L124: {
-       if (l3 != l27) { break L124; }
-       Words.put64(b, ((int) l8) - 59496, 0L);
-       Words.put64(b, ((int) l8) - 59504, 0L);
-       Words.put64(b, ((int) l8) - 59512, 0L);
-       Words.put64(b, ((int) l8) - 59520, 0L);
-       Core2.f80(m, l8 + 1200L, l14 = l16 + l17, l13 = l7 - l17);
-       if ((b[((int) l8) - 59520] & 0xff) != 1) { break L124; }
-       Core2.f61(m, l8 + 40L, Words.get32(b, ((int) l8) - 59512));
-       if ((b[((int) l8) - 60680] & 0xff) != 1) { break L124; }
-       if (((b[((int) l8) - 60679] & 0xff) & 255) + Integer.MIN_VALUE > -2147483643) { break L124; }
-       Words.put64(b, ((int) l8) - 59496, 0L);
-       Words.put64(b, ((int) l8) - 59504, 0L);
-       Words.put64(b, ((int) l8) - 59512, 0L);
-       Words.put64(b, ((int) l8) - 59520, 0L);
-       l27 = 1;
-       l9 = l14;
-       l17 = l13;
-       L125: while (true) {
-        Core2.f80(m, l8 + 1200L, l9, l17);
-        L126: {
-         if ((b[((int) l8) - 59520] & 0xff) == 1) { break L126; }
-         l16 = l14;
-         l7 = l13;
-         break L124;
-        }
-        l17 = Words.get64(b, ((int) l8) - 59496);
-        l9 = Words.get64(b, ((int) l8) - 59504);
-        Core2.f61(m, l8 + 32L, Words.get32(b, ((int) l8) - 59512));
-        if ((b[((int) l8) - 60688] & 0xff) != 1) { break L124; }
-        l3 = l27 & 255;
-        l27 = l1 = b[((int) l8) - 60687] & 0xff;
-        if (l3 + Integer.MIN_VALUE < (l1 & 255) + Integer.MIN_VALUE) { continue L125; }
-        break L125;
-       }
-      }
-      if (((l17 = (l8 + 494L) + (l0 = l0 - l7)) - l16) + Long.MIN_VALUE >= l7 + Long.MIN_VALUE) { break L120; }
-      if (!(l7 == 0L)) { break L119; }
-      exit = 3; break PART;
-     }
-     if (l7 == 0L) { exit = 3; break PART; }
-    }
-    m.copy((int) l17, (int) l16, (int) l7);
-    exit = 3; break PART;
-   }
-   l9 = (l17 << 1L) | (l7 >>> 63L);
-   l7 = l14 | (l7 << 1L);
-  }
- }
- m.kept[0] = l0;
- m.kept[1] = l1;
- m.kept[2] = l3;
- m.kept[3] = l7;
- m.kept[4] = l9;
- m.kept[5] = l11;
- m.kept[6] = l12;
- m.kept[7] = l13;
- m.kept[8] = l14;
- m.kept[9] = l15;
- m.kept[10] = l16;
- m.kept[11] = l17;
- m.kept[12] = l18;
- m.kept[13] = l19;
- m.kept[14] = l20;
- m.kept[15] = l21;
- m.kept[16] = l22;
- m.kept[17] = l23;
- m.kept[18] = l26;
- m.kept[19] = l27;
- m.kept[20] = l28;
- m.kept[21] = l29;
- return exit;
-}
-
-static int f279(State m, long l0, int l1, int l2, int l3, long l4, long l5, long l6) {
- final byte[] b = m.bytes;
+ long l6 = 0;
  long l7 = 0;
  long l8 = 0;
  long l9 = 0;
  long l10 = 0;
  long l11 = 0;
  long l12 = 0;
- long l13 = 0;
- long l14 = 0;
- long l15 = 0;
- long l16 = 0;
- long l17 = 0;
- long l18 = 0;
- long l19 = 0;
- long l20 = 0;
- long l21 = 0;
- long l22 = 0;
- long l23 = 0;
- long l24 = 0;
- long l25 = 0;
- long l26 = 0;
- int l27 = 0;
- int l28 = 0;
- int l29 = 0;
- int l30 = 0;
- int l31 = 0;
- m.g0 = l7 = m.g0 - 1232L;
+ int l13 = 0;
+ int l14 = 0;
+ int l15 = 0;
+ m.g0 = l6 = m.g0 - 48L;
  L1: {
   L2: {
    L3: {
-    if ((l8 = l7) < 16L) { break L3; }
-    Words.put64(b, ((int) l6) - 60720, 0L);
-    l27 = 8;
-    if (l2 + Integer.MIN_VALUE > -2147483647) { break L1; }
-    if (l3 + Integer.MIN_VALUE > -2147483647) { break L1; }
-    if ((l28 = Words.get32(b, ((int) (l0 + 32L)) - 60720)) + Integer.MIN_VALUE > -2147483645) { break L1; }
-    l29 = b[((int) ((l2 & 0xffffffffL) + 83500L)) - 60720] & 0xff;
-    l30 = b[((int) ((l3 & 0xffffffffL) + 83500L)) - 60720] & 0xff;
-    l7 = Words.get64(b, ((int) (l0 + 24L)) - 60720);
-    l9 = Words.get64(b, ((int) (l0 + 16L)) - 60720);
-    l10 = Words.get64(b, ((int) l0) - 60712);
-    l11 = Words.get64(b, ((int) l0) - 60720);
     L4: {
      L5: {
       L6: {
@@ -5561,682 +6131,3340 @@ static int f279(State m, long l0, int l1, int l2, int l3, long l4, long l5, long
         L8: {
          L9: {
           L10: {
-           if (l1 + Integer.MIN_VALUE < -2147483643) { break L10; }
-           if (l1 != 5) { break L1; }
-           l12 = 0L;
-           final long t11 = 0L - l11;
-           final long t12 = l11;
-           final int t13 = l27 = (l10 < 0L) ? 1 : 0;
-           l13 = t13 != 0 ? t11 : t12;
-           final long t14 = 0L - (l10 + ((l11 != 0L) ? 1L : 0L));
-           final long t15 = l10;
-           final int t16 = l27;
-           l14 = t16 != 0 ? t14 : t15;
-           L17: {
-            L18: {
-             L19: {
-              L20: {
-               L21: {
-                L22: {
-                 switch (l28) {
-                 case 1: break L21;
-                 case 2: break L22;
-                 case 3: break L17;
-                 default: break L20;
+           L11: {
+            L12: {
+             L13: {
+              L14: {
+               L15: {
+                L16: {
+                 L17: {
+                  L18: {
+                   if ((l7 = l6) < 16L) { break L18; }
+                   if ((l3 & 255) != 0) { break L17; }
+                   l8 = 0L;
+                   Words.put64(b, ((int) l7) - 58872, 0L);
+                   Words.put64(b, ((int) l7) - 58880, 0L);
+                   Words.put64(b, ((int) l7) - 58888, 0L);
+                   Words.put64(b, ((int) l7) - 58896, 0L);
+                   l6 = l0;
+                   l9 = l1;
+                   if ((l2 & 255) + Integer.MIN_VALUE < -2147483643) { break L10; }
+                   l9 = 0L;
+                   L19: {
+                    if (!(l1 == 0L)) { break L19; }
+                    l8 = 0L;
+                    l6 = l0;
+                    break L10;
+                   }
+                   l10 = 1L;
+                   l8 = l1;
+                   l6 = l0;
+                   L20: while (true) {
+                    L21: {
+                     L22: {
+                      if ((l3 = b[((int) l6) - 58912] & 0xff) + Integer.MIN_VALUE > -2147483616) { break L22; }
+                      l9 = 1L;
+                      if (((1L << (l3 & 0xffffffffL)) & 4294983168L) != 0L) { break L21; }
+                     }
+                     L23: {
+                      if (l3 != 194) { break L23; }
+                      l9 = 1L;
+                      l3 = b[((int) l6) - 58911] & 0xff;
+                      L24: {
+                       if (l8 != 1L) { break L24; }
+                       l13 = l3 & 63;
+                       l3 = 194;
+                       break L13;
+                      }
+                      l9 = 2L;
+                      if (l3 == 133) { break L21; }
+                      if (l3 == 160) { break L21; }
+                      break L16;
+                     }
+                     if (l8 + Long.MIN_VALUE < -9223372036854775805L) { break L16; }
+                     if (((l3 + 28) & 255) + Integer.MIN_VALUE < -2147483395) { break L16; }
+                     l4 = b[((int) (l6 + 1L)) - 58912] & 0xff;
+                     l13 = (int) (byte) (l14 = b[((int) (l6 + 2L)) - 58912] & 0xff);
+                     L25: {
+                      if (l3 != 226) { break L25; }
+                      if ((l4 & 255) != 128) { break L25; }
+                      l9 = 3L;
+                      if (l13 < -117) { break L21; }
+                      if ((l3 = l14 + -168) + Integer.MIN_VALUE > -2147483641) { break L15; }
+                      if (((1 << l3) & 131) == 0) { break L15; }
+                      break L21;
+                     }
+                     L26: {
+                      L27: {
+                       L28: {
+                        L29: {
+                         switch (l3 + -225) {
+                         case 1: break L28;
+                         case 2: break L27;
+                         default: break L29;
+                         }
+                        }
+                        if ((l4 & 255) != 154) { break L15; }
+                        if (l13 != -128) { break L15; }
+                        break L26;
+                       }
+                       if ((l4 & 255) != 129) { break L15; }
+                       if (l13 == -97) { break L26; }
+                       break L15;
+                      }
+                      if ((l4 & 255) != 128) { break L15; }
+                      if (l13 != -128) { break L15; }
+                     }
+                     l9 = 3L;
+                    }
+                    l10 = l10 + 1L;
+                    l6 = l6 + l9;
+                    if (!((l8 = l8 - l9) == 0L)) { continue L20; }
+                    break L20;
+                   }
+                   l8 = l10 + -1L;
+                   l9 = 0L;
+                   break L10;
+                  }
+                  throw State.trap();
                  }
+                 l8 = 0L;
+                 Words.put64(b, ((int) l7) - 58872, 0L);
+                 Words.put64(b, ((int) l7) - 58880, 0L);
+                 Words.put64(b, ((int) l7) - 58888, 0L);
+                 Words.put64(b, ((int) l7) - 58896, 0L);
+                 l6 = l0;
+                 l9 = l1;
+                 L30: {
+                  L31: {
+                   L32: {
+                    L33: {
+                     if ((l2 & 255) + Integer.MIN_VALUE < -2147483643) { break L33; }
+                     l9 = 0L;
+                     L34: {
+                      if (!(l1 == 0L)) { break L34; }
+                      l8 = 0L;
+                      l6 = l0;
+                      break L33;
+                     }
+                     l10 = 1L;
+                     l8 = l1;
+                     l6 = l0;
+                     L35: {
+                      L36: {
+                       L37: {
+                        L38: {
+                         L39: {
+                          L40: {
+                           L41: while (true) {
+                            L42: {
+                             L43: {
+                              if ((l3 = b[((int) l6) - 58912] & 0xff) + Integer.MIN_VALUE > -2147483616) { break L43; }
+                              l9 = 1L;
+                              if (((1L << (l3 & 0xffffffffL)) & 4294983168L) != 0L) { break L42; }
+                             }
+                             L44: {
+                              if (l3 != 194) { break L44; }
+                              l9 = 1L;
+                              l3 = b[((int) l6) - 58911] & 0xff;
+                              L45: {
+                               if (l8 != 1L) { break L45; }
+                               l14 = l3 & 63;
+                               l3 = 194;
+                               break L37;
+                              }
+                              l9 = 2L;
+                              if (l3 == 133) { break L42; }
+                              if (l3 == 160) { break L42; }
+                              break L40;
+                             }
+                             if (l8 + Long.MIN_VALUE < -9223372036854775805L) { break L40; }
+                             if (((l3 + 28) & 255) + Integer.MIN_VALUE < -2147483395) { break L40; }
+                             l13 = b[((int) (l6 + 1L)) - 58912] & 0xff;
+                             l14 = (int) (byte) (l15 = b[((int) (l6 + 2L)) - 58912] & 0xff);
+                             L46: {
+                              if (l3 != 226) { break L46; }
+                              if ((l13 & 255) != 128) { break L46; }
+                              l9 = 3L;
+                              if (l14 < -117) { break L42; }
+                              if ((l3 = l15 + -168) + Integer.MIN_VALUE > -2147483641) { break L39; }
+                              if (((1 << l3) & 131) == 0) { break L39; }
+                              break L42;
+                             }
+                             L47: {
+                              L48: {
+                               L49: {
+                                L50: {
+                                 switch (l3 + -225) {
+                                 case 1: break L49;
+                                 case 2: break L48;
+                                 default: break L50;
+                                 }
+                                }
+                                if ((l13 & 255) != 154) { break L39; }
+                                if (l14 != -128) { break L39; }
+                                break L47;
+                               }
+                               if ((l13 & 255) != 129) { break L39; }
+                               if (l14 == -97) { break L47; }
+                               break L39;
+                              }
+                              if ((l13 & 255) != 128) { break L39; }
+                              if (l14 != -128) { break L39; }
+                             }
+                             l9 = 3L;
+                            }
+                            l10 = l10 + 1L;
+                            l6 = l6 + l9;
+                            if (!((l8 = l8 - l9) == 0L)) { continue L41; }
+                            break L41;
+                           }
+                           l8 = l10 + -1L;
+                           l9 = 0L;
+                           break L33;
+                          }
+                          if (l8 + Long.MIN_VALUE >= -9223372036854775805L) { break L39; }
+                          l13 = b[((int) l6) - 58912] & 0xff;
+                          break L38;
+                         }
+                         if (((l13 = b[((int) l6) - 58912] & 0xff) & 240) != 224) { break L38; }
+                         l3 = (((b[((int) l6) - 58910] & 0xff) + ((b[((int) l6) - 58911] & 0xff) << 6)) + (l13 << 12)) + -925824;
+                         l11 = l8 + -3L;
+                         l12 = l6 + 3L;
+                         l9 = l8;
+                         break L35;
+                        }
+                        l3 = l13 & 255;
+                        l12 = 1L;
+                        L51: {
+                         if (((int) (byte) l13) > -1) { break L51; }
+                         l14 = (b[((int) l6) - 58911] & 0xff) & 63;
+                         L52: {
+                          if ((l13 & 255) + Integer.MIN_VALUE > -2147483425) { break L52; }
+                          l9 = l8;
+                          break L37;
+                         }
+                         l15 = (b[((int) l6) - 58910] & 0xff) & 63;
+                         L53: {
+                          if ((l13 & 255) + Integer.MIN_VALUE > -2147483409) { break L53; }
+                          l3 = ((l14 << 6) | ((l3 << 12) & 61440)) | l15;
+                          l12 = 3L;
+                          break L51;
+                         }
+                         l3 = ((l15 << 6) | ((l14 << 12) | ((l3 << 18) & 1835008))) | ((b[((int) l6) - 58909] & 0xff) & 63);
+                         l12 = 4L;
+                        }
+                        l9 = l8;
+                        break L36;
+                       }
+                       l3 = ((l3 << 6) & 1984) | l14;
+                       l12 = 2L;
+                      }
+                      l11 = l9 - l12;
+                      l12 = l6 + l12;
+                     }
+                     L54: {
+                      if (l3 != 27491) { break L54; }
+                      l13 = 0;
+                      break L31;
+                     }
+                     if (l3 == 36000) { break L32; }
+                     if (l3 == 36127) { break L32; }
+                     l8 = l10 + -1L;
+                    }
+                    Core2.f38(m, l7 + 16L, l4, l8, l6, l9);
+                    l3 = 2;
+                    l13 = 0;
+                    break L30;
+                   }
+                   l13 = 1;
+                  }
+                  Core2.f38(m, l7 + 16L, l4, l10, l12, l11);
+                  l3 = l13 != 0 ? 3 : 2;
+                 }
+                 l8 = Words.get64(b, ((int) l7) - 58872);
+                 l6 = Words.get64(b, ((int) l7) - 58880);
+                 L55: {
+                  if ((b[((int) l7) - 58896] & 0xff) != 0) { break L55; }
+                  final int t56 = (l6 + Long.MIN_VALUE > Words.get64(b, ((int) (l9 = (((l2 & 0xffffffffL) & 255L) << 5L) + (l13 != 0 ? 67904L : 67888L))) - 58912) + Long.MIN_VALUE) ? 1 : 0;
+                  final int t57 = (l8 + Long.MIN_VALUE > (l9 = Words.get64(b, ((int) l9) - 58904)) + Long.MIN_VALUE) ? 1 : 0;
+                  final int t58 = (l8 == l9) ? 1 : 0;
+                  if ((t58 != 0 ? t56 : t57) != 0) { break L6; }
+                  l9 = l13 & 0xffffffffL;
+                  break L4;
+                 }
+                 final int t59 = l3;
+                 final int t60 = l2 = b[((int) l7) - 58888] & 0xff;
+                 final int t61 = l2 = (l2 == 2) ? 1 : 0;
+                 l3 = t61 != 0 ? t59 : t60;
+                 l8 = 0L;
+                 l9 = l2 != 0 ? 0L : l6;
+                 break L2;
                 }
-                if (!(((l9 ^ 100L) | l7) == 0L)) { break L18; }
-                l15 = 1L;
-                l9 = 100L;
-                l7 = 0L;
-                break L6;
+                if (l8 + Long.MIN_VALUE >= -9223372036854775805L) { break L15; }
+                l4 = b[((int) l6) - 58912] & 0xff;
+                break L14;
                }
-               l15 = 10L;
-               if (!(((l9 ^ 10L) | l7) == 0L)) { break L19; }
-               l7 = 0L;
-               l9 = 10L;
-               l12 = 0L;
-               break L6;
+               if (((l4 = b[((int) l6) - 58912] & 0xff) & 240) != 224) { break L14; }
+               l3 = (((b[((int) l6) - 58910] & 0xff) + ((b[((int) l6) - 58911] & 0xff) << 6)) + (l4 << 12)) + -925824;
+               l11 = l8 + -3L;
+               l12 = l6 + 3L;
+               l9 = l8;
+               break L11;
               }
-              l15 = 1L;
-              if (!(((l9 ^ 1L) | l7) == 0L)) { break L17; }
-              l7 = 0L;
-              l9 = 1L;
-              l12 = 0L;
-              break L6;
+              l3 = l4 & 255;
+              l12 = 1L;
+              L62: {
+               if (((int) (byte) l4) > -1) { break L62; }
+               l13 = (b[((int) l6) - 58911] & 0xff) & 63;
+               L63: {
+                if ((l4 & 255) + Integer.MIN_VALUE > -2147483425) { break L63; }
+                l9 = l8;
+                break L13;
+               }
+               l14 = (b[((int) l6) - 58910] & 0xff) & 63;
+               L64: {
+                if ((l4 & 255) + Integer.MIN_VALUE > -2147483409) { break L64; }
+                l3 = ((l13 << 6) | ((l3 << 12) & 61440)) | l14;
+                l12 = 3L;
+                break L62;
+               }
+               l3 = ((l14 << 6) | ((l13 << 12) | ((l3 << 18) & 1835008))) | ((b[((int) l6) - 58909] & 0xff) & 63);
+               l12 = 4L;
+              }
+              l9 = l8;
+              break L12;
              }
-             l16 = 10L;
-             l17 = 0L;
-             l0 = 0L;
-             L23: while (true) {
-              Core1.f3(m, l8 + 400L, l16, 0L, 10L, 0L);
-              Core1.f3(m, l8 + 384L, l17, 0L, 0L, 10L);
-              if ((((l16 = (l17 = Words.get64(b, ((int) l8) - 60320)) & -2L) ^ l9) | ((l17 = (Words.get64(b, ((int) l8) - 60312) + Words.get64(b, ((int) l8) - 60328)) + (((l17 + Words.get64(b, ((int) l8) - 60336)) + Long.MIN_VALUE < l17 + Long.MIN_VALUE) ? 1L : 0L)) ^ l7)) == 0L) { break L8; }
-              if (l0 == 36L) { break L17; }
-              Core1.f3(m, l8 + 368L, l16, 0L, 10L, 0L);
-              Core1.f3(m, l8 + 352L, l17, 0L, 0L, 10L);
-              l0 = l0 + 2L;
-              if ((((l16 = (l17 = Words.get64(b, ((int) l8) - 60352)) & -4L) ^ l9) | ((l17 = (Words.get64(b, ((int) l8) - 60344) + Words.get64(b, ((int) l8) - 60360)) + (((l17 + Words.get64(b, ((int) l8) - 60368)) + Long.MIN_VALUE < l17 + Long.MIN_VALUE) ? 1L : 0L)) ^ l7)) == 0L) { break L9; }
-              continue L23;
-             }
+             l3 = ((l3 << 6) & 1984) | l13;
+             l12 = 2L;
             }
-            l17 = 0L;
-            l16 = 100L;
-            l0 = 1L;
-            L24: while (true) {
-             if (l0 == 37L) { break L17; }
-             Core1.f3(m, l8 + 464L, l16, 0L, 10L, 0L);
-             Core1.f3(m, l8 + 448L, l17, 0L, 0L, 10L);
-             if ((((l16 = (l17 = Words.get64(b, ((int) l8) - 60256)) & -2L) ^ l9) | ((l17 = (Words.get64(b, ((int) l8) - 60248) + Words.get64(b, ((int) l8) - 60264)) + (((l17 + Words.get64(b, ((int) l8) - 60272)) + Long.MIN_VALUE < l17 + Long.MIN_VALUE) ? 1L : 0L)) ^ l7)) == 0L) { break L7; }
-             Core1.f3(m, l8 + 432L, l16, 0L, 10L, 0L);
-             Core1.f3(m, l8 + 416L, l17, 0L, 0L, 10L);
-             l0 = l0 + 2L;
-             if (!((((l16 = (l17 = Words.get64(b, ((int) l8) - 60288)) & -4L) ^ l9) | ((l17 = (Words.get64(b, ((int) l8) - 60280) + Words.get64(b, ((int) l8) - 60296)) + (((l17 + Words.get64(b, ((int) l8) - 60304)) + Long.MIN_VALUE < l17 + Long.MIN_VALUE) ? 1L : 0L)) ^ l7)) == 0L)) { continue L24; }
-             break L24;
-            }
-            l0 = l0 + -1L;
-            break L7;
+            l11 = l9 - l12;
+            l12 = l6 + l12;
            }
-           final long t25 = l14;
-           final long t26 = l7;
-           final int t27 = (l13 + Long.MIN_VALUE > l9 + Long.MIN_VALUE) ? 1 : 0;
-           final int t28 = (l14 + Long.MIN_VALUE > l7 + Long.MIN_VALUE) ? 1 : 0;
-           final int t29 = (l14 == l7) ? 1 : 0;
-           l17 = ((l27 = t29 != 0 ? t27 : t28) != 0) ? t25 : t26;
-           l0 = l27 != 0 ? l13 : l9;
-           break L5;
+           L65: {
+            if (l3 != 27491) { break L65; }
+            l4 = 0;
+            break L8;
+           }
+           if (l3 == 36000) { break L9; }
+           if (l3 == 36127) { break L9; }
+           l8 = l10 + -1L;
           }
-          if (((1L << (l0 = (l1 & 0xffffffffL) << 1L)) & 340L) == 0L) { break L1; }
-          l31 = b[((int) (l0 + 85585L)) - 60720] & 0xff;
-          break L4;
+          Core2.f39(m, l7 + 16L, l8, l6, l9);
+          l3 = 2;
+          l4 = 0;
+          break L7;
          }
-         l0 = l0 + -1L;
+         l4 = 1;
         }
-        l0 = l0 + 2L;
+        Core2.f39(m, l7 + 16L, l10, l12, l11);
+        l3 = l4 != 0 ? 3 : 2;
        }
-       l15 = 1L;
-       L30: {
-        L31: {
-         switch ((int) (l0 & 4294967295L)) {
-         case 0: break L6;
-         case 1: break L31;
-         default: break L30;
-         }
-        }
-        l15 = 10L;
-        break L6;
-       }
-       l27 = (int) l0;
-       l0 = 10L;
-       l16 = 1L;
-       l18 = 0L;
-       l17 = 0L;
-       L32: while (true) {
-        Core1.f3(m, l8 + 320L, ((l1 = l27 & 1) != 0) ? l0 : 1L, l1 != 0 ? l17 : 0L, l16, l18);
-        Core1.f3(m, l8 + 336L, l0, l17, l0, l17);
-        l1 = (l27 + Integer.MIN_VALUE > -2147483645) ? 1 : 0;
-        l17 = Words.get64(b, ((int) l8) - 60376);
-        l0 = Words.get64(b, ((int) l8) - 60384);
-        l18 = Words.get64(b, ((int) l8) - 60392);
-        l16 = Words.get64(b, ((int) l8) - 60400);
-        l27 = l27 >>> 1;
-        if (l1 != 0) { continue L32; }
-        break L32;
-       }
-       Core1.f3(m, l8 + 304L, l16, l18, l0, l17);
-       if (((l15 = Words.get64(b, ((int) l8) - 60416)) | (l12 = Words.get64(b, ((int) l8) - 60408))) == 0L) { break L3; }
+       l8 = Words.get64(b, ((int) l7) - 58872);
+       l6 = Words.get64(b, ((int) l7) - 58880);
+       if ((b[((int) l7) - 58896] & 0xff) != 0) { break L3; }
+       final int t66 = (l6 + Long.MIN_VALUE > Words.get64(b, ((int) (l9 = (((l2 & 0xffffffffL) & 255L) << 5L) + (l4 != 0 ? 67904L : 67888L))) - 58912) + Long.MIN_VALUE) ? 1 : 0;
+       final int t67 = (l8 + Long.MIN_VALUE > (l9 = Words.get64(b, ((int) l9) - 58904)) + Long.MIN_VALUE) ? 1 : 0;
+       final int t68 = (l8 == l9) ? 1 : 0;
+       if ((t68 != 0 ? t66 : t67) == 0) { break L5; }
       }
-      final long t33 = l14;
-      final int t34 = (((l15 | l12) == 0L) | ((l13 | l14) == 0L)) ? 1 : 0;
-      final long t35 = (long) Long.numberOfLeadingZeros(l12);
-      final long t36 = ((long) Long.numberOfLeadingZeros(l15)) + 64L;
-      final int t37 = (l12 != 0L) ? 1 : 0;
-      final long t38 = l0 = t37 != 0 ? t35 : t36;
-      final long t39 = (long) Long.numberOfLeadingZeros(l14);
-      final long t40 = ((long) Long.numberOfLeadingZeros(l13)) + 64L;
-      final int t41 = (l14 != 0L) ? 1 : 0;
-      final int t42 = ((l19 = t38 - (l17 = t41 != 0 ? t39 : t40)) + Long.MIN_VALUE > -9223372036854775681L) ? 1 : 0;
-      final int t43 = ((l18 = 0L - ((l0 + Long.MIN_VALUE < l17 + Long.MIN_VALUE) ? 1L : 0L)) != 0L) ? 1 : 0;
-      final int t44 = (l18 == 0L) ? 1 : 0;
-      l17 = ((l27 = t34 | (t44 != 0 ? t42 : t43)) != 0) ? 0L : t33;
-      l0 = l27 != 0 ? 0L : l13;
-      if (l27 != 0) { break L5; }
-      if (((l19 ^ 127L) | l18) == 0L) { break L5; }
-      Core1.f4(m, l8 + 288L, l13, l14, 127 - ((int) l19));
-      l16 = Words.get64(b, ((int) l8) - 60424);
-      l0 = Words.get64(b, ((int) l8) - 60432);
-      L45: {
-       L46: {
-        if (((l17 = l19 + 1L) | (l18 = l18 + ((l17 == 0L) ? 1L : 0L))) == 0L) { break L46; }
-        Core1.f5(m, l8 + 272L, l13, l14, (int) l17);
-        l20 = l15 + -1L;
-        l21 = l12 - ((l15 == 0L) ? 1L : 0L);
-        l19 = Words.get64(b, ((int) l8) - 60440);
-        l14 = Words.get64(b, ((int) l8) - 60448);
-        l13 = 0L;
-        L47: while (true) {
-         l22 = l13;
-         l19 = ((l13 = (l19 << 1L) | (l14 >>> 63L)) - ((l13 = ((l21 - l13) - ((l20 + Long.MIN_VALUE < (l14 = (l14 << 1L) | (l16 >>> 63L)) + Long.MIN_VALUE) ? 1L : 0L)) >> 63L) & l12)) - ((l14 + Long.MIN_VALUE < (l23 = l13 & l15) + Long.MIN_VALUE) ? 1L : 0L);
-         l13 = l13 & 1L;
-         l14 = l14 - l23;
-         l16 = 0L | ((l16 << 1L) | (l0 >>> 63L));
-         l27 = (l17 == 0L) ? 1 : 0;
-         l0 = l22 | (l0 << 1L);
-         l17 = l22 = l17 + -1L;
-         if (!((l22 | (l18 = l18 - (l27 & 0xffffffffL))) == 0L)) { continue L47; }
-         break L45;
-        }
-       }
-       l13 = 0L;
-      }
-      l17 = (l16 << 1L) | (l0 >>> 63L);
-      l0 = l13 | (l0 << 1L);
+      l6 = 0L;
+      l2 = 1;
+      l8 = 0L;
+      l9 = 0L;
+      break L1;
      }
-     final int t48 = (l0 + Long.MIN_VALUE < -9213372036854775808L) ? 1 : 0;
-     final int t49 = (l17 == 0L) ? 1 : 0;
-     final int t50 = ((t49 != 0 ? t48 : 0) != 0) ? 2 : 1;
-     final int t51 = (l2 == 1) ? 1 : 0;
-     l31 = t51 != 0 ? t50 : 1;
+     l9 = l4 & 0xffffffffL;
     }
-    m.fill((int) (l8 + 494L), 0, (int) 471L);
-    L52: {
-     if (!((l9 | l7) == 0L)) { break L52; }
-     l27 = 12;
+    l2 = 0;
+    l3 = 0;
+    break L1;
+   }
+   final int t69 = l3;
+   final int t70 = l2 = b[((int) l7) - 58888] & 0xff;
+   final int t71 = l2 = (l2 == 2) ? 1 : 0;
+   l3 = t71 != 0 ? t69 : t70;
+   l8 = 0L;
+   l9 = l2 != 0 ? 0L : l6;
+  }
+  l2 = 1;
+  l6 = 0L;
+ }
+ L72: {
+  L73: {
+   if (l2 != 0) { break L73; }
+   Words.put64(b, ((int) l5) - 58896, 0L);
+   Words.put64(b, ((int) l5) - 58888, 0L);
+   final int t74 = (int) l5;
+   final long t75 = 0L - l6;
+   final long t76 = l6;
+   final int t77 = l3 = ((int) l9) & 1;
+   Words.put64(b, t74 - 58912, t77 != 0 ? t75 : t76);
+   final int t78 = (int) l5;
+   final long t79 = 0L - (l8 + ((l6 != 0L) ? 1L : 0L));
+   final long t80 = l8;
+   final int t81 = l3;
+   Words.put64(b, t78 - 58904, t81 != 0 ? t79 : t80);
+   l2 = 0;
+   break L72;
+  }
+  l6 = 0L;
+  Words.put64(b, ((int) l5) - 58888, 0L);
+  Words.put64(b, ((int) l5) - 58896, 0L);
+  Words.put64(b, ((int) l5) - 58904, 0L);
+  Words.put64(b, ((int) l5) - 58912, 0L);
+  l2 = 1;
+  L82: {
+   L83: {
+    L84: {
+     switch (l3) {
+     case 1: break L84;
+     case 2: break L83;
+     case 3: break L82;
+     default: break L72;
+     }
+    }
+    Words.put64(b, ((int) l5) - 58896, l9);
+    L85: {
+     if (l9 + Long.MIN_VALUE < -9223372036854775792L) { break L85; }
+     Core1.f25(m, l7, l0, l1, l9);
+     l9 = Words.get64(b, ((int) l7) - 58904);
+     l6 = Words.get64(b, ((int) l7) - 58912);
+    }
+    L86: {
+     if (l9 + Long.MIN_VALUE < -9223372036854775805L) { break L86; }
+     L87: while (true) {
+      if ((l1 - l6) + Long.MIN_VALUE < -9223372036854775800L) { break L86; }
+      L88: {
+       L89: {
+        if (((l8 = Words.get64(b, ((int) (l0 + l6)) - 58912)) & 67553998437089520L) != 63050398541283552L) { break L89; }
+        l9 = l9 + -3L;
+        l6 = l6 + 9L;
+        break L88;
+       }
+       if (l9 + Long.MIN_VALUE < -9223372036854775800L) { break L86; }
+       if ((l8 & -9187201950435737472L) != 0L) { break L86; }
+       l9 = l9 + -8L;
+       l6 = l6 + 8L;
+      }
+      if (l9 + Long.MIN_VALUE > -9223372036854775806L) { continue L87; }
+      break L87;
+     }
+    }
+    L90: {
+     if (l9 == 0L) { break L90; }
+     if (l1 + Long.MIN_VALUE <= l6 + Long.MIN_VALUE) { break L90; }
+     l9 = l9 + -1L;
+     L91: while (true) {
+      l6 = Words.get64(b, ((int) (((((b[((int) (l0 + l6)) - 58912] & 0xff) >>> 1) & 0xffffffffL) & 120L) + 66680L)) - 58912) + l6;
+      if (l9 == 0L) { break L90; }
+      l9 = l9 + -1L;
+      if (l1 + Long.MIN_VALUE > l6 + Long.MIN_VALUE) { continue L91; }
+      break L91;
+     }
+    }
+    Words.put64(b, ((int) l5) - 58888, l6);
+    l2 = 2;
+    break L72;
+   }
+   l2 = 3;
+   break L72;
+  }
+  l2 = 4;
+ }
+ m.g0 = l7 + 48L;
+ return l2;
+}
+
+static int f232(State m, long l0, long l1, int l2, int l3, int l4, long l5) {
+ final byte[] b = m.bytes;
+ long l6 = 0;
+ long l7 = 0;
+ long l8 = 0;
+ long l9 = 0;
+ m.g0 = l6 = m.g0 - 48L;
+ L1: {
+  L2: {
+   L3: {
+    if ((l7 = l6) < 16L) { break L3; }
+    Words.put64(b, ((int) l7) - 58872, 0L);
+    Words.put64(b, ((int) l7) - 58880, 0L);
+    Words.put64(b, ((int) l7) - 58888, 0L);
+    Words.put64(b, ((int) l7) - 58896, 0L);
+    L4: {
+     L5: {
+      if ((l3 & 255) != 0) { break L5; }
+      Core2.f39(m, l7 + 16L, 0L, l0, l1);
+      break L4;
+     }
+     Core2.f38(m, l7 + 16L, l4, 0L, l0, l1);
+    }
+    l8 = Words.get64(b, ((int) l7) - 58880);
+    L6: {
+     if ((b[((int) l7) - 58896] & 0xff) != 0) { break L6; }
+     L7: {
+      final int t8 = (Words.get64(b, State.far((int) (l6 = ((l2 & 0xffffffffL) & 255L) << 5L), 67888)) + Long.MIN_VALUE >= l8 + Long.MIN_VALUE) ? 1 : 0;
+      final int t9 = ((l1 = Words.get64(b, State.far((int) l6, 67896))) + Long.MIN_VALUE >= (l6 = Words.get64(b, ((int) l7) - 58872)) + Long.MIN_VALUE) ? 1 : 0;
+      final int t10 = (l1 == l6) ? 1 : 0;
+      if ((t10 != 0 ? t8 : t9) != 0) { break L7; }
+      Words.put64(b, ((int) l5) - 58888, 0L);
+      Words.put64(b, ((int) l5) - 58896, 0L);
+      Words.put64(b, ((int) l5) - 58904, 0L);
+      Words.put64(b, ((int) l5) - 58912, 0L);
+      break L2;
+     }
+     Words.put64(b, ((int) l5) - 58896, 0L);
+     Words.put64(b, ((int) l5) - 58912, l8);
+     Words.put64(b, ((int) l5) - 58888, 0L);
+     Words.put64(b, ((int) l5) - 58904, l6);
+     l3 = 0;
      break L1;
     }
-    l22 = 0L;
-    final long t53 = 0L - l11;
-    final long t54 = l11;
-    final int t55 = l27 = (l10 < 0L) ? 1 : 0;
-    l24 = t55 != 0 ? t53 : t54;
-    final long t56 = 0L - (l10 + ((l11 != 0L) ? 1L : 0L));
-    final long t57 = l10;
-    final int t58 = l27;
-    l25 = t58 != 0 ? t56 : t57;
-    L59: {
-     final int x127 = f279_1(m, l0, l1, l2, l3, l7, l8, l9, l11, l12, l13, l14, l15, l16, l17, l18, l19, l20, l21, l22, l23, l24, l25, l26, l27, l28, l29, l30, l31);
-     l0 = m.kept[0];
-     l1 = (int) m.kept[1];
-     l3 = (int) m.kept[2];
-     l7 = m.kept[3];
-     l9 = m.kept[4];
-     l11 = m.kept[5];
-     l12 = m.kept[6];
-     l13 = m.kept[7];
-     l14 = m.kept[8];
-     l15 = m.kept[9];
-     l16 = m.kept[10];
-     l17 = m.kept[11];
-     l18 = m.kept[12];
-     l19 = m.kept[13];
-     l20 = m.kept[14];
-     l21 = m.kept[15];
-     l22 = m.kept[16];
-     l23 = m.kept[17];
-     l26 = m.kept[18];
-     l27 = (int) m.kept[19];
-     l28 = (int) m.kept[20];
-     l29 = (int) m.kept[21];
-     switch (x127) {
-     case 1: break L3;
-     case 2: break L2;
-     case 3: break L59;
-     }
-     m.fill((int) (l8 + 965L), 0, (int) 235L);
-     L128: {
-      if ((l31 & 255) != 0) { break L128; }
-      final int t129 = (l7 + Long.MIN_VALUE > -9213372036854775809L) ? 1 : 0;
-      final int t130 = (l9 != 0L) ? 1 : 0;
-      final int t131 = (l9 == 0L) ? 1 : 0;
-      if ((t131 != 0 ? t129 : t130) != 0) { break L2; }
-     }
-     Words.put32(b, ((int) l8) - 59518, 0);
-     b[((int) l8) - 59519] = (byte) l30;
-     b[((int) l8) - 59520] = (byte) l29;
-     Words.put16(b, ((int) l8) - 59514, (short) 0);
-     final int t132 = (int) l8;
-     final long t133 = ((l27 = (l3 == 1) ? 1 : 0) != 0) ? 69676L : 69892L;
-     final long t134 = l27 != 0 ? 69244L : 69460L;
-     final int t135 = l2;
-     Words.put64(b, t132 - 59512, l17 = t135 != 0 ? t133 : t134);
-     l9 = (l8 + 494L) + (l0 = l15 - (l7 = 235L - (l16 = Core2.f49(m, l8 + 965L, l8 + 1200L, l31, 0, l7, l9))));
-     L136: {
-      if (l7 == 0L) { break L136; }
-      m.copy((int) l9, (int) ((l8 + 965L) + l16), (int) l7);
-     }
-     if (l28 != 2) { break L59; }
-     L137: {
-      L138: {
-       if (((l7 = l9 + -6L) - 85826L) + Long.MIN_VALUE > -9223372036854775803L) { break L138; }
-       b[((int) l7) - 60720] = (byte) 229;
-       b[((int) (l9 + -1L)) - 60720] = (byte) 139;
-       Words.put32(b, ((int) (l9 + -5L)) - 60720, -1176205688);
-       break L137;
+    l9 = b[((int) l7) - 58888] & 0xffL;
+    l6 = 0L;
+    Words.put64(b, ((int) l5) - 58888, 0L);
+    Words.put64(b, ((int) l5) - 58896, 0L);
+    Words.put64(b, ((int) l5) - 58904, 0L);
+    Words.put64(b, ((int) l5) - 58912, 0L);
+    l3 = 1;
+    L11: {
+     L12: {
+      switch ((int) l9) {
+      case 1: break L12;
+      case 2: break L2;
+      case 3: break L11;
+      default: break L1;
       }
-      Words.put16(b, ((int) l7) - 60716, (short) (Words.get16(b, State.far((int) 0L, 85830)) & 0xffff));
-      Words.put32(b, ((int) l7) - 60720, Words.get32(b, State.far((int) 0L, 85826)));
      }
-     if (((l27 = Words.get32(b, ((int) (l17 + 156L)) - 60720)) + -55296) + Integer.MIN_VALUE <= 2147430399) { break L3; }
-     b[((int) (l7 = (l8 + 494L) + (l0 = l0 + -9L))) - 60718] = (byte) ((l27 & 63) | 128);
-     b[((int) l7) - 60720] = (byte) ((l27 >>> 12) | 224);
-     b[((int) l7) - 60719] = (byte) (((l27 >>> 6) & 63) | 128);
-    }
-    L139: {
-     if (l10 > -1L) { break L139; }
-     b[((int) (l7 = (l8 + 494L) + (l0 = l0 + -3L))) - 60718] = (byte) ((l27 = l2 != 0 ? 36127 : 36000) | 128);
-     b[((int) l7) - 60720] = (byte) 232;
-     b[((int) l7) - 60719] = (byte) ((l27 >>> 6) | 128);
-    }
-    Words.put64(b, ((int) l6) - 60720, l7 = 471L - l0);
-    L140: {
-     if (l5 + Long.MIN_VALUE >= l7 + Long.MIN_VALUE) { break L140; }
-     l27 = 6;
+     Words.put64(b, ((int) l5) - 58896, l8);
+     L13: {
+      if (l8 + Long.MIN_VALUE < -9223372036854775792L) { break L13; }
+      Core1.f25(m, l7, l0, l1, l8);
+      l8 = Words.get64(b, ((int) l7) - 58904);
+      l6 = Words.get64(b, ((int) l7) - 58912);
+     }
+     L14: {
+      if (l8 + Long.MIN_VALUE < -9223372036854775805L) { break L14; }
+      L15: while (true) {
+       if ((l1 - l6) + Long.MIN_VALUE < -9223372036854775800L) { break L14; }
+       L16: {
+        L17: {
+         if (((l9 = Words.get64(b, ((int) (l0 + l6)) - 58912)) & 67553998437089520L) != 63050398541283552L) { break L17; }
+         l8 = l8 + -3L;
+         l6 = l6 + 9L;
+         break L16;
+        }
+        if (l8 + Long.MIN_VALUE < -9223372036854775800L) { break L14; }
+        if ((l9 & -9187201950435737472L) != 0L) { break L14; }
+        l8 = l8 + -8L;
+        l6 = l6 + 8L;
+       }
+       if (l8 + Long.MIN_VALUE > -9223372036854775806L) { continue L15; }
+       break L15;
+      }
+     }
+     L18: {
+      if (l8 == 0L) { break L18; }
+      if (l1 + Long.MIN_VALUE <= l6 + Long.MIN_VALUE) { break L18; }
+      l8 = l8 + -1L;
+      L19: while (true) {
+       l6 = Words.get64(b, ((int) (((((b[((int) (l0 + l6)) - 58912] & 0xff) >>> 1) & 0xffffffffL) & 120L) + 66680L)) - 58912) + l6;
+       if (l8 == 0L) { break L18; }
+       l8 = l8 + -1L;
+       if (l1 + Long.MIN_VALUE > l6 + Long.MIN_VALUE) { continue L19; }
+       break L19;
+      }
+     }
+     Words.put64(b, ((int) l5) - 58888, l6);
+     l3 = 2;
      break L1;
     }
-    L141: {
-     if (l7 == 0L) { break L141; }
-     m.copy((int) (l4 + ((l4 == 0L) ? 4096L : 0L)), (int) ((l8 + 494L) + l0), (int) l7);
-    }
-    l27 = 0;
+    l3 = 4;
     break L1;
    }
    throw State.trap();
   }
-  l27 = (l10 > -1L) ? 3 : 4;
+  l3 = 3;
  }
- m.g0 = l8 + 1232L;
- return l27;
+ m.g0 = l7 + 48L;
+ return l3;
 }
 
-static int f281(State m, long l0, long l1, int l2, int l3, long l4) {
+static int f233(State m, long l0, long l1, int l2, long l3) {
  final byte[] b = m.bytes;
+ long l4 = 0;
+ int l5 = 0;
+ int l6 = 0;
+ m.g0 = l4 = m.g0 - 16L;
+ L1: {
+  if ((l4 = l4) < 16L) { break L1; }
+  f227(m, l4 + 8L, l2, l0, l1);
+  l5 = b[((int) l4) - 58903] & 0xff;
+  l6 = b[((int) l4) - 58904] & 0xff;
+  L2: {
+   L3: {
+    if ((l2 & 255) + Integer.MIN_VALUE < -2147483643) { break L3; }
+    l2 = f231(m, l0, l1, l2, l6, l5, l3);
+    break L2;
+   }
+   l2 = f232(m, l0, l1, l2, l6, l5, l3);
+  }
+  m.g0 = l4 + 16L;
+  final int t4 = l2;
+  return t4;
+ }
+ throw State.trap();
+}
+
+static int f234(State m, long l0, long l1) {
+ final byte[] b = m.bytes;
+ long l2 = 0;
+ long l3 = 0;
+ long l4 = 0;
  long l5 = 0;
- long l6 = 0;
- long l7 = 0;
+ int l6 = 0;
+ int l7 = 0;
  int l8 = 0;
+ int l9 = 0;
+ int l10 = 0;
+ int l11 = 0;
+ m.g0 = l2 = m.g0 - 16L;
  L1: {
   L2: {
    L3: {
-    if ((l5 = m.g0) < 16L) { break L3; }
     L4: {
-     if (l2 + Integer.MIN_VALUE < -2147483638) { break L4; }
-     Words.put64(b, ((int) l4) - 60696, 0L);
-     Words.put64(b, ((int) l4) - 60704, 0L);
-     Words.put64(b, ((int) l4) - 60712, 0L);
-     Words.put64(b, ((int) l4) - 60720, 0L);
+     L5: {
+      if ((l2 = l2) < 16L) { break L5; }
+      L6: {
+       if ((l3 = Words.get64(b, ((int) l1) - 58904)) != l0) { break L6; }
+       l6 = 0;
+       break L1;
+      }
+      l3 = l3 - l0;
+      l7 = (l6 = (int) b[((int) (l4 = Words.get64(b, ((int) l1) - 58912) + l0)) - 58912]) & 255;
+      l0 = 1L;
+      L7: {
+       if (l6 > -1) { break L7; }
+       l8 = (b[((int) l4) - 58911] & 0xff) & 63;
+       L8: {
+        if (l6 + Integer.MIN_VALUE > 2147483615) { break L8; }
+        l7 = ((l7 << 6) & 1984) | l8;
+        l0 = 2L;
+        break L7;
+       }
+       l9 = (b[((int) l4) - 58910] & 0xff) & 63;
+       L9: {
+        if (l6 + Integer.MIN_VALUE > 2147483631) { break L9; }
+        l7 = ((l8 << 6) | ((l7 << 12) & 61440)) | l9;
+        l0 = 3L;
+        break L7;
+       }
+       l7 = ((l9 << 6) | ((l8 << 12) | ((l7 << 18) & 1835008))) | ((b[((int) l4) - 58909] & 0xff) & 63);
+       l0 = 4L;
+      }
+      L10: {
+       L11: {
+        L12: {
+         L13: {
+          L14: {
+           if (l3 == l0) { break L14; }
+           l8 = (l6 = (int) b[((int) (l4 = l4 + l0)) - 58912]) & 255;
+           l1 = 1L;
+           L15: {
+            if (l6 > -1) { break L15; }
+            l9 = (b[((int) l4) - 58911] & 0xff) & 63;
+            L16: {
+             if (l6 + Integer.MIN_VALUE > 2147483615) { break L16; }
+             l8 = ((l8 << 6) & 1984) | l9;
+             l1 = 2L;
+             break L15;
+            }
+            l10 = (b[((int) l4) - 58910] & 0xff) & 63;
+            L17: {
+             if (l6 + Integer.MIN_VALUE > 2147483631) { break L17; }
+             l8 = ((l9 << 6) | ((l8 << 12) & 61440)) | l10;
+             l1 = 3L;
+             break L15;
+            }
+            l8 = ((l10 << 6) | ((l9 << 12) | ((l8 << 18) & 1835008))) | ((b[((int) l4) - 58909] & 0xff) & 63);
+            l1 = 4L;
+           }
+           if (l3 == (l0 = l1 + l0)) { break L11; }
+           l9 = (l6 = (int) b[((int) (l4 = l4 + l1)) - 58912]) & 255;
+           l1 = 1L;
+           if (l6 > -1) { break L12; }
+           l10 = (b[((int) l4) - 58911] & 0xff) & 63;
+           L18: {
+            if (l6 + Integer.MIN_VALUE > 2147483615) { break L18; }
+            l9 = ((l9 << 6) & 1984) | l10;
+            l1 = 2L;
+            break L12;
+           }
+           l11 = (b[((int) l4) - 58910] & 0xff) & 63;
+           if (l6 + Integer.MIN_VALUE > 2147483631) { break L13; }
+           l9 = ((l10 << 6) | ((l9 << 12) & 61440)) | l11;
+           l1 = 3L;
+           break L12;
+          }
+          l3 = Words.get64(b, ((int) l1) - 58896);
+          l0 = Words.get64(b, ((int) l1) - 58888);
+          l4 = Words.get64(b, ((int) l1) - 58880);
+          l1 = Words.get64(b, ((int) l1) - 58872);
+          L19: {
+           L20: {
+            if (l7 > 21039) { break L20; }
+            L21: {
+             if (l7 != 45) { break L21; }
+             l6 = 1;
+             break L1;
+            }
+            L22: {
+             if (l7 != 126) { break L22; }
+             l6 = 1;
+             break L1;
+            }
+            if (l7 != 12316) { break L19; }
+            l6 = 1;
+            break L1;
+           }
+           L23: {
+            if (l7 > 65292) { break L23; }
+            L24: {
+             if (l7 != 21040) { break L24; }
+             l6 = 1;
+             break L1;
+            }
+            if (l7 != 33267) { break L19; }
+            l6 = 1;
+            break L1;
+           }
+           L25: {
+            if (l7 != 65293) { break L25; }
+            l6 = 1;
+            break L1;
+           }
+           if (l7 != 65374) { break L19; }
+           l6 = 1;
+           break L1;
+          }
+          L26: {
+           if ((l7 + -8211) + Integer.MIN_VALUE >= -2147483646) { break L26; }
+           l6 = 1;
+           break L1;
+          }
+          L27: {
+           L28: {
+            if (l7 > 24229) { break L28; }
+            L29: {
+             if (l7 > 21332) { break L29; }
+             L30: {
+              if (l7 > 20942) { break L30; }
+              L31: {
+               if (l7 > 20802) { break L31; }
+               if (l7 == 20004) { break L3; }
+               l6 = 1;
+               if (l7 != 20056) { break L2; }
+               break L1;
+              }
+              if (l7 == 20803) { break L3; }
+              if (l7 == 20841) { break L3; }
+              break L2;
+             }
+             L32: {
+              if (l7 > 21050) { break L32; }
+              if (l7 != 20943) { break L27; }
+              l6 = 1;
+              break L1;
+             }
+             if (l7 == 21051) { break L4; }
+             l6 = 1;
+             if (l7 != 21152) { break L2; }
+             break L1;
+            }
+            L33: {
+             if (l7 > 22277) { break L33; }
+             L34: {
+              if (l7 != 21333) { break L34; }
+              l6 = 1;
+              break L1;
+             }
+             if (l7 == 21495) { break L4; }
+             l6 = 1;
+             if (l7 != 21934) { break L2; }
+             break L1;
+            }
+            L35: {
+             if (l7 > 22601) { break L35; }
+             L36: {
+              switch (l7 + -22278) {
+              case 0: case 13: break L3;
+              case 1: case 2: case 3: case 4: case 5: case 6: case 7: case 8: case 9: case 10: case 11: case 12: break L2;
+              default: break L36;
+              }
+             }
+             if (l7 == 22359) { break L3; }
+             break L2;
+            }
+            if (l7 == 22602) { break L3; }
+            if (l7 != 24180) { break L2; }
+            break L4;
+           }
+           L37: {
+            if (l7 > 28186) { break L37; }
+            L38: {
+             if (l7 > 26177) { break L38; }
+             l6 = 1;
+             L39: {
+              switch (l7 + -26085) {
+              case 0: break L4;
+              case 1: case 2: case 3: case 4: case 5: case 6: case 7: case 8: case 9: case 10: case 11: case 12: case 13: case 14: case 15: case 16: break L2;
+              case 17: break L1;
+              default: break L39;
+              }
+             }
+             if (l7 == 24230) { break L3; }
+             if (l7 == 26020) { break L3; }
+             break L2;
+            }
+            l6 = 1;
+            L40: {
+             switch (l7 + -26376) {
+             case 0: break L4;
+             case 1: break L1;
+             default: break L40;
+             }
+            }
+            l6 = 1;
+            L41: {
+             switch (l7 + -27604) {
+             case 0: break L1;
+             case 1: case 2: case 3: case 4: case 5: case 6: break L2;
+             case 7: break L3;
+             default: break L41;
+             }
+            }
+            l6 = 1;
+            if (l7 != 26178) { break L2; }
+            break L1;
+           }
+           L42: {
+            if (l7 > 34398) { break L42; }
+            L43: {
+             if (l7 > 31185) { break L43; }
+             L44: {
+              if (l7 != 28187) { break L44; }
+              l6 = 1;
+              break L1;
+             }
+             l6 = 1;
+             if (l7 != 28857) { break L2; }
+             break L1;
+            }
+            if (l7 == 31186) { break L4; }
+            if (l7 == 31859) { break L3; }
+            break L2;
+           }
+           L45: {
+            if (l7 > 38499) { break L45; }
+            if (l7 == 34399) { break L4; }
+            if (l7 == 35282) { break L3; }
+            break L2;
+           }
+           L46: {
+            if (l7 != 38500) { break L46; }
+            l6 = 1;
+            break L1;
+           }
+           l6 = 1;
+           if (l7 != 40670) { break L2; }
+           break L1;
+          }
+          if (l7 == 20998) { break L4; }
+          break L2;
+         }
+         l9 = ((l11 << 6) | ((l10 << 12) | ((l9 << 18) & 1835008))) | ((b[((int) l4) - 58909] & 0xff) & 63);
+         l1 = 4L;
+        }
+        if (l3 == (l1 + l0)) { break L10; }
+        l6 = 0;
+        break L1;
+       }
+       L47: {
+        if (f235(m, l7) == 0) { break L47; }
+        l6 = 1;
+        L48: {
+         L49: {
+          if (l8 > 21039) { break L49; }
+          if (l8 == 45) { break L1; }
+          if (l8 == 126) { break L1; }
+          if (l8 != 12316) { break L48; }
+          break L1;
+         }
+         L50: {
+          if (l8 > 65292) { break L50; }
+          if (l8 == 21040) { break L1; }
+          if (l8 != 33267) { break L48; }
+          break L1;
+         }
+         if (l8 == 65293) { break L1; }
+         if (l8 == 65374) { break L1; }
+        }
+        if ((l8 + -8211) + Integer.MIN_VALUE < -2147483646) { break L1; }
+       }
+       L51: {
+        L52: {
+         L53: {
+          if (l7 > 23566) { break L53; }
+          if (l7 == 20056) { break L52; }
+          l6 = 0;
+          if (l7 != 20998) { break L1; }
+          l6 = ((l8 == 38047) | (l8 == 37912)) ? 1 : 0;
+          break L1;
+         }
+         L54: {
+          if (l7 == 23567) { break L54; }
+          if (l7 == 31561) { break L51; }
+          if (l7 == 38500) { break L52; }
+          l6 = 0;
+          break L1;
+         }
+         l6 = ((l8 == 26178) | (l8 == 26102)) ? 1 : 0;
+         break L1;
+        }
+        l6 = 1;
+        if (l8 == 20197) { break L1; }
+        l6 = 0;
+        if (l7 != 31561) { break L1; }
+       }
+       l6 = ((l8 == 20110) | (l8 == 26044)) ? 1 : 0;
+       break L1;
+      }
+      L55: {
+       if (l7 == 20491) { break L55; }
+       if (l7 == 20010) { break L55; }
+       l6 = 0;
+       break L1;
+      }
+      l6 = 0;
+      if (l8 != 23567) { break L1; }
+      l6 = ((l9 == 26102) | (l9 == 26178)) ? 1 : 0;
+      break L1;
+     }
+     throw State.trap();
+    }
+    L56: {
+     if (f236(m, l3, l0, l4, l1) != 0) { break L56; }
+     l6 = 1;
      break L1;
     }
-    if (l3 + Integer.MIN_VALUE > -2147483643) { break L2; }
-    l0 = l6 = l0 + ((l0 == 0L) ? 4096L : 0L);
-    l7 = l1;
-    L5: {
-     L6: {
-      if (l1 + Long.MIN_VALUE < -9223372036854775804L) { break L6; }
-      L7: while (true) {
-       if (((Words.get32(b, ((int) l0) - 60720) + 16776990) & 12632312) != 8421376) { break L5; }
-       l0 = l0 + 3L;
-       if ((l7 = l7 + -3L) + Long.MIN_VALUE > -9223372036854775805L) { continue L7; }
-       break L7;
+    L57: {
+     if (l7 > 24229) { break L57; }
+     L58: {
+      switch (l7 + -22278) {
+      case 0: case 13: break L3;
+      case 1: case 2: case 3: case 4: case 5: case 6: case 7: case 8: case 9: case 10: case 11: case 12: break L2;
+      default: break L58;
       }
      }
-     if (l7 + Long.MIN_VALUE > -9223372036854775805L) { break L5; }
-     L8: {
-      L9: {
-       switch ((int) l7) {
-       case 1: case 2: break L5;
-       case 3: break L9;
+     if (l7 == 22359) { break L3; }
+     if (l7 == 22602) { break L3; }
+     break L2;
+    }
+    L59: {
+     if (l7 > 27610) { break L59; }
+     if (l7 == 24230) { break L3; }
+     if (l7 == 26020) { break L3; }
+     break L2;
+    }
+    if (l7 == 31859) { break L3; }
+    if (l7 != 27611) { break L2; }
+   }
+   l6 = 0;
+   if (f236(m, l3, l0, l4, l1) != 0) { break L1; }
+   Words.put32(b, ((int) l2) - 58900, 0);
+   L60: {
+    L61: {
+     L62: {
+      L63: {
+       L64: {
+        L65: {
+         if ((l5 = l0 + -1L) + Long.MIN_VALUE > -9223372036854775806L) { break L65; }
+         L66: {
+          switch ((int) l5) {
+          case 1: break L65;
+          case 2: break L66;
+          default: break L61;
+          }
+         }
+         if (Words.get32(b, State.far((int) (l5 = ((((l6 = (((b[((int) l3) - 58911] & 0xff) << 8) | (l7 = b[((int) l3) - 58912] & 0xff)) | ((b[((int) l3) - 58910] & 0xff) << 16)) & 0xffffffffL) * 953497L) >>> 22L) & 1016L), 66852)) != l6) { break L64; }
+         if (((b[((int) (l5 + 66856L)) - 58912] & 0xff) & 255) == 2) { break L64; }
+         if (!(l1 == 0L)) { break L60; }
+         l6 = 1;
+         break L1;
+        }
+        if (l0 + Long.MIN_VALUE > -9223372036854775804L) { break L62; }
+        if (l0 == 0L) { break L63; }
+        l7 = b[((int) l3) - 58912] & 0xff;
+       }
+       if (((int) (byte) l7) > -1) { break L62; }
+      }
+      Core3.f113(m, l2 + 12L, l3, l0);
+      L67: {
+       if (!(l1 == 0L)) { break L67; }
+       l6 = 1;
+       break L1;
+      }
+      L68: {
+       if (((b[((int) l2) - 58900] & 0xff) & 255) == 1) { break L68; }
+       l6 = 1;
+       break L1;
+      }
+      if (((b[((int) l2) - 58897] & 0xff) & 1) != 0) { break L60; }
+     }
+     l6 = 1;
+     break L1;
+    }
+    L69: {
+     if (!(l1 == 0L)) { break L69; }
+     l6 = 1;
+     break L1;
+    }
+    if ((((b[((int) l3) - 58912] & 0xff) + -48) & 255) + Integer.MIN_VALUE >= -2147483638) { break L60; }
+    l6 = 1;
+    break L1;
+   }
+   l7 = (l6 = (int) b[((int) l4) - 58912]) & 255;
+   L70: {
+    if (l6 > -1) { break L70; }
+    l8 = (b[((int) l4) - 58911] & 0xff) & 63;
+    L71: {
+     if (l6 + Integer.MIN_VALUE > 2147483615) { break L71; }
+     l7 = ((l7 << 6) & 1984) | l8;
+     break L70;
+    }
+    l9 = (b[((int) l4) - 58910] & 0xff) & 63;
+    L72: {
+     if (l6 + Integer.MIN_VALUE > 2147483631) { break L72; }
+     l7 = ((l8 << 6) | ((l7 << 12) & 61440)) | l9;
+     break L70;
+    }
+    l7 = ((l9 << 6) | ((l8 << 12) | ((l7 << 18) & 1835008))) | ((b[((int) l4) - 58909] & 0xff) & 63);
+   }
+   l6 = 0;
+   L73: {
+    L74: {
+     if (l7 > 24372) { break L74; }
+     L75: {
+      if (l7 > 21252) { break L75; }
+      L76: {
+       if (l7 > 20213) { break L76; }
+       if (l7 == 20010) { break L1; }
+       if (l7 != 20154) { break L73; }
+       break L1;
+      }
+      L77: {
+       switch (l7 + -20214) {
+       case 0: case 7: break L1;
+       case 1: case 2: case 3: case 4: case 5: case 6: break L73;
+       default: break L77;
+       }
+      }
+      if (l7 == 20301) { break L1; }
+      if (l7 != 20491) { break L73; }
+      break L1;
+     }
+     L78: {
+      if (l7 > 21516) { break L78; }
+      L79: {
+       switch (l7 + -21482) {
+       case 0: case 6: break L1;
+       case 1: case 2: case 3: case 4: case 5: break L73;
+       default: break L79;
+       }
+      }
+      if (l7 != 21253) { break L73; }
+      break L1;
+     }
+     if (l7 == 21517) { break L1; }
+     if (l7 == 22871) { break L1; }
+     if (l7 != 24352) { break L73; }
+     break L1;
+    }
+    L80: {
+     if (l7 > 27424) { break L80; }
+     L81: {
+      if (l7 > 26464) { break L81; }
+      if (l7 == 24373) { break L1; }
+      if (l7 == 26020) { break L1; }
+      if (l7 != 26412) { break L73; }
+      break L1;
+     }
+     L82: {
+      switch (l7 + -26465) {
+      case 0: case 14: break L1;
+      case 1: case 2: case 3: case 4: case 5: case 6: case 7: case 8: case 9: case 10: case 11: case 12: case 13: break L73;
+      default: break L82;
+      }
+     }
+     if (l7 != 26781) { break L73; }
+     break L1;
+    }
+    L83: {
+     if (l7 > 30870) { break L83; }
+     if (l7 == 27425) { break L1; }
+     if (l7 == 29942) { break L1; }
+     if (l7 != 30418) { break L73; }
+     break L1;
+    }
+    if (l7 == 30871) { break L1; }
+    if (l7 == 31665) { break L1; }
+    if (l7 == 38587) { break L1; }
+   }
+   l6 = 1;
+   break L1;
+  }
+  l6 = 0;
+ }
+ m.g0 = l2 + 16L;
+ return l6;
+}
+
+static int f235(State m, int l0) {
+ int l1 = 0;
+ L1: {
+  if (m.g0 < 16L) { break L1; }
+  l1 = 1;
+  L2: {
+   L3: {
+    L4: {
+     if (l0 > 26019) { break L4; }
+     L5: {
+      if (l0 > 22277) { break L5; }
+      L6: {
+       if (l0 > 20997) { break L6; }
+       if (l0 == 20004) { break L2; }
+       if (l0 == 20803) { break L2; }
+       if (l0 != 20841) { break L3; }
+       break L2;
+      }
+      if (l0 == 20998) { break L2; }
+      if (l0 == 21051) { break L2; }
+      if (l0 != 21495) { break L3; }
+      break L2;
+     }
+     L7: {
+      if (l0 > 22601) { break L7; }
+      L8: {
+       switch (l0 + -22278) {
+       case 0: case 13: break L2;
+       case 1: case 2: case 3: case 4: case 5: case 6: case 7: case 8: case 9: case 10: case 11: case 12: break L3;
        default: break L8;
        }
       }
-      if (((((Words.get16(b, ((int) l0) - 60720) & 0xffff) | ((b[((int) (l0 + 2L)) - 60720] & 0xff) << 16)) + 16776990) & 12632312) != 8421376) { break L5; }
+      if (l0 != 22359) { break L3; }
+      break L2;
      }
-     L10: {
-      if (l3 + Integer.MIN_VALUE > -2147483644) { break L10; }
-      l3 = b[((int) ((l0 = (l3 & 0xffffffffL) << 1L) + 85585L)) - 60720] & 0xff;
-      l8 = b[((int) (l0 + 85584L)) - 60720] & 0xff;
-      L11: {
-       if (l2 + Integer.MIN_VALUE < -2147483643) { break L11; }
-       l2 = Core5.f167(m, l6, l1, l2, l8, l3, l4);
-       m.g0 = l5;
-       final int t12 = l2;
-       return t12;
-      }
-      l2 = Core5.f168(m, l6, l1, l2, l8, l3, l4);
-      m.g0 = l5;
-      final int t13 = l2;
-      return t13;
-     }
-     l2 = Core5.f169(m, l6, l1, l2, l4);
-     m.g0 = l5;
-     final int t14 = l2;
-     return t14;
+     if (l0 == 22602) { break L2; }
+     if (l0 == 24180) { break L2; }
+     if (l0 != 24230) { break L3; }
+     break L2;
     }
-    l2 = Core6.f215(m, l6, l1, l2, l3, l4);
-    m.g0 = l5;
-    final int t15 = l2;
-    return t15;
+    L9: {
+     if (l0 > 28856) { break L9; }
+     L10: {
+      if (l0 > 26177) { break L10; }
+      L11: {
+       switch (l0 + -26085) {
+       case 0: case 17: break L2;
+       case 1: case 2: case 3: case 4: case 5: case 6: case 7: case 8: case 9: case 10: case 11: case 12: case 13: case 14: case 15: case 16: break L3;
+       default: break L11;
+       }
+      }
+      if (l0 != 26020) { break L3; }
+      break L2;
+     }
+     if (l0 == 26178) { break L2; }
+     if (l0 == 26376) { break L2; }
+     if (l0 != 27611) { break L3; }
+     break L2;
+    }
+    L12: {
+     if (l0 > 34398) { break L12; }
+     if (l0 == 28857) { break L2; }
+     if (l0 == 31186) { break L2; }
+     if (l0 != 31859) { break L3; }
+     break L2;
+    }
+    if (l0 == 34399) { break L2; }
+    if (l0 == 35282) { break L2; }
+    if (l0 == 40670) { break L2; }
+   }
+   l1 = 0;
+  }
+  final int t13 = l1;
+  return t13;
+ }
+ throw State.trap();
+}
+
+static int f236(State m, long l0, long l1, long l2, long l3) {
+ final byte[] b = m.bytes;
+ long l4 = 0;
+ int l5 = 0;
+ int l6 = 0;
+ int l7 = 0;
+ int l8 = 0;
+ int l9 = 0;
+ L1: {
+  if ((l4 = m.g0) < 16L) { break L1; }
+  l5 = 0;
+  L2: {
+   if (l1 == 0L) { break L2; }
+   if ((l6 = (int) b[((int) l0) - 58912]) > -1) { break L2; }
+   if (l6 + Integer.MIN_VALUE < 2147483616) { break L2; }
+   l7 = l6 & 255;
+   l8 = (b[((int) l0) - 58911] & 0xff) & 63;
+   l9 = (b[((int) l0) - 58910] & 0xff) & 63;
+   L3: {
+    L4: {
+     if (l6 + Integer.MIN_VALUE > 2147483631) { break L4; }
+     l6 = ((l8 << 6) | ((l7 << 12) & 61440)) | l9;
+     l0 = 3L;
+     break L3;
+    }
+    l6 = ((l9 << 6) | ((l8 << 12) | ((l7 << 18) & 1835008))) | ((b[((int) l0) - 58909] & 0xff) & 63);
+    l0 = 4L;
+   }
+   if (l6 != 19968) { break L2; }
+   if (l1 != l0) { break L2; }
+   if (l3 == 0L) { break L2; }
+   l6 = (l7 = (int) b[((int) l2) - 58912]) & 255;
+   L5: {
+    if (l7 > -1) { break L5; }
+    l8 = (b[((int) l2) - 58911] & 0xff) & 63;
+    L6: {
+     if (l7 + Integer.MIN_VALUE > 2147483615) { break L6; }
+     l6 = ((l6 << 6) & 1984) | l8;
+     break L5;
+    }
+    l9 = (b[((int) l2) - 58910] & 0xff) & 63;
+    L7: {
+     if (l7 + Integer.MIN_VALUE > 2147483631) { break L7; }
+     l6 = ((l8 << 6) | ((l6 << 12) & 61440)) | l9;
+     break L5;
+    }
+    l6 = ((l9 << 6) | ((l8 << 12) | ((l6 << 18) & 1835008))) | ((b[((int) l2) - 58909] & 0xff) & 63);
+   }
+   if ((l6 + -19968) + Integer.MIN_VALUE > -2147462657) { break L2; }
+   if (l6 == 21040) { break L2; }
+   if (l6 == 33267) { break L2; }
+   if (f235(m, l6) != 0) { break L2; }
+   L8: {
+    L9: {
+     if (l6 > 23566) { break L9; }
+     L10: {
+      if (l6 > 20942) { break L10; }
+      if (l6 == 20010) { break L2; }
+      if (l6 == 20056) { break L2; }
+      if (l6 != 20491) { break L8; }
+      break L2;
+     }
+     L11: {
+      if (l6 > 21332) { break L11; }
+      if (l6 == 20943) { break L2; }
+      if (l6 != 21152) { break L8; }
+      break L2;
+     }
+     if (l6 == 21333) { break L2; }
+     if (l6 != 21934) { break L8; }
+     break L2;
+    }
+    L12: {
+     if (l6 > 30339) { break L12; }
+     L13: {
+      if (l6 > 27603) { break L13; }
+      if (l6 == 23567) { break L2; }
+      if (l6 != 26377) { break L8; }
+      break L2;
+     }
+     if (l6 == 27604) { break L2; }
+     if (l6 != 28187) { break L8; }
+     break L2;
+    }
+    L14: {
+     if (l6 > 38046) { break L14; }
+     if (l6 == 30340) { break L2; }
+     if (l6 != 37912) { break L8; }
+     break L2;
+    }
+    if (l6 == 38047) { break L2; }
+    if (l6 == 38500) { break L2; }
+   }
+   l5 = 1;
+  }
+  m.g0 = l4;
+  final int t15 = l5;
+  return t15;
+ }
+ throw State.trap();
+}
+
+static int f237(State m, long l0, long l1) {
+ final byte[] b = m.bytes;
+ long l2 = 0;
+ long l3 = 0;
+ long l4 = 0;
+ long l5 = 0;
+ int l6 = 0;
+ int l7 = 0;
+ int l8 = 0;
+ int l9 = 0;
+ int l10 = 0;
+ int l11 = 0;
+ m.g0 = l2 = m.g0 - 256L;
+ L1: {
+  L2: {
+   L3: {
+    if ((l2 = l2) < 16L) { break L3; }
+    l3 = Words.get64(b, ((int) l1) - 58896);
+    Words.put64(b, ((int) l2) - 58816, l4 = Words.get64(b, ((int) l1) - 58888));
+    Words.put64(b, ((int) l2) - 58824, l3);
+    Words.put64(b, ((int) l2) - 58840, Words.get64(b, ((int) l1) - 58912));
+    Words.put64(b, ((int) l2) - 58832, Words.get64(b, ((int) l1) - 58904));
+    Words.put64(b, ((int) l2) - 58808, Words.get64(b, ((int) l1) - 58880));
+    Words.put64(b, ((int) l2) - 58800, Words.get64(b, ((int) l1) - 58872));
+    b[((int) l2) - 58786] = (byte) ((l6 = (int) l0) >>> 24);
+    Words.put16(b, ((int) l2) - 58788, (short) (l6 >>> 8));
+    l7 = 0;
+    if (f238(m, l6, l2 + 124L, l2 + 72L) == 0) { break L1; }
+    L4: {
+     if (f239(m, l3, l4) != 0) { break L4; }
+     l8 = f240(m, l3, l4);
+     L5: {
+      if ((l0 & 1095216660480L) != 0L) { break L5; }
+      if (l8 != 0) { break L1; }
+      l1 = l3;
+      l5 = l4;
+      L6: {
+       L7: while (true) {
+        if (l5 == 0L) { break L6; }
+        l8 = (l9 = (int) b[((int) l1) - 58912]) & 255;
+        l0 = 1L;
+        L8: {
+         if (l9 > -1) { break L8; }
+         l10 = (b[((int) l1) - 58911] & 0xff) & 63;
+         L9: {
+          if (l9 + Integer.MIN_VALUE > 2147483615) { break L9; }
+          l8 = ((l8 << 6) & 1984) | l10;
+          l0 = 2L;
+          break L8;
+         }
+         l11 = (b[((int) l1) - 58910] & 0xff) & 63;
+         L10: {
+          if (l9 + Integer.MIN_VALUE > 2147483631) { break L10; }
+          l8 = ((l10 << 6) | ((l8 << 12) & 61440)) | l11;
+          l0 = 3L;
+          break L8;
+         }
+         l8 = ((l11 << 6) | ((l10 << 12) | ((l8 << 18) & 1835008))) | ((b[((int) l1) - 58909] & 0xff) & 63);
+         l0 = 4L;
+        }
+        l5 = l5 - l0;
+        l1 = l1 + l0;
+        if (l8 != 21448) { continue L7; }
+        break L1;
+       }
+      }
+      Words.put64(b, ((int) l2) - 58720, 0L);
+      Words.put64(b, ((int) l2) - 58728, 0L);
+      Words.put64(b, ((int) l2) - 58736, 0L);
+      f241(m, l2 + 176L, l3, l4);
+      L11: {
+       if ((b[((int) l2) - 58736] & 0xff) != 1) { break L11; }
+       f242(m, l2 + 24L, l6, Words.get64(b, ((int) l2) - 58728), Words.get64(b, ((int) l2) - 58720));
+       l7 = b[((int) l2) - 58887] & 0xff;
+       break L1;
+      }
+      if (l4 == 0L) { break L2; }
+      l8 = (l7 = (int) b[((int) l3) - 58912]) & 255;
+      l1 = 1L;
+      L12: {
+       if (l7 > -1) { break L12; }
+       l9 = (b[((int) l3) - 58911] & 0xff) & 63;
+       L13: {
+        if (l7 + Integer.MIN_VALUE > 2147483615) { break L13; }
+        l8 = ((l8 << 6) & 1984) | l9;
+        l1 = 2L;
+        break L12;
+       }
+       l10 = (b[((int) l3) - 58910] & 0xff) & 63;
+       L14: {
+        if (l7 + Integer.MIN_VALUE > 2147483631) { break L14; }
+        l8 = ((l9 << 6) | ((l8 << 12) & 61440)) | l10;
+        l1 = 3L;
+        break L12;
+       }
+       l8 = ((l10 << 6) | ((l9 << 12) | ((l8 << 18) & 1835008))) | ((b[((int) l3) - 58909] & 0xff) & 63);
+       l1 = 4L;
+      }
+      L15: {
+       L16: {
+        if (l8 > 35999) { break L16; }
+        if (l8 == 45) { break L15; }
+        if (l8 == 8722) { break L15; }
+        break L2;
+       }
+       if (l8 == 36000) { break L15; }
+       if (l8 == 65293) { break L15; }
+       if (l8 != 36127) { break L2; }
+      }
+      f242(m, l2 + 40L, l6, l3 + l1, l4 - l1);
+      l7 = b[((int) l2) - 58871] & 0xff;
+      break L1;
+     }
+     L17: {
+      if (l8 == 0) { break L17; }
+      l1 = l3;
+      l5 = l4;
+      L18: while (true) {
+       if (l5 == 0L) { break L1; }
+       l8 = (l9 = (int) b[((int) l1) - 58912]) & 255;
+       l0 = 1L;
+       L19: {
+        if (l9 > -1) { break L19; }
+        l10 = (b[((int) l1) - 58911] & 0xff) & 63;
+        L20: {
+         if (l9 + Integer.MIN_VALUE > 2147483615) { break L20; }
+         l8 = ((l8 << 6) & 1984) | l10;
+         l0 = 2L;
+         break L19;
+        }
+        l11 = (b[((int) l1) - 58910] & 0xff) & 63;
+        L21: {
+         if (l9 + Integer.MIN_VALUE > 2147483631) { break L21; }
+         l8 = ((l10 << 6) | ((l8 << 12) & 61440)) | l11;
+         l0 = 3L;
+         break L19;
+        }
+        l8 = ((l11 << 6) | ((l10 << 12) | ((l8 << 18) & 1835008))) | ((b[((int) l1) - 58909] & 0xff) & 63);
+        l0 = 4L;
+       }
+       Core2.f61(m, l2 + 64L, l8);
+       L22: {
+        if ((b[((int) l2) - 58848] & 0xff) != 1) { break L22; }
+        if (((b[((int) l2) - 58847] & 0xff) & 255) != 0) { break L17; }
+       }
+       if (l8 == 38646) { break L17; }
+       l1 = l1 + l0;
+       l5 = l5 - l0;
+       if (l8 != 12295) { continue L18; }
+       break L18;
+      }
+     }
+     Words.put64(b, ((int) l2) - 58680, 0L);
+     Words.put64(b, ((int) l2) - 58688, 0L);
+     Words.put64(b, ((int) l2) - 58696, 0L);
+     Words.put64(b, ((int) l2) - 58704, 0L);
+     Words.put64(b, ((int) l2) - 58712, 0L);
+     Words.put64(b, ((int) l2) - 58720, 0L);
+     Words.put64(b, ((int) l2) - 58728, 0L);
+     Words.put64(b, ((int) l2) - 58736, 0L);
+     Core3.f80(m, l2 + 176L, l3, l4, l6);
+     Words.put64(b, ((int) l2) - 58784, Words.get64(b, ((int) l2) - 58720));
+     Words.put64(b, ((int) l2) - 58776, Words.get64(b, ((int) l2) - 58712));
+     Words.put64(b, ((int) l2) - 58768, Words.get64(b, ((int) l2) - 58704));
+     Words.put64(b, ((int) l2) - 58760, Words.get64(b, ((int) l2) - 58696));
+     Words.put64(b, ((int) l2) - 58752, Words.get64(b, ((int) l2) - 58688));
+     Words.put64(b, ((int) l2) - 58744, Words.get64(b, ((int) l2) - 58680));
+     L23: {
+      if ((l6 = b[((int) l2) - 58736] & 0xff) != 0) { break L23; }
+      m.fill((int) (l2 + 176L), 0, (int) 80L);
+      Core2.f52(m, l2 + 48L, l2 + 176L, l2 + 128L);
+     }
+     l7 = (l6 == 0) ? 1 : 0;
+     break L1;
+    }
+    if ((l0 & 1099511627776L) == 0L) { break L1; }
+    L24: {
+     if (l4 == 0L) { break L24; }
+     l7 = 0;
+     L25: while (true) {
+      l6 = (l8 = (int) b[((int) l3) - 58912]) & 255;
+      l1 = 1L;
+      L26: {
+       if (l8 > -1) { break L26; }
+       l9 = (b[((int) l3) - 58911] & 0xff) & 63;
+       L27: {
+        if (l8 + Integer.MIN_VALUE > 2147483615) { break L27; }
+        l6 = ((l6 << 6) & 1984) | l9;
+        l1 = 2L;
+        break L26;
+       }
+       l10 = (b[((int) l3) - 58910] & 0xff) & 63;
+       L28: {
+        if (l8 + Integer.MIN_VALUE > 2147483631) { break L28; }
+        l6 = ((l9 << 6) | ((l6 << 12) & 61440)) | l10;
+        l1 = 3L;
+        break L26;
+       }
+       l6 = ((l10 << 6) | ((l9 << 12) | ((l6 << 18) & 1835008))) | ((b[((int) l3) - 58909] & 0xff) & 63);
+       l1 = 4L;
+      }
+      l4 = l4 - l1;
+      l3 = l3 + l1;
+      l8 = 0;
+      L29: {
+       if ((l7 & 1) != 0) { break L29; }
+       L30: {
+        if (l6 == 65296) { break L30; }
+        if (l6 != 48) { break L29; }
+       }
+       if (l4 == 0L) { break L29; }
+       l8 = (l9 = (int) b[((int) l3) - 58912]) & 255;
+       L31: {
+        if (l9 > -1) { break L31; }
+        l10 = (b[((int) l3) - 58911] & 0xff) & 63;
+        L32: {
+         if (l9 + Integer.MIN_VALUE > 2147483615) { break L32; }
+         l8 = ((l8 << 6) & 1984) | l10;
+         break L31;
+        }
+        l11 = (b[((int) l3) - 58910] & 0xff) & 63;
+        L33: {
+         if (l9 + Integer.MIN_VALUE > 2147483631) { break L33; }
+         l8 = ((l10 << 6) | ((l8 << 12) & 61440)) | l11;
+         break L31;
+        }
+        l8 = ((l11 << 6) | ((l10 << 12) | ((l8 << 18) & 1835008))) | ((b[((int) l3) - 58909] & 0xff) & 63);
+       }
+       l8 = (((l8 + -48) + Integer.MIN_VALUE < -2147483638) | ((l8 + -65296) + Integer.MIN_VALUE < -2147483638)) ? 1 : 0;
+      }
+      f243(m, l2 + 8L, l8, l6);
+      L34: {
+       L35: {
+        if (((l7 | l8) & 1) == 0) { break L35; }
+        l7 = l7 & (l8 ^ 1);
+        break L34;
+       }
+       l7 = (((l6 + -48) + Integer.MIN_VALUE < -2147483638) | ((l6 + -65296) + Integer.MIN_VALUE < -2147483638)) ? 1 : 0;
+      }
+      if (l4 != 0L) { continue L25; }
+      break L25;
+     }
+    }
+    l7 = 1;
+    break L1;
    }
    throw State.trap();
   }
-  Words.put64(b, ((int) l4) - 60696, 0L);
-  Words.put64(b, ((int) l4) - 60704, 0L);
-  Words.put64(b, ((int) l4) - 60712, 0L);
-  Words.put64(b, ((int) l4) - 60720, 0L);
+  f242(m, l2 + 32L, l6, l3, l4);
+  l7 = b[((int) l2) - 58879] & 0xff;
  }
- m.g0 = l5;
- return 8;
+ m.g0 = l2 + 256L;
+ return l7 & 1;
 }
 
-static int f283(State m, long l0, long l1, int l2, int l3, int l4, int l5, long l6, long l7, long l8) {
+static int f238(State m, int l0, long l1, long l2) {
  final byte[] b = m.bytes;
+ long l3 = 0;
+ long l4 = 0;
+ long l5 = 0;
+ long l6 = 0;
+ long l7 = 0;
+ long l8 = 0;
  long l9 = 0;
- long l10 = 0;
- long l11 = 0;
- long l12 = 0;
- long l13 = 0;
- long l14 = 0;
- long l15 = 0;
+ int l10 = 0;
+ int l11 = 0;
+ int l12 = 0;
+ int l13 = 0;
+ int l14 = 0;
+ int l15 = 0;
  int l16 = 0;
- int l17 = 0;
- int l18 = 0;
- int l19 = 0;
- int l20 = 0;
- m.g0 = l9 = m.g0 - 272L;
+ m.g0 = l3 = m.g0 - 128L;
  L1: {
   L2: {
    L3: {
     L4: {
      L5: {
       L6: {
+       if ((l3 = l3) < 16L) { break L6; }
+       l4 = Words.get64(b, ((int) l2) - 58872);
+       l5 = Words.get64(b, ((int) l2) - 58880);
+       l6 = Words.get64(b, ((int) l2) - 58888);
+       l7 = Words.get64(b, ((int) l2) - 58896);
+       l8 = Words.get64(b, ((int) l2) - 58904);
+       l2 = Words.get64(b, ((int) l2) - 58912);
+       l10 = b[((int) l1) - 58910] & 0xff;
+       l11 = b[((int) l1) - 58912] & 0xff;
+       if (((b[((int) l1) - 58911] & 0xff) & 1) != 0) { break L3; }
+       Words.put32(b, ((int) l3) - 58852, 0);
        L7: {
-        if ((l9 = l9) < 16L) { break L7; }
-        if (l2 + Integer.MIN_VALUE > -2147483639) { break L6; }
         L8: {
          L9: {
-          if (l3 + Integer.MIN_VALUE > -2147483644) { break L9; }
-          l16 = b[((int) (((l3 & 0xffffffffL) << 1L) + 85585L)) - 60720] & 0xff;
-          l17 = (l3 == 0) ? 1 : 0;
-          break L8;
-         }
-         if (l3 != 5) { break L5; }
-         l17 = 1;
-         l16 = 0;
-        }
-        if (l4 + Integer.MIN_VALUE >= -2147483646) { break L4; }
-        if (l5 + Integer.MIN_VALUE >= -2147483646) { break L3; }
-        l10 = l6 + ((l6 == 0L) ? 4096L : 0L);
-        l18 = b[((int) ((l4 & 0xffffffffL) + 83500L)) - 60720] & 0xff;
-        l19 = b[((int) ((l5 & 0xffffffffL) + 83500L)) - 60720] & 0xff;
-        L10: {
-         if (l2 + Integer.MIN_VALUE <= -2147483644) { break L10; }
-         L11: {
-          final long t12 = 0L - l0;
-          final long t13 = l0;
-          final int t14 = l20 = (l1 < 0L) ? 1 : 0;
-          final int t15 = ((l6 = t14 != 0 ? t12 : t13) + Long.MIN_VALUE <= Words.get64(b, ((int) (l11 = ((l2 & 0xffffffffL) << 5L) + (l20 != 0 ? 67904L : 67888L))) - 60720) + Long.MIN_VALUE) ? 1 : 0;
-          final long t16 = 0L - (l1 + ((l0 != 0L) ? 1L : 0L));
-          final long t17 = l1;
-          final int t18 = l20;
-          final int t19 = ((l0 = t18 != 0 ? t16 : t17) + Long.MIN_VALUE <= (l11 = Words.get64(b, ((int) l11) - 60712)) + Long.MIN_VALUE) ? 1 : 0;
-          final int t20 = (l0 == l11) ? 1 : 0;
-          if ((t20 != 0 ? t15 : t19) != 0) { break L11; }
-          Words.put64(b, ((int) l8) - 60720, 0L);
-          l3 = 7;
-          break L1;
-         }
-         l20 = (int) (l1 >>> 63L);
-         L21: {
-          L22: {
-           L23: {
-            L24: {
-             if (l3 + Integer.MIN_VALUE < -2147483643) { break L24; }
-             m.fill((int) (l9 + 13L), 0, (int) 235L);
-             final int t25 = (l6 + Long.MIN_VALUE < -9213372036854775808L) ? 1 : 0;
-             final int t26 = (l0 == 0L) ? 1 : 0;
-             final int t27 = ((t26 != 0 ? t25 : 0) != 0) ? 2 : 1;
-             final int t28 = (l4 == 1) ? 1 : 0;
-             l16 = t28 != 0 ? t27 : 1;
-             break L23;
-            }
-            m.fill((int) (l9 + 13L), 0, (int) 235L);
-            L29: {
-             if (l17 == 0) { break L29; }
-             Words.put16(b, ((int) l9) - 60456, (short) 0);
-             l11 = 0L;
-             Words.put64(b, ((int) l9) - 60464, 0L);
-             Words.put64(b, ((int) l9) - 60472, 0L);
-             l5 = (l5 == 1) ? 1 : 0;
-             L30: {
-              if (l0 == 0L) { break L30; }
-              l12 = (l6 >>> 42L) | (l0 << 22L);
-              l1 = l0 >>> 4L;
-              l0 = l9 + 248L;
-              l11 = 0L;
-              L31: while (true) {
-               Words.put16(b, ((int) (l0 + 6L)) - 60720, (short) Long.divideUnsigned(l1 = (((l1 = (((l1 = ((l1 - ((l13 = Long.divideUnsigned(l1, 152587890625L)) * 152587890625L)) << 26L) | (l12 & 67108863L)) - ((l12 = Long.divideUnsigned(l1, 152587890625L)) * 152587890625L)) << 26L) | ((l6 >>> 16L) & 67108863L)) - ((l14 = Long.divideUnsigned(l1, 152587890625L)) * 152587890625L)) << 16L) | (l6 & 65535L), 1000000000000L));
-               Words.put16(b, ((int) (l0 + 4L)) - 60720, (short) ((int) ((((int) (l6 = Long.divideUnsigned(l1, 100000000L))) & 0xffffffffL) % 10000L)));
-               Words.put16(b, ((int) (l0 + 2L)) - 60720, (short) (l2 = (int) (((l3 = (int) (l1 - (l6 * 100000000L))) & 0xffffffffL) / 10000L)));
-               Words.put16(b, ((int) l0) - 60720, (short) (l3 - (l2 * 10000)));
-               l12 = ((l6 = (l1 = l13 << 52L) + (l14 + (l12 << 26L))) >>> 42L) | ((l13 = (l13 >>> 12L) + ((l6 + Long.MIN_VALUE < l1 + Long.MIN_VALUE) ? 1L : 0L)) << 22L);
-               l1 = l13 >>> 4L;
-               l0 = l0 + 8L;
-               l11 = l11 + 4L;
-               if (l13 != 0L) { continue L31; }
-               break L31;
-              }
-             }
-             l13 = l5 != 0 ? 69244L : 69460L;
-             l12 = l5 != 0 ? 69676L : 69892L;
-             L32: {
-              if (l6 + Long.MIN_VALUE < -9223372036854765808L) { break L32; }
-              l0 = (l9 + 248L) + (l11 << 1L);
-              L33: while (true) {
-               Words.put16(b, ((int) l0) - 60720, (short) ((l1 = l6) - ((l6 = Long.divideUnsigned(l1, 10000L)) * 10000L)));
-               l0 = l0 + 2L;
-               l11 = l11 + 1L;
-               if (l1 + Long.MIN_VALUE > -9223372036754775809L) { continue L33; }
-               break L33;
-              }
-             }
-             l1 = l4 != 0 ? l12 : l13;
-             l14 = ((l6 + Long.MIN_VALUE > -9223372036854775799L) ? 2L : 1L) + ((l6 + Long.MIN_VALUE > -9223372036854775709L) ? 1L : 0L);
-             l15 = (l6 + Long.MIN_VALUE > -9223372036854774809L) ? 1L : 0L;
-             l0 = 235L;
-             L34: {
-              if (l11 == 0L) { break L34; }
-              l12 = l9 + 248L;
-              L35: while (true) {
-               Words.put32(b, ((int) ((l13 = (l9 + 13L) + l0) + -4L)) - 60720, Words.get32(b, ((int) (l1 + (((((l4 = (l3 = Words.get16(b, ((int) l12) - 60720) & 0xffff) - ((l2 = (int) ((l3 & 0xffffffffL) / 100L)) * 100)) - ((l4 = (int) (((l4 & 255) & 0xffffffffL) / 10L)) * 10)) << 2) & 0xffffffffL) & 252L))) - 60720));
-               Words.put32(b, ((int) (l13 + -7L)) - 60720, Words.get32(b, ((int) (l1 + ((l4 << 2) & 0xffffffffL))) - 60720));
-               Words.put32(b, ((int) (l13 + -10L)) - 60720, Words.get32(b, ((int) (l1 + ((((int) ((l2 & 0xffffffffL) % 10L)) << 2) & 0xffffffffL))) - 60720));
-               Words.put32(b, ((int) (l13 + -13L)) - 60720, Words.get32(b, ((int) (l1 + ((((int) ((l3 & 0xffffffffL) / 1000L)) << 2) & 0xffffffffL))) - 60720));
-               l12 = l12 + 2L;
-               l0 = l0 + -12L;
-               if ((l11 = l11 + -1L) != 0L) { continue L35; }
-               break L35;
-              }
-             }
-             l11 = l14 + l15;
-             l3 = (int) l6;
-             l6 = l9 + 9L;
-             L36: while (true) {
-              Words.put32(b, ((int) (l6 + l0)) - 60720, Words.get32(b, ((int) (l1 + ((((l3 - ((l2 = (int) (((l3 & 65535) & 0xffffffffL) / 10L)) * 10)) << 2) & 0xffffffffL) & 65532L))) - 60720));
-              l0 = l0 + -3L;
-              l3 = l2;
-              if ((l11 = l11 + -1L) != 0L) { continue L36; }
-              break L36;
-             }
-             if (l20 == 0) { break L22; }
-             Words.put32(b, ((int) (((l9 + 13L) + l0) + -4L)) - 60720, Words.get32(b, ((int) (l1 + 104L)) - 60720));
-             l0 = l0 + -3L;
-             break L22;
-            }
-            final int t37 = (l6 + Long.MIN_VALUE < -9213372036854775808L) ? 1 : 0;
-            final int t38 = (l0 == 0L) ? 1 : 0;
-            if ((t38 != 0 ? t37 : 0) != 0) { break L23; }
-            if ((l16 & 255) == 0) { break L21; }
+          if ((l1 = l6 + -1L) + Long.MIN_VALUE > -9223372036854775806L) { break L9; }
+          L10: {
+           switch ((int) l1) {
+           case 1: break L9;
+           case 2: break L10;
+           default: break L5;
            }
-           Words.put32(b, ((int) l9) - 60470, 0);
-           b[((int) l9) - 60471] = (byte) l19;
-           b[((int) l9) - 60472] = (byte) l18;
-           Words.put16(b, ((int) l9) - 60466, (short) 0);
-           final int t39 = (int) l9;
-           final long t40 = ((l3 = (l5 == 1) ? 1 : 0) != 0) ? 69676L : 69892L;
-           final long t41 = l3 != 0 ? 69244L : 69460L;
-           final int t42 = l4;
-           Words.put64(b, t39 - 60464, t42 != 0 ? t40 : t41);
-           l0 = Core2.f49(m, l9 + 13L, l9 + 248L, l16, l20, l6, l0);
           }
-          Words.put64(b, ((int) l8) - 60720, l1 = 235L - l0);
-          l3 = 6;
-          if (l7 + Long.MIN_VALUE < l1 + Long.MIN_VALUE) { break L1; }
-          L43: {
-           if (l1 == 0L) { break L43; }
-           m.copy((int) l10, (int) ((l9 + 13L) + l0), (int) l1);
-          }
-          l3 = 0;
-          break L1;
+          if (Words.get32(b, State.far((int) (l1 = ((((l13 = (((b[((int) l7) - 58911] & 0xff) << 8) | (l12 = b[((int) l7) - 58912] & 0xff)) | ((b[((int) l7) - 58910] & 0xff) << 16)) & 0xffffffffL) * 953497L) >>> 22L) & 1016L), 66852)) != l13) { break L8; }
+          if (((b[((int) (l1 + 66856L)) - 58912] & 0xff) & 255) == 2) { break L8; }
+          break L4;
          }
-         Words.put64(b, ((int) l8) - 60720, 0L);
-         l3 = (l1 > -1L) ? 3 : 4;
-         break L1;
+         if (l6 + Long.MIN_VALUE > -9223372036854775804L) { break L3; }
+         if (l6 == 0L) { break L7; }
+         l12 = b[((int) l7) - 58912] & 0xff;
         }
-        L44: {
-         final int t45 = (l0 + Long.MIN_VALUE <= Words.get64(b, State.far((int) (l6 = (l2 & 0xffffffffL) << 5L), 67888)) + Long.MIN_VALUE) ? 1 : 0;
-         final int t46 = (l1 + Long.MIN_VALUE <= (l6 = Words.get64(b, State.far((int) l6, 67896))) + Long.MIN_VALUE) ? 1 : 0;
-         final int t47 = (l1 == l6) ? 1 : 0;
-         if ((t47 != 0 ? t45 : t46) != 0) { break L44; }
-         Words.put64(b, ((int) l8) - 60720, 0L);
-         l3 = 7;
-         break L1;
-        }
-        L48: {
-         L49: {
-          L50: {
-           L51: {
-            if (l3 + Integer.MIN_VALUE < -2147483643) { break L51; }
-            m.fill((int) (l9 + 13L), 0, (int) 235L);
-            final int t52 = (l4 == 1) ? 2 : 1;
-            final int t53 = (l0 + Long.MIN_VALUE < -9213372036854775808L) ? 1 : 0;
-            final int t54 = (l1 == 0L) ? 1 : 0;
-            l16 = ((t54 != 0 ? t53 : 0) != 0) ? t52 : 1;
-            break L50;
-           }
-           m.fill((int) (l9 + 13L), 0, (int) 235L);
-           L55: {
-            if (l17 == 0) { break L55; }
-            Words.put16(b, ((int) l9) - 60456, (short) 0);
-            l6 = 0L;
-            Words.put64(b, ((int) l9) - 60464, 0L);
-            Words.put64(b, ((int) l9) - 60472, 0L);
-            l5 = (l5 == 1) ? 1 : 0;
-            L56: {
-             if (l1 == 0L) { break L56; }
-             l12 = (l0 >>> 42L) | (l1 << 22L);
-             l11 = l1 >>> 4L;
-             l1 = l9 + 248L;
-             l6 = 0L;
-             L57: while (true) {
-              Words.put16(b, ((int) (l1 + 6L)) - 60720, (short) Long.divideUnsigned(l0 = (((l12 = (((l11 = ((l11 - ((l13 = Long.divideUnsigned(l11, 152587890625L)) * 152587890625L)) << 26L) | (l12 & 67108863L)) - ((l11 = Long.divideUnsigned(l11, 152587890625L)) * 152587890625L)) << 26L) | ((l0 >>> 16L) & 67108863L)) - ((l12 = Long.divideUnsigned(l12, 152587890625L)) * 152587890625L)) << 16L) | (l0 & 65535L), 1000000000000L));
-              Words.put16(b, ((int) (l1 + 4L)) - 60720, (short) ((int) ((((int) (l14 = Long.divideUnsigned(l0, 100000000L))) & 0xffffffffL) % 10000L)));
-              Words.put16(b, ((int) (l1 + 2L)) - 60720, (short) (l2 = (int) (((l3 = (int) (l0 - (l14 * 100000000L))) & 0xffffffffL) / 10000L)));
-              Words.put16(b, ((int) l1) - 60720, (short) (l3 - (l2 * 10000)));
-              l12 = ((l0 = (l14 = l13 << 52L) + (l12 + (l11 << 26L))) >>> 42L) | ((l13 = (l13 >>> 12L) + ((l0 + Long.MIN_VALUE < l14 + Long.MIN_VALUE) ? 1L : 0L)) << 22L);
-              l11 = l13 >>> 4L;
-              l1 = l1 + 8L;
-              l6 = l6 + 4L;
-              if (l13 != 0L) { continue L57; }
-              break L57;
-             }
-            }
-            l13 = l5 != 0 ? 69244L : 69460L;
-            l12 = l5 != 0 ? 69676L : 69892L;
-            L58: {
-             if (l0 + Long.MIN_VALUE < -9223372036854765808L) { break L58; }
-             l1 = (l9 + 248L) + (l6 << 1L);
-             L59: while (true) {
-              Words.put16(b, ((int) l1) - 60720, (short) ((l11 = l0) - ((l0 = Long.divideUnsigned(l11, 10000L)) * 10000L)));
-              l1 = l1 + 2L;
-              l6 = l6 + 1L;
-              if (l11 + Long.MIN_VALUE > -9223372036754775809L) { continue L59; }
-              break L59;
-             }
-            }
-            l11 = l4 != 0 ? l12 : l13;
-            l14 = ((l0 + Long.MIN_VALUE > -9223372036854775799L) ? 2L : 1L) + ((l0 + Long.MIN_VALUE > -9223372036854775709L) ? 1L : 0L);
-            l15 = (l0 + Long.MIN_VALUE > -9223372036854774809L) ? 1L : 0L;
-            l1 = 235L;
-            L60: {
-             if (l6 == 0L) { break L60; }
-             l12 = l9 + 248L;
-             L61: while (true) {
-              Words.put32(b, ((int) ((l13 = (l9 + 13L) + l1) + -4L)) - 60720, Words.get32(b, ((int) (l11 + (((((l4 = (l3 = Words.get16(b, ((int) l12) - 60720) & 0xffff) - ((l2 = (int) ((l3 & 0xffffffffL) / 100L)) * 100)) - ((l4 = (int) (((l4 & 255) & 0xffffffffL) / 10L)) * 10)) << 2) & 0xffffffffL) & 252L))) - 60720));
-              Words.put32(b, ((int) (l13 + -7L)) - 60720, Words.get32(b, ((int) (l11 + ((l4 << 2) & 0xffffffffL))) - 60720));
-              Words.put32(b, ((int) (l13 + -10L)) - 60720, Words.get32(b, ((int) (l11 + ((((int) ((l2 & 0xffffffffL) % 10L)) << 2) & 0xffffffffL))) - 60720));
-              Words.put32(b, ((int) (l13 + -13L)) - 60720, Words.get32(b, ((int) (l11 + ((((int) ((l3 & 0xffffffffL) / 1000L)) << 2) & 0xffffffffL))) - 60720));
-              l12 = l12 + 2L;
-              l1 = l1 + -12L;
-              if ((l6 = l6 + -1L) != 0L) { continue L61; }
-              break L61;
-             }
-            }
-            l6 = l14 + l15;
-            l3 = (int) l0;
-            l0 = l9 + 9L;
-            L62: while (true) {
-             Words.put32(b, ((int) (l0 + l1)) - 60720, Words.get32(b, ((int) (l11 + ((((l3 - ((l2 = (int) (((l3 & 65535) & 0xffffffffL) / 10L)) * 10)) << 2) & 0xffffffffL) & 65532L))) - 60720));
-             l1 = l1 + -3L;
-             l3 = l2;
-             if ((l6 = l6 + -1L) != 0L) { continue L62; }
-             break L49;
-            }
-           }
-           final int t63 = (l0 + Long.MIN_VALUE < -9213372036854775808L) ? 1 : 0;
-           final int t64 = (l1 == 0L) ? 1 : 0;
-           if ((t64 != 0 ? t63 : 0) != 0) { break L50; }
-           if ((l16 & 255) == 0) { break L48; }
-          }
-          Words.put32(b, ((int) l9) - 60470, 0);
-          b[((int) l9) - 60471] = (byte) l19;
-          b[((int) l9) - 60472] = (byte) l18;
-          Words.put16(b, ((int) l9) - 60466, (short) 0);
-          final int t65 = (int) l9;
-          final long t66 = ((l3 = (l5 == 1) ? 1 : 0) != 0) ? 69676L : 69892L;
-          final long t67 = l3 != 0 ? 69244L : 69460L;
-          final int t68 = l4;
-          Words.put64(b, t65 - 60464, t68 != 0 ? t66 : t67);
-          l1 = Core2.f49(m, l9 + 13L, l9 + 248L, l16, 0, l0, l1);
-         }
-         Words.put64(b, ((int) l8) - 60720, l0 = 235L - l1);
-         l3 = 6;
-         if (l7 + Long.MIN_VALUE < l0 + Long.MIN_VALUE) { break L1; }
-         L69: {
-          if (l0 == 0L) { break L69; }
-          m.copy((int) l10, (int) ((l9 + 13L) + l1), (int) l0);
-         }
-         l3 = 0;
-         break L1;
-        }
-        Words.put64(b, ((int) l8) - 60720, 0L);
-        l3 = 3;
-        break L1;
+        if (((int) (byte) l12) > -1) { break L3; }
        }
-       throw State.trap();
+       Core3.f113(m, l3 + 60L, l7, l6);
+       if ((b[((int) l3) - 58852] & 0xff) != 1) { break L3; }
+       if (((b[((int) l3) - 58849] & 0xff) & 1) == 0) { break L3; }
+       if (l6 == 0L) { break L2; }
+       l12 = b[((int) l7) - 58912] & 0xff;
+       break L4;
       }
-      Words.put64(b, ((int) l8) - 60720, 0L);
+      throw State.trap();
+     }
+     if ((((l12 = b[((int) l7) - 58912] & 0xff) + -58) & 255) + Integer.MIN_VALUE >= -2147483402) { break L3; }
+    }
+    if (((int) (byte) l12) > -1) { break L2; }
+    if ((l13 = l12 & 255) + Integer.MIN_VALUE < -2147483424) { break L2; }
+    l14 = (b[((int) l7) - 58911] & 0xff) & 63;
+    l15 = (b[((int) l7) - 58910] & 0xff) & 63;
+    L11: {
+     L12: {
+      if ((l12 & 255) + Integer.MIN_VALUE > -2147483409) { break L12; }
+      l12 = ((l14 << 6) | ((l13 << 12) & 61440)) | l15;
+      l1 = 3L;
+      break L11;
+     }
+     l12 = ((l15 << 6) | ((l14 << 12) | ((l13 << 18) & 1835008))) | ((b[((int) l7) - 58909] & 0xff) & 63);
+     l1 = 4L;
+    }
+    if (l12 != 21313) { break L2; }
+    if (l6 != l1) { break L2; }
+    L13: {
+     L14: {
+      L15: {
+       if (l4 == 0L) { break L15; }
+       if ((l12 = (int) b[((int) l5) - 58912]) > -1) { break L15; }
+       if (l12 + Integer.MIN_VALUE < 2147483616) { break L15; }
+       l13 = l12 & 255;
+       l14 = (b[((int) l5) - 58911] & 0xff) & 63;
+       l15 = (b[((int) l5) - 58910] & 0xff) & 63;
+       L16: {
+        L17: {
+         if (l12 + Integer.MIN_VALUE > 2147483631) { break L17; }
+         l12 = ((l14 << 6) | ((l13 << 12) & 61440)) | l15;
+         break L16;
+        }
+        l12 = ((l15 << 6) | ((l14 << 12) | ((l13 << 18) & 1835008))) | ((b[((int) l5) - 58909] & 0xff) & 63);
+       }
+       L18: {
+        L19: {
+         if (l12 > 23680) { break L19; }
+         L20: {
+          if (l12 > 21494) { break L20; }
+          switch (l12 + -20803) {
+          case 0: case 8: break L14;
+          case 1: case 2: case 3: case 4: case 5: case 6: case 7: break L15;
+          default: break L18;
+          }
+         }
+         if (l12 == 21495) { break L14; }
+         if (l12 == 21544) { break L14; }
+         if (l12 != 22136) { break L15; }
+         break L14;
+        }
+        L21: {
+         if (l12 > 31185) { break L21; }
+         if (l12 == 23681) { break L14; }
+         if (l12 == 24230) { break L14; }
+         if (l12 != 27506) { break L15; }
+         break L14;
+        }
+        if (l12 == 31186) { break L14; }
+        if (l12 == 31859) { break L14; }
+        if (l12 == 34399) { break L14; }
+        break L15;
+       }
+       if (l12 == 21319) { break L14; }
+      }
+      if (Core5.f157(m, 98044L, 7L, 98072L, 9L, l5, l4) != 0) { break L14; }
+      if (Core5.f157(m, 98108L, 2L, 98116L, 4L, l5, l4) != 0) { break L14; }
+      if (Core5.f157(m, 98132L, 5L, 98152L, 1L, l5, l4) != 0) { break L14; }
+      if (Core5.f157(m, 86220L, 1L, 83844L, 1L, l5, l4) != 0) { break L14; }
+      if (l8 == 0L) { break L2; }
+      if (((int) b[((int) ((l1 = l2 + l8) + -1L)) - 58912]) > -1) { break L2; }
+      l9 = -2L;
+      L22: {
+       if ((l12 = b[((int) (l1 + -2L)) - 58912] & 0xff) + Integer.MIN_VALUE > -2147483457) { break L22; }
+       l9 = ((b[((int) (l1 + -3L)) - 58912] & 0xff) + Integer.MIN_VALUE > -2147483457) ? -3L : -4L;
+      }
+      if ((l13 = (int) b[((int) (l1 = (l2 + l9) + l8)) - 58912]) > -1) { break L2; }
+      if (l13 + Integer.MIN_VALUE < 2147483616) { break L2; }
+      l14 = l13 & 255;
+      l15 = (b[((int) l1) - 58911] & 0xff) & 63;
+      l16 = (b[((int) l1) - 58910] & 0xff) & 63;
+      L23: {
+       L24: {
+        if (l13 + Integer.MIN_VALUE > 2147483631) { break L24; }
+        l13 = ((l15 << 6) | ((l14 << 12) & 61440)) | l16;
+        break L23;
+       }
+       l13 = ((l16 << 6) | ((l15 << 12) | ((l14 << 18) & 1835008))) | ((b[((int) l1) - 58909] & 0xff) & 63);
+      }
+      if (l13 == 27599) { break L13; }
       break L2;
      }
-     Words.put64(b, ((int) l8) - 60720, 0L);
+     if (l8 == 0L) { break L3; }
+     if (((int) b[((int) ((l1 = l2 + l8) + -1L)) - 58912]) > -1) { break L3; }
+     l12 = b[((int) (l1 + -2L)) - 58912] & 0xff;
+    }
+    l1 = -2L;
+    L25: {
+     if ((l12 & 255) + Integer.MIN_VALUE > -2147483457) { break L25; }
+     l1 = ((b[((int) ((l2 + l8) + -3L)) - 58912] & 0xff) + Integer.MIN_VALUE > -2147483457) ? -3L : -4L;
+    }
+    if ((l12 = (int) b[((int) (l1 = (l2 + l1) + l8)) - 58912]) > -1) { break L3; }
+    if (l12 + Integer.MIN_VALUE < 2147483616) { break L3; }
+    l13 = l12 & 255;
+    l14 = (b[((int) l1) - 58911] & 0xff) & 63;
+    l15 = (b[((int) l1) - 58910] & 0xff) & 63;
+    L26: {
+     L27: {
+      if (l12 + Integer.MIN_VALUE > 2147483631) { break L27; }
+      l12 = ((l14 << 6) | ((l13 << 12) & 61440)) | l15;
+      break L26;
+     }
+     l12 = ((l15 << 6) | ((l14 << 12) | ((l13 << 18) & 1835008))) | ((b[((int) l1) - 58909] & 0xff) & 63);
+    }
+    L28: {
+     if (l12 > 21643) { break L28; }
+     if (l12 == 12289) { break L2; }
+     if (l12 == 19982) { break L2; }
+     if (l12 == 21040) { break L2; }
+     break L3;
+    }
+    L29: {
+     if (l12 > 33266) { break L29; }
+     if (l12 == 21644) { break L2; }
+     if (l12 == 25110) { break L2; }
+     break L3;
+    }
+    if (l12 == 33267) { break L2; }
+    if (l12 == 33287) { break L2; }
+   }
+   L30: {
+    if ((l11 & 1) != 0) { break L30; }
+    Words.put64(b, ((int) l3) - 58808, l4);
+    Words.put64(b, ((int) l3) - 58816, l5);
+    Words.put64(b, ((int) l3) - 58824, l6);
+    Words.put64(b, ((int) l3) - 58832, l7);
+    Words.put64(b, ((int) l3) - 58840, l8);
+    Words.put64(b, ((int) l3) - 58848, l2);
+    if (Core4.f142(m, l3 + 64L) != 0) { break L2; }
+   }
+   Words.put64(b, ((int) l3) - 58864, l4);
+   Words.put64(b, ((int) l3) - 58872, l5);
+   Words.put64(b, ((int) l3) - 58880, l6);
+   Words.put64(b, ((int) l3) - 58888, l7);
+   Words.put64(b, ((int) l3) - 58896, l8);
+   Words.put64(b, ((int) l3) - 58904, l2);
+   Core4.f126(m, l3, l3 + 8L);
+   L31: {
+    if (((b[((int) l3) - 58912] & 0xff) & 1) == 0) { break L31; }
+    l11 = 0;
+    if (((b[((int) l3) - 58911] & 0xff) & 255) == 3) { break L1; }
+    if ((l10 & 1) == 0) { break L1; }
+   }
+   l11 = 0;
+   if (Core4.f143(m, l2, l8, l5, l4) != 0) { break L1; }
+   Words.put64(b, ((int) l3) - 58792, 0L);
+   Words.put64(b, ((int) l3) - 58800, 0L);
+   Words.put64(b, ((int) l3) - 58808, 0L);
+   Words.put64(b, ((int) l3) - 58816, 0L);
+   Words.put64(b, ((int) l3) - 58824, 0L);
+   Words.put64(b, ((int) l3) - 58832, 0L);
+   Words.put64(b, ((int) l3) - 58840, 0L);
+   Words.put64(b, ((int) l3) - 58848, 0L);
+   Core3.f80(m, l3 + 64L, l7, l6, l0);
+   l11 = ((b[((int) l3) - 58848] & 0xff) == 0) ? 1 : 0;
+   break L1;
+  }
+  l11 = 0;
+ }
+ m.g0 = l3 + 128L;
+ return l11;
+}
+
+static int f239(State m, long l0, long l1) {
+ final byte[] b = m.bytes;
+ int l2 = 0;
+ int l3 = 0;
+ int l4 = 0;
+ int l5 = 0;
+ long l6 = 0;
+ L1: {
+  if (m.g0 < 16L) { break L1; }
+  L2: {
+   if (l1 == 0L) { break L2; }
+   L3: while (true) {
+    l3 = (l2 = (int) b[((int) l0) - 58912]) & 255;
+    l6 = 1L;
+    L4: {
+     if (l2 > -1) { break L4; }
+     l4 = (b[((int) l0) - 58911] & 0xff) & 63;
+     L5: {
+      if (l2 + Integer.MIN_VALUE > 2147483615) { break L5; }
+      l3 = ((l3 << 6) & 1984) | l4;
+      l6 = 2L;
+      break L4;
+     }
+     l5 = (b[((int) l0) - 58910] & 0xff) & 63;
+     L6: {
+      if (l2 + Integer.MIN_VALUE > 2147483631) { break L6; }
+      l3 = ((l4 << 6) | ((l3 << 12) & 61440)) | l5;
+      l6 = 3L;
+      break L4;
+     }
+     l3 = ((l5 << 6) | ((l4 << 12) | ((l3 << 18) & 1835008))) | ((b[((int) l0) - 58909] & 0xff) & 63);
+     l6 = 4L;
+    }
+    L7: {
+     if ((l3 + -48) + Integer.MIN_VALUE < -2147483638) { break L7; }
+     if ((l3 + -65296) + Integer.MIN_VALUE < -2147483638) { break L7; }
+     if ((l3 + -44) + Integer.MIN_VALUE < -2147483645) { break L7; }
+     if ((l3 + -65292) + Integer.MIN_VALUE < -2147483645) { break L7; }
+     if (l3 == 8722) { break L7; }
+     return 0;
+    }
+    l0 = l0 + l6;
+    if ((l1 = l1 - l6) != 0L) { continue L3; }
+    break L3;
+   }
+  }
+  return 1;
+ }
+ throw State.trap();
+}
+
+static int f240(State m, long l0, long l1) {
+ final byte[] b = m.bytes;
+ long l2 = 0;
+ long l3 = 0;
+ long l4 = 0;
+ long l5 = 0;
+ int l6 = 0;
+ int l7 = 0;
+ int l8 = 0;
+ int l9 = 0;
+ m.g0 = l2 = m.g0 - 48L;
+ L1: {
+  if ((l3 = l2) < 16L) { break L1; }
+  Words.put64(b, ((int) l3) - 58872, 0L);
+  Words.put64(b, ((int) l3) - 58880, 0L);
+  Words.put64(b, ((int) l3) - 58888, 0L);
+  Words.put64(b, ((int) l3) - 58896, 0L);
+  Words.put64(b, ((int) l3) - 58904, 0L);
+  l2 = l0;
+  l4 = l1;
+  L2: {
+   L3: while (true) {
+    L4: {
+     if (!(l4 == 0L)) { break L4; }
+     l6 = 0;
      break L2;
     }
-    Words.put64(b, ((int) l8) - 60720, 0L);
+    l6 = (l7 = (int) b[((int) l2) - 58912]) & 255;
+    l5 = 1L;
+    L5: {
+     if (l7 > -1) { break L5; }
+     l8 = (b[((int) l2) - 58911] & 0xff) & 63;
+     L6: {
+      if (l7 + Integer.MIN_VALUE > 2147483615) { break L6; }
+      l6 = ((l6 << 6) & 1984) | l8;
+      l5 = 2L;
+      break L5;
+     }
+     l9 = (b[((int) l2) - 58910] & 0xff) & 63;
+     L7: {
+      if (l7 + Integer.MIN_VALUE > 2147483631) { break L7; }
+      l6 = ((l8 << 6) | ((l6 << 12) & 61440)) | l9;
+      l5 = 3L;
+      break L5;
+     }
+     l6 = ((l9 << 6) | ((l8 << 12) | ((l6 << 18) & 1835008))) | ((b[((int) l2) - 58909] & 0xff) & 63);
+     l5 = 4L;
+    }
+    L8: {
+     if ((l6 + -48) + Integer.MIN_VALUE < -2147483638) { break L8; }
+     l4 = l4 - l5;
+     l2 = l2 + l5;
+     if ((l6 + -65296) + Integer.MIN_VALUE > -2147483639) { continue L3; }
+    }
+    break L3;
+   }
+   f244(m, l3 + 8L, l0, l1);
+   l6 = ((b[((int) l3) - 58904] & 0xff) != 1) ? 1 : 0;
+  }
+  m.g0 = l3 + 48L;
+  final int t9 = l6;
+  return t9;
+ }
+ throw State.trap();
+}
+
+static void f241(State m, long l0, long l1, long l2) {
+ final byte[] b = m.bytes;
+ int l3 = 0;
+ int l4 = 0;
+ int l5 = 0;
+ int l6 = 0;
+ int l7 = 0;
+ long l8 = 0;
+ long l9 = 0;
+ L1: {
+  if (m.g0 < 16L) { break L1; }
+  L2: {
+   L3: {
+    L4: {
+     L5: {
+      if (l2 == 0L) { break L5; }
+      l4 = (l3 = (int) b[((int) l1) - 58912]) & 255;
+      l8 = 1L;
+      L6: {
+       if (l3 > -1) { break L6; }
+       l5 = (b[((int) l1) - 58911] & 0xff) & 63;
+       L7: {
+        if (l3 + Integer.MIN_VALUE > 2147483615) { break L7; }
+        l4 = ((l4 << 6) & 1984) | l5;
+        l8 = 2L;
+        break L6;
+       }
+       l6 = (b[((int) l1) - 58910] & 0xff) & 63;
+       L8: {
+        if (l3 + Integer.MIN_VALUE > 2147483631) { break L8; }
+        l4 = ((l5 << 6) | ((l4 << 12) & 61440)) | l6;
+        l8 = 3L;
+        break L6;
+       }
+       l4 = ((l6 << 6) | ((l5 << 12) | ((l4 << 18) & 1835008))) | ((b[((int) l1) - 58909] & 0xff) & 63);
+       l8 = 4L;
+      }
+      if (l2 == l8) { break L2; }
+      l3 = (l5 = (int) b[((int) (l9 = l1 + l8)) - 58912]) & 255;
+      l1 = 1L;
+      if (l5 > -1) { break L3; }
+      l6 = (b[((int) l9) - 58911] & 0xff) & 63;
+      L9: {
+       if (l5 + Integer.MIN_VALUE > 2147483615) { break L9; }
+       l3 = ((l3 << 6) & 1984) | l6;
+       l1 = 2L;
+       break L3;
+      }
+      l7 = (b[((int) l9) - 58910] & 0xff) & 63;
+      if (l5 + Integer.MIN_VALUE > 2147483631) { break L4; }
+      l3 = ((l6 << 6) | ((l3 << 12) & 61440)) | l7;
+      l1 = 3L;
+      break L3;
+     }
+     Words.put64(b, ((int) l0) - 58896, 0L);
+     Words.put64(b, ((int) l0) - 58904, 0L);
+     Words.put64(b, ((int) l0) - 58912, 0L);
+     return;
+    }
+    l3 = ((l7 << 6) | ((l6 << 12) | ((l3 << 18) & 1835008))) | ((b[((int) l9) - 58909] & 0xff) & 63);
+    l1 = 4L;
+   }
+   final int t10 = (int) (l0 + 16L);
+   final long t11 = l2 - (l8 + l1);
+   final int t12 = l3 = ((l4 == 38646) & (l3 == 19979)) ? 1 : 0;
+   Words.put64(b, t10 - 58912, t12 != 0 ? t11 : 0L);
+   final int t13 = (int) (l0 + 8L);
+   final long t14 = l9 + l1;
+   final int t15 = l3;
+   Words.put64(b, t13 - 58912, t15 != 0 ? t14 : 0L);
+   Words.put64(b, ((int) l0) - 58912, l3 & 0xffffffffL);
+   return;
+  }
+  Words.put64(b, ((int) l0) - 58896, 0L);
+  Words.put64(b, ((int) l0) - 58904, 0L);
+  Words.put64(b, ((int) l0) - 58912, 0L);
+  return;
+ }
+ throw State.trap();
+}
+
+static void f242(State m, long l0, int l1, long l2, long l3) {
+ final byte[] b = m.bytes;
+ long l4 = 0;
+ long l5 = 0;
+ long l6 = 0;
+ long l7 = 0;
+ long l8 = 0;
+ long l9 = 0;
+ long l10 = 0;
+ long l11 = 0;
+ int l12 = 0;
+ int l13 = 0;
+ int l14 = 0;
+ int l15 = 0;
+ int l16 = 0;
+ int l17 = 0;
+ m.g0 = l4 = m.g0 - 240L;
+ L1: {
+  L2: {
+   L3: {
+    L4: {
+     L5: {
+      L6: {
+       if ((l4 = l4) < 16L) { break L6; }
+       Words.put64(b, ((int) l4) - 58808, 0L);
+       Words.put64(b, ((int) l4) - 58816, 0L);
+       Words.put64(b, ((int) l4) - 58824, 0L);
+       Words.put64(b, ((int) l4) - 58832, 0L);
+       Words.put64(b, ((int) l4) - 58840, 0L);
+       f244(m, l4 + 72L, l2, l3);
+       if ((b[((int) l4) - 58840] & 0xff) != 1) { break L2; }
+       l5 = Words.get64(b, ((int) l4) - 58808);
+       l6 = Words.get64(b, ((int) l4) - 58816);
+       l7 = Words.get64(b, ((int) l4) - 58824);
+       l8 = Words.get64(b, ((int) l4) - 58832);
+       Words.put64(b, ((int) l4) - 58744, 0L);
+       Words.put64(b, ((int) l4) - 58752, 0L);
+       Words.put64(b, ((int) l4) - 58760, 0L);
+       Words.put64(b, ((int) l4) - 58768, 0L);
+       Words.put64(b, ((int) l4) - 58776, 0L);
+       Words.put64(b, ((int) l4) - 58784, 0L);
+       Words.put64(b, ((int) l4) - 58792, 0L);
+       Words.put64(b, ((int) l4) - 58800, 0L);
+       Core3.f80(m, l4 + 112L, l2, l3, l1);
+       l12 = 0;
+       if ((b[((int) l4) - 58800] & 0xff) != 0) { break L1; }
+       l9 = Words.get64(b, ((int) l4) - 58776);
+       l10 = Words.get64(b, ((int) l4) - 58784);
+       l13 = b[((int) l4) - 58752] & 0xff;
+       l3 = l6;
+       l11 = l5;
+       L7: {
+        L8: while (true) {
+         if (l11 == 0L) { break L7; }
+         l15 = (l14 = (int) b[((int) l3) - 58912]) & 255;
+         l2 = 1L;
+         L9: {
+          if (l14 > -1) { break L9; }
+          l16 = (b[((int) l3) - 58911] & 0xff) & 63;
+          L10: {
+           if (l14 + Integer.MIN_VALUE > 2147483615) { break L10; }
+           l15 = ((l15 << 6) & 1984) | l16;
+           l2 = 2L;
+           break L9;
+          }
+          l17 = (b[((int) l3) - 58910] & 0xff) & 63;
+          L11: {
+           if (l14 + Integer.MIN_VALUE > 2147483631) { break L11; }
+           l15 = ((l16 << 6) | ((l15 << 12) & 61440)) | l17;
+           l2 = 3L;
+           break L9;
+          }
+          l15 = ((l17 << 6) | ((l16 << 12) | ((l15 << 18) & 1835008))) | ((b[((int) l3) - 58909] & 0xff) & 63);
+          l2 = 4L;
+         }
+         Core2.f61(m, l4 + 48L, l15);
+         L12: {
+          if ((b[((int) l4) - 58864] & 0xff) != 1) { break L12; }
+          l11 = l11 - l2;
+          l3 = l3 + l2;
+          if (((b[((int) l4) - 58863] & 0xff) & 255) + Integer.MIN_VALUE > -2147483647) { continue L8; }
+         }
+         break L8;
+        }
+        if (l5 == 0L) { break L5; }
+        l15 = (l14 = (int) b[((int) l6) - 58912]) & 255;
+        l3 = 1L;
+        L13: {
+         if (l14 > -1) { break L13; }
+         l16 = (b[((int) l6) - 58911] & 0xff) & 63;
+         L14: {
+          if (l14 + Integer.MIN_VALUE > 2147483615) { break L14; }
+          l15 = ((l15 << 6) & 1984) | l16;
+          l3 = 2L;
+          break L13;
+         }
+         l17 = (b[((int) l6) - 58910] & 0xff) & 63;
+         L15: {
+          if (l14 + Integer.MIN_VALUE > 2147483631) { break L15; }
+          l15 = ((l16 << 6) | ((l15 << 12) & 61440)) | l17;
+          l3 = 3L;
+          break L13;
+         }
+         l15 = ((l17 << 6) | ((l16 << 12) | ((l15 << 18) & 1835008))) | ((b[((int) l6) - 58909] & 0xff) & 63);
+         l3 = 4L;
+        }
+        L16: {
+         L17: {
+          if (l15 > 35999) { break L17; }
+          if (l15 == 45) { break L16; }
+          if (l15 == 8722) { break L16; }
+          break L5;
+         }
+         if (l15 == 36000) { break L16; }
+         if (l15 == 65293) { break L16; }
+         if (l15 != 36127) { break L5; }
+        }
+        f245(m, l4 + 40L, l1, l6 + l3, l5 - l3);
+        l15 = b[((int) l4) - 58871] & 0xff;
+        break L4;
+       }
+       Words.put64(b, ((int) l4) - 58696, 0L);
+       Words.put64(b, ((int) l4) - 58704, 1L);
+       Words.put64(b, ((int) l4) - 58720, l10);
+       Words.put64(b, ((int) l4) - 58688, 0L);
+       Words.put64(b, ((int) l4) - 58680, 0L);
+       Words.put64(b, ((int) l4) - 58712, l9);
+       m.fill((int) (l4 + 112L), 0, (int) 80L);
+       Core2.f52(m, l4 + 16L, l4 + 112L, l4 + 192L);
+       break L3;
+      }
+      throw State.trap();
+     }
+     f245(m, l4 + 32L, l1, l6, l5);
+     l15 = b[((int) l4) - 58879] & 0xff;
+    }
+    if ((l15 & 1) == 0) { break L1; }
+   }
+   L18: {
+    if ((l13 & 255) != 2) { break L18; }
+    l12 = 1;
+    break L1;
+   }
+   Words.put64(b, ((int) l4) - 58744, 0L);
+   Words.put64(b, ((int) l4) - 58752, 0L);
+   Words.put64(b, ((int) l4) - 58760, 0L);
+   Words.put64(b, ((int) l4) - 58768, 0L);
+   Words.put64(b, ((int) l4) - 58776, 0L);
+   Words.put64(b, ((int) l4) - 58784, 0L);
+   Words.put64(b, ((int) l4) - 58792, 0L);
+   Words.put64(b, ((int) l4) - 58800, 0L);
+   Core3.f80(m, l4 + 112L, l8, l7, l1);
+   if ((b[((int) l4) - 58800] & 0xff) != 0) { break L1; }
+   final int t19 = (Words.get64(b, ((int) l4) - 58784) + Long.MIN_VALUE > -9223372036854774809L) ? 1 : 0;
+   final int t20 = ((l3 = Words.get64(b, ((int) l4) - 58776)) > 0L) ? 1 : 0;
+   final int t21 = (l3 == 0L) ? 1 : 0;
+   if ((t21 != 0 ? t19 : t20) != 0) { break L1; }
+   f245(m, l4 + 8L, l1, l8, l7);
+   l12 = b[((int) l4) - 58903] & 0xff;
+   break L1;
+  }
+  L22: {
+   if (!(l3 == 0L)) { break L22; }
+   l12 = 0;
+   break L1;
+  }
+  L23: {
+   if ((l15 = (int) b[((int) (l2 + (l11 = l3 + -1L))) - 58912]) >= 0) { break L23; }
+   l11 = -2L;
+   L24: {
+    if ((b[((int) ((l6 = l2 + l3) + -2L)) - 58912] & 0xff) + Integer.MIN_VALUE > -2147483457) { break L24; }
+    l11 = ((b[((int) (l6 + -3L)) - 58912] & 0xff) + Integer.MIN_VALUE > -2147483457) ? -3L : -4L;
+   }
+   l15 = (l14 = (int) b[((int) (l6 = l2 + (l11 = l11 + l3))) - 58912]) & 255;
+   if (l14 > -1) { break L23; }
+   l16 = (b[((int) l6) - 58911] & 0xff) & 63;
+   L25: {
+    if (l14 + Integer.MIN_VALUE > 2147483615) { break L25; }
+    l15 = ((l15 << 6) & 1984) | l16;
+    break L23;
+   }
+   l12 = (b[((int) l6) - 58910] & 0xff) & 63;
+   L26: {
+    if (l14 + Integer.MIN_VALUE > 2147483631) { break L26; }
+    l15 = ((l16 << 6) | ((l15 << 12) & 61440)) | l12;
+    break L23;
+   }
+   l15 = ((l12 << 6) | ((l16 << 12) | ((l15 << 18) & 1835008))) | ((b[((int) l6) - 58909] & 0xff) & 63);
+  }
+  L27: {
+   L28: {
+    if (l15 == 37) { break L28; }
+    if (l15 == 65285) { break L28; }
+    if (l15 != 8240) { break L27; }
+   }
+   f245(m, l4 + 64L, l1, l2, l11);
+   l12 = (b[((int) l4) - 58847] & 0xff) & 1;
+   break L1;
+  }
+  f245(m, l4 + 56L, l1, l2, l3);
+  l12 = b[((int) l4) - 58855] & 0xff;
+ }
+ b[((int) l0) - 58911] = (byte) l12;
+ b[((int) l0) - 58912] = (byte) 0;
+ m.g0 = l4 + 240L;
+}
+
+static void f243(State m, long l0, int l1, int l2) {
+ final byte[] b = m.bytes;
+ long l3 = 0;
+ long l4 = 0;
+ L1: {
+  L2: {
+   L3: {
+    if (m.g0 < 16L) { break L3; }
+    l3 = 0L;
+    l4 = 83372L;
+    if (l1 != 0) { break L1; }
+    l3 = 1L;
+    l4 = 98156L;
+    L4: {
+     L5: {
+      L6: {
+       L7: {
+        L8: {
+         L9: {
+          L10: {
+           L11: {
+            L12: {
+             L13: {
+              L14: {
+               L15: {
+                L16: {
+                 switch (l2 + -45) {
+                 case 0: break L2;
+                 case 1: break L6;
+                 case 2: break L4;
+                 case 3: break L1;
+                 case 4: break L15;
+                 case 5: break L14;
+                 case 6: break L13;
+                 case 7: break L12;
+                 case 8: break L11;
+                 case 9: break L10;
+                 case 10: break L9;
+                 case 11: break L8;
+                 case 12: break L7;
+                 default: break L16;
+                 }
+                }
+                switch (l2 + -65293) {
+                case 0: break L2;
+                case 1: break L6;
+                case 2: break L4;
+                case 3: break L1;
+                case 4: break L15;
+                case 5: break L14;
+                case 6: break L13;
+                case 7: break L12;
+                case 8: break L11;
+                case 9: break L10;
+                case 10: break L9;
+                case 11: break L8;
+                case 12: break L7;
+                default: break L5;
+                }
+               }
+               l4 = 98157L;
+               break L1;
+              }
+              l4 = 98158L;
+              break L1;
+             }
+             l4 = 98159L;
+             break L1;
+            }
+            l4 = 98160L;
+            break L1;
+           }
+           l4 = 98161L;
+           break L1;
+          }
+          l4 = 98162L;
+          break L1;
+         }
+         l4 = 98163L;
+         break L1;
+        }
+        l4 = 98164L;
+        break L1;
+       }
+       l4 = 98165L;
+       break L1;
+      }
+      l4 = 98166L;
+      break L1;
+     }
+     if (l2 == 8722) { break L2; }
+    }
+    l4 = 83372L;
+    l3 = 0L;
+    break L1;
+   }
+   throw State.trap();
+  }
+  l4 = 77252L;
+ }
+ Words.put64(b, ((int) l0) - 58904, l3);
+ Words.put64(b, ((int) l0) - 58912, l4);
+}
+
+static void f244(State m, long l0, long l1, long l2) {
+ final byte[] b = m.bytes;
+ int l3 = 0;
+ int l4 = 0;
+ int l5 = 0;
+ int l6 = 0;
+ int l7 = 0;
+ long l8 = 0;
+ long l9 = 0;
+ long l10 = 0;
+ long l11 = 0;
+ L1: {
+  if (m.g0 < 16L) { break L1; }
+  L2: {
+   if (l2 == 0L) { break L2; }
+   l3 = b[((int) l1) - 58912] & 0xff;
+   l8 = l2;
+   l9 = l1;
+   L3: while (true) {
+    l10 = l8;
+    l4 = l3 & 255;
+    l11 = 1L;
+    L4: {
+     if (((int) (byte) l3) > -1) { break L4; }
+     l5 = (b[((int) l9) - 58911] & 0xff) & 63;
+     L5: {
+      if ((l3 & 255) + Integer.MIN_VALUE > -2147483425) { break L5; }
+      l4 = ((l4 << 6) & 1984) | l5;
+      l11 = 2L;
+      break L4;
+     }
+     l6 = (b[((int) l9) - 58910] & 0xff) & 63;
+     L6: {
+      if ((l3 & 255) + Integer.MIN_VALUE > -2147483409) { break L6; }
+      l4 = ((l5 << 6) | ((l4 << 12) & 61440)) | l6;
+      l11 = 3L;
+      break L4;
+     }
+     l4 = ((l6 << 6) | ((l5 << 12) | ((l4 << 18) & 1835008))) | ((b[((int) l9) - 58909] & 0xff) & 63);
+     l11 = 4L;
+    }
+    if ((l8 = l10 - l11) == 0L) { break L2; }
+    if ((l3 = (int) b[((int) (l9 = l9 + l11)) - 58912]) > -1) { continue L3; }
+    if (l3 + Integer.MIN_VALUE < 2147483616) { continue L3; }
+    l5 = l3 & 255;
+    l6 = (b[((int) l9) - 58911] & 0xff) & 63;
+    l7 = (b[((int) l9) - 58910] & 0xff) & 63;
+    L7: {
+     L8: {
+      if (l3 + Integer.MIN_VALUE > 2147483631) { break L8; }
+      l5 = ((l6 << 6) | ((l5 << 12) & 61440)) | l7;
+      l11 = 3L;
+      break L7;
+     }
+     l5 = ((l7 << 6) | ((l6 << 12) | ((l5 << 18) & 1835008))) | ((b[((int) l9) - 58909] & 0xff) & 63);
+     l11 = 4L;
+    }
+    if (l4 != 20998) { continue L3; }
+    if (l5 != 20043) { continue L3; }
+    break L3;
+   }
+   L9: {
+    L10: {
+     if ((l10 = l2 - l10) == 0L) { break L10; }
+     if ((l8 = l8 - l11) == 0L) { break L10; }
+     l11 = l9 + l11;
+     l9 = 1L;
+     break L9;
+    }
+    l11 = 0L;
+    l8 = 0L;
+    l1 = 0L;
+    l10 = 0L;
+    l9 = 0L;
+   }
+   Words.put64(b, ((int) l0) - 58912, l9);
+   Words.put64(b, ((int) (l0 + 32L)) - 58912, l8);
+   Words.put64(b, ((int) (l0 + 24L)) - 58912, l11);
+   Words.put64(b, ((int) (l0 + 16L)) - 58912, l10);
+   Words.put64(b, ((int) (l0 + 8L)) - 58912, l1);
+   return;
+  }
+  Words.put64(b, ((int) l0) - 58880, 0L);
+  Words.put64(b, ((int) l0) - 58888, 0L);
+  Words.put64(b, ((int) l0) - 58896, 0L);
+  Words.put64(b, ((int) l0) - 58904, 0L);
+  Words.put64(b, ((int) l0) - 58912, 0L);
+  return;
+ }
+ throw State.trap();
+}
+
+static void f245(State m, long l0, int l1, long l2, long l3) {
+ final byte[] b = m.bytes;
+ long l4 = 0;
+ long l5 = 0;
+ long l6 = 0;
+ long l7 = 0;
+ long l8 = 0;
+ long l9 = 0;
+ long l10 = 0;
+ int l11 = 0;
+ int l12 = 0;
+ int l13 = 0;
+ int l14 = 0;
+ int l15 = 0;
+ int l16 = 0;
+ m.g0 = l4 = m.g0 - 336L;
+ L1: {
+  L2: {
+   L3: {
+    if ((l4 = l4) < 16L) { break L3; }
+    Words.put64(b, ((int) l4) - 58776, 0L);
+    Words.put64(b, ((int) l4) - 58784, 0L);
+    Words.put64(b, ((int) l4) - 58792, 0L);
+    Words.put64(b, ((int) l4) - 58800, 0L);
+    Words.put64(b, ((int) l4) - 58808, 0L);
+    L4: {
+     if ((l11 = (l3 == 0L) ? 1 : 0) != 0) { break L4; }
+     l13 = (l12 = (int) b[((int) l2) - 58912]) & 255;
+     L5: {
+      if (l12 > -1) { break L5; }
+      l14 = (b[((int) l2) - 58911] & 0xff) & 63;
+      L6: {
+       if (l12 + Integer.MIN_VALUE > 2147483615) { break L6; }
+       l13 = ((l13 << 6) & 1984) | l14;
+       break L5;
+      }
+      l15 = (b[((int) l2) - 58910] & 0xff) & 63;
+      L7: {
+       if (l12 + Integer.MIN_VALUE > 2147483631) { break L7; }
+       l13 = ((l14 << 6) | ((l13 << 12) & 61440)) | l15;
+       break L5;
+      }
+      l13 = ((l15 << 6) | ((l14 << 12) | ((l13 << 18) & 1835008))) | ((b[((int) l2) - 58909] & 0xff) & 63);
+     }
+     l16 = 1;
+     if ((l13 + -48) + Integer.MIN_VALUE < -2147483638) { break L1; }
+     if ((l13 + -65296) + Integer.MIN_VALUE < -2147483638) { break L1; }
+    }
+    l5 = l2;
+    l6 = l3;
+    L8: {
+     L9: {
+      L10: {
+       L11: while (true) {
+        if (l6 == 0L) { break L10; }
+        l13 = (l12 = (int) b[((int) l5) - 58912]) & 255;
+        l7 = 1L;
+        L12: {
+         if (l12 > -1) { break L12; }
+         l14 = (b[((int) l5) - 58911] & 0xff) & 63;
+         L13: {
+          if (l12 + Integer.MIN_VALUE > 2147483615) { break L13; }
+          l13 = ((l13 << 6) & 1984) | l14;
+          l7 = 2L;
+          break L12;
+         }
+         l15 = (b[((int) l5) - 58910] & 0xff) & 63;
+         L14: {
+          if (l12 + Integer.MIN_VALUE > 2147483631) { break L14; }
+          l13 = ((l14 << 6) | ((l13 << 12) & 61440)) | l15;
+          l7 = 3L;
+          break L12;
+         }
+         l13 = ((l15 << 6) | ((l14 << 12) | ((l13 << 18) & 1835008))) | ((b[((int) l5) - 58909] & 0xff) & 63);
+         l7 = 4L;
+        }
+        Core2.f63(m, l4 + 96L, l13);
+        L15: {
+         if ((l13 + -58) + Integer.MIN_VALUE > 2147483637) { break L15; }
+         l6 = l6 - l7;
+         l5 = l5 + l7;
+         if (((b[((int) l4) - 58816] & 0xff) & 255) == 1) { continue L11; }
+        }
+        break L11;
+       }
+       f246(m, l4 + 104L, l2, l3);
+       if ((b[((int) l4) - 58808] & 0xff) != 1) { break L8; }
+       l7 = Words.get64(b, ((int) l4) - 58776);
+       l2 = Words.get64(b, ((int) l4) - 58784);
+       l5 = Words.get64(b, ((int) l4) - 58792);
+       l6 = Words.get64(b, ((int) l4) - 58800);
+       Words.put64(b, ((int) l4) - 58600, 0L);
+       Words.put64(b, ((int) l4) - 58608, 0L);
+       Words.put64(b, ((int) l4) - 58616, 0L);
+       Words.put64(b, ((int) l4) - 58624, 0L);
+       Words.put64(b, ((int) l4) - 58632, 0L);
+       Words.put64(b, ((int) l4) - 58640, 0L);
+       Words.put64(b, ((int) l4) - 58648, 0L);
+       Words.put64(b, ((int) l4) - 58656, 0L);
+       Core3.f80(m, l4 + 256L, l6, l5, l1);
+       Words.put64(b, ((int) l4) - 58768, Words.get64(b, ((int) l4) - 58640));
+       Words.put64(b, ((int) l4) - 58760, Words.get64(b, ((int) l4) - 58632));
+       Words.put64(b, ((int) l4) - 58752, Words.get64(b, ((int) l4) - 58624));
+       Words.put64(b, ((int) l4) - 58744, Words.get64(b, ((int) l4) - 58616));
+       Words.put64(b, ((int) l4) - 58736, Words.get64(b, ((int) l4) - 58608));
+       Words.put64(b, ((int) l4) - 58728, Words.get64(b, ((int) l4) - 58600));
+       if ((b[((int) l4) - 58656] & 0xff) == 0) { break L9; }
+       l16 = 0;
+       break L1;
+      }
+      l16 = 1;
+      if (l11 != 0) { break L1; }
+      L16: while (true) {
+       l13 = (l12 = (int) b[((int) l2) - 58912]) & 255;
+       l5 = 1L;
+       L17: {
+        if (l12 > -1) { break L17; }
+        l14 = (b[((int) l2) - 58911] & 0xff) & 63;
+        L18: {
+         if (l12 + Integer.MIN_VALUE > 2147483615) { break L18; }
+         l13 = ((l13 << 6) & 1984) | l14;
+         l5 = 2L;
+         break L17;
+        }
+        l15 = (b[((int) l2) - 58910] & 0xff) & 63;
+        L19: {
+         if (l12 + Integer.MIN_VALUE > 2147483631) { break L19; }
+         l13 = ((l14 << 6) | ((l13 << 12) & 61440)) | l15;
+         l5 = 3L;
+         break L17;
+        }
+        l13 = ((l15 << 6) | ((l14 << 12) | ((l13 << 18) & 1835008))) | ((b[((int) l2) - 58909] & 0xff) & 63);
+        l5 = 4L;
+       }
+       Core2.f63(m, l4 + 8L, l13);
+       l2 = l2 + l5;
+       if (!((l3 = l3 - l5) == 0L)) { continue L16; }
+       break L1;
+      }
+     }
+     m.fill((int) (l4 + 256L), 0, (int) 80L);
+     Core2.f52(m, l4 + 24L, l4 + 256L, l4 + 144L);
+     l16 = 1;
+     if (l7 == 0L) { break L1; }
+     L20: while (true) {
+      l13 = (l12 = (int) b[((int) l2) - 58912]) & 255;
+      l5 = 1L;
+      L21: {
+       if (l12 > -1) { break L21; }
+       l14 = (b[((int) l2) - 58911] & 0xff) & 63;
+       L22: {
+        if (l12 + Integer.MIN_VALUE > 2147483615) { break L22; }
+        l13 = ((l13 << 6) & 1984) | l14;
+        l5 = 2L;
+        break L21;
+       }
+       l15 = (b[((int) l2) - 58910] & 0xff) & 63;
+       L23: {
+        if (l12 + Integer.MIN_VALUE > 2147483631) { break L23; }
+        l13 = ((l14 << 6) | ((l13 << 12) & 61440)) | l15;
+        l5 = 3L;
+        break L21;
+       }
+       l13 = ((l15 << 6) | ((l14 << 12) | ((l13 << 18) & 1835008))) | ((b[((int) l2) - 58909] & 0xff) & 63);
+       l5 = 4L;
+      }
+      Core2.f63(m, l4 + 16L, l13);
+      l2 = l2 + l5;
+      if (!((l7 = l7 - l5) == 0L)) { continue L20; }
+      break L1;
+     }
+    }
+    L24: {
+     if (f247(m, l2, l3) == 0) { break L24; }
+     l16 = 1;
+     if (l11 != 0) { break L1; }
+     l8 = l4 + 272L;
+     l9 = l2;
+     l10 = l3;
+     L25: while (true) {
+      l13 = (l12 = (int) b[((int) l9) - 58912]) & 255;
+      l5 = 1L;
+      L26: {
+       if (l12 > -1) { break L26; }
+       l14 = (b[((int) l9) - 58911] & 0xff) & 63;
+       L27: {
+        if (l12 + Integer.MIN_VALUE > 2147483615) { break L27; }
+        l13 = ((l13 << 6) & 1984) | l14;
+        l5 = 2L;
+        break L26;
+       }
+       l15 = (b[((int) l9) - 58910] & 0xff) & 63;
+       L28: {
+        if (l12 + Integer.MIN_VALUE > 2147483631) { break L28; }
+        l13 = ((l14 << 6) | ((l13 << 12) & 61440)) | l15;
+        l5 = 3L;
+        break L26;
+       }
+       l13 = ((l15 << 6) | ((l14 << 12) | ((l13 << 18) & 1835008))) | ((b[((int) l9) - 58909] & 0xff) & 63);
+       l5 = 4L;
+      }
+      L29: {
+       if (f248(m, l13, l9 = l9 + l5, l10 = l10 - l5) == 0) { break L29; }
+       L30: {
+        L31: {
+         if (!((l7 = l3 - l10) == 0L)) { break L31; }
+         l6 = 0L;
+         break L30;
+        }
+        L32: while (true) {
+         l13 = (l12 = (int) b[((int) l2) - 58912]) & 255;
+         l5 = 1L;
+         L33: {
+          if (l12 > -1) { break L33; }
+          l14 = (b[((int) l2) - 58911] & 0xff) & 63;
+          L34: {
+           if (l12 + Integer.MIN_VALUE > 2147483615) { break L34; }
+           l13 = ((l13 << 6) & 1984) | l14;
+           l5 = 2L;
+           break L33;
+          }
+          l15 = (b[((int) l2) - 58910] & 0xff) & 63;
+          L35: {
+           if (l12 + Integer.MIN_VALUE > 2147483631) { break L35; }
+           l13 = ((l14 << 6) | ((l13 << 12) & 61440)) | l15;
+           l5 = 3L;
+           break L33;
+          }
+          l13 = ((l15 << 6) | ((l14 << 12) | ((l13 << 18) & 1835008))) | ((b[((int) l2) - 58909] & 0xff) & 63);
+          l5 = 4L;
+         }
+         L36: {
+          if (l13 == 38646) { break L36; }
+          if (l13 == 12295) { break L36; }
+          l6 = l7;
+          break L30;
+         }
+         l2 = l2 + l5;
+         l6 = 0L;
+         if ((l7 = l7 - l5) != 0L) { continue L32; }
+         break L32;
+        }
+       }
+       Words.put64(b, ((int) l4) - 58680, 0L);
+       Words.put64(b, ((int) l4) - 58688, 0L);
+       Words.put64(b, ((int) l4) - 58696, 0L);
+       Words.put64(b, ((int) l4) - 58704, 0L);
+       f249(m, l4 + 208L, l2, l6);
+       l2 = Words.get64(b, ((int) l4) - 58696);
+       l5 = Words.get64(b, ((int) l4) - 58704);
+       Words.put64(b, ((int) l4) - 58600, 0L);
+       Words.put64(b, ((int) l4) - 58608, 0L);
+       Words.put64(b, ((int) l4) - 58616, 0L);
+       Words.put64(b, ((int) l4) - 58624, 0L);
+       Words.put64(b, ((int) l4) - 58632, 0L);
+       Words.put64(b, ((int) l4) - 58640, 0L);
+       Words.put64(b, ((int) l4) - 58648, 0L);
+       Words.put64(b, ((int) l4) - 58656, 0L);
+       Core3.f80(m, l4 + 256L, l5, l2, l1);
+       Words.put64(b, ((int) l4) - 58768, Words.get64(b, ((int) l8) - 58912));
+       Words.put64(b, ((int) l4) - 58760, Words.get64(b, ((int) l8) - 58904));
+       Words.put64(b, ((int) l4) - 58752, Words.get64(b, ((int) l8) - 58896));
+       Words.put64(b, ((int) l4) - 58744, Words.get64(b, ((int) l8) - 58888));
+       Words.put64(b, ((int) l4) - 58736, Words.get64(b, ((int) l8) - 58880));
+       Words.put64(b, ((int) l4) - 58728, Words.get64(b, ((int) l8) - 58872));
+       if ((b[((int) l4) - 58656] & 0xff) != 0) { break L2; }
+       m.fill((int) (l4 + 256L), 0, (int) 80L);
+       Core2.f52(m, l4 + 40L, l4 + 256L, l4 + 144L);
+       l3 = l10;
+       l2 = l9;
+      }
+      if (!(l10 == 0L)) { continue L25; }
+      break L1;
+     }
+    }
+    Words.put64(b, ((int) l4) - 58712, 0L);
+    Words.put64(b, ((int) l4) - 58720, 0L);
+    Words.put64(b, ((int) l4) - 58728, 0L);
+    Words.put64(b, ((int) l4) - 58736, 0L);
+    Words.put64(b, ((int) l4) - 58744, 0L);
+    Words.put64(b, ((int) l4) - 58752, 0L);
+    Words.put64(b, ((int) l4) - 58760, 0L);
+    Words.put64(b, ((int) l4) - 58768, 0L);
+    f250(m, l4 + 144L, l2, l3);
+    L37: {
+     L38: {
+      L39: {
+       if ((b[((int) l4) - 58768] & 0xff) != 1) { break L39; }
+       l13 = Words.get32(b, ((int) l4) - 58744);
+       l2 = Words.get64(b, ((int) l4) - 58752);
+       l5 = Words.get64(b, ((int) l4) - 58760);
+       Words.put64(b, ((int) l4) - 58600, 0L);
+       Words.put64(b, ((int) l4) - 58608, 0L);
+       Words.put64(b, ((int) l4) - 58616, 0L);
+       Words.put64(b, ((int) l4) - 58624, 0L);
+       Words.put64(b, ((int) l4) - 58632, 0L);
+       Words.put64(b, ((int) l4) - 58640, 0L);
+       Words.put64(b, ((int) l4) - 58648, 0L);
+       Words.put64(b, ((int) l4) - 58656, 0L);
+       Core3.f80(m, l4 + 256L, l5, l2, l1);
+       Words.put64(b, ((int) l4) - 58704, Words.get64(b, ((int) l4) - 58640));
+       Words.put64(b, ((int) l4) - 58696, Words.get64(b, ((int) l4) - 58632));
+       Words.put64(b, ((int) l4) - 58688, Words.get64(b, ((int) l4) - 58624));
+       Words.put64(b, ((int) l4) - 58680, Words.get64(b, ((int) l4) - 58616));
+       Words.put64(b, ((int) l4) - 58672, Words.get64(b, ((int) l4) - 58608));
+       Words.put64(b, ((int) l4) - 58664, Words.get64(b, ((int) l4) - 58600));
+       if ((b[((int) l4) - 58656] & 0xff) == 0) { break L38; }
+       l16 = 0;
+       break L1;
+      }
+      Words.put64(b, ((int) l4) - 58600, 0L);
+      Words.put64(b, ((int) l4) - 58608, 0L);
+      Words.put64(b, ((int) l4) - 58616, 0L);
+      Words.put64(b, ((int) l4) - 58624, 0L);
+      Words.put64(b, ((int) l4) - 58632, 0L);
+      Words.put64(b, ((int) l4) - 58640, 0L);
+      Words.put64(b, ((int) l4) - 58648, 0L);
+      Words.put64(b, ((int) l4) - 58656, 0L);
+      Core3.f80(m, l4 + 256L, l2, l3, l1);
+      Words.put64(b, ((int) l4) - 58704, Words.get64(b, ((int) l4) - 58640));
+      Words.put64(b, ((int) l4) - 58696, Words.get64(b, ((int) l4) - 58632));
+      Words.put64(b, ((int) l4) - 58688, Words.get64(b, ((int) l4) - 58624));
+      Words.put64(b, ((int) l4) - 58680, Words.get64(b, ((int) l4) - 58616));
+      Words.put64(b, ((int) l4) - 58672, Words.get64(b, ((int) l4) - 58608));
+      Words.put64(b, ((int) l4) - 58664, Words.get64(b, ((int) l4) - 58600));
+      l16 = 0;
+      if ((b[((int) l4) - 58656] & 0xff) != 0) { break L1; }
+      m.fill((int) (l4 + 256L), 0, (int) 80L);
+      Core2.f52(m, l4 + 80L, l4 + 256L, l4 + 208L);
+      break L37;
+     }
+     m.fill((int) (l4 + 256L), 0, (int) 80L);
+     Core2.f52(m, l4 + 64L, l4 + 256L, l4 + 208L);
+     Core2.f63(m, l4 + 56L, l13);
+    }
+    l16 = 1;
+    break L1;
+   }
+   throw State.trap();
+  }
+  l16 = 0;
+ }
+ b[((int) l0) - 58911] = (byte) l16;
+ b[((int) l0) - 58912] = (byte) 0;
+ m.g0 = l4 + 336L;
+}
+
+static void f246(State m, long l0, long l1, long l2) {
+ final byte[] b = m.bytes;
+ long l3 = 0;
+ long l4 = 0;
+ long l5 = 0;
+ long l6 = 0;
+ long l7 = 0;
+ long l8 = 0;
+ int l9 = 0;
+ int l10 = 0;
+ int l11 = 0;
+ int l12 = 0;
+ m.g0 = l3 = m.g0 - 16L;
+ L1: {
+  L2: {
+   L3: {
+    if ((l4 = l3) < 16L) { break L3; }
+    l5 = l1;
+    l6 = l2;
+    L4: while (true) {
+     l3 = l5;
+     if ((l7 = l6) == 0L) { break L2; }
+     l5 = 1L;
+     l11 = l10 = (l9 = (int) b[((int) l3) - 58912]) & 255;
+     L5: {
+      if (l9 > -1) { break L5; }
+      l11 = (b[((int) l3) - 58911] & 0xff) & 63;
+      L6: {
+       if (l9 + Integer.MIN_VALUE > 2147483615) { break L6; }
+       l11 = ((l10 << 6) & 1984) | l11;
+       l5 = 2L;
+       break L5;
+      }
+      l12 = (b[((int) l3) - 58910] & 0xff) & 63;
+      L7: {
+       if (l9 + Integer.MIN_VALUE > 2147483631) { break L7; }
+       l11 = ((l11 << 6) | ((l10 << 12) & 61440)) | l12;
+       l5 = 3L;
+       break L5;
+      }
+      l11 = ((l12 << 6) | ((l11 << 12) | ((l10 << 18) & 1835008))) | ((b[((int) l3) - 58909] & 0xff) & 63);
+      l5 = 4L;
+     }
+     L8: {
+      if (l11 == 40670) { break L8; }
+      l6 = l7 - l5;
+      l5 = l3 + l5;
+      if (l11 != 28857) { continue L4; }
+     }
+     break L4;
+    }
+    l5 = 1L;
+    L9: {
+     if (l9 > -1) { break L9; }
+     l11 = (b[((int) l3) - 58911] & 0xff) & 63;
+     L10: {
+      if (l9 + Integer.MIN_VALUE > 2147483615) { break L10; }
+      l10 = ((l10 << 6) & 1984) | l11;
+      l5 = 2L;
+      break L9;
+     }
+     l12 = (b[((int) l3) - 58910] & 0xff) & 63;
+     L11: {
+      if (l9 + Integer.MIN_VALUE > 2147483631) { break L11; }
+      l10 = ((l11 << 6) | ((l10 << 12) & 61440)) | l12;
+      l5 = 3L;
+      break L9;
+     }
+     l10 = ((l12 << 6) | ((l11 << 12) | ((l10 << 18) & 1835008))) | ((b[((int) l3) - 58909] & 0xff) & 63);
+     l5 = 4L;
+    }
+    L12: {
+     L13: {
+      L14: {
+       if (l10 == 28857) { break L14; }
+       if (l10 != 40670) { break L13; }
+      }
+      if (l2 == 0L) { break L13; }
+      L15: {
+       if ((l11 = (int) b[((int) ((l6 = l1 + l2) + -1L)) - 58912]) >= 0) { break L15; }
+       l8 = -2L;
+       L16: {
+        if ((b[((int) (l6 + -2L)) - 58912] & 0xff) + Integer.MIN_VALUE > -2147483457) { break L16; }
+        l8 = ((b[((int) (l6 + -3L)) - 58912] & 0xff) + Integer.MIN_VALUE > -2147483457) ? -3L : -4L;
+       }
+       l11 = (l9 = (int) b[((int) (l6 = (l1 + l8) + l2)) - 58912]) & 255;
+       if (l9 > -1) { break L15; }
+       l10 = (b[((int) l6) - 58911] & 0xff) & 63;
+       L17: {
+        if (l9 + Integer.MIN_VALUE > 2147483615) { break L17; }
+        l11 = ((l11 << 6) & 1984) | l10;
+        break L15;
+       }
+       l12 = (b[((int) l6) - 58910] & 0xff) & 63;
+       L18: {
+        if (l9 + Integer.MIN_VALUE > 2147483631) { break L18; }
+        l11 = ((l10 << 6) | ((l11 << 12) & 61440)) | l12;
+        break L15;
+       }
+       l11 = ((l12 << 6) | ((l10 << 12) | ((l11 << 18) & 1835008))) | ((b[((int) l6) - 58909] & 0xff) & 63);
+      }
+      Core2.f63(m, l4 + 8L, l11);
+      if ((b[((int) l4) - 58904] & 0xff) == 1) { break L12; }
+      Core2.f61(m, l4, l11);
+      if ((b[((int) l4) - 58912] & 0xff) != 1) { break L13; }
+      if (((b[((int) l4) - 58911] & 0xff) & 255) + Integer.MIN_VALUE > -2147483645) { break L12; }
+     }
+     Words.put64(b, ((int) l0) - 58880, 0L);
+     Words.put64(b, ((int) l0) - 58888, 0L);
+     Words.put64(b, ((int) l0) - 58896, 0L);
+     Words.put64(b, ((int) l0) - 58904, 0L);
+     Words.put64(b, ((int) l0) - 58912, 0L);
+     break L1;
+    }
+    Words.put64(b, ((int) l0) - 58912, 1L);
+    Words.put64(b, ((int) (l0 + 32L)) - 58912, l7 - l5);
+    Words.put64(b, ((int) (l0 + 24L)) - 58912, l3 + l5);
+    Words.put64(b, ((int) (l0 + 16L)) - 58912, l2 - l7);
+    Words.put64(b, ((int) (l0 + 8L)) - 58912, l1);
+    break L1;
+   }
+   throw State.trap();
+  }
+  Words.put64(b, ((int) l0) - 58880, 0L);
+  Words.put64(b, ((int) l0) - 58888, 0L);
+  Words.put64(b, ((int) l0) - 58896, 0L);
+  Words.put64(b, ((int) l0) - 58904, 0L);
+  Words.put64(b, ((int) l0) - 58912, 0L);
+ }
+ m.g0 = l4 + 16L;
+}
+
+static int f247(State m, long l0, long l1) {
+ final byte[] b = m.bytes;
+ long l2 = 0;
+ long l3 = 0;
+ long l4 = 0;
+ int l5 = 0;
+ int l6 = 0;
+ int l7 = 0;
+ int l8 = 0;
+ m.g0 = l2 = m.g0 - 16L;
+ L1: {
+  if ((l2 = l2) < 16L) { break L1; }
+  L2: {
+   L3: {
+    if (!(l1 == 0L)) { break L3; }
+    l5 = 0;
     break L2;
    }
-   Words.put64(b, ((int) l8) - 60720, 0L);
+   L4: {
+    if ((l5 = (int) b[((int) ((l3 = l0 + l1) + -1L)) - 58912]) >= 0) { break L4; }
+    l4 = -2L;
+    L5: {
+     if ((b[((int) (l3 + -2L)) - 58912] & 0xff) + Integer.MIN_VALUE > -2147483457) { break L5; }
+     l4 = ((b[((int) (l3 + -3L)) - 58912] & 0xff) + Integer.MIN_VALUE > -2147483457) ? -3L : -4L;
+    }
+    l5 = (l6 = (int) b[((int) (l1 = (l0 + l4) + l1)) - 58912]) & 255;
+    if (l6 > -1) { break L4; }
+    l7 = (b[((int) l1) - 58911] & 0xff) & 63;
+    L6: {
+     if (l6 + Integer.MIN_VALUE > 2147483615) { break L6; }
+     l5 = ((l5 << 6) & 1984) | l7;
+     break L4;
+    }
+    l8 = (b[((int) l1) - 58910] & 0xff) & 63;
+    L7: {
+     if (l6 + Integer.MIN_VALUE > 2147483631) { break L7; }
+     l5 = ((l7 << 6) | ((l5 << 12) & 61440)) | l8;
+     break L4;
+    }
+    l5 = ((l8 << 6) | ((l7 << 12) | ((l5 << 18) & 1835008))) | ((b[((int) l1) - 58909] & 0xff) & 63);
+   }
+   Core2.f61(m, l2 + 8L, l5);
+   l5 = (((b[((int) l2) - 58904] & 0xff) == 1) & (((b[((int) l2) - 58903] & 0xff) & 255) + Integer.MIN_VALUE > -2147483645)) ? 1 : 0;
   }
-  l3 = 8;
+  m.g0 = l2 + 16L;
+  final int t8 = l5;
+  return t8;
  }
- m.g0 = l9 + 272L;
- return l3;
+ throw State.trap();
+}
+
+static int f248(State m, int l0, long l1, long l2) {
+ final byte[] b = m.bytes;
+ long l3 = 0;
+ long l4 = 0;
+ int l5 = 0;
+ int l6 = 0;
+ int l7 = 0;
+ int l8 = 0;
+ int l9 = 0;
+ m.g0 = l3 = m.g0 - 16L;
+ L1: {
+  if ((l3 = l3) < 16L) { break L1; }
+  Core2.f61(m, l3 + 8L, l0);
+  l5 = 0;
+  L2: {
+   if ((b[((int) l3) - 58904] & 0xff) != 1) { break L2; }
+   if (((l6 = b[((int) l3) - 58903] & 0xff) & 255) + Integer.MIN_VALUE < -2147483644) { break L2; }
+   L3: while (true) {
+    if ((l5 = (l2 == 0L) ? 1 : 0) != 0) { break L2; }
+    l0 = (l7 = (int) b[((int) l1) - 58912]) & 255;
+    l4 = 1L;
+    L4: {
+     if (l7 > -1) { break L4; }
+     l8 = (b[((int) l1) - 58911] & 0xff) & 63;
+     L5: {
+      if (l7 + Integer.MIN_VALUE > 2147483615) { break L5; }
+      l0 = ((l0 << 6) & 1984) | l8;
+      l4 = 2L;
+      break L4;
+     }
+     l9 = (b[((int) l1) - 58910] & 0xff) & 63;
+     L6: {
+      if (l7 + Integer.MIN_VALUE > 2147483631) { break L6; }
+      l0 = ((l8 << 6) | ((l0 << 12) & 61440)) | l9;
+      l4 = 3L;
+      break L4;
+     }
+     l0 = ((l9 << 6) | ((l8 << 12) | ((l0 << 18) & 1835008))) | ((b[((int) l1) - 58909] & 0xff) & 63);
+     l4 = 4L;
+    }
+    Core2.f61(m, l3, l0);
+    l2 = l2 - l4;
+    l1 = l1 + l4;
+    if ((b[((int) l3) - 58912] & 0xff) != 1) { continue L3; }
+    if (((b[((int) l3) - 58911] & 0xff) & 255) + Integer.MIN_VALUE < (l6 & 255) + Integer.MIN_VALUE) { continue L3; }
+    break L3;
+   }
+  }
+  m.g0 = l3 + 16L;
+  final int t7 = l5;
+  return t7;
+ }
+ throw State.trap();
+}
+
+static void f249(State m, long l0, long l1, long l2) {
+ final byte[] b = m.bytes;
+ long l3 = 0;
+ long l4 = 0;
+ long l5 = 0;
+ long l6 = 0;
+ long l7 = 0;
+ long l8 = 0;
+ long l9 = 0;
+ long l10 = 0;
+ long l11 = 0;
+ int l12 = 0;
+ int l13 = 0;
+ int l14 = 0;
+ int l15 = 0;
+ int l16 = 0;
+ int l17 = 0;
+ L1: {
+  if ((l3 = m.g0) < 16L) { break L1; }
+  L2: {
+   L3: {
+    L4: {
+     if (l2 == 0L) { break L4; }
+     l4 = l2;
+     l5 = l1;
+     L5: while (true) {
+      l6 = l4;
+      l13 = (l12 = (int) b[((int) (l7 = l5)) - 58912]) & 255;
+      L6: {
+       L7: {
+        if (l12 > -1) { break L7; }
+        l8 = 2L;
+        final long t8 = l6;
+        final long t9 = (l12 + Integer.MIN_VALUE < 2147483632) ? 3L : 4L;
+        final int t10 = l14 = (l12 + Integer.MIN_VALUE < 2147483616) ? 1 : 0;
+        l4 = t8 - (l9 = t10 != 0 ? 2L : t9);
+        l5 = l7 + l9;
+        l15 = (b[((int) l7) - 58911] & 0xff) & 63;
+        L11: {
+         if (l14 == 0) { break L11; }
+         l13 = ((l13 << 6) & 1984) | l15;
+         break L6;
+        }
+        l14 = (b[((int) l7) - 58910] & 0xff) & 63;
+        L12: {
+         if (l12 + Integer.MIN_VALUE > 2147483631) { break L12; }
+         l13 = ((l15 << 6) | ((l13 << 12) & 61440)) | l14;
+         l8 = 3L;
+         break L6;
+        }
+        l13 = ((l14 << 6) | ((l15 << 12) | ((l13 << 18) & 1835008))) | ((b[((int) l7) - 58909] & 0xff) & 63);
+        l8 = 4L;
+        break L6;
+       }
+       l4 = l6 + -1L;
+       l8 = 1L;
+       l5 = l7 + 1L;
+      }
+      l10 = l7 + l8;
+      L13: {
+       L14: {
+        if ((l16 = ((l11 = l6 - l8) == 0L) ? 1 : 0) != 0) { break L14; }
+        l8 = l10;
+        L15: while (true) {
+         l12 = (l14 = (int) b[((int) l8) - 58912]) & 255;
+         l9 = 1L;
+         L16: {
+          if (l14 > -1) { break L16; }
+          l15 = (b[((int) l8) - 58911] & 0xff) & 63;
+          L17: {
+           if (l14 + Integer.MIN_VALUE > 2147483615) { break L17; }
+           l12 = ((l12 << 6) & 1984) | l15;
+           l9 = 2L;
+           break L16;
+          }
+          l17 = (b[((int) l8) - 58910] & 0xff) & 63;
+          L18: {
+           if (l14 + Integer.MIN_VALUE > 2147483631) { break L18; }
+           l12 = ((l15 << 6) | ((l12 << 12) & 61440)) | l17;
+           l9 = 3L;
+           break L16;
+          }
+          l12 = ((l17 << 6) | ((l15 << 12) | ((l12 << 18) & 1835008))) | ((b[((int) l8) - 58909] & 0xff) & 63);
+          l9 = 4L;
+         }
+         L19: {
+          L20: {
+           if (l12 > 27806) { break L20; }
+           L21: {
+            if (l12 > 22418) { break L21; }
+            L22: {
+             if (l12 > 20739) { break L22; }
+             L23: {
+              switch (l12 + -20140) {
+              case 0: case 19: break L19;
+              case 1: case 2: case 3: case 4: case 5: case 6: case 7: case 8: case 9: case 10: case 11: case 12: case 13: case 14: case 15: case 16: case 17: case 18: break L13;
+              default: break L23;
+              }
+             }
+             if (l12 == 19975) { break L19; }
+             break L13;
+            }
+            if (l12 == 20740) { break L19; }
+            if (l12 == 20806) { break L19; }
+            break L13;
+           }
+           L24: {
+            if (l12 > 26996) { break L24; }
+            if (l12 == 22419) { break L19; }
+            if (l12 == 26497) { break L19; }
+            break L13;
+           }
+           if (l12 == 26997) { break L19; }
+           if (l12 == 27491) { break L19; }
+           break L13;
+          }
+          L25: {
+           if (l12 > 31212) { break L25; }
+           L26: {
+            if (l12 > 28316) { break L26; }
+            if (l12 == 27807) { break L19; }
+            if (l12 == 28071) { break L19; }
+            break L13;
+           }
+           if (l12 == 28317) { break L19; }
+           if (l12 == 28567) { break L19; }
+           break L13;
+          }
+          L27: {
+           if (l12 > 33835) { break L27; }
+           if (l12 == 31213) { break L19; }
+           if (l12 == 31344) { break L19; }
+           break L13;
+          }
+          if (l12 == 33836) { break L19; }
+          if (l12 == 36733) { break L19; }
+          if (l12 != 36617) { break L13; }
+         }
+         l8 = l8 + l9;
+         if ((l11 = l11 - l9) != 0L) { continue L15; }
+         break L15;
+        }
+       }
+       if (f248(m, l13, l1, l8 = l2 - l6) != 0) { break L3; }
+       L28: {
+        if (l13 == 20491) { break L28; }
+        if (l13 != 20010) { break L13; }
+       }
+       if (l16 != 0) { break L13; }
+       l12 = (l14 = (int) b[((int) l10) - 58912]) & 255;
+       L29: {
+        if (l14 > -1) { break L29; }
+        l15 = (b[((int) l10) - 58911] & 0xff) & 63;
+        L30: {
+         if (l14 + Integer.MIN_VALUE > 2147483615) { break L30; }
+         l12 = ((l12 << 6) & 1984) | l15;
+         break L29;
+        }
+        l17 = (b[((int) l10) - 58910] & 0xff) & 63;
+        L31: {
+         if (l14 + Integer.MIN_VALUE > 2147483631) { break L31; }
+         l12 = ((l15 << 6) | ((l12 << 12) & 61440)) | l17;
+         break L29;
+        }
+        l12 = ((l17 << 6) | ((l15 << 12) | ((l12 << 18) & 1835008))) | ((b[((int) l10) - 58909] & 0xff) & 63);
+       }
+       if (f248(m, l12, l1, l8) != 0) { break L3; }
+      }
+      if (!(l4 == 0L)) { continue L5; }
+      break L5;
+     }
+    }
+    Words.put64(b, ((int) l0) - 58888, 0L);
+    Words.put64(b, ((int) l0) - 58896, 83372L);
+    Words.put64(b, ((int) l0) - 58904, l2);
+    break L2;
+   }
+   Words.put64(b, ((int) l0) - 58888, l6);
+   Words.put64(b, ((int) l0) - 58896, l7);
+   Words.put64(b, ((int) l0) - 58904, l8);
+  }
+  Words.put64(b, ((int) l0) - 58912, l1);
+  m.g0 = l3;
+  return;
+ }
+ throw State.trap();
+}
+
+static void f250(State m, long l0, long l1, long l2) {
+ final byte[] b = m.bytes;
+ long l3 = 0;
+ long l4 = 0;
+ long l5 = 0;
+ long l6 = 0;
+ long l7 = 0;
+ long l8 = 0;
+ long l9 = 0;
+ long l10 = 0;
+ int l11 = 0;
+ int l12 = 0;
+ int l13 = 0;
+ int l14 = 0;
+ int l15 = 0;
+ int l16 = 0;
+ m.g0 = l3 = m.g0 - 32L;
+ L1: {
+  L2: {
+   L3: {
+    if ((l3 = l3) < 16L) { break L3; }
+    L4: {
+     L5: {
+      L6: {
+       if (l2 == 0L) { break L6; }
+       L7: {
+        if ((l11 = (int) b[((int) (l1 + (l4 = l2 + -1L))) - 58912]) >= 0) { break L7; }
+        l4 = -2L;
+        L8: {
+         if ((b[((int) ((l5 = l1 + l2) + -2L)) - 58912] & 0xff) + Integer.MIN_VALUE > -2147483457) { break L8; }
+         l4 = ((b[((int) (l5 + -3L)) - 58912] & 0xff) + Integer.MIN_VALUE > -2147483457) ? -3L : -4L;
+        }
+        l11 = (l12 = (int) b[((int) (l5 = l1 + (l4 = l4 + l2))) - 58912]) & 255;
+        if (l12 > -1) { break L7; }
+        l13 = (b[((int) l5) - 58911] & 0xff) & 63;
+        L9: {
+         if (l12 + Integer.MIN_VALUE > 2147483615) { break L9; }
+         l11 = ((l11 << 6) & 1984) | l13;
+         break L7;
+        }
+        l14 = (b[((int) l5) - 58910] & 0xff) & 63;
+        L10: {
+         if (l12 + Integer.MIN_VALUE > 2147483631) { break L10; }
+         l11 = ((l13 << 6) | ((l11 << 12) & 61440)) | l14;
+         break L7;
+        }
+        l11 = ((l14 << 6) | ((l13 << 12) | ((l11 << 18) & 1835008))) | ((b[((int) l5) - 58909] & 0xff) & 63);
+       }
+       if (l4 == 0L) { break L2; }
+       l6 = l1 + l4;
+       if ((l12 = (int) b[((int) (l1 + (l7 = l4 + -1L))) - 58912]) >= 0) { break L4; }
+       l5 = -2L;
+       L11: {
+        if ((b[((int) (l6 + -2L)) - 58912] & 0xff) + Integer.MIN_VALUE > -2147483457) { break L11; }
+        l5 = ((b[((int) (l6 + -3L)) - 58912] & 0xff) + Integer.MIN_VALUE > -2147483457) ? -3L : -4L;
+       }
+       l12 = (l13 = (int) b[((int) (l5 = l1 + (l7 = l5 + l4))) - 58912]) & 255;
+       if (l13 > -1) { break L4; }
+       l14 = (b[((int) l5) - 58911] & 0xff) & 63;
+       L12: {
+        if (l13 + Integer.MIN_VALUE > 2147483615) { break L12; }
+        l12 = ((l12 << 6) & 1984) | l14;
+        break L4;
+       }
+       l15 = (b[((int) l5) - 58910] & 0xff) & 63;
+       if (l13 + Integer.MIN_VALUE > 2147483631) { break L5; }
+       l12 = ((l14 << 6) | ((l12 << 12) & 61440)) | l15;
+       break L4;
+      }
+      Words.put64(b, ((int) l0) - 58856, 0L);
+      Words.put64(b, ((int) l0) - 58864, 0L);
+      Words.put64(b, ((int) l0) - 58872, 0L);
+      Words.put64(b, ((int) l0) - 58880, 0L);
+      Words.put64(b, ((int) l0) - 58888, 0L);
+      Words.put64(b, ((int) l0) - 58896, 0L);
+      Words.put64(b, ((int) l0) - 58904, 0L);
+      Words.put64(b, ((int) l0) - 58912, 0L);
+      break L1;
+     }
+     l12 = ((l15 << 6) | ((l14 << 12) | ((l12 << 18) & 1835008))) | ((b[((int) l5) - 58909] & 0xff) & 63);
+    }
+    Core2.f63(m, l3 + 24L, l11);
+    L13: {
+     L14: {
+      if ((b[((int) l3) - 58888] & 0xff) != 1) { break L14; }
+      if (((b[((int) l3) - 58887] & 0xff) & 255) == 0) { break L14; }
+      Core2.f61(m, l3 + 16L, l12);
+      if ((b[((int) l3) - 58896] & 0xff) != 1) { break L14; }
+      if (((l15 = b[((int) l3) - 58895] & 0xff) & 255) + Integer.MIN_VALUE < -2147483643) { break L14; }
+      l8 = l2 - l4;
+      l9 = l4 - l7;
+      l10 = l1 + l7;
+      l2 = l1;
+      l5 = l7;
+      L15: {
+       L16: while (true) {
+        if (l5 == 0L) { break L15; }
+        l12 = (l13 = (int) b[((int) l2) - 58912]) & 255;
+        l4 = 1L;
+        L17: {
+         if (l13 > -1) { break L17; }
+         l14 = (b[((int) l2) - 58911] & 0xff) & 63;
+         L18: {
+          if (l13 + Integer.MIN_VALUE > 2147483615) { break L18; }
+          l12 = ((l12 << 6) & 1984) | l14;
+          l4 = 2L;
+          break L17;
+         }
+         l16 = (b[((int) l2) - 58910] & 0xff) & 63;
+         L19: {
+          if (l13 + Integer.MIN_VALUE > 2147483631) { break L19; }
+          l12 = ((l14 << 6) | ((l12 << 12) & 61440)) | l16;
+          l4 = 3L;
+          break L17;
+         }
+         l12 = ((l16 << 6) | ((l14 << 12) | ((l12 << 18) & 1835008))) | ((b[((int) l2) - 58909] & 0xff) & 63);
+         l4 = 4L;
+        }
+        Core2.f61(m, l3 + 8L, l12);
+        l5 = l5 - l4;
+        l2 = l2 + l4;
+        if ((b[((int) l3) - 58904] & 0xff) != 1) { continue L16; }
+        if (((b[((int) l3) - 58903] & 0xff) & 255) + Integer.MIN_VALUE < (l15 & 255) + Integer.MIN_VALUE) { continue L16; }
+        break L14;
+       }
+      }
+      if (l7 == 0L) { break L13; }
+      L20: {
+       if ((l12 = (int) b[((int) (l10 + -1L)) - 58912]) >= 0) { break L20; }
+       l2 = -2L;
+       L21: {
+        if ((b[((int) (l10 + -2L)) - 58912] & 0xff) + Integer.MIN_VALUE > -2147483457) { break L21; }
+        l2 = ((b[((int) (l10 + -3L)) - 58912] & 0xff) + Integer.MIN_VALUE > -2147483457) ? -3L : -4L;
+       }
+       l12 = (l13 = (int) b[((int) (l2 = (l1 + l2) + l7)) - 58912]) & 255;
+       if (l13 > -1) { break L20; }
+       l14 = (b[((int) l2) - 58911] & 0xff) & 63;
+       L22: {
+        if (l13 + Integer.MIN_VALUE > 2147483615) { break L22; }
+        l12 = ((l12 << 6) & 1984) | l14;
+        break L20;
+       }
+       l15 = (b[((int) l2) - 58910] & 0xff) & 63;
+       L23: {
+        if (l13 + Integer.MIN_VALUE > 2147483631) { break L23; }
+        l12 = ((l14 << 6) | ((l12 << 12) & 61440)) | l15;
+        break L20;
+       }
+       l12 = ((l15 << 6) | ((l14 << 12) | ((l12 << 18) & 1835008))) | ((b[((int) l2) - 58909] & 0xff) & 63);
+      }
+      Core2.f61(m, l3, l12);
+      L24: {
+       if ((b[((int) l3) - 58912] & 0xff) != 1) { break L24; }
+       if (((b[((int) l3) - 58911] & 0xff) & 255) + Integer.MIN_VALUE > -2147483645) { break L14; }
+      }
+      if (l12 == 20010) { break L14; }
+      if (l12 != 20491) { break L13; }
+     }
+     Words.put64(b, ((int) l0) - 58856, 0L);
+     Words.put64(b, ((int) l0) - 58864, 0L);
+     Words.put64(b, ((int) l0) - 58872, 0L);
+     Words.put64(b, ((int) l0) - 58880, 0L);
+     Words.put64(b, ((int) l0) - 58888, 0L);
+     Words.put64(b, ((int) l0) - 58896, 0L);
+     Words.put64(b, ((int) l0) - 58904, 0L);
+     Words.put64(b, ((int) l0) - 58912, 0L);
+     break L1;
+    }
+    Words.put64(b, ((int) l0) - 58912, 1L);
+    Words.put64(b, ((int) (l0 + 56L)) - 58912, l9);
+    Words.put64(b, ((int) (l0 + 48L)) - 58912, l10);
+    Words.put64(b, ((int) (l0 + 40L)) - 58912, l8);
+    Words.put64(b, ((int) (l0 + 32L)) - 58912, l6);
+    Words.put32(b, ((int) (l0 + 28L)) - 58912, 0);
+    Words.put32(b, ((int) (l0 + 24L)) - 58912, l11);
+    Words.put64(b, ((int) (l0 + 16L)) - 58912, l7);
+    Words.put64(b, ((int) (l0 + 8L)) - 58912, l1);
+    break L1;
+   }
+   throw State.trap();
+  }
+  Words.put64(b, ((int) l0) - 58856, 0L);
+  Words.put64(b, ((int) l0) - 58864, 0L);
+  Words.put64(b, ((int) l0) - 58872, 0L);
+  Words.put64(b, ((int) l0) - 58880, 0L);
+  Words.put64(b, ((int) l0) - 58888, 0L);
+  Words.put64(b, ((int) l0) - 58896, 0L);
+  Words.put64(b, ((int) l0) - 58904, 0L);
+  Words.put64(b, ((int) l0) - 58912, 0L);
+ }
+ m.g0 = l3 + 32L;
 }
 }

@@ -13,7 +13,8 @@ public enum Doubt {
     DIGITS,
     /** It is part of a term: 负二 of 负二项, 十六 of 十六进制. */
     TERM,
-    /** It is part of an expression with 折, 成, 半 or 分之几: 八五 of 八五折, 一 of 一个半. */
+    /** It is part of an expression with 折, 成, 半 or 分之几: 八五 of 八五折, 一 of 一个半; or its last 一 begins
+     * the next word: 两百一 of 两百一个月. */
     PART,
     /** It may be a time: 三点五 of 下午三点五, 十点零五. */
     TIME,

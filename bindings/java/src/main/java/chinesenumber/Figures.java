@@ -4,7 +4,7 @@ import static chinesenumber.Instance.LENGTH;
 import static chinesenumber.Instance.TEXT;
 import static java.util.Objects.requireNonNull;
 
-/** Writes texts in figures by a call of the module. */
+/** Writes texts in figures, or as they are spoken, by a call of the module. */
 final class Figures {
     private static final char REPLACEMENT = '\ufffd';
 
@@ -16,17 +16,39 @@ final class Figures {
             int flags, long buffer, long bufferBytes, long length);
     }
 
+    /** Calls the module with a buffer for the new text, at an address, and returns the status. */
+    private interface Writer {
+        int write(Instance instance, long buffer, long bufferBytes);
+    }
+
     static String written(Call call, CharSequence text, TextOptions options) {
-        // The new text seldom has more bytes than the old one. If so, the call says how many.
-        long bufferBytes = 3L * requireNonNull(text, "text").length() + Codes.MOST_FIGURES_BYTES;
-        while (true) {
-            Instance instance = Instance.with(text, bufferBytes);
-            int status = call.write(instance, TEXT, instance.textBytes, options.wanted.upper(),
+        return written(text, 0, (instance, buffer, bufferBytes) ->
+            call.write(instance, TEXT, instance.textBytes, options.wanted.upper(),
                 options.wanted.greatest.ordinal(), options.method.ordinal(), options.flags,
-                instance.buffer(), bufferBytes, LENGTH);
+                buffer, bufferBytes, LENGTH));
+    }
+
+    /** The text as it is spoken. Before the buffer for it is one with as many bytes as the text. */
+    static String spoken(CharSequence text, Voice voice) {
+        int options = voice.isYao ? Codes.YAO : 0;
+        return written(text, 1, (instance, buffer, bufferBytes) ->
+            Core.chinese_text_to_speech(instance, TEXT, instance.textBytes, 0,
+                NumeralUnit.ZHAO.ordinal(), voice.method.ordinal(), voice.script.ordinal(),
+                options, instance.buffer(), instance.textBytes, buffer, bufferBytes, LENGTH));
+    }
+
+    /** The new text, whose buffer is after so many others with as many bytes as the text. */
+    private static String written(CharSequence text, int others, Writer writer) {
+        // The new text seldom has more bytes than the old one. If so, the call says how many.
+        long most = 3L * requireNonNull(text, "text").length();
+        long bufferBytes = most + Codes.MOST_FIGURES_BYTES;
+        while (true) {
+            Instance instance = Instance.with(text, others * most + bufferBytes);
+            int buffer = instance.buffer() + others * instance.textBytes;
+            int status = writer.write(instance, buffer, bufferBytes);
             if (status != Status.NO_ROOM.ordinal()) {
                 ChineseNumbers.requireDone(instance, status);
-                return withSurrogates(instance.printed(instance.buffer()), text);
+                return withSurrogates(instance.printed(buffer), text);
             }
             bufferBytes = instance.getLong(LENGTH);
             instance.release();

@@ -38,6 +38,9 @@ final class Instance extends State {
         new AtomicReferenceArray<>(SLOTS * SLOT_DISTANCE);
     private static final char REPLACEMENT = '\ufffd';
 
+    /** Some units of a text in UTF-16, while it is written or read. */
+    private final char[] units = new char[512];
+
     /** How many bytes the text has. */
     int textBytes;
 
@@ -65,7 +68,7 @@ final class Instance extends State {
         Objects.requireNonNull(text, "text");
         Instance instance = acquire();
         instance.reserve(3L * text.length() + bufferBytes);
-        instance.textBytes = instance.write(text);
+        instance.textBytes = instance.write(text, TEXT_INDEX) - TEXT_INDEX;
         return instance;
     }
 
@@ -80,7 +83,8 @@ final class Instance extends State {
         return TEXT + textBytes;
     }
 
-    private void reserve(long bytesFromText) {
+    /** Makes room for so many bytes from the text on. */
+    void reserve(long bytesFromText) {
         long size = TEXT_INDEX + bytesFromText;
         if (size > Integer.MAX_VALUE - 16) {
             throw new IllegalArgumentException("the text is too long");
@@ -91,38 +95,82 @@ final class Instance extends State {
     }
 
     /**
-     * Writes a text in UTF-8, an unpaired surrogate as U+FFFD. Returns how many bytes it has.
+     * Writes a text in UTF-8 at an index of the memory, an unpaired surrogate as U+FFFD. Returns
+     * the index after it.
      */
-    private int write(CharSequence text) {
-        byte[] b = bytes;
-        int at = TEXT_INDEX;
-        int units = text.length();
-        for (int index = 0; index < units; index++) {
-            char unit = text.charAt(index);
-            if (unit < 0x80) {
-                b[at++] = (byte) unit;
-            } else if (unit < 0x800) {
-                b[at++] = (byte) (0xc0 | unit >> 6);
-                b[at++] = (byte) (0x80 | unit & 0x3f);
-            } else if (Character.isHighSurrogate(unit) && index + 1 < units
-                && Character.isLowSurrogate(text.charAt(index + 1))) {
-                writePair(at, Character.toCodePoint(unit, text.charAt(++index)));
-                at += 4;
-            } else {
-                char known = Character.isSurrogate(unit) ? REPLACEMENT : unit;
-                b[at++] = (byte) (0xe0 | known >> 12);
-                b[at++] = (byte) (0x80 | known >> 6 & 0x3f);
-                b[at++] = (byte) (0x80 | known & 0x3f);
-            }
+    int write(CharSequence text, int index) {
+        String whole = text.toString();
+        int length = whole.length();
+        int at = index;
+        for (int from = 0; from < length; from += units.length) {
+            int end = Math.min(from + units.length, length);
+            whole.getChars(from, end, units, 0);
+            at = write(whole, from, end, at);
         }
-        return at - TEXT_INDEX;
+        return at;
     }
 
-    private void writePair(int at, int codePoint) {
+    /** Writes a part of a text, which is in {@code units} too, since these are faster. */
+    private int write(String whole, int from, int end, int index) {
+        int at = index;
+        for (int unit = from; unit < end; unit++) {
+            char value = units[unit - from];
+            at = value < 0x800 || Character.isSurrogate(value)
+                ? writeOther(whole, unit, at) : writeThree(value, at);
+        }
+        return at;
+    }
+
+    private int writeThree(char value, int at) {
+        bytes[at] = (byte) (0xe0 | value >> 12);
+        bytes[at + 1] = (byte) (0x80 | value >> 6 & 0x3f);
+        bytes[at + 2] = (byte) (0x80 | value & 0x3f);
+        return at + 3;
+    }
+
+    /** Writes a character of one, two or four bytes; one of four at its second surrogate. */
+    private int writeOther(String whole, int unit, int at) {
+        char value = whole.charAt(unit);
+        if (value < 0x80) {
+            bytes[at] = (byte) value;
+            return at + 1;
+        }
+        if (value < 0x800) {
+            bytes[at] = (byte) (0xc0 | value >> 6);
+            bytes[at + 1] = (byte) (0x80 | value & 0x3f);
+            return at + 2;
+        }
+        if (isPair(whole, unit)) {
+            return at;
+        }
+        return isPair(whole, unit - 1)
+            ? writePair(whole.codePointAt(unit - 1), at) : writeThree(REPLACEMENT, at);
+    }
+
+    private static boolean isPair(String text, int first) {
+        return first >= 0 && first + 1 < text.length()
+            && Character.isSurrogatePair(text.charAt(first), text.charAt(first + 1));
+    }
+
+    private int writePair(int codePoint, int at) {
         bytes[at] = (byte) (0xf0 | codePoint >> 18);
         bytes[at + 1] = (byte) (0x80 | codePoint >> 12 & 0x3f);
         bytes[at + 2] = (byte) (0x80 | codePoint >> 6 & 0x3f);
         bytes[at + 3] = (byte) (0x80 | codePoint & 0x3f);
+        return at + 4;
+    }
+
+    /** The text between two indices; most texts have only characters of three bytes. */
+    String text(int index, int end) {
+        int count = 0;
+        for (int at = index; at < end; at += 3) {
+            if ((bytes[at] & 0xf0) != 0xe0 || count == units.length) {
+                return new String(bytes, index, end - index, StandardCharsets.UTF_8);
+            }
+            units[count++] =
+                (char) (bytes[at] << 12 | (bytes[at + 1] & 0x3f) << 6 | bytes[at + 2] & 0x3f);
+        }
+        return new String(units, 0, count);
     }
 
     // What a call has written.
@@ -182,7 +230,8 @@ final class Instance extends State {
 
     /** The text that a call has written at an address; releases the instance. */
     String printed(int address) {
-        String text = new String(bytes, address - BASE, getInt(LENGTH), StandardCharsets.UTF_8);
+        int index = address - BASE;
+        String text = text(index, index + getInt(LENGTH));
         release();
         return text;
     }

@@ -19,7 +19,9 @@ import java.util.Optional;
  * <li>of a half or a length: a {@link Quantity}, 1.5 for 一个半小时 and 1.75 for 一米七五;
  * <li>of years, months or days: a {@link ValuePair} of the first and the last as {@code Integer}s,
  * of a score of the two numbers;
- * <li>of a range: a {@link ValuePair} of quantities, 30000 and 50000 for 三到五万.
+ * <li>of a range: a {@link ValuePair} of quantities, 30000 and 50000 for 三到五万;
+ * <li>of a sum of money: a {@link Quantity} of yuan, 3.50 for 三块五; nothing if it is no whole number
+ * of fen below 10^18.
  * </ul>
  */
 public final class Phrase extends Found {

@@ -27,4 +27,7 @@ public enum PhraseKind {
     SCORE,
     /** From a quantity to another one. */
     RANGE,
+    /** A sum of money, as 三块五: the fen by their lower and their upper 32 bits, and 1; all 0 if
+     * they are no whole number below 10^18. */
+    MONEY,
 }

@@ -37,20 +37,35 @@ final class Search<T extends Found> {
     }
 
     static final Search<FoundNumber> NUMBERS = new Search<>(
-        Core::chinese_number_find_utf8, SPAN_BYTES,
+        Core::chinese_number_find_utf8, false, SPAN_BYTES,
         (instance, address, place) -> new FoundNumber(place, instance.getInt(address + 16)));
     static final Search<FoundQuantity> QUANTITIES = new Search<>(
-        Core::chinese_quantity_find_utf8, SPAN_BYTES,
+        Core::chinese_quantity_find_utf8, false, SPAN_BYTES,
         (instance, address, place) -> new FoundQuantity(place, instance.getInt(address + 16)));
     static final Search<Found> PHRASES = new Search<>(
-        Core::chinese_phrase_find_utf8, PHRASE_BYTES, Search::phrase);
+        Core::chinese_phrase_find_utf8, false, PHRASE_BYTES, Search::phrase);
+    /** After the text is a buffer with as many bytes. */
+    static final Search<FoundQuantity> UNSPOKEN = new Search<>(
+        (module, text, textBytes, from, upper, greatest, spans, most, count) ->
+            Core.chinese_speech_left(module, text, textBytes, from, upper, greatest,
+                text + textBytes, textBytes, spans, most, count),
+        true, SPAN_BYTES, QUANTITIES.reader);
+
+    /** How many spans such a search finds in a call in a short text. */
+    private static final int FEW_SPANS = 8;
 
     private final Call call;
+    /**
+     * Whether the call works in a buffer after the text. Each call then goes through the whole text,
+     * so it finds many spans at once, for which there is room after the buffer.
+     */
+    private final boolean works;
     private final int bytes;
     private final Reader<T> reader;
 
-    private Search(Call call, int bytes, Reader<T> reader) {
+    private Search(Call call, boolean works, int bytes, Reader<T> reader) {
         this.call = call;
+        this.works = works;
         this.bytes = bytes;
         this.reader = reader;
     }
@@ -58,23 +73,31 @@ final class Search<T extends Found> {
     List<T> findAll(CharSequence text, Wanted wanted) {
         int upper = requireNonNull(wanted, "wanted").upper();
         int greatest = wanted.greatest.ordinal();
-        Instance instance = Instance.with(text);
-        List<T> all = new ArrayList<>();
+        requireNonNull(text, "text");
+        Instance instance = Instance.with(text, works ? workBytes(text) : 0);
+        int spans = works ? (TEXT + 2 * instance.textBytes + 7) / 8 * 8 : SPANS;
+        int most = works ? FEW_SPANS + instance.textBytes / 8 : MOST_SPANS;
+        List<T> found = new ArrayList<>();
         Cursor cursor = new Cursor(instance, text);
         int count;
         do {
-            call.find(instance, TEXT, instance.textBytes, cursor.byteIndex, upper, greatest, SPANS,
-                MOST_SPANS, LENGTH);
+            call.find(instance, TEXT, instance.textBytes, cursor.byteIndex, upper, greatest, spans,
+                most, LENGTH);
             count = instance.getInt(LENGTH);
             for (int at = 0; at < count; at++) {
-                int address = SPANS + at * bytes;
+                int address = spans + at * bytes;
                 Found.Place place =
                     cursor.place(instance.getInt(address), instance.getInt(address + 8));
-                all.add(reader.read(instance, address, place));
+                found.add(reader.read(instance, address, place));
             }
-        } while (count == MOST_SPANS);
+        } while (count == most);
         instance.release();
-        return all;
+        return found;
+    }
+
+    /** The buffer, three bytes for each unit of UTF-16, and the spans. */
+    private static long workBytes(CharSequence text) {
+        return 12L * text.length() + SPAN_BYTES * FEW_SPANS + 8;
     }
 
     /** How far the text was searched, in bytes, in UTF-16 and in characters. */
@@ -138,6 +161,8 @@ final class Search<T extends Found> {
                 return length(first, second, third);
             case RANGE:
                 return range(instance, address);
+            case MONEY:
+                return third == 0 ? null : money(first, second);
             default:
                 return new ValuePair<>(first, second);
         }
@@ -158,6 +183,11 @@ final class Search<T extends Found> {
     private static Quantity length(int number, int decimals, int count) {
         BigDecimal whole = new BigDecimal(number & 0xffffffffL).setScale(count);
         return Quantity.of(whole.add(BigDecimal.valueOf(decimals & 0xffffffffL, count)));
+    }
+
+    /** A number of fen by its lower and its upper 32 bits, in yuan. */
+    private static Quantity money(int low, int high) {
+        return Quantity.of(BigDecimal.valueOf(((long) high << 32) + (low & 0xffffffffL), 2));
     }
 
     /**

@@ -22,7 +22,8 @@ public enum Status {
     /** When reading, finding or replacing, the bytes are not UTF-8; when finding, also: the
      * search starts neither at a character nor at the end of the text. */
     NOT_UTF8,
-    /** When writing or replacing, the text has more bytes than the buffer. */
+    /** When writing or replacing, the text has more bytes than the buffer; when reading a column,
+     * the offsets of the row are not those of a text. */
     NO_ROOM,
     /** When writing, the type does not hold the number. */
     NOT_HELD,
@@ -32,7 +33,8 @@ public enum Status {
     /** When reading an amount, figures or a date, the text is not one, but more text can make it
      * one. */
     UNFINISHED,
-    /** When finding the next number or quantity, there is no further one in the text. */
+    /** When finding the next number or quantity, there is no further one in the text; in a
+     * column, the row is missing. */
     NONE,
     /** When writing a date, the date does not exist. */
     NOT_A_DATE,

@@ -14,7 +14,7 @@ public final class TextOptions extends Value implements Serializable {
     private static final long serialVersionUID = 1;
     /** The names of the flags, from the lowest one; the first two are no options. */
     private static final String[] NAMES = {"", "", "about", "oneCharacter", "doubtful", "expanded",
-        "canonical", "compact"};
+        "canonical", "compact", "codes"};
 
     /**
      * What {@link Wanted#DEFAULT} finds, read by {@link Way#ANY}, but nothing that is approximate,
@@ -74,11 +74,19 @@ public final class TextOptions extends Value implements Serializable {
     }
 
     /**
-     * Writes dates, times and halves as short as possible: 2026-01-05 15:30, 1.5小时. Only {@link
-     * ChineseNumbers#textToFigures} has this option.
+     * Writes dates, times, halves and sums of money as short as possible: 2026-01-05 15:30, 1.5小时,
+     * 3.5元. Only {@link ChineseNumbers#textToFigures} has this option.
      */
     public TextOptions withCompact() {
         return with(Codes.COMPACT);
+    }
+
+    /**
+     * Writes codes too, such as telephone numbers: 打幺幺零 becomes 打110. Only {@link
+     * ChineseNumbers#textToFigures} has this option.
+     */
+    public TextOptions withCodes() {
+        return with(Codes.CODES);
     }
 
     private TextOptions with(int flag) {

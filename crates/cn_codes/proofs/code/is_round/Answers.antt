@@ -1,0 +1,11 @@
+use Rattle.std.proofs.Common.{ap, refl, ◌∙◌}
+use Rattle.std.specs.Char.{encode_utf8}
+use Rattle.cn_find.specs.Spans.{in_front}
+use Rattle.cn_codes.specs.Codes.{round_ends}
+use Rattle.cn_codes.specs.Words.{ends_any}
+use Rattle.cn_codes.proofs.WordsWritten.{words-are}
+use Rattle.cn_codes.proofs.code.is_round.Goals as goal
+
+pub returns : goal.returns
+unfolding encode_utf8
+returns c = c.ends_any.ensures ∙ ap (λ l. ends_any l (in_front c.args.run.now)) (words-are round_ends refl)

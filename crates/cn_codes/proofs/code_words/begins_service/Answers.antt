@@ -1,0 +1,10 @@
+use Rattle.std.proofs.Common.{ap, refl, chars, ◌∙◌}
+use Rattle.std.specs.Char.{encode_utf8}
+use Rattle.cn_codes.specs.CodeWords.{begins_service, services}
+use Rattle.cn_codes.specs.Digits.{begins_any_number}
+use Rattle.cn_codes.proofs.WordsWritten.{words-are}
+use Rattle.cn_codes.proofs.code_words.begins_service.Goals as goal
+
+pub returns : goal.returns
+unfolding encode_utf8 begins_service
+returns c = c.begins_any_number.ensures ∙ ap (λ l. begins_any_number l (chars c.args.run.now)) (words-are services refl)

@@ -1,0 +1,11 @@
+use Rattle.std.proofs.Common.{ap, refl, ◌∙◌}
+use Rattle.std.specs.Char.{encode_utf8}
+use Rattle.cn_find.specs.Spans.{in_front}
+use Rattle.cn_codes.specs.CodeWords.{building_units, ends_building_unit}
+use Rattle.cn_codes.specs.Words.{ends_any}
+use Rattle.cn_codes.proofs.WordsWritten.{words-are}
+use Rattle.cn_codes.proofs.code_words.ends_building_unit.Goals as goal
+
+pub returns : goal.returns
+unfolding encode_utf8 ends_building_unit
+returns c = c.ends_any.ensures ∙ ap (λ l. ends_any l (in_front c.args.before.now)) (words-are building_units refl)

@@ -1,0 +1,11 @@
+pub mod Words
+pub mod Digits
+pub mod Beside
+pub mod Groups
+pub mod CodeWords
+pub mod Counted
+pub mod Codes
+pub mod Tens
+pub mod CodesInFigures
+pub mod Parts
+pub mod CodesInText

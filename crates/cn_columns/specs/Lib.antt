@@ -1,0 +1,3 @@
+pub mod Bitmaps
+pub mod Columns
+pub mod Reading

@@ -1,0 +1,26 @@
+use Rattle.std.proofs.Common.{ℕ, List, [], ◌∷◌, ap, chars, map, rules, sym, ◌∙◌}
+use Rattle.cn_speech.specs.SpokenMoney.{part_said}
+use Rattle.cn_speech.proofs.Said.{so_far-all, so_far-more, so_far-none}
+use Rattle.cn_speech.proofs.money.put_parts.Goals as goal
+
+pub putting-init : goal.putting-init
+putting-init g c = record {
+  so_far = so_far-none g.S.Sink.took g.met.S.Sink.took_both _ _ (g.met.S.Sink.took_none c.args.sink.now);
+  utf8 = search rules;
+}
+
+pub putting-preserved : goal.putting-preserved
+putting-preserved g c =
+    let others : List ℕ = map (part_said c.args.voice) (chars c.in-Some.others.now) in
+    record {
+      so_far = so_far-more g.S.Sink.took g.met.S.Sink.took_both _ _ others
+          (c.part_said.result ∷ []) _ _ _ c.putting.invariant.so_far
+          (ap (map (part_said c.args.voice)) c.in-Some.ensures.parts
+          ∙ ap (λ d. d ∷ others) (sym c.part_said.ensures)) c.in_ok-put_char.ensures;
+      utf8 = search rules;
+    }
+
+pub returns : goal.returns
+returns g c =
+    so_far-all g.S.Sink.took g.met.S.Sink.took_both _ _ _ _ c.putting.invariant.so_far
+    (ap (map (part_said c.args.voice)) c.in_default.ensures.parts)

@@ -1,0 +1,17 @@
+pub mod Voice
+pub mod Measures
+pub mod Meant
+pub mod Numbers
+pub mod Pairs
+pub mod Private
+pub mod SpokenCodes
+pub mod SpokenPhrases
+pub mod Joined
+pub mod SpokenExpressions
+pub mod SpokenRanges
+pub mod SpokenMoney
+pub mod SpokenItems
+pub mod Tails
+pub mod SpokenParts
+pub mod Speech
+pub mod Places
