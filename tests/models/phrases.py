@@ -613,14 +613,22 @@ def is_of_other_calendar(text: Text, phrase: Phrase) -> bool:
     return is_of_moon or numbers.is_after_era(text.line, phrase.start)
 
 
+def is_doubtful_number(text: Text, start: int, end: int) -> bool:
+    """A number in a phrase may mean something else, or has the 一 of the next word."""
+    doubt = numbers.doubt_of(text.line, start, end)
+    is_other = doubt in ("word", "digits", "term", "time")
+    return is_other or numbers.ends_in_next_word(text.line, start, end)
+
+
 def is_doubtful(text: Text, phrase: Phrase) -> bool:
     """It may mean something else, or stays in characters by the standard."""
     first, last, after = phrase.slots[0], phrase.slots[-1], text.at(phrase.end)
     if numbers.is_in_title(text.line, phrase.start):
         return True
     if phrase.kind == "range":
-        doubts = {numbers.doubt_of(text.line, it.start, it.end) for it in phrase.slots}
-        return after in "折成" or not doubts.isdisjoint({"word", "digits", "term", "time"})
+        return after in "折成" or any(
+            is_doubtful_number(text, it.start, it.end) for it in phrase.slots
+        )
     if text.at(phrase.start - 1) in "○◯":
         return True
     if re.match("一[时時]半[会會刻]", text.line.text[phrase.start :]):
@@ -886,12 +894,7 @@ def money_after(text: Text, e: Found) -> Optional[Sum]:
 
 def is_money_doubtful(text: Text, phrase: Phrase, e: Found) -> bool:
     head = text.line.text[: phrase.start]
-    if numbers.is_in_title(text.line, phrase.start) or e.doubt in (
-        "word",
-        "digits",
-        "term",
-        "time",
-    ):
+    if numbers.is_in_title(text.line, phrase.start) or is_doubtful_number(text, e.start, e.end):
         return True
     if phrase.words == "kuai" or text.at(phrase.start - 1) in "$＄€£":
         return True

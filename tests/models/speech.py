@@ -29,9 +29,7 @@ WORDS_OF_CODES = """
 BEFORE_CODE = re.compile(f"(?:{'|'.join(WORDS_OF_CODES)})(?:[设設]置?[为為]|改?[为為]|是)?[：:；; ]?\\Z")
 CALLED = re.compile("[打拨撥叫]\\Z")
 EMERGENCIES = frozenset("110 112 114 119 120 122".split())
-SERVICES = frozenset(
-    "10000 10010 10086 12123 12306 12315 12333 12345 12348 12366 12388 95588".split()
-)
+SERVICES = frozenset("10010 10086 12123 12306 12315 12333 12345 12348 12366 12388 95588".split())
 
 # Measure words. 两 is said before these, and before 万, 亿 and so on of course not.
 TWICE = frozenset(
@@ -545,7 +543,10 @@ def said_number(text: str, is_money: bool = False, before: str = "") -> Optional
 
 
 def follows_ordinal(text: str, start: int) -> bool:
-    return re.search("(?:第|公元前?|第1[、和或与與])\\Z", text[max(0, start - 3) : start]) is not None
+    return (
+        re.search("(?:第|公元前?|第1[、和或与與]|民[国國]|昭和|平成|令和)\\Z", text[max(0, start - 3) : start])
+        is not None
+    )
 
 
 def is_twice(text: str, end: int) -> bool:

@@ -19,7 +19,7 @@ use chinese_number::{NumberToChineseError, ROOM_BYTES, Whole};
 use cn_columns::{Answer, Presence, Printed, RowPrinter, RowReader};
 use cn_dynamic::{IntegerType, SignedMagnitude, put_by};
 
-/// A value of a column of numbers, which stands for two halves.
+/// A value of a column of numbers, which is made of two halves.
 pub trait InHalves: Copy {
     // The halves of a value of a signed or an unsigned type.
     ghost halves: { Bool → Self → Halves };

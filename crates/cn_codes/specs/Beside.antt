@@ -28,7 +28,7 @@ touches_after [] = false
 touches_after (c ∷ rest) =
     is_letter_or_figure c || (is_sign_after c || (is_bridge c && begins is_letter_or_figure rest))
 
--- one to three capital letters are directly before a place, and begin a name: T2, MU5137
+-- one to three capital letters are directly before a place, and begin a name, as G in G15
 unfoldable pub follows_letters : List ℕ → Bool
 follows_letters front =
     begins is_capital front

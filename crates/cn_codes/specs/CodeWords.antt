@@ -46,8 +46,8 @@ follows_word front = ends_word_of_codes (without_link (without_sign front))
 
 abbrev pub services : List (List ℕ)
 services =
-    codes "10000" ∷ codes "10010" ∷ codes "10086" ∷ codes "12123" ∷ codes "12306" ∷ codes "12315"
-    ∷ codes "12333" ∷ codes "12345" ∷ codes "12348" ∷ codes "12366" ∷ codes "12388" ∷ codes "95588" ∷ []
+    codes "10010" ∷ codes "10086" ∷ codes "12123" ∷ codes "12306" ∷ codes "12315" ∷ codes "12333"
+    ∷ codes "12345" ∷ codes "12348" ∷ codes "12366" ∷ codes "12388" ∷ codes "95588" ∷ []
 
 unfoldable pub begins_service : List ℕ → Bool
 begins_service run = begins_any_number services run

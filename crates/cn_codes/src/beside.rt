@@ -104,7 +104,7 @@ fn before_capitals(before: &str) -> &str
     rest
 }
 
-/// Whether one to three capital letters are at the end of a text, and begin a name: T2, MU5137.
+/// Whether one to three capital letters are at the end of a text, and begin a name, as G in G15.
 #[tactic(auto, unfolding(crate::specs::Beside::follows_letters))]
 pub fn follows_letters(before: &str) -> bool
     ensures { result ≡ follows_letters (in_front before.now) }

@@ -314,8 +314,14 @@ fn ends_hour_and_one(text: &str) -> bool
     split_nearest(text).is_some_and(|(c, before)| c == '一' && ends_hour(before))
 }
 
-// Whether the last character of the text is a 一 that begins the next word: 一 of 两百 and 一个月.
-fn ends_in_next_word(text: &str, after: &str) -> bool
+/// Whether the last character of an expression is a 一 that begins the next word, as in 两百一个月. Such an
+/// expression has the doubt `Part`; the rules are those of docs/RULES.md, "Doubt".
+///
+/// ```text
+/// ends_in_next_word("两百一", "个月")
+/// !ends_in_next_word("两百一", "的")
+/// ```
+pub fn ends_in_next_word(text: &str, after: &str) -> bool
     ensures { result ≡ ends_in_next_word (chars text.now) (chars after.now) }
 {
     (ends_with_two(&['一'], &['百', '千', '万', '萬', '亿', '億', '兆'], text) && !may_follow_amount(after))

@@ -10,7 +10,7 @@ use Rattle.cn_core.specs.Refusal.{Refusal}
 use Rattle.cn_find.specs.declared.doubt.Doubt.{Doubt}
 use Rattle.cn_find.specs.declared.doubt.Doubt.TheVariants.{Word, Digits, Term, Time}
 use Rattle.cn_find.specs.declared.wanted.Wanted.{Wanted}
-use Rattle.cn_find.specs.Doubt.{doubt_of}
+use Rattle.cn_find.specs.Doubt.{doubt_of, ends_in_next_word}
 use Rattle.cn_find.specs.Expressions.{expression_rule}
 use Rattle.cn_find.specs.Flags.{is_about}
 use Rattle.cn_find.specs.Spans.{Span, in_front, run_after, span_of}
@@ -93,8 +93,11 @@ is_doubt_of_end (Some Term) = true
 is_doubt_of_end (Some Time) = true
 is_doubt_of_end other = false
 
+-- the number may mean something else, or its last 一 begins the next word, as in 三千到五千一个月
 abbrev pub is_doubtful_end : Span → Bool
-is_doubtful_end end = is_doubt_of_end (doubt_of end.before end.text end.after)
+is_doubtful_end end =
+    ends_in_next_word (chars end.text) (chars end.after)
+    || is_doubt_of_end (doubt_of end.before end.text end.after)
 
 -- 一到 before 点, 时, 月, 日 or 号: 一到 may mean "as soon as"
 abbrev pub is_as_soon : List ℕ → List ℕ → Bool

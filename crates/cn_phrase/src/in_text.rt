@@ -21,8 +21,8 @@ use crate::range::{Ends, put_range, range_of};
 use crate::word::{Word, after_two};
 use crate::written::{put_passed, put_pieces};
 use cn_find::{
-    Doubt, Found, Wanted, ends_old_calendar, ends_with_two, is_one_character, is_one_of,
-    is_title_open,
+    Doubt, Found, Wanted, ends_in_next_word, ends_old_calendar, ends_with_two, is_one_character,
+    is_one_of, is_title_open,
 };
 use cn_replace::chains::put_in_chains;
 use cn_replace::nothing::Nothing;
@@ -153,10 +153,11 @@ fn is_of_tenths(ends: Ends<'_>) -> bool
 pub fn is_doubtful_end(end: Found<'_>) -> bool
     ensures { result ≡ is_doubtful_end (span_of end.entry) }
 {
-    matches!(
-        end.doubt(),
-        Some(Doubt::Word | Doubt::Digits | Doubt::Term | Doubt::Time)
-    )
+    ends_in_next_word(end.text, end.after)
+        || matches!(
+            end.doubt(),
+            Some(Doubt::Word | Doubt::Digits | Doubt::Term | Doubt::Time)
+        )
 }
 
 /// Whether a range is one of tenths, or has a doubtful end.

@@ -50,7 +50,8 @@ begins_no_measure text = begins_any no_measures text
 -- words after which a number is an ordinal, or a year
 abbrev pub ordinals : List (List ℕ)
 ordinals =
-    codes "第" ∷ codes "公元" ∷ codes "公元前" ∷ codes "第1、" ∷ codes "第1和" ∷ codes "第1或" ∷ codes "第1与" ∷ codes "第1與" ∷ []
+    codes "第" ∷ codes "公元" ∷ codes "公元前" ∷ codes "第1、" ∷ codes "第1和" ∷ codes "第1或" ∷ codes "第1与" ∷ codes "第1與"
+    ∷ codes "民国" ∷ codes "民國" ∷ codes "昭和" ∷ codes "平成" ∷ codes "令和" ∷ []
 
 unfoldable pub ends_ordinal : List ℕ → Bool
 ends_ordinal front = ends_any ordinals front

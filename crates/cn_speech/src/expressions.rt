@@ -106,7 +106,21 @@ fn ends_ordinal(before: &str) -> bool
     ensures { result ≡ ends_ordinal (in_front before.now) }
 {
     ends_any(
-        &["第", "公元", "公元前", "第1、", "第1和", "第1或", "第1与", "第1與"],
+        &[
+            "第",
+            "公元",
+            "公元前",
+            "第1、",
+            "第1和",
+            "第1或",
+            "第1与",
+            "第1與",
+            "民国",
+            "民國",
+            "昭和",
+            "平成",
+            "令和",
+        ],
         before,
     )
 }

@@ -8,7 +8,7 @@ static int chinese_number_version(State m) {
   Core1.f2(m);
   throw State.trap();
  }
- Core9.f305(m);
+ Core9.f306(m);
  Core1.f1(m);
  return 1000;
 }
@@ -19,7 +19,7 @@ static int chinese_input_expected(State m, long l0, long l1, int l2, long l3) {
   Core1.f2(m);
   throw State.trap();
  }
- l2 = Core9.f307(m, l0, l1, l2, l3);
+ l2 = Core9.f308(m, l0, l1, l2, l3);
  Core1.f1(m);
  return l2;
 }
@@ -30,7 +30,7 @@ static int chinese_input_repair(State m, long l0, long l1, int l2, long l3) {
   Core1.f2(m);
   throw State.trap();
  }
- l2 = Core9.f309(m, l0, l1, l2, l3);
+ l2 = Core9.f310(m, l0, l1, l2, l3);
  Core1.f1(m);
  return l2;
 }
@@ -42,7 +42,7 @@ static int chinese_number_answer_line(State m, long l0, long l1, long l2, long l
   Core1.f2(m);
   throw State.trap();
  }
- l5 = Core9.f311(m, l0, l1, l2, l3, l4);
+ l5 = Core9.f312(m, l0, l1, l2, l3, l4);
  Core1.f1(m);
  return l5;
 }
@@ -53,7 +53,7 @@ static int chinese_input_message(State m, long l0, long l1, int l2, int l3, long
   Core1.f2(m);
   throw State.trap();
  }
- l3 = Core9.f313(m, l0, l1, l2, l3, l4, l5, l6);
+ l3 = Core9.f314(m, l0, l1, l2, l3, l4, l5, l6);
  Core1.f1(m);
  return l3;
 }
@@ -64,7 +64,7 @@ static int chinese_amounts_read_column(State m, long l0, long l1, long l2, long 
   Core1.f2(m);
   throw State.trap();
  }
- l7 = Core9.f315(m, l0, l1, l2, l3, l4, l5, l6, l7, l8, l9, l10, l11);
+ l7 = Core9.f316(m, l0, l1, l2, l3, l4, l5, l6, l7, l8, l9, l10, l11);
  Core1.f1(m);
  return l7;
 }
@@ -75,7 +75,7 @@ static int chinese_dates_read_column(State m, long l0, long l1, long l2, long l3
   Core1.f2(m);
   throw State.trap();
  }
- Core9.f317(m, l0, l1, l2, l3, l4, l5, l6, l7, l8, l9, l10);
+ Core9.f318(m, l0, l1, l2, l3, l4, l5, l6, l7, l8, l9, l10);
  Core1.f1(m);
  return 0;
 }
@@ -86,7 +86,7 @@ static int chinese_date_print(State m, int l0, int l1, int l2, int l3, long l4, 
   Core1.f2(m);
   throw State.trap();
  }
- l3 = Core9.f319(m, l0, l1, l2, l3, l4, l5, l6);
+ l3 = Core9.f320(m, l0, l1, l2, l3, l4, l5, l6);
  Core1.f1(m);
  return l3;
 }
@@ -97,7 +97,7 @@ static int chinese_signed_amount_print(State m, long l0, int l1, int l2, long l3
   Core1.f2(m);
   throw State.trap();
  }
- l2 = Core9.f321(m, l0, l1, l2, l3, l4, l5);
+ l2 = Core9.f322(m, l0, l1, l2, l3, l4, l5);
  Core1.f1(m);
  return l2;
 }
@@ -108,7 +108,7 @@ static int chinese_status_message(State m, int l0, int l1, long l2, long l3, lon
   Core1.f2(m);
   throw State.trap();
  }
- l1 = Core9.f323(m, l0, l1, l2, l3, l4);
+ l1 = Core9.f324(m, l0, l1, l2, l3, l4);
  Core1.f1(m);
  return l1;
 }
@@ -120,7 +120,7 @@ static int chinese_quantity_figures(State m, long l0, long l1, long l2, long l3)
   Core1.f2(m);
   throw State.trap();
  }
- l4 = Core9.f325(m, l0, l1, l2, l3);
+ l4 = Core9.f326(m, l0, l1, l2, l3);
  Core1.f1(m);
  return l4;
 }
@@ -132,7 +132,7 @@ static int chinese_amount_read(State m, long l0, long l1, long l2) {
   Core1.f2(m);
   throw State.trap();
  }
- l3 = Core9.f327(m, l0, l1, l2);
+ l3 = Core9.f328(m, l0, l1, l2);
  Core1.f1(m);
  return l3;
 }
@@ -144,7 +144,7 @@ static int chinese_typed_amount_read(State m, long l0, long l1, long l2) {
   Core1.f2(m);
   throw State.trap();
  }
- l3 = Core9.f329(m, l0, l1, l2);
+ l3 = Core9.f330(m, l0, l1, l2);
  Core1.f1(m);
  return l3;
 }
@@ -156,7 +156,7 @@ static int chinese_date_read(State m, long l0, long l1, long l2) {
   Core1.f2(m);
   throw State.trap();
  }
- l3 = Core9.f331(m, l0, l1, l2);
+ l3 = Core9.f332(m, l0, l1, l2);
  Core1.f1(m);
  return l3;
 }
@@ -167,7 +167,7 @@ static int chinese_amount_print(State m, long l0, int l1, int l2, long l3, long 
   Core1.f2(m);
   throw State.trap();
  }
- l2 = Core9.f333(m, l0, l1, l2, l3, l4, l5);
+ l2 = Core9.f334(m, l0, l1, l2, l3, l4, l5);
  Core1.f1(m);
  return l2;
 }
@@ -178,7 +178,7 @@ static int chinese_amounts_print_column(State m, long l0, long l1, long l2, long
   Core1.f2(m);
   throw State.trap();
  }
- l6 = Core9.f335(m, l0, l1, l2, l3, l4, l5, l6, l7, l8, l9, l10, l11, l12, l13);
+ l6 = Core9.f336(m, l0, l1, l2, l3, l4, l5, l6, l7, l8, l9, l10, l11, l12, l13);
  Core1.f1(m);
  return l6;
 }
@@ -189,7 +189,7 @@ static int chinese_dates_print_column(State m, long l0, long l1, long l2, long l
   Core1.f2(m);
   throw State.trap();
  }
- l5 = Core9.f337(m, l0, l1, l2, l3, l4, l5, l6, l7, l8, l9, l10, l11, l12);
+ l5 = Core9.f338(m, l0, l1, l2, l3, l4, l5, l6, l7, l8, l9, l10, l11, l12);
  Core1.f1(m);
  return l5;
 }
@@ -201,7 +201,7 @@ static int chinese_figures_read(State m, long l0, long l1, long l2) {
   Core1.f2(m);
   throw State.trap();
  }
- l3 = Core9.f339(m, l0, l1, l2);
+ l3 = Core9.f340(m, l0, l1, l2);
  Core1.f1(m);
  return l3;
 }
@@ -213,7 +213,7 @@ static int chinese_signed_amount_read(State m, long l0, long l1, long l2) {
   Core1.f2(m);
   throw State.trap();
  }
- l3 = Core9.f341(m, l0, l1, l2);
+ l3 = Core9.f342(m, l0, l1, l2);
  Core1.f1(m);
  return l3;
 }
@@ -225,7 +225,7 @@ static int chinese_typed_signed_amount_read(State m, long l0, long l1, long l2) 
   Core1.f2(m);
   throw State.trap();
  }
- l3 = Core9.f343(m, l0, l1, l2);
+ l3 = Core9.f344(m, l0, l1, l2);
  Core1.f1(m);
  return l3;
 }
@@ -237,7 +237,7 @@ static int chinese_range_read(State m, long l0, long l1, long l2, long l3, long 
   Core1.f2(m);
   throw State.trap();
  }
- l6 = Core9.f345(m, l0, l1, l2, l3, l4, l5);
+ l6 = Core9.f346(m, l0, l1, l2, l3, l4, l5);
  Core1.f1(m);
  return l6;
 }
@@ -248,7 +248,7 @@ static int chinese_number_find(State m, long l0, long l1, long l2, int l3, int l
   Core1.f2(m);
   throw State.trap();
  }
- l4 = Core9.f347(m, l0, l1, l2, l3, l4, l5, l6, l7);
+ l4 = Core9.f348(m, l0, l1, l2, l3, l4, l5, l6, l7);
  Core1.f1(m);
  return l4;
 }
@@ -259,7 +259,7 @@ static int chinese_number_find_utf8(State m, long l0, long l1, long l2, int l3, 
   Core1.f2(m);
   throw State.trap();
  }
- l4 = Core9.f349(m, l0, l1, l2, l3, l4, l5, l6, l7);
+ l4 = Core9.f350(m, l0, l1, l2, l3, l4, l5, l6, l7);
  Core1.f1(m);
  return l4;
 }
@@ -270,7 +270,7 @@ static int chinese_phrase_find(State m, long l0, long l1, long l2, int l3, int l
   Core1.f2(m);
   throw State.trap();
  }
- l4 = Core9.f351(m, l0, l1, l2, l3, l4, l5, l6, l7);
+ l4 = Core9.f352(m, l0, l1, l2, l3, l4, l5, l6, l7);
  Core1.f1(m);
  return l4;
 }
@@ -281,7 +281,7 @@ static int chinese_phrase_find_utf8(State m, long l0, long l1, long l2, int l3, 
   Core1.f2(m);
   throw State.trap();
  }
- l4 = Core9.f353(m, l0, l1, l2, l3, l4, l5, l6, l7);
+ l4 = Core9.f354(m, l0, l1, l2, l3, l4, l5, l6, l7);
  Core1.f1(m);
  return l4;
 }
@@ -292,7 +292,7 @@ static int chinese_quantity_find_utf8(State m, long l0, long l1, long l2, int l3
   Core1.f2(m);
   throw State.trap();
  }
- l4 = Core9.f355(m, l0, l1, l2, l3, l4, l5, l6, l7);
+ l4 = Core9.f356(m, l0, l1, l2, l3, l4, l5, l6, l7);
  Core1.f1(m);
  return l4;
 }
@@ -303,7 +303,7 @@ static int chinese_quantity_find(State m, long l0, long l1, long l2, int l3, int
   Core1.f2(m);
   throw State.trap();
  }
- l4 = Core9.f357(m, l0, l1, l2, l3, l4, l5, l6, l7);
+ l4 = Core9.f358(m, l0, l1, l2, l3, l4, l5, l6, l7);
  Core1.f1(m);
  return l4;
 }
@@ -314,7 +314,7 @@ static int chinese_speech_left(State m, long l0, long l1, long l2, int l3, int l
   Core1.f2(m);
   throw State.trap();
  }
- l4 = Core9.f359(m, l0, l1, l2, l3, l4, l5, l6, l7, l8, l9);
+ l4 = Core9.f360(m, l0, l1, l2, l3, l4, l5, l6, l7, l8, l9);
  Core1.f1(m);
  return l4;
 }
@@ -325,7 +325,7 @@ static int chinese_number_explain(State m, long l0, long l1, int l2, int l3, lon
   Core1.f2(m);
   throw State.trap();
  }
- l3 = Core9.f361(m, l0, l1, l2, l3, l4);
+ l3 = Core9.f362(m, l0, l1, l2, l3, l4);
  Core1.f1(m);
  return l3;
 }
@@ -336,7 +336,7 @@ static int chinese_number_message(State m, long l0, long l1, int l2, int l3, int
   Core1.f2(m);
   throw State.trap();
  }
- l4 = Core9.f363(m, l0, l1, l2, l3, l4, l5, l6, l7);
+ l4 = Core9.f364(m, l0, l1, l2, l3, l4, l5, l6, l7);
  Core1.f1(m);
  return l4;
 }
@@ -347,7 +347,7 @@ static int chinese_number_read_utf8(State m, long l0, long l1, int l2, int l3, l
   Core1.f2(m);
   throw State.trap();
  }
- l3 = Core9.f365(m, l0, l1, l2, l3, l4);
+ l3 = Core9.f366(m, l0, l1, l2, l3, l4);
  Core1.f1(m);
  return l3;
 }
@@ -358,7 +358,7 @@ static int chinese_numbers_read_column(State m, long l0, long l1, long l2, long 
   Core1.f2(m);
   throw State.trap();
  }
- l8 = Core9.f367(m, l0, l1, l2, l3, l4, l5, l6, l7, l8, l9, l10, l11, l12);
+ l8 = Core9.f368(m, l0, l1, l2, l3, l4, l5, l6, l7, l8, l9, l10, l11, l12);
  Core1.f1(m);
  return l8;
 }
@@ -369,7 +369,7 @@ static int chinese_wide_numbers_read_column(State m, long l0, long l1, long l2, 
   Core1.f2(m);
   throw State.trap();
  }
- l8 = Core9.f369(m, l0, l1, l2, l3, l4, l5, l6, l7, l8, l9, l10, l11, l12);
+ l8 = Core9.f370(m, l0, l1, l2, l3, l4, l5, l6, l7, l8, l9, l10, l11, l12);
  Core1.f1(m);
  return l8;
 }
@@ -380,7 +380,7 @@ static int chinese_quantities_to_figures(State m, long l0, long l1, int l2, int 
   Core1.f2(m);
   throw State.trap();
  }
- l5 = Core9.f371(m, l0, l1, l2, l3, l4, l5, l6, l7, l8);
+ l5 = Core9.f372(m, l0, l1, l2, l3, l4, l5, l6, l7, l8);
  Core1.f1(m);
  return l5;
 }
@@ -391,7 +391,7 @@ static int chinese_quantity_explain(State m, long l0, long l1, int l2, long l3) 
   Core1.f2(m);
   throw State.trap();
  }
- l2 = Core9.f373(m, l0, l1, l2, l3);
+ l2 = Core9.f374(m, l0, l1, l2, l3);
  Core1.f1(m);
  return l2;
 }
@@ -402,7 +402,7 @@ static int chinese_quantity_message(State m, long l0, long l1, int l2, int l3, l
   Core1.f2(m);
   throw State.trap();
  }
- l3 = Core9.f375(m, l0, l1, l2, l3, l4, l5, l6);
+ l3 = Core9.f376(m, l0, l1, l2, l3, l4, l5, l6);
  Core1.f1(m);
  return l3;
 }
@@ -413,7 +413,7 @@ static int chinese_quantity_read(State m, long l0, long l1, int l2, long l3) {
   Core1.f2(m);
   throw State.trap();
  }
- l2 = Core9.f377(m, l0, l1, l2, l3);
+ l2 = Core9.f378(m, l0, l1, l2, l3);
  Core1.f1(m);
  return l2;
 }
@@ -424,7 +424,7 @@ static int chinese_text_to_figures(State m, long l0, long l1, int l2, int l3, in
   Core1.f2(m);
   throw State.trap();
  }
- l5 = Core10.f379(m, l0, l1, l2, l3, l4, l5, l6, l7, l8);
+ l5 = Core10.f380(m, l0, l1, l2, l3, l4, l5, l6, l7, l8);
  Core1.f1(m);
  return l5;
 }
@@ -435,7 +435,7 @@ static int chinese_quantity_print(State m, long l0, int l1, int l2, int l3, long
   Core1.f2(m);
   throw State.trap();
  }
- l3 = Core10.f381(m, l0, l1, l2, l3, l4, l5, l6);
+ l3 = Core10.f382(m, l0, l1, l2, l3, l4, l5, l6);
  Core1.f1(m);
  return l3;
 }
@@ -446,7 +446,7 @@ static int chinese_number_read(State m, long l0, long l1, int l2, int l3, long l
   Core1.f2(m);
   throw State.trap();
  }
- l3 = Core10.f383(m, l0, l1, l2, l3, l4);
+ l3 = Core10.f384(m, l0, l1, l2, l3, l4);
  Core1.f1(m);
  return l3;
 }
@@ -457,7 +457,7 @@ static int chinese_numbers_print_column(State m, long l0, long l1, long l2, long
   Core1.f2(m);
   throw State.trap();
  }
- l8 = Core10.f385(m, l0, l1, l2, l3, l4, l5, l6, l7, l8, l9, l10, l11, l12, l13, l14, l15);
+ l8 = Core10.f386(m, l0, l1, l2, l3, l4, l5, l6, l7, l8, l9, l10, l11, l12, l13, l14, l15);
  Core1.f1(m);
  return l8;
 }
@@ -468,7 +468,7 @@ static int chinese_wide_numbers_print_column(State m, long l0, long l1, long l2,
   Core1.f2(m);
   throw State.trap();
  }
- l8 = Core10.f387(m, l0, l1, l2, l3, l4, l5, l6, l7, l8, l9, l10, l11, l12, l13, l14, l15);
+ l8 = Core10.f388(m, l0, l1, l2, l3, l4, l5, l6, l7, l8, l9, l10, l11, l12, l13, l14, l15);
  Core1.f1(m);
  return l8;
 }
@@ -479,7 +479,7 @@ static int chinese_text_to_speech(State m, long l0, long l1, int l2, int l3, int
   Core1.f2(m);
   throw State.trap();
  }
- l6 = Core10.f389(m, l0, l1, l2, l3, l4, l5, l6, l7, l8, l9, l10, l11);
+ l6 = Core10.f390(m, l0, l1, l2, l3, l4, l5, l6, l7, l8, l9, l10, l11);
  Core1.f1(m);
  return l6;
 }
@@ -490,7 +490,7 @@ static int chinese_number_print(State m, long l0, long l1, int l2, int l3, int l
   Core1.f2(m);
   throw State.trap();
  }
- l5 = Core10.f391(m, l0, l1, l2, l3, l4, l5, l6, l7, l8);
+ l5 = Core10.f392(m, l0, l1, l2, l3, l4, l5, l6, l7, l8);
  Core1.f1(m);
  return l5;
 }

@@ -2,7 +2,7 @@
 package chinesenumber;
 
 final class Core10 {
-static int f379_1(State m, long l0, long l1, int l2, int l3, int l4, int l5, long l6, long l9, long l10, long l11, long l12, long l14, long l15, long l16, long l17, long l18, long l19, long l20, long l21, long l22, long l23, long l24, int l28, int l29, int l30, int l31) {
+static int f380_1(State m, long l0, long l1, int l2, int l3, int l4, int l5, long l6, long l9, long l10, long l11, long l12, long l14, long l15, long l16, long l17, long l18, long l19, long l20, long l21, long l22, long l23, long l24, int l28, int l29, int l30, int l31) {
  final byte[] b = m.bytes;
  int exit = 0;
  PART: {
@@ -32,7 +32,7 @@ static int f379_1(State m, long l0, long l1, int l2, int l3, int l4, int l5, lon
       Words.put64(b, ((int) l10) - 58560, l19);
       Words.put64(b, ((int) l10) - 58568, l6);
       Words.put64(b, ((int) l10) - 58576, l20);
-      if (Core7.f234(m, l17, l10 + 336L) != 0) { break L17; }
+      if (Core7.f235(m, l17, l10 + 336L) != 0) { break L17; }
      }
      Words.put64(b, ((int) l10) - 58704, 0L);
      Words.put64(b, ((int) l10) - 58696, 0L);
@@ -46,7 +46,7 @@ static int f379_1(State m, long l0, long l1, int l2, int l3, int l4, int l5, lon
      Words.put64(b, ((int) l10) - 58736, 0L);
      Words.put64(b, ((int) l10) - 58744, 0L);
      Words.put64(b, ((int) l10) - 58752, 0L);
-     Core8.f260(m, l10 + 160L, l12, l1, l12 + l6, l1 - l6, l2, l30);
+     Core8.f261(m, l10 + 160L, l12, l1, l12 + l6, l1 - l6, l2, l30);
      l3 = 1;
      L19: {
       if ((b[((int) l10) - 58752] & 0xff) == 1) { break L19; }
@@ -59,9 +59,9 @@ static int f379_1(State m, long l0, long l1, int l2, int l3, int l4, int l5, lon
       Words.put64(b, ((int) l10) - 58560, l19);
       Words.put64(b, ((int) l10) - 58568, l6);
       Words.put64(b, ((int) l10) - 58576, l20);
-      if (Core8.f262(m, l10 + 112L, l12, l1, l10 + 336L) != 0) { break L17; }
+      if (Core8.f263(m, l10 + 112L, l12, l1, l10 + 336L) != 0) { break L17; }
      }
-     Core8.f259(m, l10 + 208L, l2, l30, l12, l1, l15, l16);
+     Core8.f260(m, l10 + 208L, l2, l30, l12, l1, l15, l16);
      L20: {
       if ((b[((int) l10) - 58704] & 0xff) != 1) { break L20; }
       Words.put64(b, ((int) l10) - 58712, l0 = Words.get64(b, ((int) l10) - 58656));
@@ -70,14 +70,14 @@ static int f379_1(State m, long l0, long l1, int l2, int l3, int l4, int l5, lon
       Words.put64(b, ((int) l10) - 58736, l9 = Words.get64(b, ((int) l10) - 58680));
       Words.put64(b, ((int) l10) - 58744, l22 = Words.get64(b, ((int) l10) - 58688));
       Words.put64(b, ((int) l10) - 58752, l23 = Words.get64(b, ((int) l10) - 58696));
-      if (Core7.f234(m, l18 + l6, l10 + 160L) == 0) { break L20; }
+      if (Core7.f235(m, l18 + l6, l10 + 160L) == 0) { break L20; }
       L21: while (true) {
        Words.put64(b, ((int) l10) - 58768, 0L);
        Words.put64(b, ((int) l10) - 58776, 0L);
        Words.put64(b, ((int) l10) - 58784, 0L);
        Words.put64(b, ((int) l10) - 58792, 0L);
        Words.put64(b, ((int) l10) - 58800, 0L);
-       Core8.f260(m, l10 + 112L, l12, l1, l12 + l22, l1 - l22, l2, l30);
+       Core8.f261(m, l10 + 112L, l12, l1, l12 + l22, l1 - l22, l2, l30);
        l3 = 1;
        L22: {
         if ((b[((int) l10) - 58800] & 0xff) == 1) { break L22; }
@@ -90,7 +90,7 @@ static int f379_1(State m, long l0, long l1, int l2, int l3, int l4, int l5, lon
         Words.put64(b, ((int) l10) - 58560, l9);
         Words.put64(b, ((int) l10) - 58568, l22);
         Words.put64(b, ((int) l10) - 58576, l23);
-        if (Core8.f262(m, l10 + 102L, l12, l1, l10 + 336L) != 0) { break L17; }
+        if (Core8.f263(m, l10 + 102L, l12, l1, l10 + 336L) != 0) { break L17; }
        }
        if (l0 == 0L) { break L20; }
        l24 = l11 + l22;
@@ -116,7 +116,7 @@ static int f379_1(State m, long l0, long l1, int l2, int l3, int l4, int l5, lon
         Words.put64(b, ((int) l10) - 58776, 0L);
         Words.put64(b, ((int) l10) - 58768, 0L);
         m.fill((int) (l10 + 336L), 0, (int) 128L);
-        Core8.f260(m, l10 + 112L, l12, l1, l9, l11, l2, l30);
+        Core8.f261(m, l10 + 112L, l12, l1, l9, l11, l2, l30);
         L27: {
          L28: {
           if ((b[((int) l10) - 58800] & 0xff) != 1) { break L28; }
@@ -175,7 +175,7 @@ static int f379_1(State m, long l0, long l1, int l2, int l3, int l4, int l5, lon
        Words.put64(b, ((int) l10) - 58728, l11 = l11 - l0);
        l3 = 0;
        l23 = l12;
-       if (Core7.f234(m, l24, l10 + 160L) != 0) { continue L21; }
+       if (Core7.f235(m, l24, l10 + 160L) != 0) { continue L21; }
        break L17;
       }
      }
@@ -193,7 +193,7 @@ static int f379_1(State m, long l0, long l1, int l2, int l3, int l4, int l5, lon
      Words.put64(b, ((int) l10) - 58688, 0L);
      Words.put64(b, ((int) l10) - 58696, 0L);
      Words.put64(b, ((int) l10) - 58704, 0L);
-     Core8.f260(m, l10 + 208L, l12, l1, l12 + l6, l1 - l6, l2, l30);
+     Core8.f261(m, l10 + 208L, l12, l1, l12 + l6, l1 - l6, l2, l30);
      L41: {
       L42: {
        L43: {
@@ -259,7 +259,7 @@ static int f379_1(State m, long l0, long l1, int l2, int l3, int l4, int l5, lon
             l28 = ((l4 << 6) | ((l28 << 12) | ((l31 << 18) & 1835008))) | ((b[((int) l11) - 58909] & 0xff) & 63);
            }
            if (l28 != 21313) { break L46; }
-           Core8.f277(m, l10 + 16L, l19, l18 - l17);
+           Core8.f278(m, l10 + 16L, l19, l18 - l17);
            l0 = (l29 + Integer.MIN_VALUE < 2147483632) ? 3L : 4L;
            l4 = 0;
            L55: {
@@ -292,8 +292,8 @@ static int f379_1(State m, long l0, long l1, int l2, int l3, int l4, int l5, lon
            }
            l21 = l17 - l0;
            l11 = l11 + l0;
-           l20 = 99461L;
-           l19 = 98156L;
+           l20 = 99437L;
+           l19 = 98132L;
            l22 = 2L;
            L60: {
             L61: {
@@ -326,7 +326,7 @@ static int f379_1(State m, long l0, long l1, int l2, int l3, int l4, int l5, lon
               }
              }
              if (l29 == 0) { break L61; }
-             l20 = 98157L;
+             l20 = 98133L;
              l19 = 83372L;
              l9 = 0L;
              l22 = 1L;
@@ -335,10 +335,10 @@ static int f379_1(State m, long l0, long l1, int l2, int l3, int l4, int l5, lon
             l9 = 1L;
            }
            Core2.f53(m, l10 + 16L, l4 != 0 ? l19 : l20, l4 != 0 ? l9 : l22);
-           Core8.f277(m, l10 + 16L, l11, l21);
+           Core8.f278(m, l10 + 16L, l11, l21);
            break L39;
           }
-          Core8.f277(m, l10 + 16L, l19, l18);
+          Core8.f278(m, l10 + 16L, l19, l18);
           break L39;
          }
          l28 = (l4 = (int) b[((int) l9) - 58912]) & 255;
@@ -378,7 +378,7 @@ static int f379_1(State m, long l0, long l1, int l2, int l3, int l4, int l5, lon
        Words.put64(b, ((int) l10) - 58560, l19);
        Words.put64(b, ((int) l10) - 58568, l6);
        Words.put64(b, ((int) l10) - 58576, l20);
-       if ((Core8.f278(m, l10 + 160L, l10 + 16L, l12, l1, l10 + 336L) & 1) != 0) { break L39; }
+       if ((Core8.f279(m, l10 + 160L, l10 + 16L, l12, l1, l10 + 336L) & 1) != 0) { break L39; }
       }
       Core2.f53(m, l10 + 16L, l19, l18);
       break L39;
@@ -386,7 +386,7 @@ static int f379_1(State m, long l0, long l1, int l2, int l3, int l4, int l5, lon
      L70: {
       L71: {
        if ((l28 = Words.get32(b, ((int) l10) - 58692)) != 21313) { break L71; }
-       l9 = 99461L;
+       l9 = 99437L;
        l11 = 2L;
        break L70;
       }
@@ -397,12 +397,12 @@ static int f379_1(State m, long l0, long l1, int l2, int l3, int l4, int l5, lon
        l11 = 0L;
        break L70;
       }
-      l9 = Words.get64(b, State.far((int) ((((b[((int) l10) - 58903] & 0xff) & 0xffffffffL) & 255L) << 3L), 102728));
+      l9 = Words.get64(b, State.far((int) ((((b[((int) l10) - 58903] & 0xff) & 0xffffffffL) & 255L) << 3L), 102816));
       l11 = 1L;
      }
      Core2.f53(m, l10 + 16L, l9, l11);
     }
-    Core8.f259(m, l10 + 40L, l2, l30, l12, l1, l15, l16);
+    Core8.f260(m, l10 + 40L, l2, l30, l12, l1, l15, l16);
     l17 = l18 + l6;
     l4 = 1;
     if ((b[((int) l10) - 58872] & 0xff) == 1) { continue L16; }
@@ -433,7 +433,7 @@ static int f379_1(State m, long l0, long l1, int l2, int l3, int l4, int l5, lon
  return exit;
 }
 
-static int f379(State m, long l0, long l1, int l2, int l3, int l4, int l5, long l6, long l7, long l8) {
+static int f380(State m, long l0, long l1, int l2, int l3, int l4, int l5, long l6, long l7, long l8) {
  final byte[] b = m.bytes;
  long l9 = 0;
  long l10 = 0;
@@ -474,7 +474,7 @@ static int f379(State m, long l0, long l1, int l2, int l3, int l4, int l5, long 
        l29 = l4 = (l4 == 5) ? 1 : 0;
        break L5;
       }
-      final int t7 = b[((int) ((l9 = (l4 & 0xffffffffL) << 1L) + 98034L)) - 58912] & 0xff;
+      final int t7 = b[((int) ((l9 = (l4 & 0xffffffffL) << 1L) + 98010L)) - 58912] & 0xff;
       final int t8 = l4 = (((1L << l9) & 340L) != 0L) ? 1 : 0;
       l29 = t8 != 0 ? t7 : 0;
      }
@@ -522,8 +522,8 @@ static int f379(State m, long l0, long l1, int l2, int l3, int l4, int l5, long 
      Words.put64(b, ((int) l10) - 58856, 0L);
      Words.put64(b, ((int) l10) - 58864, 0L);
      Words.put64(b, ((int) l10) - 58872, 0L);
-     Core8.f259(m, l10 + 40L, l2, l30, l12, l1, l12, l1);
-     f379_1(m, l0, l1, l2, l3, l4, l5, l6, l9, l10, l11, l12, l14, l15, l16, l17, l18, l19, l20, l21, l22, l23, l24, l28, l29, l30, l31);
+     Core8.f260(m, l10 + 40L, l2, l30, l12, l1, l12, l1);
+     f380_1(m, l0, l1, l2, l3, l4, l5, l6, l9, l10, l11, l12, l14, l15, l16, l17, l18, l19, l20, l21, l22, l23, l24, l28, l29, l30, l31);
      l0 = m.kept[0];
      l3 = (int) m.kept[1];
      l4 = (int) m.kept[2];
@@ -585,7 +585,7 @@ static int f379(State m, long l0, long l1, int l2, int l3, int l4, int l5, long 
         Words.put64(b, ((int) l10) - 58560, l27);
         Words.put64(b, ((int) l10) - 58568, l17);
         Words.put64(b, ((int) l10) - 58576, l24);
-        if (Core7.f234(m, l13, l10 + 336L) != 0) { break L75; }
+        if (Core7.f235(m, l13, l10 + 336L) != 0) { break L75; }
        }
        Words.put64(b, ((int) l10) - 58712, l23);
        Words.put64(b, ((int) l10) - 58720, l21);
@@ -593,7 +593,7 @@ static int f379(State m, long l0, long l1, int l2, int l3, int l4, int l5, long 
        Words.put64(b, ((int) l10) - 58736, l27);
        Words.put64(b, ((int) l10) - 58744, l17);
        Words.put64(b, ((int) l10) - 58752, l24);
-       if (Core8.f262(m, l10 + 102L, l12, l1, l10 + 160L) != 0) { break L76; }
+       if (Core8.f263(m, l10 + 102L, l12, l1, l10 + 160L) != 0) { break L76; }
        l9 = l22 + l17;
        l15 = l21;
        l20 = l23;
@@ -619,7 +619,7 @@ static int f379(State m, long l0, long l1, int l2, int l3, int l4, int l5, long 
         Words.put64(b, ((int) l10) - 58784, l16);
         Words.put64(b, ((int) l10) - 58792, l6);
         Words.put64(b, ((int) l10) - 58800, l19);
-        if (Core7.f234(m, l9, l10 + 112L) == 0) { break L75; }
+        if (Core7.f235(m, l9, l10 + 112L) == 0) { break L75; }
         l9 = l16;
         l0 = l18;
         L80: {
@@ -665,7 +665,7 @@ static int f379(State m, long l0, long l1, int l2, int l3, int l4, int l5, long 
          Words.put64(b, ((int) l10) - 58704, b[((int) l10) - 58576] & 0xffL);
          Words.put64(b, ((int) l10) - 58696, b[((int) l10) - 58568] & 0xffL);
          m.copy((int) l26, (int) l25, (int) 112L);
-         if (Core8.f263(m, l10 + 102L, l12, l1, l10 + 40L, l10 + 208L) == 0) { break L76; }
+         if (Core8.f264(m, l10 + 102L, l12, l1, l10 + 40L, l10 + 208L) == 0) { break L76; }
         }
         l9 = l18 + l6;
         continue L79;
@@ -692,7 +692,7 @@ static int f379(State m, long l0, long l1, int l2, int l3, int l4, int l5, long 
      Words.put64(b, ((int) l10) - 58560, l27);
      Words.put64(b, ((int) l10) - 58568, l17);
      Words.put64(b, ((int) l10) - 58576, l24);
-     if ((Core8.f278(m, l10 + 208L, l10 + 16L, l12, l1, l10 + 336L) & 1) != 0) { break L86; }
+     if ((Core8.f279(m, l10 + 208L, l10 + 16L, l12, l1, l10 + 336L) & 1) != 0) { break L86; }
      Core2.f53(m, l10 + 16L, l27, l22);
     }
     l13 = l22 + l17;
@@ -707,7 +707,7 @@ static int f379(State m, long l0, long l1, int l2, int l3, int l4, int l5, long 
  return l28;
 }
 
-static int f381_1(State m, long l0, int l1, int l2, int l3, long l7, long l8, long l9, long l11, long l12, long l13, long l14, long l15, long l16, long l17, long l18, long l19, long l20, long l21, long l22, long l23, long l24, long l25, long l26, int l27, int l28, int l29, int l30, int l31) {
+static int f382_1(State m, long l0, int l1, int l2, int l3, long l7, long l8, long l9, long l11, long l12, long l13, long l14, long l15, long l16, long l17, long l18, long l19, long l20, long l21, long l22, long l23, long l24, long l25, long l26, int l27, int l28, int l29, int l30, int l31) {
  final byte[] b = m.bytes;
  int exit = 0;
  PART: {
@@ -939,13 +939,13 @@ static int f381_1(State m, long l0, int l1, int l2, int l3, long l7, long l8, lo
     }
     L113: {
      L114: {
-      if (((l17 = (l8 + 494L) + (l0 = l0 + 230L)) - 99463L) + Long.MIN_VALUE > -9223372036854775803L) { break L114; }
+      if (((l17 = (l8 + 494L) + (l0 = l0 + 230L)) - 99439L) + Long.MIN_VALUE > -9223372036854775803L) { break L114; }
       Words.put16(b, ((int) l17) - 58908, (short) 35769);
       Words.put32(b, ((int) l17) - 58912, -460945179);
       break L113;
      }
-     Words.put16(b, ((int) l17) - 58908, (short) (Words.get16(b, State.far((int) 0L, 99467)) & 0xffff));
-     Words.put32(b, ((int) l17) - 58912, Words.get32(b, State.far((int) 0L, 99463)));
+     Words.put16(b, ((int) l17) - 58908, (short) (Words.get16(b, State.far((int) 0L, 99443)) & 0xffff));
+     Words.put32(b, ((int) l17) - 58912, Words.get32(b, State.far((int) 0L, 99439)));
     }
     m.fill((int) (l8 + 965L), 0, (int) 235L);
     L115: {
@@ -1063,7 +1063,7 @@ static int f381_1(State m, long l0, int l1, int l2, int l3, long l7, long l8, lo
  return exit;
 }
 
-static int f381(State m, long l0, int l1, int l2, int l3, long l4, long l5, long l6) {
+static int f382(State m, long l0, int l1, int l2, int l3, long l4, long l5, long l6) {
  final byte[] b = m.bytes;
  long l7 = 0;
  long l8 = 0;
@@ -1199,7 +1199,7 @@ static int f381(State m, long l0, int l1, int l2, int l3, long l4, long l5, long
            break L5;
           }
           if (((1L << (l0 = (l1 & 0xffffffffL) << 1L)) & 340L) == 0L) { break L1; }
-          l31 = b[((int) (l0 + 98034L)) - 58912] & 0xff;
+          l31 = b[((int) (l0 + 98010L)) - 58912] & 0xff;
           break L4;
          }
          l0 = l0 + -1L;
@@ -1306,7 +1306,7 @@ static int f381(State m, long l0, int l1, int l2, int l3, long l4, long l5, long
     final int t58 = l27;
     l25 = t58 != 0 ? t56 : t57;
     L59: {
-     final int x127 = f381_1(m, l0, l1, l2, l3, l7, l8, l9, l11, l12, l13, l14, l15, l16, l17, l18, l19, l20, l21, l22, l23, l24, l25, l26, l27, l28, l29, l30, l31);
+     final int x127 = f382_1(m, l0, l1, l2, l3, l7, l8, l9, l11, l12, l13, l14, l15, l16, l17, l18, l19, l20, l21, l22, l23, l24, l25, l26, l27, l28, l29, l30, l31);
      l0 = m.kept[0];
      l1 = (int) m.kept[1];
      l3 = (int) m.kept[2];
@@ -1359,14 +1359,14 @@ static int f381(State m, long l0, int l1, int l2, int l3, long l4, long l5, long
      if (l28 != 2) { break L59; }
      L137: {
       L138: {
-       if (((l7 = l9 + -6L) - 99463L) + Long.MIN_VALUE > -9223372036854775803L) { break L138; }
+       if (((l7 = l9 + -6L) - 99439L) + Long.MIN_VALUE > -9223372036854775803L) { break L138; }
        b[((int) l7) - 58912] = (byte) 229;
        b[((int) (l9 + -1L)) - 58912] = (byte) 139;
        Words.put32(b, ((int) (l9 + -5L)) - 58912, -1176205688);
        break L137;
       }
-      Words.put16(b, ((int) l7) - 58908, (short) (Words.get16(b, State.far((int) 0L, 99467)) & 0xffff));
-      Words.put32(b, ((int) l7) - 58912, Words.get32(b, State.far((int) 0L, 99463)));
+      Words.put16(b, ((int) l7) - 58908, (short) (Words.get16(b, State.far((int) 0L, 99443)) & 0xffff));
+      Words.put32(b, ((int) l7) - 58912, Words.get32(b, State.far((int) 0L, 99439)));
      }
      if (((l27 = Words.get32(b, ((int) (l17 + 156L)) - 58912)) + -55296) + Integer.MIN_VALUE <= 2147430399) { break L3; }
      b[((int) (l7 = (l8 + 494L) + (l0 = l0 + -9L))) - 58910] = (byte) ((l27 & 63) | 128);
@@ -1400,11 +1400,11 @@ static int f381(State m, long l0, int l1, int l2, int l3, long l4, long l5, long
  return l27;
 }
 
-static int f383(State m, long l0, long l1, int l2, int l3, long l4) {
- return Core8.f287(m, l0 + ((l0 == 0L) ? 4096L : 0L), l1, l2, l3, l4);
+static int f384(State m, long l0, long l1, int l2, int l3, long l4) {
+ return Core8.f288(m, l0 + ((l0 == 0L) ? 4096L : 0L), l1, l2, l3, l4);
 }
 
-static int f385(State m, long l0, long l1, long l2, long l3, long l4, int l5, int l6, int l7, int l8, long l9, long l10, long l11, long l12, long l13, long l14, long l15) {
+static int f386(State m, long l0, long l1, long l2, long l3, long l4, int l5, int l6, int l7, int l8, long l9, long l10, long l11, long l12, long l13, long l14, long l15) {
  final byte[] b = m.bytes;
  long l16 = 0;
  long l17 = 0;
@@ -1437,7 +1437,7 @@ static int f385(State m, long l0, long l1, long l2, long l3, long l4, int l5, in
        L7: {
         L8: {
          if (l6 + Integer.MIN_VALUE > -2147483644) { break L8; }
-         l30 = b[((int) (((l6 & 0xffffffffL) << 1L) + 98034L)) - 58912] & 0xff;
+         l30 = b[((int) (((l6 & 0xffffffffL) << 1L) + 98010L)) - 58912] & 0xff;
          l31 = (l6 == 0) ? 1 : 0;
          break L7;
         }
@@ -1764,7 +1764,7 @@ static int f385(State m, long l0, long l1, long l2, long l3, long l4, int l5, in
  return l8;
 }
 
-static int f387(State m, long l0, long l1, long l2, long l3, long l4, int l5, int l6, int l7, int l8, long l9, long l10, long l11, long l12, long l13, long l14, long l15) {
+static int f388(State m, long l0, long l1, long l2, long l3, long l4, int l5, int l6, int l7, int l8, long l9, long l10, long l11, long l12, long l13, long l14, long l15) {
  final byte[] b = m.bytes;
  long l16 = 0;
  long l17 = 0;
@@ -1796,7 +1796,7 @@ static int f387(State m, long l0, long l1, long l2, long l3, long l4, int l5, in
     L4: {
      L5: {
       if (l6 + Integer.MIN_VALUE > -2147483644) { break L5; }
-      l31 = b[((int) (((l6 & 0xffffffffL) << 1L) + 98034L)) - 58912] & 0xff;
+      l31 = b[((int) (((l6 & 0xffffffffL) << 1L) + 98010L)) - 58912] & 0xff;
       l32 = (l6 == 0) ? 1 : 0;
       break L4;
      }
@@ -2131,7 +2131,7 @@ static int f387(State m, long l0, long l1, long l2, long l3, long l4, int l5, in
  throw State.trap();
 }
 
-static int f389(State m, long l0, long l1, int l2, int l3, int l4, int l5, int l6, long l7, long l8, long l9, long l10, long l11) {
+static int f390(State m, long l0, long l1, int l2, int l3, int l4, int l5, int l6, long l7, long l8, long l9, long l10, long l11) {
  final byte[] b = m.bytes;
  long l12 = 0;
  long l13 = 0;
@@ -2179,7 +2179,7 @@ static int f389(State m, long l0, long l1, int l2, int l3, int l4, int l5, int l
      break L5;
     }
     if (((1L << (l12 = (l4 & 0xffffffffL) << 1L)) & 340L) == 0L) { break L2; }
-    l5 = b[((int) (l12 + 98034L)) - 58912] & 0xff;
+    l5 = b[((int) (l12 + 98010L)) - 58912] & 0xff;
    }
    if (!((l2 + Integer.MIN_VALUE < -2147483646) & (l3 + Integer.MIN_VALUE < -2147483632))) { break L2; }
    l14 = l1;
@@ -2211,7 +2211,7 @@ static int f389(State m, long l0, long l1, int l2, int l3, int l4, int l5, int l
     l25 = 5;
     break L2;
    }
-   Core6.f184(m, l13 + 16L, l12, l1, l7 + ((l7 == 0L) ? 4096L : 0L), l8);
+   Core6.f185(m, l13 + 16L, l12, l1, l7 + ((l7 == 0L) ? 4096L : 0L), l8);
    L12: {
     if ((b[((int) l13) - 58896] & 0xff) == 1) { break L12; }
     l25 = 6;
@@ -2252,11 +2252,11 @@ static int f389(State m, long l0, long l1, int l2, int l3, int l4, int l5, int l
       }
       l1 = (l5 + Integer.MIN_VALUE < 2147483632) ? 3L : 4L;
      }
-     Core6.f189(m, l13 + 296L, l15, l16, l24, l23, l2, l3);
+     Core6.f190(m, l13 + 296L, l15, l16, l24, l23, l2, l3);
      Words.put64(b, ((int) l13) - 58848, b[((int) l13) - 58616] & 0xffL);
      Words.put64(b, ((int) l13) - 58840, (l25 = b[((int) l13) - 58608] & 0xff) & 0xffffffffL);
      m.copy((int) l20, (int) l19, (int) 216L);
-     Core7.f226(m, l13, l13 + 64L, l24 + l1, l23 - l1);
+     Core7.f227(m, l13, l13 + 64L, l24 + l1, l23 - l1);
      l12 = l21;
      l1 = l22;
      L18: {
@@ -2324,7 +2324,7 @@ static int f389(State m, long l0, long l1, int l2, int l3, int l4, int l5, int l
          Words.put64(b, ((int) l13) - 58368, l7);
          Words.put64(b, ((int) l13) - 58376, l9);
          m.copy((int) l17, (int) l18, (int) 184L);
-         Core9.f289(m, l13 + 40L, l13 + 533L, l15, l16 - l23, l24, l23, l13 + 536L);
+         Core9.f290(m, l13 + 40L, l13 + 533L, l15, l16 - l23, l24, l23, l13 + 536L);
          break L27;
         }
         Words.put16(b, ((int) l13) - 57972, (short) (Words.get16(b, ((int) l13) - 58379) & 0xffff));
@@ -2343,8 +2343,8 @@ static int f389(State m, long l0, long l1, int l2, int l3, int l4, int l5, int l
          }
          l14 = (l5 + Integer.MIN_VALUE < 2147483632) ? 3L : 4L;
         }
-        Core9.f294(m, l13 + 40L, b[((int) l13) - 57972] & 0xff, l9, l7);
-        Core9.f289(m, l13 + 40L, l13 + 940L, l15, l16 - (l7 = l23 - l14), l24 + l14, l7, l13 + 736L);
+        Core9.f295(m, l13 + 40L, b[((int) l13) - 57972] & 0xff, l9, l7);
+        Core9.f290(m, l13 + 40L, l13 + 940L, l15, l16 - (l7 = l23 - l14), l24 + l14, l7, l13 + 736L);
         break L27;
        }
        Core2.f53(m, l13 + 40L, l21, l14);
@@ -2367,7 +2367,7 @@ static int f389(State m, long l0, long l1, int l2, int l3, int l4, int l5, int l
  throw State.trap();
 }
 
-static int f391(State m, long l0, long l1, int l2, int l3, int l4, int l5, long l6, long l7, long l8) {
+static int f392(State m, long l0, long l1, int l2, int l3, int l4, int l5, long l6, long l7, long l8) {
  final byte[] b = m.bytes;
  long l9 = 0;
  long l10 = 0;
@@ -2394,7 +2394,7 @@ static int f391(State m, long l0, long l1, int l2, int l3, int l4, int l5, long 
         L8: {
          L9: {
           if (l3 + Integer.MIN_VALUE > -2147483644) { break L9; }
-          l16 = b[((int) (((l3 & 0xffffffffL) << 1L) + 98034L)) - 58912] & 0xff;
+          l16 = b[((int) (((l3 & 0xffffffffL) << 1L) + 98010L)) - 58912] & 0xff;
           l17 = (l3 == 0) ? 1 : 0;
           break L8;
          }

@@ -3019,9 +3019,9 @@ static void f50(State m, long l0, long l1, int l2) {
  L1: {
   if ((l3 = l3) < 16L) { break L1; }
   Words.put64(b, ((int) l3) - 58840, 0L);
-  l5 = (l4 = ((l2 & 0xffffffffL) & 255L) << 3L) + 101408L;
-  l6 = Words.get64(b, State.far((int) l4, 100992));
-  l7 = Words.get64(b, State.far((int) l4, 100160));
+  l5 = (l4 = ((l2 & 0xffffffffL) & 255L) << 3L) + 101496L;
+  l6 = Words.get64(b, State.far((int) l4, 101080));
+  l7 = Words.get64(b, State.far((int) l4, 100248));
   L2: {
    L3: {
     L4: {
@@ -3032,10 +3032,10 @@ static void f50(State m, long l0, long l1, int l2) {
       default: break L2;
       }
      }
-     l5 = l4 + 100576L;
+     l5 = l4 + 100664L;
      break L3;
     }
-    l5 = l4 + 99744L;
+    l5 = l4 + 99832L;
    }
    l6 = l7;
   }

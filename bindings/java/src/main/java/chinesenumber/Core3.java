@@ -6773,7 +6773,7 @@ static int f117_1(State m, long l8, long l13, long l14, long l15, long l16, long
           l48 = 0;
           Words.put32(b, ((int) l8) - 58552, 0);
           Core4.f120(m, l8 + 352L, l46, l8 + 216L);
-          l43 = Words.get32(b, State.far((int) (((l46 & 0xffffffffL) & 255L) << 2L), 101824));
+          l43 = Words.get32(b, State.far((int) (((l46 & 0xffffffffL) & 255L) << 2L), 101912));
           l47 = 2;
           l49 = 0;
           l50 = 0;

@@ -2365,10 +2365,12 @@ static int f123(State m, long l0, long l1, long l2) {
  long l7 = 0;
  long l8 = 0;
  long l9 = 0;
- int l10 = 0;
- int l11 = 0;
+ long l10 = 0;
+ long l11 = 0;
  int l12 = 0;
  int l13 = 0;
+ int l14 = 0;
+ int l15 = 0;
  m.g0 = l3 = m.g0 - 64L;
  L1: {
   L2: {
@@ -2377,193 +2379,199 @@ static int f123(State m, long l0, long l1, long l2) {
      L5: {
       L6: {
        L7: {
+        if ((l3 = l3) < 16L) { break L7; }
         L8: {
-         if ((l3 = l3) < 16L) { break L8; }
-         L9: {
-          if ((l10 = (b[((int) l2) - 58912] & 0xff) & 255) != 2) { break L9; }
-          l10 = 1;
-          break L1;
-         }
-         l4 = Words.get64(b, ((int) l2) - 58832);
-         l5 = Words.get64(b, ((int) l2) - 58840);
-         l6 = Words.get64(b, ((int) l2) - 58864);
-         l7 = Words.get64(b, ((int) l2) - 58872);
+         if ((l12 = (b[((int) l2) - 58912] & 0xff) & 255) != 2) { break L8; }
+         l12 = 1;
+         break L1;
+        }
+        l4 = Words.get64(b, ((int) l2) - 58832);
+        l5 = Words.get64(b, ((int) l2) - 58840);
+        l6 = Words.get64(b, ((int) l2) - 58848);
+        l7 = Words.get64(b, ((int) l2) - 58856);
+        l8 = Words.get64(b, ((int) l2) - 58864);
+        l9 = Words.get64(b, ((int) l2) - 58872);
+        L9: {
+         if (l12 != 1) { break L9; }
+         if (l8 == 0L) { break L9; }
+         l10 = 1L;
+         l14 = l13 = (l12 = (int) b[((int) l9) - 58912]) & 255;
          L10: {
-          if (l10 != 1) { break L10; }
-          if (l6 == 0L) { break L10; }
-          l10 = (l11 = (int) b[((int) l7) - 58912]) & 255;
-          l8 = 1L;
+          if (l12 > -1) { break L10; }
+          l14 = (b[((int) l9) - 58911] & 0xff) & 63;
           L11: {
-           if (l11 > -1) { break L11; }
-           l12 = (b[((int) l7) - 58911] & 0xff) & 63;
-           L12: {
-            if (l11 + Integer.MIN_VALUE > 2147483615) { break L12; }
-            l10 = ((l10 << 6) & 1984) | l12;
-            l8 = 2L;
-            break L11;
-           }
-           l13 = (b[((int) l7) - 58910] & 0xff) & 63;
-           L13: {
-            if (l11 + Integer.MIN_VALUE > 2147483631) { break L13; }
-            l10 = ((l12 << 6) | ((l10 << 12) & 61440)) | l13;
-            l8 = 3L;
-            break L11;
-           }
-           l10 = ((l13 << 6) | ((l12 << 12) | ((l10 << 18) & 1835008))) | ((b[((int) l7) - 58909] & 0xff) & 63);
-           l8 = 4L;
+           if (l12 + Integer.MIN_VALUE > 2147483615) { break L11; }
+           l14 = ((l13 << 6) & 1984) | l14;
+           l10 = 2L;
+           break L10;
           }
-          if (l6 != l8) { break L3; }
+          l15 = (b[((int) l9) - 58910] & 0xff) & 63;
+          L12: {
+           if (l12 + Integer.MIN_VALUE > 2147483631) { break L12; }
+           l14 = ((l14 << 6) | ((l13 << 12) & 61440)) | l15;
+           l10 = 3L;
+           break L10;
+          }
+          l14 = ((l15 << 6) | ((l14 << 12) | ((l13 << 18) & 1835008))) | ((b[((int) l9) - 58909] & 0xff) & 63);
+          l10 = 4L;
+         }
+         if (l8 != l10) { break L3; }
+         L13: {
           L14: {
-           if (l10 > 20107) { break L14; }
-           if ((l11 = l10 + -19968) + Integer.MIN_VALUE <= -2147483612) { break L7; }
+           if (l14 > 20107) { break L14; }
+           if ((l15 = l14 + -19968) + Integer.MIN_VALUE <= -2147483612) { break L13; }
            break L5;
           }
           L15: {
-           if (l10 > 22234) { break L15; }
-           if ((l11 = l10 + -20841) + Integer.MIN_VALUE > -2147483644) { break L6; }
-           if (((1 << l11) & 21) == 0) { break L6; }
+           if (l14 > 22234) { break L15; }
+           if ((l15 = l14 + -20841) + Integer.MIN_VALUE > -2147483644) { break L6; }
+           if (((1 << l15) & 21) == 0) { break L6; }
            break L4;
           }
-          if (l10 == 38646) { break L4; }
-          if (l10 != 22235) { break L3; }
-          break L4;
+          if (l14 == 38646) { break L4; }
+          if (l14 == 22235) { break L4; }
+          break L3;
          }
-         if (l6 == 0L) { break L2; }
-         break L3;
+         if (((1L << (l15 & 0xffffffffL)) & 68719477257L) == 0L) { break L5; }
+         break L4;
         }
-        throw State.trap();
+        if (l8 == 0L) { break L2; }
+        l12 = l13 = b[((int) l9) - 58912] & 0xff;
+        break L3;
        }
-       if (((1L << (l11 & 0xffffffffL)) & 68719477257L) == 0L) { break L5; }
-       break L4;
+       throw State.trap();
       }
-      switch (l10 + -20108) {
+      switch (l14 + -20108) {
       case 0: case 8: break L4;
       default: break L3;
       }
      }
-     if (l10 == 12295) { break L4; }
-     if (l10 != 20061) { break L3; }
+     if (l14 == 12295) { break L4; }
+     if (l14 != 20061) { break L3; }
     }
-    Core2.f63(m, l3 + 8L, l10);
+    Core2.f63(m, l3 + 8L, l14);
     if (((b[((int) l3) - 58903] & 0xff) & 255) == 0) { break L3; }
     if (((b[((int) l3) - 58904] & 0xff) & 1) == 0) { break L3; }
-    l10 = 1;
+    l12 = 1;
     break L1;
    }
-   if ((l10 = (int) b[((int) l7) - 58912]) > -1) { break L2; }
-   if (l10 + Integer.MIN_VALUE < 2147483616) { break L2; }
-   l11 = l10 & 255;
-   l12 = (b[((int) l7) - 58911] & 0xff) & 63;
-   l13 = (b[((int) l7) - 58910] & 0xff) & 63;
+   if (((int) (byte) l12) > -1) { break L2; }
+   if ((l12 = l12 & 255) + Integer.MIN_VALUE < -2147483424) { break L2; }
+   l14 = (b[((int) l9) - 58911] & 0xff) & 63;
+   l15 = (b[((int) l9) - 58910] & 0xff) & 63;
    L16: {
     L17: {
-     if (l10 + Integer.MIN_VALUE > 2147483631) { break L17; }
-     l10 = ((l12 << 6) | ((l11 << 12) & 61440)) | l13;
-     l8 = 3L;
+     if (l12 + Integer.MIN_VALUE > -2147483409) { break L17; }
+     l12 = ((l14 << 6) | ((l13 << 12) & 61440)) | l15;
+     l10 = 3L;
      break L16;
     }
-    l10 = ((l13 << 6) | ((l12 << 12) | ((l11 << 18) & 1835008))) | ((b[((int) l7) - 58909] & 0xff) & 63);
-    l8 = 4L;
+    l12 = ((l15 << 6) | ((l14 << 12) | ((l13 << 18) & 1835008))) | ((b[((int) l9) - 58909] & 0xff) & 63);
+    l10 = 4L;
    }
-   if (l10 != 19968) { break L2; }
-   if (l6 != l8) { break L2; }
+   if (l12 != 19968) { break L2; }
+   if (l8 != l10) { break L2; }
    if (l4 == 0L) { break L2; }
    L18: {
     L19: {
-     if ((l10 = (int) b[((int) l5) - 58912]) <= -1) { break L19; }
-     l8 = 1L;
+     if ((l12 = (int) b[((int) l5) - 58912]) <= -1) { break L19; }
+     l10 = 1L;
      break L18;
     }
     L20: {
-     if (l10 + Integer.MIN_VALUE >= 2147483616) { break L20; }
-     l8 = 2L;
+     if (l12 + Integer.MIN_VALUE >= 2147483616) { break L20; }
+     l10 = 2L;
      break L18;
     }
-    l8 = (l10 + Integer.MIN_VALUE < 2147483632) ? 3L : 4L;
+    l10 = (l12 + Integer.MIN_VALUE < 2147483632) ? 3L : 4L;
    }
-   if (l4 == l8) { break L2; }
-   l11 = (l10 = (int) b[((int) (l9 = l5 + l8)) - 58912]) & 255;
+   if (l4 == l10) { break L2; }
+   l14 = (l12 = (int) b[((int) (l11 = l5 + l10)) - 58912]) & 255;
    l5 = 1L;
    L21: {
-    if (l10 > -1) { break L21; }
-    l12 = (b[((int) l9) - 58911] & 0xff) & 63;
+    if (l12 > -1) { break L21; }
+    l13 = (b[((int) l11) - 58911] & 0xff) & 63;
     L22: {
-     if (l10 + Integer.MIN_VALUE > 2147483615) { break L22; }
-     l11 = ((l11 << 6) & 1984) | l12;
+     if (l12 + Integer.MIN_VALUE > 2147483615) { break L22; }
+     l14 = ((l14 << 6) & 1984) | l13;
      l5 = 2L;
      break L21;
     }
-    l13 = (b[((int) l9) - 58910] & 0xff) & 63;
+    l15 = (b[((int) l11) - 58910] & 0xff) & 63;
     L23: {
-     if (l10 + Integer.MIN_VALUE > 2147483631) { break L23; }
-     l11 = ((l12 << 6) | ((l11 << 12) & 61440)) | l13;
+     if (l12 + Integer.MIN_VALUE > 2147483631) { break L23; }
+     l14 = ((l13 << 6) | ((l14 << 12) & 61440)) | l15;
      l5 = 3L;
      break L21;
     }
-    l11 = ((l13 << 6) | ((l12 << 12) | ((l11 << 18) & 1835008))) | ((b[((int) l9) - 58909] & 0xff) & 63);
+    l14 = ((l15 << 6) | ((l13 << 12) | ((l14 << 18) & 1835008))) | ((b[((int) l11) - 58909] & 0xff) & 63);
     l5 = 4L;
    }
-   if (l4 != (l5 + l8)) { break L2; }
-   l10 = 1;
-   if (l11 == 37666) { break L1; }
-   if (l11 == 38065) { break L1; }
+   if (l4 != (l5 + l10)) { break L2; }
+   l12 = 1;
+   if (l14 == 37666) { break L1; }
+   if (l14 == 38065) { break L1; }
   }
   L24: {
    if (l1 == 0L) { break L24; }
    L25: {
-    if ((l11 = (int) b[((int) (l0 + (l8 = l1 + -1L))) - 58912]) >= 0) { break L25; }
-    l8 = -2L;
+    if ((l14 = (int) b[((int) (l0 + (l10 = l1 + -1L))) - 58912]) >= 0) { break L25; }
+    l10 = -2L;
     L26: {
      if ((b[((int) ((l4 = l0 + l1) + -2L)) - 58912] & 0xff) + Integer.MIN_VALUE > -2147483457) { break L26; }
-     l8 = ((b[((int) (l4 + -3L)) - 58912] & 0xff) + Integer.MIN_VALUE > -2147483457) ? -3L : -4L;
+     l10 = ((b[((int) (l4 + -3L)) - 58912] & 0xff) + Integer.MIN_VALUE > -2147483457) ? -3L : -4L;
     }
-    l11 = (l10 = (int) b[((int) (l4 = l0 + (l8 = l8 + l1))) - 58912]) & 255;
-    if (l10 > -1) { break L25; }
-    l12 = (b[((int) l4) - 58911] & 0xff) & 63;
+    l14 = (l12 = (int) b[((int) (l4 = l0 + (l10 = l10 + l1))) - 58912]) & 255;
+    if (l12 > -1) { break L25; }
+    l13 = (b[((int) l4) - 58911] & 0xff) & 63;
     L27: {
-     if (l10 + Integer.MIN_VALUE > 2147483615) { break L27; }
-     l11 = ((l11 << 6) & 1984) | l12;
+     if (l12 + Integer.MIN_VALUE > 2147483615) { break L27; }
+     l14 = ((l14 << 6) & 1984) | l13;
      break L25;
     }
-    l13 = (b[((int) l4) - 58910] & 0xff) & 63;
+    l15 = (b[((int) l4) - 58910] & 0xff) & 63;
     L28: {
-     if (l10 + Integer.MIN_VALUE > 2147483631) { break L28; }
-     l11 = ((l12 << 6) | ((l11 << 12) & 61440)) | l13;
+     if (l12 + Integer.MIN_VALUE > 2147483631) { break L28; }
+     l14 = ((l13 << 6) | ((l14 << 12) & 61440)) | l15;
      break L25;
     }
-    l11 = ((l13 << 6) | ((l12 << 12) | ((l11 << 18) & 1835008))) | ((b[((int) l4) - 58909] & 0xff) & 63);
+    l14 = ((l15 << 6) | ((l13 << 12) | ((l14 << 18) & 1835008))) | ((b[((int) l4) - 58909] & 0xff) & 63);
    }
-   l10 = 1;
+   l12 = 1;
    L29: {
-    if (l11 > 24064) { break L29; }
-    if (l11 == 36) { break L1; }
-    if (l11 == 163) { break L1; }
-    if (l11 != 8364) { break L24; }
+    if (l14 > 24064) { break L29; }
+    if (l14 == 36) { break L1; }
+    if (l14 == 163) { break L1; }
+    if (l14 != 8364) { break L24; }
     break L1;
    }
    L30: {
-    if (l11 == 24065) { break L30; }
-    if (l11 == 65284) { break L1; }
-    if (l11 != 24163) { break L24; }
+    if (l14 == 24065) { break L30; }
+    if (l14 == 65284) { break L1; }
+    if (l14 != 24163) { break L24; }
    }
-   if (Core5.f170(m, 85984L, 1L, 86092L, 1L, l0, l8) == 0) { break L1; }
+   if (Core5.f170(m, 85984L, 1L, 86092L, 1L, l0, l10) == 0) { break L1; }
   }
-  Words.put64(b, ((int) l3) - 58872, l6);
-  Words.put64(b, ((int) l3) - 58880, l7);
-  Words.put64(b, ((int) l3) - 58888, Words.get64(b, ((int) l2) - 58880));
-  Words.put64(b, ((int) l3) - 58896, Words.get64(b, ((int) l2) - 58888));
-  Words.put64(b, ((int) l3) - 58864, Words.get64(b, ((int) (l2 = l2 + 56L)) - 58912));
-  Words.put64(b, ((int) l3) - 58856, Words.get64(b, ((int) l2) - 58904));
-  f126(m, l3, l3 + 16L);
   L31: {
-   if ((b[((int) l3) - 58912] & 0xff) != 1) { break L31; }
-   l10 = 1;
-   if (((1 << ((b[((int) l3) - 58911] & 0xff) & 255)) & 23) != 0) { break L1; }
+   L32: {
+    if (Core5.f177(m, l9, l8, l7, l6) != 0) { break L32; }
+    Words.put64(b, ((int) l3) - 58856, l6);
+    Words.put64(b, ((int) l3) - 58864, l7);
+    Words.put64(b, ((int) l3) - 58872, l8);
+    Words.put64(b, ((int) l3) - 58880, l9);
+    Words.put64(b, ((int) l3) - 58888, Words.get64(b, ((int) l2) - 58880));
+    Words.put64(b, ((int) l3) - 58896, Words.get64(b, ((int) l2) - 58888));
+    f126(m, l3, l3 + 16L);
+    if ((b[((int) l3) - 58912] & 0xff) != 1) { break L31; }
+    if (((1 << ((b[((int) l3) - 58911] & 0xff) & 255)) & 23) == 0) { break L31; }
+   }
+   l12 = 1;
+   break L1;
   }
-  l10 = Core5.f176(m, l0, l1);
+  l12 = Core5.f176(m, l0, l1);
  }
  m.g0 = l3 + 64L;
- return l10;
+ return l12;
 }
 
 static void f124(State m, long l0, long l1) {
@@ -2679,59 +2687,81 @@ static int f125(State m, long l0) {
  long l1 = 0;
  long l2 = 0;
  long l3 = 0;
- int l4 = 0;
- int l5 = 0;
- int l6 = 0;
- int l7 = 0;
- m.g0 = l1 = m.g0 - 160L;
- m.copy((int) ((l1 = l1) + 24L), (int) l0, (int) 88L);
+ long l4 = 0;
+ long l5 = 0;
+ long l6 = 0;
+ long l7 = 0;
+ long l8 = 0;
+ long l9 = 0;
+ int l10 = 0;
+ int l11 = 0;
+ int l12 = 0;
+ int l13 = 0;
+ m.g0 = l1 = m.g0 - 96L;
+ Words.put64(b, ((int) (l1 = l1)) - 58888, Words.get64(b, ((int) l0) - 58864));
+ Words.put64(b, ((int) l1) - 58880, Words.get64(b, ((int) l0) - 58856));
+ Words.put64(b, ((int) l1) - 58872, Words.get64(b, ((int) l0) - 58848));
  L1: {
   if (l1 < 16L) { break L1; }
   l2 = Words.get64(b, ((int) l0) - 58824);
+  l3 = Words.get64(b, ((int) l0) - 58832);
+  l4 = Words.get64(b, ((int) l0) - 58840);
+  l5 = Words.get64(b, ((int) l0) - 58872);
+  l6 = Words.get64(b, ((int) l0) - 58880);
+  l7 = Words.get64(b, ((int) l0) - 58888);
+  l8 = Words.get64(b, ((int) l0) - 58896);
   L2: {
    L3: {
-    if ((l3 = Words.get64(b, ((int) l0) - 58816)) == 0L) { break L3; }
-    if ((l4 = (int) b[((int) l2) - 58912]) > -1) { break L3; }
-    if (l4 + Integer.MIN_VALUE < 2147483616) { break L3; }
-    l5 = l4 & 255;
-    l6 = (b[((int) l2) - 58911] & 0xff) & 63;
-    l7 = (b[((int) l2) - 58910] & 0xff) & 63;
+    if ((l9 = Words.get64(b, ((int) l0) - 58816)) == 0L) { break L3; }
+    if ((l10 = (int) b[((int) l2) - 58912]) > -1) { break L3; }
+    if (l10 + Integer.MIN_VALUE < 2147483616) { break L3; }
+    l11 = l10 & 255;
+    l12 = (b[((int) l2) - 58911] & 0xff) & 63;
+    l13 = (b[((int) l2) - 58910] & 0xff) & 63;
     L4: {
      L5: {
-      if (l4 + Integer.MIN_VALUE > 2147483631) { break L5; }
-      l5 = ((l6 << 6) | ((l5 << 12) & 61440)) | l7;
+      if (l10 + Integer.MIN_VALUE > 2147483631) { break L5; }
+      l11 = ((l12 << 6) | ((l11 << 12) & 61440)) | l13;
       break L4;
      }
-     l5 = ((l7 << 6) | ((l6 << 12) | ((l5 << 18) & 1835008))) | ((b[((int) l2) - 58909] & 0xff) & 63);
+     l11 = ((l13 << 6) | ((l12 << 12) | ((l11 << 18) & 1835008))) | ((b[((int) l2) - 58909] & 0xff) & 63);
     }
-    l4 = 1;
-    if (l5 == 25104) { break L2; }
-    if (l5 == 25240) { break L2; }
+    l10 = 1;
+    if (l11 == 25104) { break L2; }
+    if (l11 == 25240) { break L2; }
    }
-   Words.put64(b, ((int) l1) - 58760, Words.get64(b, ((int) l0) - 58872));
-   Words.put64(b, ((int) l1) - 58768, Words.get64(b, ((int) l0) - 58880));
-   Words.put64(b, ((int) l1) - 58776, Words.get64(b, ((int) l0) - 58888));
-   Words.put64(b, ((int) l1) - 58784, Words.get64(b, ((int) l0) - 58896));
-   Words.put64(b, ((int) l1) - 58792, Words.get64(b, ((int) l0) - 58904));
-   Words.put64(b, ((int) l1) - 58800, Words.get64(b, ((int) l0) - 58912));
-   f126(m, l1 + 16L, l1 + 112L);
    L6: {
-    if ((b[((int) l1) - 58896] & 0xff) != 1) { break L6; }
-    l4 = 1;
-    if (((1 << ((b[((int) l1) - 58895] & 0xff) & 255)) & 23) != 0) { break L2; }
+    L7: {
+     if (Core5.f177(m, l8, l7, l6, l5) != 0) { break L7; }
+     Words.put64(b, ((int) l1) - 58824, l5);
+     Words.put64(b, ((int) l1) - 58832, l6);
+     Words.put64(b, ((int) l1) - 58840, l7);
+     Words.put64(b, ((int) l1) - 58848, l8);
+     Words.put64(b, ((int) l1) - 58856, Words.get64(b, ((int) l0) - 58904));
+     Words.put64(b, ((int) l1) - 58864, Words.get64(b, ((int) l0) - 58912));
+     f126(m, l1 + 16L, l1 + 48L);
+     l10 = 1;
+     if ((b[((int) l1) - 58896] & 0xff) != 1) { break L6; }
+     if (((1 << ((b[((int) l1) - 58895] & 0xff) & 255)) & 23) == 0) { break L6; }
+    }
+    l10 = 1;
+    break L2;
    }
-   Words.put64(b, ((int) l1) - 58776, Words.get64(b, ((int) l1) - 58808));
-   Words.put64(b, ((int) l1) - 58784, Words.get64(b, ((int) l1) - 58816));
-   Words.put64(b, ((int) l1) - 58792, Words.get64(b, ((int) l1) - 58824));
-   Words.put64(b, ((int) l1) - 58800, Words.get64(b, ((int) l1) - 58832));
-   Words.put64(b, ((int) l1) - 58760, l3);
-   Words.put64(b, ((int) l1) - 58768, l2);
-   f126(m, l1 + 8L, l1 + 112L);
-   l4 = (((b[((int) l1) - 58904] & 0xff) == 1) ? 1 : 0) & (23 >>> ((b[((int) l1) - 58903] & 0xff) & 63));
+   if (Core5.f177(m, l4, l3, l2, l9) != 0) { break L2; }
+   Words.put64(b, ((int) l1) - 58856, Words.get64(b, ((int) l1) - 58872));
+   Words.put64(b, ((int) l1) - 58864, Words.get64(b, ((int) l1) - 58880));
+   Words.put64(b, ((int) l1) - 58824, l9);
+   Words.put64(b, ((int) l1) - 58832, l2);
+   Words.put64(b, ((int) l1) - 58840, l3);
+   Words.put64(b, ((int) l1) - 58848, l4);
+   f126(m, l1 + 8L, l1 + 48L);
+   l10 = 0;
+   if ((b[((int) l1) - 58904] & 0xff) != 1) { break L2; }
+   l10 = 23 >>> ((b[((int) l1) - 58903] & 0xff) & 63);
   }
-  m.g0 = l1 + 160L;
-  final int t7 = l4;
-  return t7;
+  m.g0 = l1 + 96L;
+  final int t8 = l10 & 1;
+  return t8;
  }
  throw State.trap();
 }
@@ -2780,7 +2810,7 @@ static int f126_1(State m, long l1, long l2, long l3, long l4, long l5, long l6,
           l1 = l5;
           l9 = l6;
           if (l15 == 25104) { break L12; }
-          l15 = Core5.f157(m, 86096L, 31L, 83848L, 1L, l7, l8);
+          l15 = Core5.f157(m, 86204L, 31L, 83848L, 1L, l7, l8);
           if (l13 > -1) { break L9; }
           if (l15 != 0) { break L9; }
           if (l13 + Integer.MIN_VALUE < 2147483616) { break L3; }
@@ -2906,7 +2936,7 @@ static int f126_1(State m, long l1, long l2, long l3, long l4, long l5, long l6,
        if (l15 == 37328) { break L30; }
        if (l15 != 31186) { break L4; }
       }
-      if (Core5.f157(m, 86220L, 1L, 83844L, 1L, l5, l6) == 0) { break L4; }
+      if (Core5.f157(m, 86328L, 1L, 83844L, 1L, l5, l6) == 0) { break L4; }
       exit = 2; break PART;
      }
      if (l15 != 0) { exit = 2; break PART; }
@@ -2948,695 +2978,332 @@ static int f126_1(State m, long l1, long l2, long l3, long l4, long l5, long l6,
  return exit;
 }
 
-static int f126_2(State m, long l1, long l2, long l3, long l4, long l5, long l6, long l7, long l8, long l9, long l10, int l12, int l13, int l14, int l15, int l16, int l17, int l18) {
+static int f126_2(State m, long l1, long l2, long l3, long l4, long l5, long l6, long l7, long l8, long l9, long l10, int l12, int l13, int l14, int l15, int l16, int l17, int l18, int l19, int l20, int l21) {
  final byte[] b = m.bytes;
  int exit = 0;
  PART: {
-  L36: {
-   L37: {
-    L38: {
-     L39: {
-      L40: {
-       L41: {
-        L42: {
-         L43: {
-          if ((l17 = (l6 == 0L) ? 1 : 0) != 0) { break L43; }
-          if (((int) b[((int) ((l1 = l5 + l6) + -1L)) - 58912]) > -1) { break L39; }
-          l10 = -2L;
-          L44: {
-           if ((l13 = b[((int) (l1 + -2L)) - 58912] & 0xff) + Integer.MIN_VALUE > -2147483457) { break L44; }
-           l10 = ((b[((int) (l1 + -3L)) - 58912] & 0xff) + Integer.MIN_VALUE > -2147483457) ? -3L : -4L;
-          }
-          if ((l15 = (int) b[((int) (l10 = l5 + (l9 = l10 + l6))) - 58912]) > -1) { break L40; }
-          if (l15 + Integer.MIN_VALUE < 2147483616) { break L40; }
-          l14 = l15 & 255;
-          l16 = (b[((int) l10) - 58911] & 0xff) & 63;
-          l18 = (b[((int) l10) - 58910] & 0xff) & 63;
-          L45: {
-           L46: {
-            if (l15 + Integer.MIN_VALUE > 2147483631) { break L46; }
-            l15 = ((l16 << 6) | ((l14 << 12) & 61440)) | l18;
-            break L45;
-           }
-           l15 = ((l18 << 6) | ((l16 << 12) | ((l14 << 18) & 1835008))) | ((b[((int) l10) - 58909] & 0xff) & 63);
-          }
-          if (l15 != 19968) { break L40; }
-          if (Core5.f178(m, l5, l9) == 0) { break L40; }
-          if (Core5.f177(m, l7, l8) != 0) { break L40; }
-          if (l12 != 0) { break L41; }
-          if ((l15 = (int) b[((int) l7) - 58912]) > -1) { break L41; }
-          if (l15 + Integer.MIN_VALUE < 2147483616) { break L41; }
-          l14 = l15 & 255;
-          l16 = (b[((int) l7) - 58911] & 0xff) & 63;
-          l18 = (b[((int) l7) - 58910] & 0xff) & 63;
-          L47: {
-           L48: {
-            if (l15 + Integer.MIN_VALUE > 2147483631) { break L48; }
-            l15 = ((l16 << 6) | ((l14 << 12) & 61440)) | l18;
-            break L47;
-           }
-           l15 = ((l18 << 6) | ((l16 << 12) | ((l14 << 18) & 1835008))) | ((b[((int) l7) - 58909] & 0xff) & 63);
-          }
-          L49: {
-           L50: {
-            if (l15 > 26019) { break L50; }
-            L51: {
-             if (l15 > 21543) { break L51; }
-             L52: {
-              if (l15 > 21314) { break L52; }
-              L53: {
-               if (l15 > 20802) { break L53; }
-               if (l15 == 20137) { break L40; }
-               if (l15 == 20239) { break L40; }
-               if (l15 != 20493) { break L41; }
-               break L40;
-              }
-              if ((l15 = l15 + -20803) + Integer.MIN_VALUE > -2147483607) { break L41; }
-              if (((1L << (l15 & 0xffffffffL)) & 2199023255817L) == 0L) { break L41; }
-              break L40;
-             }
-             L54: {
-              switch (l15 + -21315) {
-              case 0: case 4: break L40;
-              case 1: case 2: case 3: break L41;
-              default: break L54;
-              }
-             }
-             if (l15 == 21400) { break L40; }
-             if (l15 != 21515) { break L41; }
-             break L40;
-            }
-            L55: {
-             if (l15 > 23609) { break L55; }
-             L56: {
-              if (l15 > 22277) { break L56; }
-              if (l15 == 21544) { break L40; }
-              if (l15 != 22136) { break L41; }
-              break L40;
-             }
-             switch (l15 + -22278) {
-             case 0: case 13: break L40;
-             case 1: case 2: case 3: case 4: case 5: case 6: case 7: case 8: case 9: case 10: case 11: case 12: break L41;
-             default: break L49;
-             }
-            }
-            L57: {
-             if (l15 > 24178) { break L57; }
-             if (l15 == 23610) { break L40; }
-             if (l15 != 23681) { break L41; }
-             break L40;
-            }
-            if (l15 == 24179) { break L40; }
-            if (l15 == 24230) { break L40; }
-            if (l15 != 24494) { break L41; }
-            break L40;
-           }
-           L58: {
-            if (l15 > 30044) { break L58; }
-            L59: {
-             if (l15 > 28022) { break L59; }
-             L60: {
-              if (l15 > 27471) { break L60; }
-              if (l15 == 26020) { break L40; }
-              if (l15 != 27431) { break L41; }
-              break L40;
-             }
-             if (l15 == 27472) { break L40; }
-             if (l15 == 27506) { break L40; }
-             if (l15 != 27627) { break L41; }
-             break L40;
-            }
-            L61: {
-             if (l15 > 29614) { break L61; }
-             if (l15 == 28023) { break L40; }
-             if (l15 == 28207) { break L40; }
-             if (l15 != 29256) { break L41; }
-             break L40;
-            }
-            if (l15 == 29615) { break L40; }
-            if (l15 == 29872) { break L40; }
-            if (l15 != 29926) { break L41; }
-            break L40;
-           }
-           L62: {
-            if (l15 > 32422) { break L62; }
-            L63: {
-             if (l15 > 31434) { break L63; }
-             if (l15 == 30045) { break L40; }
-             if (l15 != 31186) { break L41; }
-             break L40;
-            }
-            if (l15 == 31435) { break L40; }
-            if (l15 == 31859) { break L40; }
-            if (l15 != 32026) { break L41; }
-            break L40;
-           }
-           if (l15 > 37323) { break L42; }
-           if (l15 == 32423) { break L40; }
-           if (l15 == 32654) { break L40; }
-           if (l15 == 33521) { break L40; }
-           break L41;
-          }
-          if (l15 != 23544) { break L41; }
-          break L40;
-         }
-         if (Core5.f179(m, l3, l4, l5, 0L, l7, l8) != 0) { break L38; }
-         break L36;
-        }
-        switch (l15 + -37324) {
-        case 0: case 4: break L40;
-        default: break L41;
-        }
-       }
-       if (Core5.f157(m, 86300L, 4L, 86316L, 4L, l7, l8) == 0) { exit = 1; break PART; }
-      }
-      l10 = -2L;
-      L64: {
-       if (l13 + Integer.MIN_VALUE > -2147483457) { break L64; }
-       l10 = ((b[((int) (l1 + -3L)) - 58912] & 0xff) + Integer.MIN_VALUE > -2147483457) ? -3L : -4L;
-      }
-      if ((l13 = (int) b[((int) (l1 = (l5 + l10) + l6)) - 58912]) > -1) { break L39; }
-      if (l13 + Integer.MIN_VALUE < 2147483616) { break L39; }
-      l15 = l13 & 255;
-      l14 = (b[((int) l1) - 58911] & 0xff) & 63;
-      l16 = (b[((int) l1) - 58910] & 0xff) & 63;
-      L65: {
-       L66: {
-        if (l13 + Integer.MIN_VALUE > 2147483631) { break L66; }
-        l13 = ((l14 << 6) | ((l15 << 12) & 61440)) | l16;
-        break L65;
-       }
-       l13 = ((l16 << 6) | ((l14 << 12) | ((l15 << 18) & 1835008))) | ((b[((int) l1) - 58909] & 0xff) & 63);
-      }
-      if (l13 != 19968) { break L39; }
-      L67: {
-       L68: {
-        if ((l13 = (int) b[((int) l5) - 58912]) <= -1) { break L68; }
-        l1 = 1L;
-        break L67;
-       }
-       L69: {
-        if (l13 + Integer.MIN_VALUE >= 2147483616) { break L69; }
-        l1 = 2L;
-        break L67;
-       }
-       l1 = (l13 + Integer.MIN_VALUE < 2147483632) ? 3L : 4L;
-      }
-      if (l12 != 0) { break L39; }
-      if (l6 == l1) { break L39; }
-      if ((l13 = (int) b[((int) l7) - 58912]) > -1) { break L39; }
-      if (l13 + Integer.MIN_VALUE < 2147483616) { break L39; }
-      l15 = l13 & 255;
-      l14 = (b[((int) l7) - 58911] & 0xff) & 63;
-      l16 = (b[((int) l7) - 58910] & 0xff) & 63;
-      L70: {
-       L71: {
-        if (l13 + Integer.MIN_VALUE > 2147483631) { break L71; }
-        l14 = ((l14 << 6) | ((l15 << 12) & 61440)) | l16;
-        break L70;
-       }
-       l14 = ((l16 << 6) | ((l14 << 12) | ((l15 << 18) & 1835008))) | ((b[((int) l7) - 58909] & 0xff) & 63);
-      }
-      l13 = 1;
-      l15 = 3;
-      L72: {
-       if (l14 > 24458) { break L72; }
-       if (l14 == 20849) { exit = 2; break PART; }
-       if (l14 != 23450) { break L39; }
-       exit = 2; break PART;
-      }
-      if (l14 == 24459) { exit = 2; break PART; }
-      if (l14 == 26086) { exit = 2; break PART; }
-      if (l14 == 30452) { exit = 2; break PART; }
-     }
-     l10 = l6;
-     l1 = l5;
-     if (Core5.f179(m, l3, l4, l5, l6, l7, l8) == 0) { break L37; }
-    }
-    l13 = 1;
-    l15 = 0;
-    exit = 2; break PART;
-   }
-   L73: while (true) {
-    L74: {
-     L75: {
-      L76: {
-       L77: {
-        if ((l13 = (int) b[((int) l1) - 58912]) <= -1) { break L77; }
-        l9 = 1L;
-        break L76;
-       }
-       if (l13 + Integer.MIN_VALUE >= 2147483616) { break L75; }
-       l9 = 2L;
-      }
-      l10 = l10 - l9;
-      l1 = l1 + l9;
-      break L74;
-     }
-     l15 = l13 & 255;
-     l14 = (b[((int) l1) - 58911] & 0xff) & 63;
-     l16 = (b[((int) l1) - 58910] & 0xff) & 63;
-     L78: {
-      L79: {
-       if (l13 + Integer.MIN_VALUE > 2147483631) { break L79; }
-       l13 = ((l14 << 6) | ((l15 << 12) & 61440)) | l16;
-       l9 = 3L;
-       break L78;
-      }
-      l13 = ((l16 << 6) | ((l14 << 12) | ((l15 << 18) & 1835008))) | ((b[((int) l1) - 58909] & 0xff) & 63);
-      l9 = 4L;
-     }
-     l10 = l10 - l9;
-     l1 = l1 + l9;
-     if (l13 != 21313) { break L74; }
-     if (l10 == 0L) { break L36; }
-     l13 = (l15 = (int) b[((int) l1) - 58912]) & 255;
-     l9 = 1L;
-     L80: {
-      if (l15 > -1) { break L80; }
-      l14 = (b[((int) l1) - 58911] & 0xff) & 63;
-      L81: {
-       if (l15 + Integer.MIN_VALUE > 2147483615) { break L81; }
-       l13 = ((l13 << 6) & 1984) | l14;
-       l9 = 2L;
-       break L80;
-      }
-      l16 = (b[((int) l1) - 58910] & 0xff) & 63;
-      L82: {
-       if (l15 + Integer.MIN_VALUE > 2147483631) { break L82; }
-       l13 = ((l14 << 6) | ((l13 << 12) & 61440)) | l16;
-       l9 = 3L;
-       break L80;
-      }
-      l13 = ((l16 << 6) | ((l14 << 12) | ((l13 << 18) & 1835008))) | ((b[((int) l1) - 58909] & 0xff) & 63);
-      l9 = 4L;
-     }
-     Core2.f63(m, l2 + 64L, l13);
-     if (l10 == l9) { break L74; }
-     if ((l13 + -48) + Integer.MIN_VALUE < -2147483638) { break L74; }
-     if (((b[((int) l2) - 58848] & 0xff) & 255) != 1) { break L74; }
-     if ((l13 = (int) b[((int) (l9 = l1 + l9)) - 58912]) > -1) { break L74; }
-     if (l13 + Integer.MIN_VALUE < 2147483616) { break L74; }
-     l15 = l13 & 255;
-     l14 = (b[((int) l9) - 58911] & 0xff) & 63;
-     l16 = (b[((int) l9) - 58910] & 0xff) & 63;
-     L83: {
-      L84: {
-       if (l13 + Integer.MIN_VALUE > 2147483631) { break L84; }
-       l13 = ((l14 << 6) | ((l15 << 12) & 61440)) | l16;
-       break L83;
-      }
-      l13 = ((l16 << 6) | ((l14 << 12) | ((l15 << 18) & 1835008))) | ((b[((int) l9) - 58909] & 0xff) & 63);
-     }
-     if (l13 != 21313) { break L74; }
-     l15 = 1;
-     l13 = 1;
-     exit = 2; break PART;
-    }
-    if (l10 != 0L) { continue L73; }
-    break L73;
-   }
-  }
- }
- m.kept[0] = l1;
- m.kept[1] = l9;
- m.kept[2] = l10;
- m.kept[3] = l13;
- m.kept[4] = l14;
- m.kept[5] = l15;
- m.kept[6] = l16;
- m.kept[7] = l17;
- m.kept[8] = l18;
- return exit;
-}
-
-static int f126_3(State m, long l1, long l2, long l3, long l4, long l5, long l6, long l7, long l8, long l9, long l10, int l12, int l13, int l14, int l15, int l16, int l17, int l18, int l19, int l20, int l21) {
- final byte[] b = m.bytes;
- int exit = 0;
- PART: {
-  L88: {
-   L89: {
-    L90: {
-     L91: {
-      L92: {
-       L93: {
-        L94: while (true) {
-         if (l9 == 0L) { break L93; }
+  L53: {
+   L54: {
+    L55: {
+     L56: {
+      L57: {
+       L58: {
+        L59: while (true) {
+         if (l9 == 0L) { break L58; }
          l13 = (l15 = (int) b[((int) l1) - 58912]) & 255;
          l10 = 1L;
-         L95: {
-          if (l15 > -1) { break L95; }
+         L60: {
+          if (l15 > -1) { break L60; }
           l14 = (b[((int) l1) - 58911] & 0xff) & 63;
-          L96: {
-           if (l15 + Integer.MIN_VALUE > 2147483615) { break L96; }
+          L61: {
+           if (l15 + Integer.MIN_VALUE > 2147483615) { break L61; }
            l13 = ((l13 << 6) & 1984) | l14;
            l10 = 2L;
-           break L95;
+           break L60;
           }
           l16 = (b[((int) l1) - 58910] & 0xff) & 63;
-          L97: {
-           if (l15 + Integer.MIN_VALUE > 2147483631) { break L97; }
+          L62: {
+           if (l15 + Integer.MIN_VALUE > 2147483631) { break L62; }
            l13 = ((l14 << 6) | ((l13 << 12) & 61440)) | l16;
            l10 = 3L;
-           break L95;
+           break L60;
           }
           l13 = ((l16 << 6) | ((l14 << 12) | ((l13 << 18) & 1835008))) | ((b[((int) l1) - 58909] & 0xff) & 63);
           l10 = 4L;
          }
          Core2.f63(m, l2 + 56L, l13);
-         if ((l13 + -58) + Integer.MIN_VALUE > 2147483637) { break L92; }
+         if ((l13 + -58) + Integer.MIN_VALUE > 2147483637) { break L57; }
          l9 = l9 - l10;
          l1 = l1 + l10;
-         if (((b[((int) l2) - 58856] & 0xff) & 255) == 1) { continue L94; }
-         break L92;
+         if (((b[((int) l2) - 58856] & 0xff) & 255) == 1) { continue L59; }
+         break L57;
         }
        }
-       if (l17 != 0) { break L92; }
-       L98: {
-        L99: {
-         if ((l18 = (int) b[((int) l5) - 58912]) > -1) { break L99; }
-         final long t100 = l6;
-         final long t101 = (l18 + Integer.MIN_VALUE < 2147483632) ? 3L : 4L;
-         final int t102 = (l18 + Integer.MIN_VALUE < 2147483616) ? 1 : 0;
-         if (t100 == (l1 = t102 != 0 ? 2L : t101)) { break L92; }
-         break L98;
+       if (l17 != 0) { break L57; }
+       L63: {
+        L64: {
+         if ((l18 = (int) b[((int) l5) - 58912]) > -1) { break L64; }
+         final long t65 = l6;
+         final long t66 = (l18 + Integer.MIN_VALUE < 2147483632) ? 3L : 4L;
+         final int t67 = (l18 + Integer.MIN_VALUE < 2147483616) ? 1 : 0;
+         if (t65 == (l1 = t67 != 0 ? 2L : t66)) { break L57; }
+         break L63;
         }
         l1 = 1L;
-        if (l6 == 1L) { break L92; }
+        if (l6 == 1L) { break L57; }
        }
-       L103: {
-        L104: {
-         if ((l13 = (int) b[((int) (l9 = l5 + l1)) - 58912]) <= -1) { break L104; }
+       L68: {
+        L69: {
+         if ((l13 = (int) b[((int) (l9 = l5 + l1)) - 58912]) <= -1) { break L69; }
          l10 = 1L;
-         break L103;
+         break L68;
         }
-        L105: {
-         if (l13 + Integer.MIN_VALUE >= 2147483616) { break L105; }
+        L70: {
+         if (l13 + Integer.MIN_VALUE >= 2147483616) { break L70; }
          l10 = 2L;
-         break L103;
+         break L68;
         }
         l10 = (l13 + Integer.MIN_VALUE < 2147483632) ? 3L : 4L;
        }
        l19 = l18 & 255;
-       L106: {
-        if (l6 == (l1 = l10 + l1)) { break L106; }
-        L107: {
-         L108: {
-          if ((l13 = (int) b[((int) (l9 + l10)) - 58912]) <= -1) { break L108; }
+       L71: {
+        if (l6 == (l1 = l10 + l1)) { break L71; }
+        L72: {
+         L73: {
+          if ((l13 = (int) b[((int) (l9 + l10)) - 58912]) <= -1) { break L73; }
           l10 = 1L;
-          break L107;
+          break L72;
          }
-         L109: {
-          if (l13 + Integer.MIN_VALUE >= 2147483616) { break L109; }
+         L74: {
+          if (l13 + Integer.MIN_VALUE >= 2147483616) { break L74; }
           l10 = 2L;
-          break L107;
+          break L72;
          }
          l10 = (l13 + Integer.MIN_VALUE < 2147483632) ? 3L : 4L;
         }
-        if (l6 == (l10 + l1)) { break L106; }
+        if (l6 == (l10 + l1)) { break L71; }
         l13 = l18;
         l9 = l6;
         l10 = l5;
-        L110: while (true) {
+        L75: while (true) {
          l15 = l13 & 255;
          l1 = 1L;
-         L111: {
-          if (((int) (byte) l13) > -1) { break L111; }
+         L76: {
+          if (((int) (byte) l13) > -1) { break L76; }
           l14 = (b[((int) l10) - 58911] & 0xff) & 63;
-          L112: {
-           if ((l13 & 255) + Integer.MIN_VALUE > -2147483425) { break L112; }
+          L77: {
+           if ((l13 & 255) + Integer.MIN_VALUE > -2147483425) { break L77; }
            l15 = ((l15 << 6) & 1984) | l14;
            l1 = 2L;
-           break L111;
+           break L76;
           }
           l16 = (b[((int) l10) - 58910] & 0xff) & 63;
-          L113: {
-           if ((l13 & 255) + Integer.MIN_VALUE > -2147483409) { break L113; }
+          L78: {
+           if ((l13 & 255) + Integer.MIN_VALUE > -2147483409) { break L78; }
            l15 = ((l14 << 6) | ((l15 << 12) & 61440)) | l16;
            l1 = 3L;
-           break L111;
+           break L76;
           }
           l15 = ((l16 << 6) | ((l14 << 12) | ((l15 << 18) & 1835008))) | ((b[((int) l10) - 58909] & 0xff) & 63);
           l1 = 4L;
          }
          Core2.f63(m, l2 + 48L, l15);
-         L114: {
-          if ((l9 = l9 - l1) == 0L) { break L114; }
+         L79: {
+          if ((l9 = l9 - l1) == 0L) { break L79; }
           l15 = (l13 = (int) b[((int) (l10 = l10 + l1)) - 58912]) & 255;
-          L115: {
-           if (l13 > -1) { break L115; }
+          L80: {
+           if (l13 > -1) { break L80; }
            l14 = (b[((int) l10) - 58911] & 0xff) & 63;
-           L116: {
-            if (l13 + Integer.MIN_VALUE > 2147483615) { break L116; }
+           L81: {
+            if (l13 + Integer.MIN_VALUE > 2147483615) { break L81; }
             l15 = ((l15 << 6) & 1984) | l14;
-            break L115;
+            break L80;
            }
            l16 = (b[((int) l10) - 58910] & 0xff) & 63;
-           L117: {
-            if (l13 + Integer.MIN_VALUE > 2147483631) { break L117; }
+           L82: {
+            if (l13 + Integer.MIN_VALUE > 2147483631) { break L82; }
             l15 = ((l14 << 6) | ((l15 << 12) & 61440)) | l16;
-            break L115;
+            break L80;
            }
            l15 = ((l16 << 6) | ((l14 << 12) | ((l15 << 18) & 1835008))) | ((b[((int) l10) - 58909] & 0xff) & 63);
           }
           l16 = b[((int) l2) - 58863] & 0xff;
           l14 = b[((int) l2) - 58864] & 0xff;
           Core2.f63(m, l2 + 40L, l15);
-          if ((l14 & 1) == 0) { continue L110; }
-          if (((b[((int) l2) - 58872] & 0xff) & 255) != 1) { continue L110; }
-          if ((l16 & 255) + Integer.MIN_VALUE > ((b[((int) l2) - 58871] & 0xff) & 255) + Integer.MIN_VALUE) { break L92; }
-          continue L110;
+          if ((l14 & 1) == 0) { continue L75; }
+          if (((b[((int) l2) - 58872] & 0xff) & 255) != 1) { continue L75; }
+          if ((l16 & 255) + Integer.MIN_VALUE > ((b[((int) l2) - 58871] & 0xff) & 255) + Integer.MIN_VALUE) { break L57; }
+          continue L75;
          }
-         break L110;
+         break L75;
         }
-        if (l18 > -1) { break L106; }
-        if (l18 + Integer.MIN_VALUE < 2147483616) { break L106; }
+        if (l18 > -1) { break L71; }
+        if (l18 + Integer.MIN_VALUE < 2147483616) { break L71; }
         l13 = (b[((int) l5) - 58911] & 0xff) & 63;
         l15 = (b[((int) l5) - 58910] & 0xff) & 63;
-        L118: {
-         L119: {
-          if (l18 + Integer.MIN_VALUE > 2147483631) { break L119; }
+        L83: {
+         L84: {
+          if (l18 + Integer.MIN_VALUE > 2147483631) { break L84; }
           l13 = ((l13 << 6) | ((l19 << 12) & 61440)) | l15;
-          break L118;
+          break L83;
          }
          l13 = ((l15 << 6) | ((l13 << 12) | ((l19 << 18) & 1835008))) | ((b[((int) l5) - 58909] & 0xff) & 63);
         }
-        if (l13 == 12295) { break L92; }
-        if (l13 == 38646) { break L92; }
+        if (l13 == 12295) { break L57; }
+        if (l13 == 38646) { break L57; }
        }
-       L120: {
-        if (l12 != 0) { break L120; }
-        if ((l14 = (int) b[((int) l7) - 58912]) > -1) { break L120; }
-        if (l14 + Integer.MIN_VALUE < 2147483616) { break L120; }
+       L85: {
+        if (l12 != 0) { break L85; }
+        if ((l14 = (int) b[((int) l7) - 58912]) > -1) { break L85; }
+        if (l14 + Integer.MIN_VALUE < 2147483616) { break L85; }
         l16 = l14 & 255;
         l20 = (b[((int) l7) - 58911] & 0xff) & 63;
         l13 = (l21 = b[((int) l7) - 58910] & 0xff) & 63;
-        L121: {
-         L122: {
-          if (l14 + Integer.MIN_VALUE > 2147483631) { break L122; }
+        L86: {
+         L87: {
+          if (l14 + Integer.MIN_VALUE > 2147483631) { break L87; }
           l15 = ((l20 << 6) | ((l16 << 12) & 61440)) | l13;
-          break L121;
+          break L86;
          }
          l15 = ((l13 << 6) | ((l20 << 12) | ((l16 << 18) & 1835008))) | ((b[((int) l7) - 58909] & 0xff) & 63);
         }
-        L123: {
-         if (l15 != 24180) { break L123; }
-         if (Core5.f157(m, 83828L, 1L, 86584L, 2L, l7, l8) == 0) { break L91; }
+        L88: {
+         if (l15 != 24180) { break L88; }
+         if (Core5.f157(m, 83828L, 1L, 86584L, 2L, l7, l8) == 0) { break L56; }
         }
-        L124: {
-         L125: {
-          if (l14 + Integer.MIN_VALUE > 2147483631) { break L125; }
+        L89: {
+         L90: {
+          if (l14 + Integer.MIN_VALUE > 2147483631) { break L90; }
           l13 = ((l20 << 6) | ((l16 << 12) & 61440)) | l13;
-          break L124;
+          break L89;
          }
          l13 = ((l13 << 6) | ((l20 << 12) | ((l16 << 18) & 1835008))) | ((b[((int) l7) - 58909] & 0xff) & 63);
         }
-        L126: {
-         if (l13 > 25150) { break L126; }
-         if (l13 == 21150) { break L91; }
-         if (l13 == 21495) { break L91; }
-         if (l13 != 23460) { break L120; }
-         break L91;
+        L91: {
+         if (l13 > 25150) { break L91; }
+         if (l13 == 21150) { break L56; }
+         if (l13 == 21495) { break L56; }
+         if (l13 != 23460) { break L85; }
+         break L56;
         }
-        if (l13 == 25151) { break L91; }
-        if (l13 == 34399) { break L91; }
-        if (l13 == 36774) { break L91; }
+        if (l13 == 25151) { break L56; }
+        if (l13 == 34399) { break L56; }
+        if (l13 == 36774) { break L56; }
        }
-       L127: {
-        if ((l13 = (l4 == 0L) ? 1 : 0) != 0) { break L127; }
-        if (((int) b[((int) ((l1 = l3 + l4) + -1L)) - 58912]) > -1) { break L127; }
+       L92: {
+        if ((l13 = (l4 == 0L) ? 1 : 0) != 0) { break L92; }
+        if (((int) b[((int) ((l1 = l3 + l4) + -1L)) - 58912]) > -1) { break L92; }
         l10 = -2L;
-        L128: {
-         if ((b[((int) (l1 + -2L)) - 58912] & 0xff) + Integer.MIN_VALUE > -2147483457) { break L128; }
+        L93: {
+         if ((b[((int) (l1 + -2L)) - 58912] & 0xff) + Integer.MIN_VALUE > -2147483457) { break L93; }
          l10 = ((b[((int) (l1 + -3L)) - 58912] & 0xff) + Integer.MIN_VALUE > -2147483457) ? -3L : -4L;
         }
-        if ((l15 = (int) b[((int) (l1 = (l3 + l10) + l4)) - 58912]) > -1) { break L127; }
-        if (l15 + Integer.MIN_VALUE < 2147483616) { break L127; }
+        if ((l15 = (int) b[((int) (l1 = (l3 + l10) + l4)) - 58912]) > -1) { break L92; }
+        if (l15 + Integer.MIN_VALUE < 2147483616) { break L92; }
         l14 = l15 & 255;
         l16 = (b[((int) l1) - 58911] & 0xff) & 63;
         l20 = (b[((int) l1) - 58910] & 0xff) & 63;
-        L129: {
-         L130: {
-          if (l15 + Integer.MIN_VALUE > 2147483631) { break L130; }
+        L94: {
+         L95: {
+          if (l15 + Integer.MIN_VALUE > 2147483631) { break L95; }
           l15 = ((l16 << 6) | ((l14 << 12) & 61440)) | l20;
-          break L129;
+          break L94;
          }
          l15 = ((l20 << 6) | ((l16 << 12) | ((l14 << 18) & 1835008))) | ((b[((int) l1) - 58909] & 0xff) & 63);
         }
-        L131: {
-         if (l15 > 27003) { break L131; }
-         L132: {
-          if (l15 > 24230) { break L132; }
-          if (l15 == 21495) { break L92; }
-          if (l15 == 24162) { break L92; }
-          break L127;
+        L96: {
+         if (l15 > 27003) { break L96; }
+         L97: {
+          if (l15 > 24230) { break L97; }
+          if (l15 == 21495) { break L57; }
+          if (l15 == 24162) { break L57; }
+          break L92;
          }
-         if (l15 == 24231) { break L92; }
-         if (l15 == 26635) { break L92; }
-         if (l15 == 26847) { break L92; }
-         break L127;
+         if (l15 == 24231) { break L57; }
+         if (l15 == 26635) { break L57; }
+         if (l15 == 26847) { break L57; }
+         break L92;
         }
-        L133: {
-         if (l15 > 30720) { break L133; }
-         if (l15 == 27004) { break L92; }
-         if (l15 == 27155) { break L92; }
-         break L127;
+        L98: {
+         if (l15 > 30720) { break L98; }
+         if (l15 == 27004) { break L57; }
+         if (l15 == 27155) { break L57; }
+         break L92;
         }
-        if (l15 == 30721) { break L92; }
-        if (l15 == 30908) { break L92; }
-        if (l15 == 34399) { break L92; }
+        if (l15 == 30721) { break L57; }
+        if (l15 == 30908) { break L57; }
+        if (l15 == 34399) { break L57; }
        }
        l15 = 1;
-       L134: {
-        if (l18 <= -1) { break L134; }
-        l13 = 1;
-        exit = 1; break PART;
-       }
-       L135: {
-        if (l18 + Integer.MIN_VALUE >= 2147483616) { break L135; }
-        l13 = 1;
-        exit = 1; break PART;
-       }
+       if (l18 > -1) { exit = 1; break PART; }
+       if (l18 + Integer.MIN_VALUE < 2147483616) { exit = 1; break PART; }
        l14 = (b[((int) l5) - 58911] & 0xff) & 63;
        l16 = (b[((int) l5) - 58910] & 0xff) & 63;
-       L136: {
-        L137: {
-         if (l18 + Integer.MIN_VALUE > 2147483631) { break L137; }
+       L99: {
+        L100: {
+         if (l18 + Integer.MIN_VALUE > 2147483631) { break L100; }
          l14 = ((l14 << 6) | ((l19 << 12) & 61440)) | l16;
-         break L136;
+         break L99;
         }
         l14 = ((l16 << 6) | ((l14 << 12) | ((l19 << 18) & 1835008))) | ((b[((int) l5) - 58909] & 0xff) & 63);
        }
-       L138: {
-        if (l14 == 38646) { break L138; }
-        if (l14 == 12295) { break L138; }
-        l13 = 1;
-        exit = 1; break PART;
+       L101: {
+        if (l14 == 38646) { break L101; }
+        if (l14 != 12295) { exit = 1; break PART; }
        }
-       L139: {
-        if (l13 == 0) { break L139; }
-        l13 = 1;
-        exit = 1; break PART;
-       }
-       L140: {
-        if (((int) b[((int) ((l1 = l3 + l4) + -1L)) - 58912]) <= -1) { break L140; }
-        l13 = 1;
-        exit = 1; break PART;
-       }
+       if (l13 != 0) { exit = 1; break PART; }
+       if (((int) b[((int) ((l1 = l3 + l4) + -1L)) - 58912]) > -1) { exit = 1; break PART; }
        l10 = -2L;
-       L141: {
-        if ((b[((int) (l1 + -2L)) - 58912] & 0xff) + Integer.MIN_VALUE > -2147483457) { break L141; }
+       L102: {
+        if ((b[((int) (l1 + -2L)) - 58912] & 0xff) + Integer.MIN_VALUE > -2147483457) { break L102; }
         l10 = ((b[((int) (l1 + -3L)) - 58912] & 0xff) + Integer.MIN_VALUE > -2147483457) ? -3L : -4L;
        }
-       L142: {
-        if ((l13 = (int) b[((int) (l1 = (l3 + l10) + l4)) - 58912]) <= -1) { break L142; }
-        l13 = 1;
-        exit = 1; break PART;
-       }
-       L143: {
-        if (l13 + Integer.MIN_VALUE >= 2147483616) { break L143; }
-        l13 = 1;
-        exit = 1; break PART;
-       }
+       if ((l13 = (int) b[((int) (l1 = (l3 + l10) + l4)) - 58912]) > -1) { exit = 1; break PART; }
+       if (l13 + Integer.MIN_VALUE < 2147483616) { exit = 1; break PART; }
        l14 = l13 & 255;
        l16 = (b[((int) l1) - 58911] & 0xff) & 63;
        l18 = (b[((int) l1) - 58910] & 0xff) & 63;
-       L144: {
-        L145: {
-         if (l13 + Integer.MIN_VALUE > 2147483631) { break L145; }
+       L103: {
+        L104: {
+         if (l13 + Integer.MIN_VALUE > 2147483631) { break L104; }
          l13 = ((l16 << 6) | ((l14 << 12) & 61440)) | l18;
-         break L144;
+         break L103;
         }
         l13 = ((l18 << 6) | ((l16 << 12) | ((l14 << 18) & 1835008))) | ((b[((int) l1) - 58909] & 0xff) & 63);
        }
-       L146: {
-        L147: {
-         if (l13 > 26177) { break L147; }
-         if (l13 == 20998) { break L146; }
-         if (l13 == 26102) { break L146; }
-         l13 = 1;
+       L105: {
+        L106: {
+         if (l13 > 26177) { break L106; }
+         if (l13 == 20998) { break L105; }
+         if (l13 == 26102) { break L105; }
          exit = 1; break PART;
         }
-        if (l13 == 26178) { break L146; }
-        if (l13 == 40670) { break L146; }
-        if (l13 == 28857) { break L146; }
-        l13 = 1;
-        exit = 1; break PART;
+        if (l13 == 26178) { break L105; }
+        if (l13 == 40670) { break L105; }
+        if (l13 != 28857) { exit = 1; break PART; }
        }
-       L148: {
-        if (l12 == 0) { break L148; }
-        l13 = 1;
-        exit = 1; break PART;
-       }
-       L149: {
-        if ((l14 = (int) b[((int) l7) - 58912]) <= -1) { break L149; }
-        l13 = 1;
-        exit = 1; break PART;
-       }
-       L150: {
-        if (l14 + Integer.MIN_VALUE >= 2147483616) { break L150; }
-        l13 = 1;
-        exit = 1; break PART;
-       }
+       if (l12 != 0) { exit = 1; break PART; }
+       if ((l14 = (int) b[((int) l7) - 58912]) > -1) { exit = 1; break PART; }
+       if (l14 + Integer.MIN_VALUE < 2147483616) { exit = 1; break PART; }
        l16 = l14 & 255;
        l20 = (b[((int) l7) - 58911] & 0xff) & 63;
        l13 = (l21 = b[((int) l7) - 58910] & 0xff) & 63;
-       L151: {
-        L152: {
-         if (l14 + Integer.MIN_VALUE > 2147483631) { break L152; }
+       L107: {
+        L108: {
+         if (l14 + Integer.MIN_VALUE > 2147483631) { break L108; }
          l18 = ((l20 << 6) | ((l16 << 12) & 61440)) | l13;
-         break L151;
+         break L107;
         }
         l18 = ((l13 << 6) | ((l20 << 12) | ((l16 << 18) & 1835008))) | ((b[((int) l7) - 58909] & 0xff) & 63);
        }
-       if (l18 == 20998) { break L91; }
+       if (l18 == 20998) { break L56; }
        l13 = 1;
-       if (l18 == 31186) { break L91; }
-       exit = 1; break PART;
+       if (l18 == 31186) { break L56; }
+       exit = 2; break PART;
       }
-      if (l12 != 0) { exit = 2; break PART; }
+      if (l12 != 0) { exit = 3; break PART; }
       l16 = (l14 = (int) b[((int) l7) - 58912]) & 255;
-      L153: {
-       if (l14 <= -1) { break L153; }
+      L109: {
+       if (l14 <= -1) { break L109; }
        l1 = 1L;
        l15 = 1;
        l13 = l16;
-       break L88;
+       break L53;
       }
       l20 = (b[((int) l7) - 58911] & 0xff) & 63;
-      if (l14 + Integer.MIN_VALUE < 2147483616) { break L90; }
+      if (l14 + Integer.MIN_VALUE < 2147483616) { break L55; }
       l21 = b[((int) l7) - 58910] & 0xff;
      }
      l13 = l21 & 63;
-     L154: {
-      if (l14 + Integer.MIN_VALUE > 2147483631) { break L154; }
+     L110: {
+      if (l14 + Integer.MIN_VALUE > 2147483631) { break L110; }
       l13 = (((l16 << 12) & 61440) | (l20 << 6)) | l13;
       l1 = 3L;
-      break L89;
+      break L54;
      }
      l13 = ((l13 << 6) | (((l16 << 18) & 1835008) | (l20 << 12))) | ((b[((int) l7) - 58909] & 0xff) & 63);
      l1 = 4L;
-     break L89;
+     break L54;
     }
     l13 = ((l16 << 6) & 1984) | l20;
     l1 = 2L;
@@ -3658,369 +3325,369 @@ static int f126_3(State m, long l1, long l2, long l3, long l4, long l5, long l6,
  return exit;
 }
 
-static int f126_4(State m, long l1, long l2, long l3, long l4, long l5, long l6, long l7, long l8, long l9, long l10, long l11, int l12, int l13, int l14, int l15, int l16, int l17, int l18, int l20, int l21) {
+static int f126_3(State m, long l1, long l2, long l3, long l4, long l5, long l6, long l7, long l8, long l9, long l10, long l11, int l12, int l13, int l14, int l15, int l16, int l17, int l18, int l20, int l21) {
  final byte[] b = m.bytes;
  int exit = 0;
  PART: {
-  L197: {
-   L198: {
-    L199: {
-     L200: {
-      if (l17 != 0) { break L200; }
+  L153: {
+   L154: {
+    L155: {
+     L156: {
+      if (l17 != 0) { break L156; }
       l13 = (l15 = (int) b[((int) l5) - 58912]) & 255;
       l1 = 1L;
-      L201: {
-       if (l15 > -1) { break L201; }
+      L157: {
+       if (l15 > -1) { break L157; }
        l14 = (b[((int) l5) - 58911] & 0xff) & 63;
-       L202: {
-        if (l15 + Integer.MIN_VALUE > 2147483615) { break L202; }
+       L158: {
+        if (l15 + Integer.MIN_VALUE > 2147483615) { break L158; }
         l13 = ((l13 << 6) & 1984) | l14;
         l1 = 2L;
-        break L201;
+        break L157;
        }
        l16 = (b[((int) l5) - 58910] & 0xff) & 63;
-       L203: {
-        if (l15 + Integer.MIN_VALUE > 2147483631) { break L203; }
+       L159: {
+        if (l15 + Integer.MIN_VALUE > 2147483631) { break L159; }
         l13 = ((l14 << 6) | ((l13 << 12) & 61440)) | l16;
         l1 = 3L;
-        break L201;
+        break L157;
        }
        l13 = ((l16 << 6) | ((l14 << 12) | ((l13 << 18) & 1835008))) | ((b[((int) l5) - 58909] & 0xff) & 63);
        l1 = 4L;
       }
-      L204: {
-       if (l6 == l1) { break L204; }
+      L160: {
+       if (l6 == l1) { break L160; }
        l9 = 1L;
        l14 = l16 = (l15 = (int) b[((int) (l10 = l5 + l1)) - 58912]) & 255;
-       L205: {
-        L206: {
-         L207: {
-          L208: {
-           L209: {
-            L210: {
-             L211: {
-              if (l15 > -1) { break L211; }
+       L161: {
+        L162: {
+         L163: {
+          L164: {
+           L165: {
+            L166: {
+             L167: {
+              if (l15 > -1) { break L167; }
               l14 = (b[((int) l10) - 58911] & 0xff) & 63;
-              L212: {
-               L213: {
-                if (l15 + Integer.MIN_VALUE < 2147483616) { break L213; }
+              L168: {
+               L169: {
+                if (l15 + Integer.MIN_VALUE < 2147483616) { break L169; }
                 l20 = (b[((int) l10) - 58910] & 0xff) & 63;
-                L214: {
-                 L215: {
-                  if (l15 + Integer.MIN_VALUE > 2147483631) { break L215; }
+                L170: {
+                 L171: {
+                  if (l15 + Integer.MIN_VALUE > 2147483631) { break L171; }
                   l17 = ((l14 << 6) | ((l16 << 12) & 61440)) | l20;
-                  break L214;
+                  break L170;
                  }
                  l17 = ((l20 << 6) | ((l14 << 12) | ((l16 << 18) & 1835008))) | ((b[((int) l10) - 58909] & 0xff) & 63);
                 }
-                L216: {
-                 if (l17 == 40670) { break L216; }
-                 if (l17 != 28857) { break L212; }
+                L172: {
+                 if (l17 == 40670) { break L172; }
+                 if (l17 != 28857) { break L168; }
                 }
                 Core2.f63(m, l2 + 24L, l13);
-                if ((l13 + -58) + Integer.MIN_VALUE > 2147483637) { break L210; }
-                if (((b[((int) l2) - 58888] & 0xff) & 255) != 1) { break L210; }
-                if ((l13 != 12295) & (l13 != 38646)) { break L205; }
-                if (l13 == 21313) { break L205; }
-                break L204;
+                if ((l13 + -58) + Integer.MIN_VALUE > 2147483637) { break L166; }
+                if (((b[((int) l2) - 58888] & 0xff) & 255) != 1) { break L166; }
+                if ((l13 != 12295) & (l13 != 38646)) { break L161; }
+                if (l13 == 21313) { break L161; }
+                break L160;
                }
                l14 = ((l16 << 6) & 1984) | l14;
                l9 = 2L;
-               break L211;
+               break L167;
               }
-              L217: {
-               if (l15 + Integer.MIN_VALUE > 2147483631) { break L217; }
+              L173: {
+               if (l15 + Integer.MIN_VALUE > 2147483631) { break L173; }
                l14 = ((l14 << 6) | ((l16 << 12) & 61440)) | l20;
                l9 = 3L;
-               break L211;
+               break L167;
               }
               l14 = ((l20 << 6) | ((l14 << 12) | ((l16 << 18) & 1835008))) | ((b[((int) l10) - 58909] & 0xff) & 63);
               l9 = 4L;
              }
              l1 = l6 - l1;
-             L218: {
-              if (l13 > 20840) { break L218; }
-              if (l13 == 20004) { break L209; }
-              if (l13 != 20108) { break L204; }
-              break L209;
+             L174: {
+              if (l13 > 20840) { break L174; }
+              if (l13 == 20004) { break L165; }
+              if (l13 != 20108) { break L160; }
+              break L165;
              }
-             if (l13 == 20841) { break L209; }
-             if (l13 != 21313) { break L204; }
+             if (l13 == 20841) { break L165; }
+             if (l13 != 21313) { break L160; }
              Core2.f63(m, l2 + 16L, l14);
-             if ((l14 + -58) + Integer.MIN_VALUE > 2147483637) { break L204; }
-             if (((b[((int) l2) - 58896] & 0xff) & 255) != 1) { break L204; }
-             if (l14 == 12295) { break L204; }
-             if (l14 == 38646) { break L204; }
-             if (l1 == l9) { break L204; }
-             break L208;
+             if ((l14 + -58) + Integer.MIN_VALUE > 2147483637) { break L160; }
+             if (((b[((int) l2) - 58896] & 0xff) & 255) != 1) { break L160; }
+             if (l14 == 12295) { break L160; }
+             if (l14 == 38646) { break L160; }
+             if (l1 == l9) { break L160; }
+             break L164;
             }
-            if (l13 != 21313) { break L204; }
-            break L205;
+            if (l13 != 21313) { break L160; }
+            break L161;
            }
-           if (l1 == l9) { break L207; }
-           if (l14 != 21313) { break L207; }
+           if (l1 == l9) { break L163; }
+           if (l14 != 21313) { break L163; }
           }
-          if ((l14 = (int) b[((int) (l9 = l10 + l9)) - 58912]) > -1) { break L207; }
-          if (l14 + Integer.MIN_VALUE < 2147483616) { break L207; }
+          if ((l14 = (int) b[((int) (l9 = l10 + l9)) - 58912]) > -1) { break L163; }
+          if (l14 + Integer.MIN_VALUE < 2147483616) { break L163; }
           l17 = l14 & 255;
           l20 = (b[((int) l9) - 58911] & 0xff) & 63;
           l21 = (b[((int) l9) - 58910] & 0xff) & 63;
-          L219: {
-           L220: {
-            if (l14 + Integer.MIN_VALUE > 2147483631) { break L220; }
+          L175: {
+           L176: {
+            if (l14 + Integer.MIN_VALUE > 2147483631) { break L176; }
             l14 = ((l20 << 6) | ((l17 << 12) & 61440)) | l21;
-            break L219;
+            break L175;
            }
            l14 = ((l21 << 6) | ((l20 << 12) | ((l17 << 18) & 1835008))) | ((b[((int) l9) - 58909] & 0xff) & 63);
           }
-          if (l14 == 28857) { break L205; }
-          if (l14 == 40670) { break L205; }
-          if (l13 != 20108) { break L204; }
-          if (l15 > -1) { break L204; }
-          break L206;
+          if (l14 == 28857) { break L161; }
+          if (l14 == 40670) { break L161; }
+          if (l13 != 20108) { break L160; }
+          if (l15 > -1) { break L160; }
+          break L162;
          }
-         if (l13 != 20108) { break L204; }
-         if (l15 > -1) { break L204; }
+         if (l13 != 20108) { break L160; }
+         if (l15 > -1) { break L160; }
         }
-        if (l15 + Integer.MIN_VALUE < 2147483616) { break L204; }
+        if (l15 + Integer.MIN_VALUE < 2147483616) { break L160; }
         l13 = (b[((int) l10) - 58911] & 0xff) & 63;
         l14 = (b[((int) l10) - 58910] & 0xff) & 63;
-        L221: {
-         L222: {
-          if (l15 + Integer.MIN_VALUE > 2147483631) { break L222; }
+        L177: {
+         L178: {
+          if (l15 + Integer.MIN_VALUE > 2147483631) { break L178; }
           l13 = ((l13 << 6) | ((l16 << 12) & 61440)) | l14;
           l9 = 3L;
-          break L221;
+          break L177;
          }
          l13 = ((l14 << 6) | ((l13 << 12) | ((l16 << 18) & 1835008))) | ((b[((int) l10) - 58909] & 0xff) & 63);
          l9 = 4L;
         }
-        if (l13 != 21313) { break L204; }
-        if (Core5.f157(m, 86592L, 4L, 83836L, 2L, l10 + l9, l1 - l9) == 0) { break L204; }
+        if (l13 != 21313) { break L160; }
+        if (Core5.f157(m, 86592L, 4L, 83836L, 2L, l10 + l9, l1 - l9) == 0) { break L160; }
        }
-       L223: {
-        if (l18 != 0) { break L223; }
-        if (((int) b[((int) ((l1 = l3 + l4) + -1L)) - 58912]) > -1) { break L223; }
+       L179: {
+        if (l18 != 0) { break L179; }
+        if (((int) b[((int) ((l1 = l3 + l4) + -1L)) - 58912]) > -1) { break L179; }
         l10 = -2L;
-        L224: {
-         if ((b[((int) (l1 + -2L)) - 58912] & 0xff) + Integer.MIN_VALUE > -2147483457) { break L224; }
+        L180: {
+         if ((b[((int) (l1 + -2L)) - 58912] & 0xff) + Integer.MIN_VALUE > -2147483457) { break L180; }
          l10 = ((b[((int) (l1 + -3L)) - 58912] & 0xff) + Integer.MIN_VALUE > -2147483457) ? -3L : -4L;
         }
-        if ((l13 = (int) b[((int) (l1 = (l3 + l10) + l4)) - 58912]) > -1) { break L223; }
-        if (l13 + Integer.MIN_VALUE < 2147483616) { break L223; }
+        if ((l13 = (int) b[((int) (l1 = (l3 + l10) + l4)) - 58912]) > -1) { break L179; }
+        if (l13 + Integer.MIN_VALUE < 2147483616) { break L179; }
         l15 = l13 & 255;
         l14 = (b[((int) l1) - 58911] & 0xff) & 63;
         l16 = (b[((int) l1) - 58910] & 0xff) & 63;
-        L225: {
-         L226: {
-          if (l13 + Integer.MIN_VALUE > 2147483631) { break L226; }
+        L181: {
+         L182: {
+          if (l13 + Integer.MIN_VALUE > 2147483631) { break L182; }
           l14 = ((l14 << 6) | ((l15 << 12) & 61440)) | l16;
-          break L225;
+          break L181;
          }
          l14 = ((l16 << 6) | ((l14 << 12) | ((l15 << 18) & 1835008))) | ((b[((int) l1) - 58909] & 0xff) & 63);
         }
-        l13 = 1;
         l15 = 4;
-        L227: {
-         if (l14 > 26201) { break L227; }
+        L183: {
+         if (l14 > 26201) { break L183; }
          if (l14 == 21320) { exit = 1; break PART; }
          if (l14 == 22812) { exit = 1; break PART; }
          if (l14 == 26089) { exit = 1; break PART; }
-         break L223;
+         break L179;
         }
+        l13 = 1;
         switch (l14 + -26202) {
-        case 0: case 14: exit = 1; break PART;
-        default: break L223;
+        case 0: case 14: exit = 2; break PART;
+        default: break L179;
         }
        }
-       if (Core5.f170(m, 84168L, 1L, 84160L, 2L, l3, l4) == 0) { break L204; }
-       l13 = 1;
+       if (Core5.f170(m, 84168L, 1L, 84160L, 2L, l3, l4) == 0) { break L160; }
        l15 = 4;
-       exit = 1; break PART;
+       l13 = 1;
+       exit = 2; break PART;
       }
-      L228: {
-       if ((l13 = (int) b[((int) (l5 + (l1 = l6 + -1L))) - 58912]) >= 0) { break L228; }
+      L184: {
+       if ((l13 = (int) b[((int) (l5 + (l1 = l6 + -1L))) - 58912]) >= 0) { break L184; }
        l1 = -2L;
-       L229: {
-        if ((b[((int) ((l10 = l5 + l6) + -2L)) - 58912] & 0xff) + Integer.MIN_VALUE > -2147483457) { break L229; }
+       L185: {
+        if ((b[((int) ((l10 = l5 + l6) + -2L)) - 58912] & 0xff) + Integer.MIN_VALUE > -2147483457) { break L185; }
         l1 = ((b[((int) (l10 + -3L)) - 58912] & 0xff) + Integer.MIN_VALUE > -2147483457) ? -3L : -4L;
        }
        l13 = (l15 = (int) b[((int) (l10 = l5 + (l1 = l1 + l6))) - 58912]) & 255;
-       if (l15 > -1) { break L228; }
+       if (l15 > -1) { break L184; }
        l14 = (b[((int) l10) - 58911] & 0xff) & 63;
-       L230: {
-        if (l15 + Integer.MIN_VALUE > 2147483615) { break L230; }
+       L186: {
+        if (l15 + Integer.MIN_VALUE > 2147483615) { break L186; }
         l13 = ((l13 << 6) & 1984) | l14;
-        break L228;
+        break L184;
        }
        l16 = (b[((int) l10) - 58910] & 0xff) & 63;
-       L231: {
-        if (l15 + Integer.MIN_VALUE > 2147483631) { break L231; }
+       L187: {
+        if (l15 + Integer.MIN_VALUE > 2147483631) { break L187; }
         l13 = ((l14 << 6) | ((l13 << 12) & 61440)) | l16;
-        break L228;
+        break L184;
        }
        l13 = ((l16 << 6) | ((l14 << 12) | ((l13 << 18) & 1835008))) | ((b[((int) l10) - 58909] & 0xff) & 63);
       }
       Core2.f63(m, l2 + 8L, l13);
-      if ((l13 + -58) + Integer.MIN_VALUE > 2147483637) { break L200; }
-      if (((b[((int) l2) - 58904] & 0xff) & 255) != 1) { break L200; }
-      if (l13 == 12295) { break L200; }
-      if (l13 == 38646) { break L200; }
-      if (l1 == 0L) { break L200; }
-      L232: {
-       if ((l13 = (int) b[((int) (l5 + (l10 = l1 + -1L))) - 58912]) >= 0) { break L232; }
+      if ((l13 + -58) + Integer.MIN_VALUE > 2147483637) { break L156; }
+      if (((b[((int) l2) - 58904] & 0xff) & 255) != 1) { break L156; }
+      if (l13 == 12295) { break L156; }
+      if (l13 == 38646) { break L156; }
+      if (l1 == 0L) { break L156; }
+      L188: {
+       if ((l13 = (int) b[((int) (l5 + (l10 = l1 + -1L))) - 58912]) >= 0) { break L188; }
        l10 = -2L;
-       L233: {
-        if ((b[((int) ((l9 = l5 + l1) + -2L)) - 58912] & 0xff) + Integer.MIN_VALUE > -2147483457) { break L233; }
+       L189: {
+        if ((b[((int) ((l9 = l5 + l1) + -2L)) - 58912] & 0xff) + Integer.MIN_VALUE > -2147483457) { break L189; }
         l10 = ((b[((int) (l9 + -3L)) - 58912] & 0xff) + Integer.MIN_VALUE > -2147483457) ? -3L : -4L;
        }
        l13 = (l15 = (int) b[((int) (l1 = l5 + (l10 = l10 + l1))) - 58912]) & 255;
-       if (l15 > -1) { break L232; }
+       if (l15 > -1) { break L188; }
        l14 = (b[((int) l1) - 58911] & 0xff) & 63;
-       L234: {
-        if (l15 + Integer.MIN_VALUE > 2147483615) { break L234; }
+       L190: {
+        if (l15 + Integer.MIN_VALUE > 2147483615) { break L190; }
         l13 = ((l13 << 6) & 1984) | l14;
-        break L232;
+        break L188;
        }
        l16 = (b[((int) l1) - 58910] & 0xff) & 63;
-       L235: {
-        if (l15 + Integer.MIN_VALUE > 2147483631) { break L235; }
+       L191: {
+        if (l15 + Integer.MIN_VALUE > 2147483631) { break L191; }
         l13 = ((l14 << 6) | ((l13 << 12) & 61440)) | l16;
-        break L232;
+        break L188;
        }
        l13 = ((l16 << 6) | ((l14 << 12) | ((l13 << 18) & 1835008))) | ((b[((int) l1) - 58909] & 0xff) & 63);
       }
-      L236: {
-       if (l13 == 38646) { break L236; }
-       if (l13 != 12295) { break L200; }
+      L192: {
+       if (l13 == 38646) { break L192; }
+       if (l13 != 12295) { break L156; }
       }
-      if (Core5.f178(m, l5, l10) == 0) { break L200; }
+      if (Core5.f179(m, l5, l10) == 0) { break L156; }
       l13 = 1;
       l15 = 4;
-      if (l12 != 0) { exit = 1; break PART; }
-      if ((l14 = (int) b[((int) l7) - 58912]) > -1) { exit = 1; break PART; }
-      if (l14 + Integer.MIN_VALUE < 2147483616) { exit = 1; break PART; }
-      l16 = l14 & 255;
-      l12 = (b[((int) l7) - 58911] & 0xff) & 63;
+      if (l12 != 0) { exit = 2; break PART; }
+      if ((l14 = (int) b[((int) l7) - 58912]) > -1) { exit = 2; break PART; }
+      if (l14 + Integer.MIN_VALUE < 2147483616) { exit = 2; break PART; }
+      l12 = l14 & 255;
+      l16 = (b[((int) l7) - 58911] & 0xff) & 63;
       l17 = (b[((int) l7) - 58910] & 0xff) & 63;
-      L237: {
-       L238: {
-        if (l14 + Integer.MIN_VALUE > 2147483631) { break L238; }
-        l14 = ((l12 << 6) | ((l16 << 12) & 61440)) | l17;
-        break L237;
+      L193: {
+       L194: {
+        if (l14 + Integer.MIN_VALUE > 2147483631) { break L194; }
+        l14 = ((l16 << 6) | ((l12 << 12) & 61440)) | l17;
+        break L193;
        }
-       l14 = ((l17 << 6) | ((l12 << 12) | ((l16 << 18) & 1835008))) | ((b[((int) l7) - 58909] & 0xff) & 63);
+       l14 = ((l17 << 6) | ((l16 << 12) | ((l12 << 18) & 1835008))) | ((b[((int) l7) - 58909] & 0xff) & 63);
       }
-      L239: {
-       if (l14 > 21543) { break L239; }
-       L240: {
+      L195: {
+       if (l14 > 21543) { break L195; }
+       L196: {
         switch (l14 + -20803) {
-        case 0: case 8: break L199;
-        case 1: case 2: case 3: case 4: case 5: case 6: case 7: exit = 1; break PART;
-        default: break L240;
+        case 0: case 8: break L155;
+        case 1: case 2: case 3: case 4: case 5: case 6: case 7: exit = 2; break PART;
+        default: break L196;
         }
        }
-       if (l14 == 20493) { break L199; }
-       if (l14 == 21319) { break L199; }
-       exit = 1; break PART;
+       if (l14 == 20493) { break L155; }
+       if (l14 == 21319) { break L155; }
+       exit = 2; break PART;
       }
-      L241: {
-       if (l14 > 24229) { break L241; }
-       if (l14 == 21544) { break L199; }
-       if (l14 == 22136) { break L199; }
-       exit = 1; break PART;
+      L197: {
+       if (l14 > 24229) { break L197; }
+       if (l14 == 21544) { break L155; }
+       if (l14 == 22136) { break L155; }
+       exit = 2; break PART;
       }
-      if (l14 == 24230) { break L199; }
-      if (l14 == 31859) { break L199; }
-      exit = 1; break PART;
+      if (l14 == 24230) { break L155; }
+      if (l14 == 31859) { break L155; }
+      exit = 2; break PART;
      }
-     if (l12 != 0) { break L198; }
+     if (l12 != 0) { break L154; }
     }
-    l16 = (l13 = (int) b[((int) l7) - 58912]) & 255;
+    l12 = (l13 = (int) b[((int) l7) - 58912]) & 255;
     l10 = 1L;
-    L242: {
-     if (l13 > -1) { break L242; }
+    L198: {
+     if (l13 > -1) { break L198; }
      l15 = (b[((int) l7) - 58911] & 0xff) & 63;
-     L243: {
-      if (l13 + Integer.MIN_VALUE > 2147483615) { break L243; }
-      l16 = ((l16 << 6) & 1984) | l15;
+     L199: {
+      if (l13 + Integer.MIN_VALUE > 2147483615) { break L199; }
+      l12 = ((l12 << 6) & 1984) | l15;
       l10 = 2L;
-      break L242;
-     }
-     l14 = (b[((int) l7) - 58910] & 0xff) & 63;
-     L244: {
-      if (l13 + Integer.MIN_VALUE > 2147483631) { break L244; }
-      l16 = ((l15 << 6) | ((l16 << 12) & 61440)) | l14;
-      l10 = 3L;
-      break L242;
-     }
-     l16 = ((l14 << 6) | ((l15 << 12) | ((l16 << 18) & 1835008))) | ((b[((int) l7) - 58909] & 0xff) & 63);
-     l10 = 4L;
-    }
-    L245: {
-     L246: {
-      if (l16 > 12315) { break L246; }
-      L247: {
-       if (l16 > 8210) { break L247; }
-       if (l16 == 45) { break L245; }
-       if (l16 != 126) { break L198; }
-       break L245;
-      }
-      if ((l16 + -8211) + Integer.MIN_VALUE < -2147483646) { break L245; }
-      if (l16 != 12289) { break L198; }
-      break L245;
-     }
-     L248: {
-      if (l16 > 33266) { break L248; }
-      if (l16 == 12316) { break L245; }
-      if (l16 == 21040) { break L245; }
       break L198;
      }
-     if (l16 == 33267) { break L245; }
-     if (l16 == 65374) { break L245; }
-     if (l16 != 65293) { break L198; }
+     l14 = (b[((int) l7) - 58910] & 0xff) & 63;
+     L200: {
+      if (l13 + Integer.MIN_VALUE > 2147483631) { break L200; }
+      l12 = ((l15 << 6) | ((l12 << 12) & 61440)) | l14;
+      l10 = 3L;
+      break L198;
+     }
+     l12 = ((l14 << 6) | ((l15 << 12) | ((l12 << 18) & 1835008))) | ((b[((int) l7) - 58909] & 0xff) & 63);
+     l10 = 4L;
+    }
+    L201: {
+     L202: {
+      if (l12 > 12315) { break L202; }
+      L203: {
+       if (l12 > 8210) { break L203; }
+       if (l12 == 45) { break L201; }
+       if (l12 != 126) { break L154; }
+       break L201;
+      }
+      if ((l12 + -8211) + Integer.MIN_VALUE < -2147483646) { break L201; }
+      if (l12 != 12289) { break L154; }
+      break L201;
+     }
+     L204: {
+      if (l12 > 33266) { break L204; }
+      if (l12 == 12316) { break L201; }
+      if (l12 == 21040) { break L201; }
+      break L154;
+     }
+     if (l12 == 33267) { break L201; }
+     if (l12 == 65374) { break L201; }
+     if (l12 != 65293) { break L154; }
     }
     l1 = l11 = l7 + l10;
     l9 = l8 = l8 - l10;
-    L249: {
-     L250: while (true) {
-      if ((l7 = l9) == 0L) { break L249; }
+    L205: {
+     L206: while (true) {
+      if ((l7 = l9) == 0L) { break L205; }
       l13 = (l15 = (int) b[((int) l1) - 58912]) & 255;
       l10 = 1L;
-      L251: {
-       if (l15 > -1) { break L251; }
+      L207: {
+       if (l15 > -1) { break L207; }
        l14 = (b[((int) l1) - 58911] & 0xff) & 63;
-       L252: {
-        if (l15 + Integer.MIN_VALUE > 2147483615) { break L252; }
+       L208: {
+        if (l15 + Integer.MIN_VALUE > 2147483615) { break L208; }
         l13 = ((l13 << 6) & 1984) | l14;
         l10 = 2L;
-        break L251;
+        break L207;
        }
-       l12 = (b[((int) l1) - 58910] & 0xff) & 63;
-       L253: {
-        if (l15 + Integer.MIN_VALUE > 2147483631) { break L253; }
-        l13 = ((l14 << 6) | ((l13 << 12) & 61440)) | l12;
+       l16 = (b[((int) l1) - 58910] & 0xff) & 63;
+       L209: {
+        if (l15 + Integer.MIN_VALUE > 2147483631) { break L209; }
+        l13 = ((l14 << 6) | ((l13 << 12) & 61440)) | l16;
         l10 = 3L;
-        break L251;
+        break L207;
        }
-       l13 = ((l12 << 6) | ((l14 << 12) | ((l13 << 18) & 1835008))) | ((b[((int) l1) - 58909] & 0xff) & 63);
+       l13 = ((l16 << 6) | ((l14 << 12) | ((l13 << 18) & 1835008))) | ((b[((int) l1) - 58909] & 0xff) & 63);
        l10 = 4L;
       }
       l9 = l7 - l10;
       l1 = l1 + l10;
-      if (Core5.f180(m, l13) != 0) { continue L250; }
-      break L250;
+      if (Core5.f181(m, l13) != 0) { continue L206; }
+      break L206;
      }
     }
-    l15 = ((l13 = Core6.f181(m, l16, l5, l6, l11, l8 - l7)) != 0) ? 5 : 0;
-    if (l18 != 0) { exit = 1; break PART; }
-    if (l13 != 0) { exit = 1; break PART; }
-    break L197;
+    l15 = ((l13 = Core6.f182(m, l12, l5, l6, l11, l8 - l7)) != 0) ? 5 : 0;
+    if (l18 != 0) { exit = 2; break PART; }
+    if (l13 != 0) { exit = 2; break PART; }
+    break L153;
    }
-   if (l18 == 0) { break L197; }
+   if (l18 == 0) { break L153; }
    l13 = 0;
    l15 = 0;
-   exit = 1; break PART;
+   exit = 2; break PART;
   }
  }
  m.kept[0] = l1;
@@ -4088,435 +3755,516 @@ static void f126(State m, long l0, long l1) {
    case 2: break L2;
    }
    L35: {
-    if (Core5.f170(m, 83504L, 1L, 86224L, 7L, l5, l6) == 0) { break L35; }
-    if (Core5.f177(m, l7, l8) == 0) { break L2; }
+    if (Core5.f177(m, l5, l6, l7, l8) == 0) { break L35; }
+    l15 = 3;
+    l13 = 1;
+    break L1;
    }
-   final int x85 = f126_2(m, l1, l2, l3, l4, l5, l6, l7, l8, l9, l10, l12, l13, l14, l15, l16, l17, l18);
-   l1 = m.kept[0];
-   l9 = m.kept[1];
-   l10 = m.kept[2];
-   l13 = (int) m.kept[3];
-   l14 = (int) m.kept[4];
-   l15 = (int) m.kept[5];
-   l16 = (int) m.kept[6];
-   l17 = (int) m.kept[7];
-   l18 = (int) m.kept[8];
-   switch (x85) {
-   case 1: break L2;
-   case 2: break L1;
+   L36: {
+    if (Core5.f180(m, l3, l4, l5, l6, l7, l8) == 0) { break L36; }
+    l15 = 0;
+    l13 = 1;
+    break L1;
+   }
+   L37: {
+    if ((l17 = (l6 == 0L) ? 1 : 0) != 0) { break L37; }
+    l10 = l6;
+    l1 = l5;
+    L38: while (true) {
+     L39: {
+      L40: {
+       L41: {
+        L42: {
+         if ((l13 = (int) b[((int) l1) - 58912]) <= -1) { break L42; }
+         l9 = 1L;
+         break L41;
+        }
+        if (l13 + Integer.MIN_VALUE >= 2147483616) { break L40; }
+        l9 = 2L;
+       }
+       l10 = l10 - l9;
+       l1 = l1 + l9;
+       break L39;
+      }
+      l15 = l13 & 255;
+      l14 = (b[((int) l1) - 58911] & 0xff) & 63;
+      l16 = (b[((int) l1) - 58910] & 0xff) & 63;
+      L43: {
+       L44: {
+        if (l13 + Integer.MIN_VALUE > 2147483631) { break L44; }
+        l13 = ((l14 << 6) | ((l15 << 12) & 61440)) | l16;
+        l9 = 3L;
+        break L43;
+       }
+       l13 = ((l16 << 6) | ((l14 << 12) | ((l15 << 18) & 1835008))) | ((b[((int) l1) - 58909] & 0xff) & 63);
+       l9 = 4L;
+      }
+      l10 = l10 - l9;
+      l1 = l1 + l9;
+      if (l13 != 21313) { break L39; }
+      if (l10 == 0L) { break L37; }
+      l13 = (l15 = (int) b[((int) l1) - 58912]) & 255;
+      l9 = 1L;
+      L45: {
+       if (l15 > -1) { break L45; }
+       l14 = (b[((int) l1) - 58911] & 0xff) & 63;
+       L46: {
+        if (l15 + Integer.MIN_VALUE > 2147483615) { break L46; }
+        l13 = ((l13 << 6) & 1984) | l14;
+        l9 = 2L;
+        break L45;
+       }
+       l16 = (b[((int) l1) - 58910] & 0xff) & 63;
+       L47: {
+        if (l15 + Integer.MIN_VALUE > 2147483631) { break L47; }
+        l13 = ((l14 << 6) | ((l13 << 12) & 61440)) | l16;
+        l9 = 3L;
+        break L45;
+       }
+       l13 = ((l16 << 6) | ((l14 << 12) | ((l13 << 18) & 1835008))) | ((b[((int) l1) - 58909] & 0xff) & 63);
+       l9 = 4L;
+      }
+      Core2.f63(m, l2 + 64L, l13);
+      if (l10 == l9) { break L39; }
+      if ((l13 + -48) + Integer.MIN_VALUE < -2147483638) { break L39; }
+      if (((b[((int) l2) - 58848] & 0xff) & 255) != 1) { break L39; }
+      if ((l13 = (int) b[((int) (l9 = l1 + l9)) - 58912]) > -1) { break L39; }
+      if (l13 + Integer.MIN_VALUE < 2147483616) { break L39; }
+      l15 = l13 & 255;
+      l14 = (b[((int) l9) - 58911] & 0xff) & 63;
+      l16 = (b[((int) l9) - 58910] & 0xff) & 63;
+      L48: {
+       L49: {
+        if (l13 + Integer.MIN_VALUE > 2147483631) { break L49; }
+        l13 = ((l14 << 6) | ((l15 << 12) & 61440)) | l16;
+        break L48;
+       }
+       l13 = ((l16 << 6) | ((l14 << 12) | ((l15 << 18) & 1835008))) | ((b[((int) l9) - 58909] & 0xff) & 63);
+      }
+      if (l13 != 21313) { break L39; }
+      l15 = 1;
+      l13 = 1;
+      break L1;
+     }
+     if (l10 != 0L) { continue L38; }
+     break L38;
+    }
    }
    l1 = l5;
    l9 = l6;
-   L86: {
-    L87: {
-     final int x155 = f126_3(m, l1, l2, l3, l4, l5, l6, l7, l8, l9, l10, l12, l13, l14, l15, l16, l17, l18, l19, l20, l21);
-     l1 = m.kept[0];
-     l9 = m.kept[1];
-     l10 = m.kept[2];
-     l13 = (int) m.kept[3];
-     l14 = (int) m.kept[4];
-     l15 = (int) m.kept[5];
-     l16 = (int) m.kept[6];
-     l18 = (int) m.kept[7];
-     l19 = (int) m.kept[8];
-     l20 = (int) m.kept[9];
-     l21 = (int) m.kept[10];
-     switch (x155) {
-     case 1: break L1;
-     case 2: break L87;
-     }
-     L156: {
-      L157: {
-       L158: {
-        L159: {
-         L160: {
-          L161: {
-           L162: {
-            L163: {
-             L164: {
-              if (l13 > 27154) { break L164; }
-              L165: {
-               if (l13 > 23617) { break L165; }
-               l1 = l5;
-               l9 = l6;
-               if (l13 == 21010) { break L163; }
-               l1 = l5;
-               l9 = l6;
-               if (l13 == 21123) { break L163; }
-               break L87;
-              }
-              L166: {
-               switch (l13 + -23618) {
-               case 0: case 34: break L160;
-               case 1: case 2: case 3: case 5: case 6: case 7: case 9: case 10: case 11: case 12: case 13: case 14: case 15: case 16: case 17: case 18: case 19: case 20: case 21: case 22: case 23: case 24: case 25: case 26: case 27: case 28: case 29: case 30: case 31: case 32: case 33: break L87;
-               case 4: case 8: break L162;
-               default: break L166;
+   L50: {
+    L51: {
+     L52: {
+      final int x111 = f126_2(m, l1, l2, l3, l4, l5, l6, l7, l8, l9, l10, l12, l13, l14, l15, l16, l17, l18, l19, l20, l21);
+      l1 = m.kept[0];
+      l9 = m.kept[1];
+      l10 = m.kept[2];
+      l13 = (int) m.kept[3];
+      l14 = (int) m.kept[4];
+      l15 = (int) m.kept[5];
+      l16 = (int) m.kept[6];
+      l18 = (int) m.kept[7];
+      l19 = (int) m.kept[8];
+      l20 = (int) m.kept[9];
+      l21 = (int) m.kept[10];
+      switch (x111) {
+      case 1: break L50;
+      case 2: break L1;
+      case 3: break L52;
+      }
+      L112: {
+       L113: {
+        L114: {
+         L115: {
+          L116: {
+           L117: {
+            L118: {
+             L119: {
+              L120: {
+               L121: {
+                if (l13 > 27154) { break L121; }
+                L122: {
+                 if (l13 > 23617) { break L122; }
+                 l1 = l5;
+                 l9 = l6;
+                 if (l13 == 21010) { break L120; }
+                 l1 = l5;
+                 l9 = l6;
+                 if (l13 == 21123) { break L120; }
+                 break L52;
+                }
+                switch (l13 + -23618) {
+                case 0: case 34: break L116;
+                case 1: case 2: case 3: case 5: case 6: case 7: case 9: case 10: case 11: case 12: case 13: case 14: case 15: case 16: case 17: case 18: case 19: case 20: case 21: case 22: case 23: case 24: case 25: case 26: case 27: case 28: case 29: case 30: case 31: case 32: case 33: break L52;
+                case 4: case 8: break L119;
+                default: break L118;
+                }
                }
+               if (l13 > 36826) { break L117; }
+               if (l13 == 27155) { break L116; }
+               l1 = l5;
+               l9 = l6;
+               if (l13 == 32218) { break L120; }
+               l1 = l5;
+               l9 = l6;
+               if (l13 != 32447) { break L52; }
               }
-              if (l13 == 27004) { break L160; }
-              break L87;
+              L123: while (true) {
+               if (l9 == 0L) { break L52; }
+               l13 = (l15 = (int) b[((int) l1) - 58912]) & 255;
+               l10 = 1L;
+               L124: {
+                if (l15 > -1) { break L124; }
+                l14 = (b[((int) l1) - 58911] & 0xff) & 63;
+                L125: {
+                 if (l15 + Integer.MIN_VALUE > 2147483615) { break L125; }
+                 l13 = ((l13 << 6) & 1984) | l14;
+                 l10 = 2L;
+                 break L124;
+                }
+                l16 = (b[((int) l1) - 58910] & 0xff) & 63;
+                L126: {
+                 if (l15 + Integer.MIN_VALUE > 2147483631) { break L126; }
+                 l13 = ((l14 << 6) | ((l13 << 12) & 61440)) | l16;
+                 l10 = 3L;
+                 break L124;
+                }
+                l13 = ((l16 << 6) | ((l14 << 12) | ((l13 << 18) & 1835008))) | ((b[((int) l1) - 58909] & 0xff) & 63);
+                l10 = 4L;
+               }
+               if (l13 == 28857) { break L51; }
+               l9 = l9 - l10;
+               l1 = l1 + l10;
+               if (l13 != 40670) { continue L123; }
+               break L51;
+              }
              }
-             if (l13 > 36826) { break L161; }
-             if (l13 == 27155) { break L160; }
-             l1 = l5;
-             l9 = l6;
-             if (l13 == 32218) { break L163; }
-             l1 = l5;
-             l9 = l6;
-             if (l13 != 32447) { break L87; }
-            }
-            L167: while (true) {
-             if (l9 == 0L) { break L87; }
-             l13 = (l15 = (int) b[((int) l1) - 58912]) & 255;
+             l1 = 1L;
+             L127: {
+              if (l15 != 0) { break L127; }
+              l13 = (b[((int) l7) - 58911] & 0xff) & 63;
+              L128: {
+               if (l14 + Integer.MIN_VALUE > 2147483615) { break L128; }
+               l16 = ((l16 << 6) & 1984) | l13;
+               l1 = 2L;
+               break L127;
+              }
+              l15 = (b[((int) l7) - 58910] & 0xff) & 63;
+              L129: {
+               if (l14 + Integer.MIN_VALUE > 2147483631) { break L129; }
+               l16 = ((l13 << 6) | ((l16 << 12) & 61440)) | l15;
+               l1 = 3L;
+               break L127;
+              }
+              l16 = ((l15 << 6) | ((l13 << 12) | ((l16 << 18) & 1835008))) | ((b[((int) l7) - 58909] & 0xff) & 63);
+              l1 = 4L;
+             }
+             if (l8 == l1) { break L52; }
+             l15 = (l13 = (int) b[((int) (l9 = l7 + l1)) - 58912]) & 255;
              l10 = 1L;
-             L168: {
-              if (l15 > -1) { break L168; }
-              l14 = (b[((int) l1) - 58911] & 0xff) & 63;
-              L169: {
-               if (l15 + Integer.MIN_VALUE > 2147483615) { break L169; }
-               l13 = ((l13 << 6) & 1984) | l14;
+             L130: {
+              if (l13 > -1) { break L130; }
+              l14 = (b[((int) l9) - 58911] & 0xff) & 63;
+              L131: {
+               if (l13 + Integer.MIN_VALUE > 2147483615) { break L131; }
+               l15 = ((l15 << 6) & 1984) | l14;
                l10 = 2L;
-               break L168;
+               break L130;
               }
-              l16 = (b[((int) l1) - 58910] & 0xff) & 63;
-              L170: {
-               if (l15 + Integer.MIN_VALUE > 2147483631) { break L170; }
-               l13 = ((l14 << 6) | ((l13 << 12) & 61440)) | l16;
+              l18 = (b[((int) l9) - 58910] & 0xff) & 63;
+              L132: {
+               if (l13 + Integer.MIN_VALUE > 2147483631) { break L132; }
+               l15 = ((l14 << 6) | ((l15 << 12) & 61440)) | l18;
                l10 = 3L;
-               break L168;
+               break L130;
               }
-              l13 = ((l16 << 6) | ((l14 << 12) | ((l13 << 18) & 1835008))) | ((b[((int) l1) - 58909] & 0xff) & 63);
+              l15 = ((l18 << 6) | ((l14 << 12) | ((l15 << 18) & 1835008))) | ((b[((int) l9) - 58909] & 0xff) & 63);
               l10 = 4L;
              }
-             if (l13 == 28857) { break L86; }
-             l9 = l9 - l10;
-             l1 = l1 + l10;
-             if (l13 != 40670) { continue L167; }
-             break L86;
+             if (((l16 + -23622) & -5) != 0) { break L52; }
+             Core2.f63(m, l2 + 32L, l15);
+             if (l8 == (l10 + l1)) { break L52; }
+             if ((l15 + -48) + Integer.MIN_VALUE < -2147483638) { break L52; }
+             if (((b[((int) l2) - 58880] & 0xff) & 255) != 1) { break L52; }
+             if ((l13 = (int) b[((int) (l1 = l9 + l10)) - 58912]) > -1) { break L52; }
+             if (l13 + Integer.MIN_VALUE < 2147483616) { break L52; }
+             l15 = l13 & 255;
+             l14 = (b[((int) l1) - 58911] & 0xff) & 63;
+             l16 = (b[((int) l1) - 58910] & 0xff) & 63;
+             L133: {
+              L134: {
+               if (l13 + Integer.MIN_VALUE > 2147483631) { break L134; }
+               l13 = ((l14 << 6) | ((l15 << 12) & 61440)) | l16;
+               break L133;
+              }
+              l13 = ((l16 << 6) | ((l14 << 12) | ((l15 << 18) & 1835008))) | ((b[((int) l1) - 58909] & 0xff) & 63);
+             }
+             if (l13 != 20013) { break L52; }
+             l13 = 1;
+             l15 = 2;
+             break L1;
             }
+            if (l13 == 27004) { break L116; }
+            break L52;
            }
-           l1 = 1L;
-           L171: {
-            if (l15 != 0) { break L171; }
-            l13 = (b[((int) l7) - 58911] & 0xff) & 63;
-            L172: {
-             if (l14 + Integer.MIN_VALUE > 2147483615) { break L172; }
-             l16 = ((l16 << 6) & 1984) | l13;
-             l1 = 2L;
-             break L171;
+           L135: {
+            if (l13 > 38916) { break L135; }
+            L136: {
+             if (l13 == 36827) { break L136; }
+             if (l13 != 36914) { break L52; }
             }
-            l15 = (b[((int) l7) - 58910] & 0xff) & 63;
-            L173: {
-             if (l14 + Integer.MIN_VALUE > 2147483631) { break L173; }
-             l16 = ((l13 << 6) | ((l16 << 12) & 61440)) | l15;
-             l1 = 3L;
-             break L171;
-            }
-            l16 = ((l15 << 6) | ((l13 << 12) | ((l16 << 18) & 1835008))) | ((b[((int) l7) - 58909] & 0xff) & 63);
-            l1 = 4L;
+            if (l8 == l1) { break L52; }
+            if ((l13 = (int) b[((int) (l1 = l7 + l1)) - 58912]) > -1) { break L52; }
+            if (l13 + Integer.MIN_VALUE < 2147483616) { break L52; }
+            l15 = l13 & 255;
+            l14 = (b[((int) l1) - 58911] & 0xff) & 63;
+            l16 = (b[((int) l1) - 58910] & 0xff) & 63;
+            if (l13 + Integer.MIN_VALUE > 2147483631) { break L115; }
+            l13 = ((l14 << 6) | ((l15 << 12) & 61440)) | l16;
+            break L114;
            }
-           if (l8 == l1) { break L87; }
-           l15 = (l13 = (int) b[((int) (l9 = l7 + l1)) - 58912]) & 255;
-           l10 = 1L;
-           L174: {
-            if (l13 > -1) { break L174; }
-            l14 = (b[((int) l9) - 58911] & 0xff) & 63;
-            L175: {
-             if (l13 + Integer.MIN_VALUE > 2147483615) { break L175; }
-             l15 = ((l15 << 6) & 1984) | l14;
-             l10 = 2L;
-             break L174;
-            }
-            l18 = (b[((int) l9) - 58910] & 0xff) & 63;
-            L176: {
-             if (l13 + Integer.MIN_VALUE > 2147483631) { break L176; }
-             l15 = ((l14 << 6) | ((l15 << 12) & 61440)) | l18;
-             l10 = 3L;
-             break L174;
-            }
-            l15 = ((l18 << 6) | ((l14 << 12) | ((l15 << 18) & 1835008))) | ((b[((int) l9) - 58909] & 0xff) & 63);
-            l10 = 4L;
-           }
-           if (((l16 + -23622) & -5) != 0) { break L87; }
-           Core2.f63(m, l2 + 32L, l15);
-           if (l8 == (l10 + l1)) { break L87; }
-           if ((l15 + -48) + Integer.MIN_VALUE < -2147483638) { break L87; }
-           if (((b[((int) l2) - 58880] & 0xff) & 255) != 1) { break L87; }
-           if ((l13 = (int) b[((int) (l1 = l9 + l10)) - 58912]) > -1) { break L87; }
-           if (l13 + Integer.MIN_VALUE < 2147483616) { break L87; }
-           l15 = l13 & 255;
-           l14 = (b[((int) l1) - 58911] & 0xff) & 63;
-           l16 = (b[((int) l1) - 58910] & 0xff) & 63;
-           L177: {
-            L178: {
-             if (l13 + Integer.MIN_VALUE > 2147483631) { break L178; }
-             l13 = ((l14 << 6) | ((l15 << 12) & 61440)) | l16;
-             break L177;
-            }
-            l13 = ((l16 << 6) | ((l14 << 12) | ((l15 << 18) & 1835008))) | ((b[((int) l1) - 58909] & 0xff) & 63);
-           }
-           if (l13 == 20013) { break L86; }
-           break L87;
+           if (l13 == 38917) { break L116; }
+           if (l13 != 39033) { break L52; }
           }
-          L179: {
-           if (l13 > 38916) { break L179; }
-           L180: {
-            if (l13 == 36827) { break L180; }
-            if (l13 != 36914) { break L87; }
-           }
-           if (l8 == l1) { break L87; }
-           if ((l13 = (int) b[((int) (l1 = l7 + l1)) - 58912]) > -1) { break L87; }
-           if (l13 + Integer.MIN_VALUE < 2147483616) { break L87; }
-           l15 = l13 & 255;
-           l14 = (b[((int) l1) - 58911] & 0xff) & 63;
-           l16 = (b[((int) l1) - 58910] & 0xff) & 63;
-           if (l13 + Integer.MIN_VALUE > 2147483631) { break L159; }
-           l14 = ((l14 << 6) | ((l15 << 12) & 61440)) | l16;
-           break L158;
-          }
-          if (l13 == 38917) { break L160; }
-          if (l13 != 39033) { break L87; }
+          if (l17 != 0) { break L52; }
+          if ((l13 = (int) b[((int) l5) - 58912]) > -1) { break L52; }
+          if (l13 + Integer.MIN_VALUE < 2147483616) { break L52; }
+          l15 = l13 & 255;
+          l14 = (b[((int) l5) - 58911] & 0xff) & 63;
+          l16 = (b[((int) l5) - 58910] & 0xff) & 63;
+          if (l13 + Integer.MIN_VALUE > 2147483631) { break L113; }
+          l13 = ((l14 << 6) | ((l15 << 12) & 61440)) | l16;
+          break L112;
          }
-         if (l17 != 0) { break L87; }
-         if ((l13 = (int) b[((int) l5) - 58912]) > -1) { break L87; }
-         if (l13 + Integer.MIN_VALUE < 2147483616) { break L87; }
-         l15 = l13 & 255;
-         l14 = (b[((int) l5) - 58911] & 0xff) & 63;
-         l16 = (b[((int) l5) - 58910] & 0xff) & 63;
-         if (l13 + Integer.MIN_VALUE > 2147483631) { break L157; }
-         l14 = ((l14 << 6) | ((l15 << 12) & 61440)) | l16;
-         break L156;
+         l13 = ((l16 << 6) | ((l14 << 12) | ((l15 << 18) & 1835008))) | ((b[((int) l1) - 58909] & 0xff) & 63);
         }
-        l14 = ((l16 << 6) | ((l14 << 12) | ((l15 << 18) & 1835008))) | ((b[((int) l1) - 58909] & 0xff) & 63);
+        l15 = 2;
+        if (l13 == 20301) { break L50; }
+        if (l13 == 21046) { break L50; }
+        break L52;
        }
-       l13 = 1;
-       l15 = 2;
-       if (l14 == 20301) { break L1; }
-       if (l14 != 21046) { break L87; }
-       break L1;
+       l13 = ((l16 << 6) | ((l14 << 12) | ((l15 << 18) & 1835008))) | ((b[((int) l5) - 58909] & 0xff) & 63);
       }
-      l14 = ((l16 << 6) | ((l14 << 12) | ((l15 << 18) & 1835008))) | ((b[((int) l5) - 58909] & 0xff) & 63);
-     }
-     l13 = 1;
-     l15 = 2;
-     if (l14 == 36000) { break L1; }
-     if (l14 == 36127) { break L1; }
-    }
-    L181: {
-     if ((l18 = (l4 == 0L) ? 1 : 0) != 0) { break L181; }
-     if (((int) b[((int) ((l1 = l3 + l4) + -1L)) - 58912]) > -1) { break L181; }
-     l10 = -2L;
-     L182: {
-      if ((b[((int) (l1 + -2L)) - 58912] & 0xff) + Integer.MIN_VALUE > -2147483457) { break L182; }
-      l10 = ((b[((int) (l1 + -3L)) - 58912] & 0xff) + Integer.MIN_VALUE > -2147483457) ? -3L : -4L;
-     }
-     if ((l13 = (int) b[((int) (l1 = (l3 + l10) + l4)) - 58912]) > -1) { break L181; }
-     if (l13 + Integer.MIN_VALUE < 2147483616) { break L181; }
-     l15 = l13 & 255;
-     l14 = (b[((int) l1) - 58911] & 0xff) & 63;
-     l16 = (b[((int) l1) - 58910] & 0xff) & 63;
-     L183: {
-      L184: {
-       if (l13 + Integer.MIN_VALUE > 2147483631) { break L184; }
-       l13 = ((l14 << 6) | ((l15 << 12) & 61440)) | l16;
-       break L183;
-      }
-      l13 = ((l16 << 6) | ((l14 << 12) | ((l15 << 18) & 1835008))) | ((b[((int) l1) - 58909] & 0xff) & 63);
-     }
-     if (l12 != 0) { break L181; }
-     if (l13 != 31532) { break L181; }
-     l13 = (l15 = (int) b[((int) l7) - 58912]) & 255;
-     l1 = 1L;
-     L185: {
-      if (l15 > -1) { break L185; }
-      l14 = (b[((int) l7) - 58911] & 0xff) & 63;
-      L186: {
-       if (l15 + Integer.MIN_VALUE > 2147483615) { break L186; }
-       l13 = ((l13 << 6) & 1984) | l14;
-       l1 = 2L;
-       break L185;
-      }
-      l16 = (b[((int) l7) - 58910] & 0xff) & 63;
-      L187: {
-       if (l15 + Integer.MIN_VALUE > 2147483631) { break L187; }
-       l13 = ((l14 << 6) | ((l13 << 12) & 61440)) | l16;
-       l1 = 3L;
-       break L185;
-      }
-      l13 = ((l16 << 6) | ((l14 << 12) | ((l13 << 18) & 1835008))) | ((b[((int) l7) - 58909] & 0xff) & 63);
-      l1 = 4L;
-     }
-     l10 = l7 + l1;
-     L188: {
-      L189: {
-       if (l13 == 26465) { break L189; }
-       if (l13 == 27425) { break L188; }
-       if (l13 != 26781) { break L181; }
-      }
-      l13 = 1;
       l15 = 2;
-      if (l8 == l1) { break L1; }
-      if ((l14 = (int) b[((int) l10) - 58912]) > -1) { break L1; }
-      if (l14 + Integer.MIN_VALUE < 2147483616) { break L1; }
-      l16 = l14 & 255;
-      l20 = (b[((int) l10) - 58911] & 0xff) & 63;
-      l21 = (b[((int) l10) - 58910] & 0xff) & 63;
-      L190: {
-       L191: {
-        if (l14 + Integer.MIN_VALUE > 2147483631) { break L191; }
-        if (((l14 = (l20 << 6) | ((l16 << 12) & 61440)) + -19968) + Integer.MIN_VALUE >= -2147462656) { break L1; }
-        l14 = l14 | l21;
-        break L190;
-       }
-       if (((l14 = (l21 << 6) | ((l20 << 12) | ((l16 << 18) & 1835008))) + -19968) + Integer.MIN_VALUE >= -2147462656) { break L1; }
-       l14 = l14 | ((b[((int) l10) - 58909] & 0xff) & 63);
+      if (l13 == 36000) { break L50; }
+      if (l13 == 36127) { break L50; }
+     }
+     L137: {
+      if ((l18 = (l4 == 0L) ? 1 : 0) != 0) { break L137; }
+      if (((int) b[((int) ((l1 = l3 + l4) + -1L)) - 58912]) > -1) { break L137; }
+      l10 = -2L;
+      L138: {
+       if ((b[((int) (l1 + -2L)) - 58912] & 0xff) + Integer.MIN_VALUE > -2147483457) { break L138; }
+       l10 = ((b[((int) (l1 + -3L)) - 58912] & 0xff) + Integer.MIN_VALUE > -2147483457) ? -3L : -4L;
       }
-      L192: {
-       if (l14 > 25109) { break L192; }
-       L193: {
-        if (l14 > 21039) { break L193; }
-        if (l14 == 19982) { break L1; }
-        if (l14 != 20043) { break L181; }
+      if ((l13 = (int) b[((int) (l1 = (l3 + l10) + l4)) - 58912]) > -1) { break L137; }
+      if (l13 + Integer.MIN_VALUE < 2147483616) { break L137; }
+      l15 = l13 & 255;
+      l14 = (b[((int) l1) - 58911] & 0xff) & 63;
+      l16 = (b[((int) l1) - 58910] & 0xff) & 63;
+      L139: {
+       L140: {
+        if (l13 + Integer.MIN_VALUE > 2147483631) { break L140; }
+        l13 = ((l14 << 6) | ((l15 << 12) & 61440)) | l16;
+        break L139;
+       }
+       l13 = ((l16 << 6) | ((l14 << 12) | ((l15 << 18) & 1835008))) | ((b[((int) l1) - 58909] & 0xff) & 63);
+      }
+      if (l12 != 0) { break L137; }
+      if (l13 != 31532) { break L137; }
+      l13 = (l15 = (int) b[((int) l7) - 58912]) & 255;
+      l1 = 1L;
+      L141: {
+       if (l15 > -1) { break L141; }
+       l14 = (b[((int) l7) - 58911] & 0xff) & 63;
+       L142: {
+        if (l15 + Integer.MIN_VALUE > 2147483615) { break L142; }
+        l13 = ((l13 << 6) & 1984) | l14;
+        l1 = 2L;
+        break L141;
+       }
+       l16 = (b[((int) l7) - 58910] & 0xff) & 63;
+       L143: {
+        if (l15 + Integer.MIN_VALUE > 2147483631) { break L143; }
+        l13 = ((l14 << 6) | ((l13 << 12) & 61440)) | l16;
+        l1 = 3L;
+        break L141;
+       }
+       l13 = ((l16 << 6) | ((l14 << 12) | ((l13 << 18) & 1835008))) | ((b[((int) l7) - 58909] & 0xff) & 63);
+       l1 = 4L;
+      }
+      l10 = l7 + l1;
+      L144: {
+       L145: {
+        if (l13 == 26465) { break L145; }
+        if (l13 == 27425) { break L144; }
+        if (l13 != 26781) { break L137; }
+       }
+       l15 = 2;
+       if (l8 == l1) { break L50; }
+       if ((l13 = (int) b[((int) l10) - 58912]) > -1) { break L50; }
+       if (l13 + Integer.MIN_VALUE < 2147483616) { break L50; }
+       l14 = l13 & 255;
+       l16 = (b[((int) l10) - 58911] & 0xff) & 63;
+       l20 = (b[((int) l10) - 58910] & 0xff) & 63;
+       L146: {
+        L147: {
+         if (l13 + Integer.MIN_VALUE > 2147483631) { break L147; }
+         if (((l13 = (l16 << 6) | ((l14 << 12) & 61440)) + -19968) + Integer.MIN_VALUE >= -2147462656) { break L50; }
+         l13 = l13 | l20;
+         break L146;
+        }
+        if (((l13 = (l20 << 6) | ((l16 << 12) | ((l14 << 18) & 1835008))) + -19968) + Integer.MIN_VALUE >= -2147462656) { break L50; }
+        l13 = l13 | ((b[((int) l10) - 58909] & 0xff) & 63);
+       }
+       L148: {
+        if (l13 > 25109) { break L148; }
+        L149: {
+         if (l13 > 21039) { break L149; }
+         if (l13 == 19982) { break L50; }
+         if (l13 == 20043) { break L50; }
+         break L137;
+        }
+        if (l13 == 21040) { break L50; }
+        if (l13 == 21450) { break L50; }
+        if (l13 == 21644) { break L50; }
+        break L137;
+       }
+       L150: {
+        if (l13 > 33286) { break L150; }
+        if (l13 == 25110) { break L50; }
+        if (l13 == 31532) { break L50; }
+        if (l13 == 33267) { break L50; }
+        break L137;
+       }
+       if (l13 == 33287) { break L50; }
+       if (l13 == 35215) { break L50; }
+       if (l13 == 35268) { break L50; }
+       break L137;
+      }
+      if (l8 == l1) { break L137; }
+      if ((l13 = (int) b[((int) l10) - 58912]) > -1) { break L137; }
+      if (l13 + Integer.MIN_VALUE < 2147483616) { break L137; }
+      l15 = l13 & 255;
+      l14 = (b[((int) l10) - 58911] & 0xff) & 63;
+      l16 = (b[((int) l10) - 58910] & 0xff) & 63;
+      L151: {
+       L152: {
+        if (l13 + Integer.MIN_VALUE > 2147483631) { break L152; }
+        l13 = ((l14 << 6) | ((l15 << 12) & 61440)) | l16;
+        break L151;
+       }
+       l13 = ((l16 << 6) | ((l14 << 12) | ((l15 << 18) & 1835008))) | ((b[((int) l10) - 58909] & 0xff) & 63);
+      }
+      if (l13 == 20840) { break L51; }
+     }
+     final int x210 = f126_3(m, l1, l2, l3, l4, l5, l6, l7, l8, l9, l10, l11, l12, l13, l14, l15, l16, l17, l18, l20, l21);
+     l1 = m.kept[0];
+     l7 = m.kept[1];
+     l8 = m.kept[2];
+     l9 = m.kept[3];
+     l10 = m.kept[4];
+     l11 = m.kept[5];
+     l12 = (int) m.kept[6];
+     l13 = (int) m.kept[7];
+     l14 = (int) m.kept[8];
+     l15 = (int) m.kept[9];
+     l16 = (int) m.kept[10];
+     l17 = (int) m.kept[11];
+     l20 = (int) m.kept[12];
+     l21 = (int) m.kept[13];
+     switch (x210) {
+     case 1: break L50;
+     case 2: break L1;
+     }
+     l13 = 0;
+     L211: {
+      if ((l14 = (int) b[((int) (l3 + (l7 = l4 + -1L))) - 58912]) >= 0) { break L211; }
+      l1 = -2L;
+      L212: {
+       if ((b[((int) ((l10 = l3 + l4) + -2L)) - 58912] & 0xff) + Integer.MIN_VALUE > -2147483457) { break L212; }
+       l1 = ((b[((int) (l10 + -3L)) - 58912] & 0xff) + Integer.MIN_VALUE > -2147483457) ? -3L : -4L;
+      }
+      l14 = (l15 = (int) b[((int) (l1 = l3 + (l7 = l1 + l4))) - 58912]) & 255;
+      if (l15 > -1) { break L211; }
+      l12 = (b[((int) l1) - 58911] & 0xff) & 63;
+      L213: {
+       if (l15 + Integer.MIN_VALUE > 2147483615) { break L213; }
+       l14 = ((l14 << 6) & 1984) | l12;
+       break L211;
+      }
+      l16 = (b[((int) l1) - 58910] & 0xff) & 63;
+      L214: {
+       if (l15 + Integer.MIN_VALUE > 2147483631) { break L214; }
+       l14 = ((l12 << 6) | ((l14 << 12) & 61440)) | l16;
+       break L211;
+      }
+      l14 = ((l16 << 6) | ((l12 << 12) | ((l14 << 18) & 1835008))) | ((b[((int) l1) - 58909] & 0xff) & 63);
+     }
+     L215: {
+      L216: {
+       if (l14 > 12315) { break L216; }
+       L217: {
+        if (l14 > 8210) { break L217; }
+        if (l14 == 45) { break L215; }
+        l15 = 0;
+        if (l14 == 126) { break L215; }
         break L1;
        }
-       if (l14 == 21040) { break L1; }
-       if (l14 == 21450) { break L1; }
-       if (l14 != 21644) { break L181; }
-       break L1;
-      }
-      L194: {
-       if (l14 > 33286) { break L194; }
-       if (l14 == 25110) { break L1; }
-       if (l14 == 31532) { break L1; }
-       if (l14 != 33267) { break L181; }
-       break L1;
-      }
-      if (l14 == 33287) { break L1; }
-      if (l14 == 35215) { break L1; }
-      if (l14 != 35268) { break L181; }
-      break L1;
-     }
-     if (l8 == l1) { break L181; }
-     if ((l13 = (int) b[((int) l10) - 58912]) > -1) { break L181; }
-     if (l13 + Integer.MIN_VALUE < 2147483616) { break L181; }
-     l15 = l13 & 255;
-     l14 = (b[((int) l10) - 58911] & 0xff) & 63;
-     l16 = (b[((int) l10) - 58910] & 0xff) & 63;
-     L195: {
-      L196: {
-       if (l13 + Integer.MIN_VALUE > 2147483631) { break L196; }
-       l13 = ((l14 << 6) | ((l15 << 12) & 61440)) | l16;
-       break L195;
-      }
-      l13 = ((l16 << 6) | ((l14 << 12) | ((l15 << 18) & 1835008))) | ((b[((int) l10) - 58909] & 0xff) & 63);
-     }
-     if (l13 == 20840) { break L86; }
-    }
-    final int x254 = f126_4(m, l1, l2, l3, l4, l5, l6, l7, l8, l9, l10, l11, l12, l13, l14, l15, l16, l17, l18, l20, l21);
-    l1 = m.kept[0];
-    l7 = m.kept[1];
-    l8 = m.kept[2];
-    l9 = m.kept[3];
-    l10 = m.kept[4];
-    l11 = m.kept[5];
-    l12 = (int) m.kept[6];
-    l13 = (int) m.kept[7];
-    l14 = (int) m.kept[8];
-    l15 = (int) m.kept[9];
-    l16 = (int) m.kept[10];
-    l17 = (int) m.kept[11];
-    l20 = (int) m.kept[12];
-    l21 = (int) m.kept[13];
-    switch (x254) {
-    case 1: break L1;
-    }
-    l13 = 0;
-    L255: {
-     if ((l14 = (int) b[((int) (l3 + (l7 = l4 + -1L))) - 58912]) >= 0) { break L255; }
-     l1 = -2L;
-     L256: {
-      if ((b[((int) ((l10 = l3 + l4) + -2L)) - 58912] & 0xff) + Integer.MIN_VALUE > -2147483457) { break L256; }
-      l1 = ((b[((int) (l10 + -3L)) - 58912] & 0xff) + Integer.MIN_VALUE > -2147483457) ? -3L : -4L;
-     }
-     l14 = (l15 = (int) b[((int) (l1 = l3 + (l7 = l1 + l4))) - 58912]) & 255;
-     if (l15 > -1) { break L255; }
-     l16 = (b[((int) l1) - 58911] & 0xff) & 63;
-     L257: {
-      if (l15 + Integer.MIN_VALUE > 2147483615) { break L257; }
-      l14 = ((l14 << 6) & 1984) | l16;
-      break L255;
-     }
-     l12 = (b[((int) l1) - 58910] & 0xff) & 63;
-     L258: {
-      if (l15 + Integer.MIN_VALUE > 2147483631) { break L258; }
-      l14 = ((l16 << 6) | ((l14 << 12) & 61440)) | l12;
-      break L255;
-     }
-     l14 = ((l12 << 6) | ((l16 << 12) | ((l14 << 18) & 1835008))) | ((b[((int) l1) - 58909] & 0xff) & 63);
-    }
-    L259: {
-     L260: {
-      if (l14 > 12315) { break L260; }
-      L261: {
-       if (l14 > 8210) { break L261; }
-       if (l14 == 45) { break L259; }
+       if ((l14 + -8211) + Integer.MIN_VALUE < -2147483646) { break L215; }
        l15 = 0;
-       if (l14 == 126) { break L259; }
+       if (l14 == 12289) { break L215; }
        break L1;
       }
-      if ((l14 + -8211) + Integer.MIN_VALUE < -2147483646) { break L259; }
-      l15 = 0;
-      if (l14 == 12289) { break L259; }
-      break L1;
-     }
-     L262: {
-      if (l14 > 33266) { break L262; }
-      if (l14 == 12316) { break L259; }
-      l15 = 0;
-      if (l14 == 21040) { break L259; }
-      break L1;
-     }
-     if (l14 == 33267) { break L259; }
-     if (l14 == 65374) { break L259; }
-     l15 = 0;
-     if (l14 != 65293) { break L1; }
-    }
-    l10 = l7;
-    L263: {
-     L264: while (true) {
-      if ((l1 = l10) == 0L) { break L263; }
-      L265: {
-       if ((l13 = (int) b[((int) (l3 + (l10 = l1 + -1L))) - 58912]) >= 0) { break L265; }
-       l10 = -2L;
-       L266: {
-        if ((b[((int) ((l9 = l3 + l1) + -2L)) - 58912] & 0xff) + Integer.MIN_VALUE > -2147483457) { break L266; }
-        l10 = ((b[((int) (l9 + -3L)) - 58912] & 0xff) + Integer.MIN_VALUE > -2147483457) ? -3L : -4L;
-       }
-       l13 = (l15 = (int) b[((int) (l9 = l3 + (l10 = l10 + l1))) - 58912]) & 255;
-       if (l15 > -1) { break L265; }
-       l16 = (b[((int) l9) - 58911] & 0xff) & 63;
-       L267: {
-        if (l15 + Integer.MIN_VALUE > 2147483615) { break L267; }
-        l13 = ((l13 << 6) & 1984) | l16;
-        break L265;
-       }
-       l12 = (b[((int) l9) - 58910] & 0xff) & 63;
-       L268: {
-        if (l15 + Integer.MIN_VALUE > 2147483631) { break L268; }
-        l13 = ((l16 << 6) | ((l13 << 12) & 61440)) | l12;
-        break L265;
-       }
-       l13 = ((l12 << 6) | ((l16 << 12) | ((l13 << 18) & 1835008))) | ((b[((int) l9) - 58909] & 0xff) & 63);
+      L218: {
+       if (l14 > 33266) { break L218; }
+       if (l14 == 12316) { break L215; }
+       l15 = 0;
+       if (l14 == 21040) { break L215; }
+       break L1;
       }
-      if (Core5.f180(m, l13) != 0) { continue L264; }
-      break L264;
+      if (l14 == 33267) { break L215; }
+      if (l14 == 65374) { break L215; }
+      l15 = 0;
+      if (l14 != 65293) { break L1; }
      }
+     l10 = l7;
+     L219: {
+      L220: while (true) {
+       if ((l1 = l10) == 0L) { break L219; }
+       L221: {
+        if ((l13 = (int) b[((int) (l3 + (l10 = l1 + -1L))) - 58912]) >= 0) { break L221; }
+        l10 = -2L;
+        L222: {
+         if ((b[((int) ((l9 = l3 + l1) + -2L)) - 58912] & 0xff) + Integer.MIN_VALUE > -2147483457) { break L222; }
+         l10 = ((b[((int) (l9 + -3L)) - 58912] & 0xff) + Integer.MIN_VALUE > -2147483457) ? -3L : -4L;
+        }
+        l13 = (l15 = (int) b[((int) (l9 = l3 + (l10 = l10 + l1))) - 58912]) & 255;
+        if (l15 > -1) { break L221; }
+        l12 = (b[((int) l9) - 58911] & 0xff) & 63;
+        L223: {
+         if (l15 + Integer.MIN_VALUE > 2147483615) { break L223; }
+         l13 = ((l13 << 6) & 1984) | l12;
+         break L221;
+        }
+        l16 = (b[((int) l9) - 58910] & 0xff) & 63;
+        L224: {
+         if (l15 + Integer.MIN_VALUE > 2147483631) { break L224; }
+         l13 = ((l12 << 6) | ((l13 << 12) & 61440)) | l16;
+         break L221;
+        }
+        l13 = ((l16 << 6) | ((l12 << 12) | ((l13 << 18) & 1835008))) | ((b[((int) l9) - 58909] & 0xff) & 63);
+       }
+       if (Core5.f181(m, l13) != 0) { continue L220; }
+       break L220;
+      }
+     }
+     l15 = ((l13 = Core6.f182(m, l14, l3 + l1, l7 - l1, l5, l6)) != 0) ? 5 : 0;
+     break L1;
     }
-    l15 = ((l13 = Core6.f181(m, l14, l3 + l1, l7 - l1, l5, l6)) != 0) ? 5 : 0;
-    break L1;
+    l15 = 2;
    }
    l13 = 1;
-   l15 = 2;
    break L1;
   }
   l13 = 1;
@@ -4769,7 +4517,7 @@ static void f129(State m, long l0, long l1, long l2, long l3, long l4, int l5, i
          if ((l13 + -991120) + Integer.MIN_VALUE >= -2147483638) { break L22; }
          break L3;
         }
-        if (Core5.f146(m, l5, l6, l12, l15, l16, l3, l4) == 0) { break L22; }
+        if (f146(m, l5, l6, l12, l15, l16, l3, l4) == 0) { break L22; }
         if (Core5.f147(m, l5, l6, l1, l8, l12, l3, l4) == 0) { break L3; }
        }
        l10 = 0L;
@@ -5015,7 +4763,7 @@ static void f129(State m, long l0, long l1, long l2, long l3, long l4, int l5, i
        if ((l12 + -65296) + Integer.MIN_VALUE >= -2147483638) { break L65; }
        break L3;
       }
-      if (Core5.f146(m, l5, l6, l12, l13, l15, l3, l4) == 0) { break L65; }
+      if (f146(m, l5, l6, l12, l13, l15, l3, l4) == 0) { break L65; }
       if (Core5.f147(m, l5, l6, l1, l8, l12, l3, l4) == 0) { break L3; }
      }
      l10 = 0L;
@@ -5785,8 +5533,8 @@ static void f133(State m, long l0, long l1, long l2, long l3, long l4, int l5, l
      Words.put64(b, ((int) l8) - 58816, 0L);
      Words.put64(b, ((int) l8) - 58824, 0L);
      Words.put64(b, ((int) l8) - 58832, 0L);
-     l9 = Words.get64(b, State.far((int) (l20 = (l19 = l27 & 0xffffffffL) << 3L), 102456));
-     l20 = Words.get64(b, State.far((int) l20, 102200));
+     l9 = Words.get64(b, State.far((int) (l20 = (l19 = l27 & 0xffffffffL) << 3L), 102544));
+     l20 = Words.get64(b, State.far((int) l20, 102288));
      L6: while (true) {
       Core5.f156(m, l8 + 80L, b[((int) l9) - 58912] & 0xff, b[((int) (l9 + 1L)) - 58912] & 0xff, l8 + 136L);
       if ((b[((int) l8) - 58832] & 0xff) != 1) { break L5; }
@@ -9140,6 +8888,91 @@ static int f145(State m, long l0, long l1) {
   }
   final int t10 = l2;
   return t10;
+ }
+ throw State.trap();
+}
+
+static int f146(State m, int l0, int l1, int l2, int l3, int l4, long l5, long l6) {
+ long l7 = 0;
+ int l8 = 0;
+ L1: {
+  if ((l7 = m.g0) < 16L) { break L1; }
+  L2: {
+   L3: {
+    L4: {
+     L5: {
+      L6: {
+       switch ((int) ((l3 & 0xffffffffL) & 255L)) {
+       case 1: break L6;
+       case 2: break L4;
+       default: break L5;
+       }
+      }
+      if ((l1 & 255) + Integer.MIN_VALUE < (l4 & 255) + Integer.MIN_VALUE) { break L4; }
+     }
+     l8 = 1;
+     L7: {
+      if ((l0 & 1) != 0) { break L7; }
+      L8: {
+       L9: {
+        if (l2 > 29589) { break L9; }
+        L10: {
+         if (l2 > 22776) { break L10; }
+         if (l2 == 20191) { break L3; }
+         if (l2 == 20237) { break L3; }
+         if (l2 != 20336) { break L8; }
+         break L3;
+        }
+        L11: {
+         if (l2 > 25419) { break L11; }
+         if (l2 == 22777) { break L3; }
+         if (l2 != 25342) { break L8; }
+         break L3;
+        }
+        if (l2 == 25420) { break L3; }
+        if (l2 != 26578) { break L8; }
+        break L3;
+       }
+       L12: {
+        if (l2 > 36143) { break L12; }
+        L13: {
+         switch (l2 + -36014) {
+         case 0: case 5: break L3;
+         case 1: case 2: case 3: case 4: break L8;
+         default: break L13;
+         }
+        }
+        if (l2 == 29590) { break L3; }
+        if (l2 != 32902) { break L8; }
+        break L3;
+       }
+       if (l2 == 36144) { break L3; }
+       if (l2 == 38470) { break L3; }
+       if (l2 == 38520) { break L3; }
+      }
+      if ((l2 + -21441) + Integer.MIN_VALUE < -2147483644) { break L4; }
+     }
+     if ((l3 & 255) != 1) { break L2; }
+     if (((1 << (l3 = l4 & 255)) & 65470) != 0) { break L2; }
+     L14: {
+      if (l3 != 0) { break L14; }
+      if (Core3.f109(m, l0, l1, l5, l6) == 0) { break L4; }
+      m.g0 = l7;
+      return 1;
+     }
+     if (Core3.f108(m, l5, l6) != 0) { break L4; }
+     m.g0 = l7;
+     return 1;
+    }
+    l8 = 1;
+    if (l2 == 21317) { break L2; }
+    if (l2 == 24319) { break L2; }
+   }
+   l8 = ((l2 + -65296) + Integer.MIN_VALUE < -2147483638) ? 1 : 0;
+  }
+  m.g0 = l7;
+  final int t15 = l8;
+  return t15;
  }
  throw State.trap();
 }

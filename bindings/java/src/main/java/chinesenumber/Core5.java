@@ -2,91 +2,6 @@
 package chinesenumber;
 
 final class Core5 {
-static int f146(State m, int l0, int l1, int l2, int l3, int l4, long l5, long l6) {
- long l7 = 0;
- int l8 = 0;
- L1: {
-  if ((l7 = m.g0) < 16L) { break L1; }
-  L2: {
-   L3: {
-    L4: {
-     L5: {
-      L6: {
-       switch ((int) ((l3 & 0xffffffffL) & 255L)) {
-       case 1: break L6;
-       case 2: break L4;
-       default: break L5;
-       }
-      }
-      if ((l1 & 255) + Integer.MIN_VALUE < (l4 & 255) + Integer.MIN_VALUE) { break L4; }
-     }
-     l8 = 1;
-     L7: {
-      if ((l0 & 1) != 0) { break L7; }
-      L8: {
-       L9: {
-        if (l2 > 29589) { break L9; }
-        L10: {
-         if (l2 > 22776) { break L10; }
-         if (l2 == 20191) { break L3; }
-         if (l2 == 20237) { break L3; }
-         if (l2 != 20336) { break L8; }
-         break L3;
-        }
-        L11: {
-         if (l2 > 25419) { break L11; }
-         if (l2 == 22777) { break L3; }
-         if (l2 != 25342) { break L8; }
-         break L3;
-        }
-        if (l2 == 25420) { break L3; }
-        if (l2 != 26578) { break L8; }
-        break L3;
-       }
-       L12: {
-        if (l2 > 36143) { break L12; }
-        L13: {
-         switch (l2 + -36014) {
-         case 0: case 5: break L3;
-         case 1: case 2: case 3: case 4: break L8;
-         default: break L13;
-         }
-        }
-        if (l2 == 29590) { break L3; }
-        if (l2 != 32902) { break L8; }
-        break L3;
-       }
-       if (l2 == 36144) { break L3; }
-       if (l2 == 38470) { break L3; }
-       if (l2 == 38520) { break L3; }
-      }
-      if ((l2 + -21441) + Integer.MIN_VALUE < -2147483644) { break L4; }
-     }
-     if ((l3 & 255) != 1) { break L2; }
-     if (((1 << (l3 = l4 & 255)) & 65470) != 0) { break L2; }
-     L14: {
-      if (l3 != 0) { break L14; }
-      if (Core3.f109(m, l0, l1, l5, l6) == 0) { break L4; }
-      m.g0 = l7;
-      return 1;
-     }
-     if (Core3.f108(m, l5, l6) != 0) { break L4; }
-     m.g0 = l7;
-     return 1;
-    }
-    l8 = 1;
-    if (l2 == 21317) { break L2; }
-    if (l2 == 24319) { break L2; }
-   }
-   l8 = ((l2 + -65296) + Integer.MIN_VALUE < -2147483638) ? 1 : 0;
-  }
-  m.g0 = l7;
-  final int t15 = l8;
-  return t15;
- }
- throw State.trap();
-}
-
 static int f147(State m, int l0, int l1, long l2, long l3, int l4, long l5, long l6) {
  final byte[] b = m.bytes;
  long l7 = 0;
@@ -1207,7 +1122,7 @@ static int f148_3(State m, int l0, int l1, long l2, long l3, int l4, long l5, lo
     l11 = l11 != 0 ? 0 : 2;
    }
    L186: {
-    if (f146(m, l0, l1, l4, l11, l10, l5, l6) != 0) { break L186; }
+    if (Core4.f146(m, l0, l1, l4, l11, l10, l5, l6) != 0) { break L186; }
     l10 = 0;
     exit = 1; break PART;
    }
@@ -2240,7 +2155,7 @@ static void f149(State m, long l0, int l1, int l2, long l3, long l4, int l5, lon
         if ((l5 + -65296) + Integer.MIN_VALUE >= -2147483638) { break L34; }
         break L21;
        }
-       if (f146(m, l1, l2, l5, l15, l16, l6, l7) == 0) { break L34; }
+       if (Core4.f146(m, l1, l2, l5, l15, l16, l6, l7) == 0) { break L34; }
        if (f147(m, l1, l2, l3, l11, l5, l6, l7) == 0) { break L21; }
       }
       if (f148(m, l1, l2, l3, l11, l5, l6, l7) != 0) { break L21; }
@@ -2411,7 +2326,7 @@ static int f150(State m, int l0, int l1, long l2, long l3) {
    l8 = t14 != 0 ? t13 : 0;
    l9 = l9 != 0 ? 0 : 2;
   }
-  l7 = f146(m, l0, l1, l7, l9, l8, 83372L, 0L);
+  l7 = Core4.f146(m, l0, l1, l7, l9, l8, 83372L, 0L);
   m.g0 = l4;
   final int t15 = l7;
   return t15;
@@ -2928,7 +2843,7 @@ static int f152(State m, int l0, int l1, long l2, long l3) {
    l10 = l6 != 0 ? 0 : 2;
   }
   L20: {
-   if (f146(m, l0, l1, l7, l10, l9, l2, l3) == 0) { break L20; }
+   if (Core4.f146(m, l0, l1, l7, l10, l9, l2, l3) == 0) { break L20; }
    m.g0 = l4;
    return 1;
   }
@@ -3026,7 +2941,7 @@ static int f153(State m, int l0, int l1, long l2, long l3) {
    l9 = t19 != 0 ? t18 : 0;
    l10 = l6 != 0 ? 0 : 2;
   }
-  l7 = f146(m, l0, l1, l7, l10, l9, l2, l3);
+  l7 = Core4.f146(m, l0, l1, l7, l10, l9, l2, l3);
   m.g0 = l4;
   final int t20 = l7;
   return t20;
@@ -3697,8 +3612,8 @@ static void f156(State m, long l0, int l1, int l2, long l3) {
                         l7 = 4L;
                        }
                        l9 = l6 + l7;
-                       l3 = Words.get64(b, State.far((int) (l8 = ((l2 & 0xffffffffL) & 255L) << 3L), 102040));
-                       l8 = Words.get64(b, State.far((int) l8, 101952));
+                       l3 = Words.get64(b, State.far((int) (l8 = ((l2 & 0xffffffffL) & 255L) << 3L), 102128));
+                       l8 = Words.get64(b, State.far((int) l8, 102040));
                        L95: while (true) {
                         if (Words.get32(b, ((int) l3) - 58912) == l18) { break L15; }
                         l3 = l3 + 4L;
@@ -6490,7 +6405,247 @@ static int f176(State m, long l0, long l1) {
  return l5;
 }
 
-static int f177(State m, long l0, long l1) {
+static int f177(State m, long l0, long l1, long l2, long l3) {
+ final byte[] b = m.bytes;
+ long l4 = 0;
+ long l5 = 0;
+ long l6 = 0;
+ long l7 = 0;
+ int l8 = 0;
+ int l9 = 0;
+ int l10 = 0;
+ int l11 = 0;
+ int l12 = 0;
+ L1: {
+  L2: {
+   L3: {
+    L4: {
+     L5: {
+      if ((l4 = m.g0) < 16L) { break L5; }
+      L6: {
+       if (f170(m, 83504L, 1L, 86096L, 7L, l0, l1) == 0) { break L6; }
+       if (f178(m, l2, l3) != 0) { break L6; }
+       m.g0 = l4;
+       return 1;
+      }
+      l8 = 0;
+      if (l1 == 0L) { break L1; }
+      if (((int) b[((int) ((l5 = l0 + l1) + -1L)) - 58912]) > -1) { break L1; }
+      l6 = -2L;
+      L7: {
+       if ((b[((int) (l5 + -2L)) - 58912] & 0xff) + Integer.MIN_VALUE > -2147483457) { break L7; }
+       l6 = ((b[((int) (l5 + -3L)) - 58912] & 0xff) + Integer.MIN_VALUE > -2147483457) ? -3L : -4L;
+      }
+      if ((l9 = (int) b[((int) (l6 = l0 + (l7 = l6 + l1))) - 58912]) > -1) { break L2; }
+      if (l9 + Integer.MIN_VALUE < 2147483616) { break L2; }
+      l10 = l9 & 255;
+      l11 = (b[((int) l6) - 58911] & 0xff) & 63;
+      l12 = (b[((int) l6) - 58910] & 0xff) & 63;
+      L8: {
+       L9: {
+        if (l9 + Integer.MIN_VALUE > 2147483631) { break L9; }
+        l9 = ((l11 << 6) | ((l10 << 12) & 61440)) | l12;
+        break L8;
+       }
+       l9 = ((l12 << 6) | ((l11 << 12) | ((l10 << 18) & 1835008))) | ((b[((int) l6) - 58909] & 0xff) & 63);
+      }
+      if (l9 != 19968) { break L2; }
+      if (f179(m, l0, l7) == 0) { break L2; }
+      if (f178(m, l2, l3) != 0) { break L2; }
+      if (l3 == 0L) { break L3; }
+      if ((l9 = (int) b[((int) l2) - 58912]) > -1) { break L3; }
+      if (l9 + Integer.MIN_VALUE < 2147483616) { break L3; }
+      l10 = l9 & 255;
+      l11 = (b[((int) l2) - 58911] & 0xff) & 63;
+      l12 = (b[((int) l2) - 58910] & 0xff) & 63;
+      L10: {
+       L11: {
+        if (l9 + Integer.MIN_VALUE > 2147483631) { break L11; }
+        l9 = ((l11 << 6) | ((l10 << 12) & 61440)) | l12;
+        break L10;
+       }
+       l9 = ((l12 << 6) | ((l11 << 12) | ((l10 << 18) & 1835008))) | ((b[((int) l2) - 58909] & 0xff) & 63);
+      }
+      L12: {
+       L13: {
+        if (l9 > 26019) { break L13; }
+        L14: {
+         if (l9 > 21543) { break L14; }
+         L15: {
+          if (l9 > 21314) { break L15; }
+          L16: {
+           if (l9 > 20802) { break L16; }
+           if (l9 == 20137) { break L2; }
+           if (l9 == 20239) { break L2; }
+           if (l9 != 20493) { break L3; }
+           break L2;
+          }
+          if ((l9 = l9 + -20803) + Integer.MIN_VALUE > -2147483607) { break L3; }
+          if (((1L << (l9 & 0xffffffffL)) & 2199023255817L) == 0L) { break L3; }
+          break L2;
+         }
+         L17: {
+          switch (l9 + -21315) {
+          case 0: case 4: break L2;
+          case 1: case 2: case 3: break L3;
+          default: break L17;
+          }
+         }
+         if (l9 == 21400) { break L2; }
+         if (l9 != 21515) { break L3; }
+         break L2;
+        }
+        L18: {
+         if (l9 > 23609) { break L18; }
+         L19: {
+          if (l9 > 22277) { break L19; }
+          if (l9 == 21544) { break L2; }
+          if (l9 != 22136) { break L3; }
+          break L2;
+         }
+         switch (l9 + -22278) {
+         case 0: case 13: break L2;
+         case 1: case 2: case 3: case 4: case 5: case 6: case 7: case 8: case 9: case 10: case 11: case 12: break L3;
+         default: break L12;
+         }
+        }
+        L20: {
+         if (l9 > 24178) { break L20; }
+         if (l9 == 23610) { break L2; }
+         if (l9 != 23681) { break L3; }
+         break L2;
+        }
+        if (l9 == 24179) { break L2; }
+        if (l9 == 24230) { break L2; }
+        if (l9 != 24494) { break L3; }
+        break L2;
+       }
+       L21: {
+        if (l9 > 30044) { break L21; }
+        L22: {
+         if (l9 > 28022) { break L22; }
+         L23: {
+          if (l9 > 27471) { break L23; }
+          if (l9 == 26020) { break L2; }
+          if (l9 != 27431) { break L3; }
+          break L2;
+         }
+         if (l9 == 27472) { break L2; }
+         if (l9 == 27506) { break L2; }
+         if (l9 != 27627) { break L3; }
+         break L2;
+        }
+        L24: {
+         if (l9 > 29614) { break L24; }
+         if (l9 == 28023) { break L2; }
+         if (l9 == 28207) { break L2; }
+         if (l9 != 29256) { break L3; }
+         break L2;
+        }
+        if (l9 == 29615) { break L2; }
+        if (l9 == 29872) { break L2; }
+        if (l9 != 29926) { break L3; }
+        break L2;
+       }
+       L25: {
+        if (l9 > 32422) { break L25; }
+        L26: {
+         if (l9 > 31434) { break L26; }
+         if (l9 == 30045) { break L2; }
+         if (l9 != 31186) { break L3; }
+         break L2;
+        }
+        if (l9 == 31435) { break L2; }
+        if (l9 == 31859) { break L2; }
+        if (l9 != 32026) { break L3; }
+        break L2;
+       }
+       if (l9 > 37323) { break L4; }
+       if (l9 == 32423) { break L2; }
+       if (l9 == 32654) { break L2; }
+       if (l9 == 33521) { break L2; }
+       break L3;
+      }
+      if (l9 != 23544) { break L3; }
+      break L2;
+     }
+     throw State.trap();
+    }
+    switch (l9 + -37324) {
+    case 0: case 4: break L2;
+    default: break L3;
+    }
+   }
+   if (f157(m, 86172L, 4L, 86188L, 4L, l2, l3) != 0) { break L2; }
+   m.g0 = l4;
+   return 1;
+  }
+  l6 = -2L;
+  L27: {
+   if ((b[((int) (l5 + -2L)) - 58912] & 0xff) + Integer.MIN_VALUE > -2147483457) { break L27; }
+   l6 = ((b[((int) (l5 + -3L)) - 58912] & 0xff) + Integer.MIN_VALUE > -2147483457) ? -3L : -4L;
+  }
+  if ((l9 = (int) b[((int) (l5 = (l0 + l6) + l1)) - 58912]) > -1) { break L1; }
+  if (l9 + Integer.MIN_VALUE < 2147483616) { break L1; }
+  l10 = l9 & 255;
+  l11 = (b[((int) l5) - 58911] & 0xff) & 63;
+  l12 = (b[((int) l5) - 58910] & 0xff) & 63;
+  L28: {
+   L29: {
+    if (l9 + Integer.MIN_VALUE > 2147483631) { break L29; }
+    l9 = ((l11 << 6) | ((l10 << 12) & 61440)) | l12;
+    break L28;
+   }
+   l9 = ((l12 << 6) | ((l11 << 12) | ((l10 << 18) & 1835008))) | ((b[((int) l5) - 58909] & 0xff) & 63);
+  }
+  if (l9 != 19968) { break L1; }
+  L30: {
+   L31: {
+    if ((l9 = (int) b[((int) l0) - 58912]) <= -1) { break L31; }
+    l0 = 1L;
+    break L30;
+   }
+   L32: {
+    if (l9 + Integer.MIN_VALUE >= 2147483616) { break L32; }
+    l0 = 2L;
+    break L30;
+   }
+   l0 = (l9 + Integer.MIN_VALUE < 2147483632) ? 3L : 4L;
+  }
+  if (l1 == l0) { break L1; }
+  if (l3 == 0L) { break L1; }
+  L33: {
+   if ((l8 = (int) b[((int) l2) - 58912]) > -1) { break L33; }
+   if (l8 + Integer.MIN_VALUE < 2147483616) { break L33; }
+   l9 = l8 & 255;
+   l10 = (b[((int) l2) - 58911] & 0xff) & 63;
+   l11 = (b[((int) l2) - 58910] & 0xff) & 63;
+   L34: {
+    L35: {
+     if (l8 + Integer.MIN_VALUE > 2147483631) { break L35; }
+     l9 = ((l10 << 6) | ((l9 << 12) & 61440)) | l11;
+     break L34;
+    }
+    l9 = ((l11 << 6) | ((l10 << 12) | ((l9 << 18) & 1835008))) | ((b[((int) l2) - 58909] & 0xff) & 63);
+   }
+   l8 = 1;
+   L36: {
+    if (l9 > 24458) { break L36; }
+    if (l9 == 20849) { break L1; }
+    if (l9 != 23450) { break L33; }
+    break L1;
+   }
+   if (l9 == 24459) { break L1; }
+   if (l9 == 26086) { break L1; }
+   if (l9 == 30452) { break L1; }
+  }
+  l8 = 0;
+ }
+ m.g0 = l4;
+ return l8;
+}
+
+static int f178(State m, long l0, long l1) {
  final byte[] b = m.bytes;
  long l2 = 0;
  int l3 = 0;
@@ -6588,13 +6743,13 @@ static int f177(State m, long l0, long l1) {
    }
    if (l4 == 19982) { break L1; }
   }
-  l3 = f157(m, 85972L, 2L, 86252L, 12L, l0, l1);
+  l3 = f157(m, 85972L, 2L, 86124L, 12L, l0, l1);
  }
  m.g0 = l2;
  return l3;
 }
 
-static int f178(State m, long l0, long l1) {
+static int f179(State m, long l0, long l1) {
  final byte[] b = m.bytes;
  long l2 = 0;
  long l3 = 0;
@@ -6765,7 +6920,7 @@ static int f178(State m, long l0, long l1) {
  return l5;
 }
 
-static int f179_1(State m, long l0, long l1, long l2, long l3, long l6, long l7, long l8, long l9, int l10, int l11, int l12, int l13, int l14, int l15, int l16, int l17) {
+static int f180_1(State m, long l0, long l1, long l2, long l3, long l6, long l7, long l8, long l9, int l10, int l11, int l12, int l13, int l14, int l15, int l16, int l17) {
  final byte[] b = m.bytes;
  int exit = 0;
  PART: {
@@ -7150,7 +7305,7 @@ static int f179_1(State m, long l0, long l1, long l2, long l3, long l6, long l7,
  return exit;
 }
 
-static int f179_2(State m, long l0, long l1, long l2, long l3, long l4, long l5, int l16, int l17, int l18, int l19) {
+static int f180_2(State m, long l0, long l1, long l2, long l3, long l4, long l5, int l16, int l17, int l18, int l19) {
  final byte[] b = m.bytes;
  int exit = 0;
  PART: {
@@ -7187,7 +7342,7 @@ static int f179_2(State m, long l0, long l1, long l2, long l3, long l4, long l5,
  return exit;
 }
 
-static int f179_3(State m, long l0, long l1, long l2, long l3, long l4, long l5, int l15, int l16, int l17, int l18, int l19) {
+static int f180_3(State m, long l0, long l1, long l2, long l3, long l4, long l5, int l15, int l16, int l17, int l18, int l19) {
  final byte[] b = m.bytes;
  int exit = 0;
  PART: {
@@ -7241,7 +7396,7 @@ static int f179_3(State m, long l0, long l1, long l2, long l3, long l4, long l5,
  return exit;
 }
 
-static int f179_4(State m, long l0, long l1, long l2, long l3, long l4, long l5, int l11, int l12, int l13, int l14, int l15, int l16, int l17, int l18, int l19) {
+static int f180_4(State m, long l0, long l1, long l2, long l3, long l4, long l5, int l11, int l12, int l13, int l14, int l15, int l16, int l17, int l18, int l19) {
  final byte[] b = m.bytes;
  int exit = 0;
  PART: {
@@ -7327,7 +7482,7 @@ static int f179_4(State m, long l0, long l1, long l2, long l3, long l4, long l5,
  return exit;
 }
 
-static int f179_5(State m, long l0, long l1, long l2, long l3, long l4, long l5, int l15, int l16, int l17, int l18, int l19) {
+static int f180_5(State m, long l0, long l1, long l2, long l3, long l4, long l5, int l15, int l16, int l17, int l18, int l19) {
  final byte[] b = m.bytes;
  int exit = 0;
  PART: {
@@ -7389,7 +7544,7 @@ static int f179_5(State m, long l0, long l1, long l2, long l3, long l4, long l5,
  return exit;
 }
 
-static int f179_6(State m, long l0, long l1, long l2, long l3, long l4, long l7, int l15, int l16, int l17, int l18, int l19) {
+static int f180_6(State m, long l0, long l1, long l2, long l3, long l4, long l7, int l15, int l16, int l17, int l18, int l19) {
  final byte[] b = m.bytes;
  int exit = 0;
  PART: {
@@ -7458,7 +7613,7 @@ static int f179_6(State m, long l0, long l1, long l2, long l3, long l4, long l7,
  return exit;
 }
 
-static int f179_7(State m, long l0, long l1, long l2, long l3, long l4, long l7, int l15, int l16, int l17, int l18, int l19) {
+static int f180_7(State m, long l0, long l1, long l2, long l3, long l4, long l7, int l15, int l16, int l17, int l18, int l19) {
  final byte[] b = m.bytes;
  int exit = 0;
  PART: {
@@ -7528,7 +7683,7 @@ static int f179_7(State m, long l0, long l1, long l2, long l3, long l4, long l7,
  return exit;
 }
 
-static int f179_8(State m, long l0, long l1, long l2, long l3, long l4, long l7, int l15, int l16, int l17, int l18, int l19) {
+static int f180_8(State m, long l0, long l1, long l2, long l3, long l4, long l7, int l15, int l16, int l17, int l18, int l19) {
  final byte[] b = m.bytes;
  int exit = 0;
  PART: {
@@ -7613,7 +7768,7 @@ static int f179_8(State m, long l0, long l1, long l2, long l3, long l4, long l7,
  return exit;
 }
 
-static int f179_9(State m, long l0, long l1, long l2, long l3, long l4, long l5, long l7, int l15, int l16, int l17, int l18, int l19) {
+static int f180_9(State m, long l0, long l1, long l2, long l3, long l4, long l5, long l7, int l15, int l16, int l17, int l18, int l19) {
  final byte[] b = m.bytes;
  int exit = 0;
  PART: {
@@ -7684,7 +7839,7 @@ static int f179_9(State m, long l0, long l1, long l2, long l3, long l4, long l5,
  return exit;
 }
 
-static int f179_10(State m, long l0, long l1, long l2, long l3, long l4, long l7, int l15, int l16, int l17, int l18, int l19) {
+static int f180_10(State m, long l0, long l1, long l2, long l3, long l4, long l7, int l15, int l16, int l17, int l18, int l19) {
  final byte[] b = m.bytes;
  int exit = 0;
  PART: {
@@ -7752,7 +7907,7 @@ static int f179_10(State m, long l0, long l1, long l2, long l3, long l4, long l7
  return exit;
 }
 
-static int f179_11(State m, long l0, long l1, long l2, long l3, long l4, int l15, int l16, int l17, int l18, int l19) {
+static int f180_11(State m, long l0, long l1, long l2, long l3, long l4, int l15, int l16, int l17, int l18, int l19) {
  final byte[] b = m.bytes;
  int exit = 0;
  PART: {
@@ -7802,7 +7957,7 @@ static int f179_11(State m, long l0, long l1, long l2, long l3, long l4, int l15
  return exit;
 }
 
-static int f179_12(State m, long l0, long l1, long l2, long l3, long l4, long l7, int l15, int l16, int l17, int l18, int l19) {
+static int f180_12(State m, long l0, long l1, long l2, long l3, long l4, long l7, int l15, int l16, int l17, int l18, int l19) {
  final byte[] b = m.bytes;
  int exit = 0;
  PART: {
@@ -7887,7 +8042,7 @@ static int f179_12(State m, long l0, long l1, long l2, long l3, long l4, long l7
  return exit;
 }
 
-static int f179_13(State m, long l0, long l1, long l2, long l3, long l4, long l5, int l11, int l12, int l13, int l14, int l16, int l17, int l18, int l19) {
+static int f180_13(State m, long l0, long l1, long l2, long l3, long l4, long l5, int l11, int l12, int l13, int l14, int l16, int l17, int l18, int l19) {
  final byte[] b = m.bytes;
  int exit = 0;
  PART: {
@@ -7956,7 +8111,7 @@ static int f179_13(State m, long l0, long l1, long l2, long l3, long l4, long l5
  return exit;
 }
 
-static int f179_14(State m, long l0, long l1, long l2, long l3, long l4, long l7, int l11, int l12, int l13, int l14, int l15, int l16, int l17, int l18, int l19) {
+static int f180_14(State m, long l0, long l1, long l2, long l3, long l4, long l7, int l11, int l12, int l13, int l14, int l15, int l16, int l17, int l18, int l19) {
  final byte[] b = m.bytes;
  int exit = 0;
  PART: {
@@ -8113,7 +8268,7 @@ static int f179_14(State m, long l0, long l1, long l2, long l3, long l4, long l7
  return exit;
 }
 
-static int f179_15(State m, long l0, long l1, long l2, long l3, long l5, int l15, int l16, int l17, int l18) {
+static int f180_15(State m, long l0, long l1, long l2, long l3, long l5, int l15, int l16, int l17, int l18) {
  final byte[] b = m.bytes;
  int exit = 0;
  PART: {
@@ -8166,7 +8321,7 @@ static int f179_15(State m, long l0, long l1, long l2, long l3, long l5, int l15
  return exit;
 }
 
-static int f179(State m, long l0, long l1, long l2, long l3, long l4, long l5) {
+static int f180(State m, long l0, long l1, long l2, long l3, long l4, long l5) {
  final byte[] b = m.bytes;
  long l6 = 0;
  long l7 = 0;
@@ -8185,7 +8340,7 @@ static int f179(State m, long l0, long l1, long l2, long l3, long l4, long l5) {
  L1: {
   L2: {
    L3: {
-    final int x59 = f179_1(m, l0, l1, l2, l3, l6, l7, l8, l9, l10, l11, l12, l13, l14, l15, l16, l17);
+    final int x59 = f180_1(m, l0, l1, l2, l3, l6, l7, l8, l9, l10, l11, l12, l13, l14, l15, l16, l17);
     l6 = m.kept[0];
     l7 = m.kept[1];
     l8 = m.kept[2];
@@ -8291,7 +8446,7 @@ static int f179(State m, long l0, long l1, long l2, long l3, long l4, long l5) {
    l16 = ((l14 << 6) | ((l13 << 12) | ((l12 << 18) & 1835008))) | ((b[((int) l2) - 58909] & 0xff) & 63);
    l1 = 4L;
   }
-  final int x76 = f179_2(m, l0, l1, l2, l3, l4, l5, l16, l17, l18, l19);
+  final int x76 = f180_2(m, l0, l1, l2, l3, l4, l5, l16, l17, l18, l19);
   l0 = m.kept[0];
   l16 = (int) m.kept[1];
   l17 = (int) m.kept[2];
@@ -8310,7 +8465,7 @@ static int f179(State m, long l0, long l1, long l2, long l3, long l4, long l5) {
    l16 = ((l14 << 6) | ((l13 << 12) | ((l12 << 18) & 1835008))) | ((b[((int) l2) - 58909] & 0xff) & 63);
    l1 = 4L;
   }
-  final int x85 = f179_3(m, l0, l1, l2, l3, l4, l5, l15, l16, l17, l18, l19);
+  final int x85 = f180_3(m, l0, l1, l2, l3, l4, l5, l15, l16, l17, l18, l19);
   l0 = m.kept[0];
   l16 = (int) m.kept[1];
   l17 = (int) m.kept[2];
@@ -8329,7 +8484,7 @@ static int f179(State m, long l0, long l1, long l2, long l3, long l4, long l5) {
    l16 = ((l14 << 6) | ((l13 << 12) | ((l12 << 18) & 1835008))) | ((b[((int) l2) - 58909] & 0xff) & 63);
    l1 = 4L;
   }
-  final int x100 = f179_4(m, l0, l1, l2, l3, l4, l5, l11, l12, l13, l14, l15, l16, l17, l18, l19);
+  final int x100 = f180_4(m, l0, l1, l2, l3, l4, l5, l11, l12, l13, l14, l15, l16, l17, l18, l19);
   l0 = m.kept[0];
   l1 = m.kept[1];
   l16 = (int) m.kept[2];
@@ -8349,7 +8504,7 @@ static int f179(State m, long l0, long l1, long l2, long l3, long l4, long l5) {
    l16 = ((l14 << 6) | ((l13 << 12) | ((l12 << 18) & 1835008))) | ((b[((int) l2) - 58909] & 0xff) & 63);
    l1 = 4L;
   }
-  final int x110 = f179_5(m, l0, l1, l2, l3, l4, l5, l15, l16, l17, l18, l19);
+  final int x110 = f180_5(m, l0, l1, l2, l3, l4, l5, l15, l16, l17, l18, l19);
   l0 = m.kept[0];
   l16 = (int) m.kept[1];
   l17 = (int) m.kept[2];
@@ -8368,7 +8523,7 @@ static int f179(State m, long l0, long l1, long l2, long l3, long l4, long l5) {
    l16 = ((l14 << 6) | ((l13 << 12) | ((l12 << 18) & 1835008))) | ((b[((int) l2) - 58909] & 0xff) & 63);
    l1 = 4L;
   }
-  final int x120 = f179_6(m, l0, l1, l2, l3, l4, l7, l15, l16, l17, l18, l19);
+  final int x120 = f180_6(m, l0, l1, l2, l3, l4, l7, l15, l16, l17, l18, l19);
   l0 = m.kept[0];
   l1 = m.kept[1];
   l7 = m.kept[2];
@@ -8389,7 +8544,7 @@ static int f179(State m, long l0, long l1, long l2, long l3, long l4, long l5) {
    l16 = ((l14 << 6) | ((l13 << 12) | ((l12 << 18) & 1835008))) | ((b[((int) l2) - 58909] & 0xff) & 63);
    l1 = 4L;
   }
-  final int x130 = f179_7(m, l0, l1, l2, l3, l4, l7, l15, l16, l17, l18, l19);
+  final int x130 = f180_7(m, l0, l1, l2, l3, l4, l7, l15, l16, l17, l18, l19);
   l0 = m.kept[0];
   l1 = m.kept[1];
   l7 = m.kept[2];
@@ -8410,7 +8565,7 @@ static int f179(State m, long l0, long l1, long l2, long l3, long l4, long l5) {
    l16 = ((l14 << 6) | ((l13 << 12) | ((l12 << 18) & 1835008))) | ((b[((int) l2) - 58909] & 0xff) & 63);
    l1 = 4L;
   }
-  final int x142 = f179_8(m, l0, l1, l2, l3, l4, l7, l15, l16, l17, l18, l19);
+  final int x142 = f180_8(m, l0, l1, l2, l3, l4, l7, l15, l16, l17, l18, l19);
   l0 = m.kept[0];
   l1 = m.kept[1];
   l7 = m.kept[2];
@@ -8431,7 +8586,7 @@ static int f179(State m, long l0, long l1, long l2, long l3, long l4, long l5) {
    l16 = ((l14 << 6) | ((l13 << 12) | ((l12 << 18) & 1835008))) | ((b[((int) l2) - 58909] & 0xff) & 63);
    l1 = 4L;
   }
-  final int x153 = f179_9(m, l0, l1, l2, l3, l4, l5, l7, l15, l16, l17, l18, l19);
+  final int x153 = f180_9(m, l0, l1, l2, l3, l4, l5, l7, l15, l16, l17, l18, l19);
   l0 = m.kept[0];
   l1 = m.kept[1];
   l7 = m.kept[2];
@@ -8452,7 +8607,7 @@ static int f179(State m, long l0, long l1, long l2, long l3, long l4, long l5) {
    l16 = ((l14 << 6) | ((l13 << 12) | ((l12 << 18) & 1835008))) | ((b[((int) l2) - 58909] & 0xff) & 63);
    l1 = 4L;
   }
-  final int x163 = f179_10(m, l0, l1, l2, l3, l4, l7, l15, l16, l17, l18, l19);
+  final int x163 = f180_10(m, l0, l1, l2, l3, l4, l7, l15, l16, l17, l18, l19);
   l0 = m.kept[0];
   l1 = m.kept[1];
   l7 = m.kept[2];
@@ -8473,7 +8628,7 @@ static int f179(State m, long l0, long l1, long l2, long l3, long l4, long l5) {
    l16 = ((l14 << 6) | ((l13 << 12) | ((l12 << 18) & 1835008))) | ((b[((int) l2) - 58909] & 0xff) & 63);
    l1 = 4L;
   }
-  final int x171 = f179_11(m, l0, l1, l2, l3, l4, l15, l16, l17, l18, l19);
+  final int x171 = f180_11(m, l0, l1, l2, l3, l4, l15, l16, l17, l18, l19);
   l0 = m.kept[0];
   l16 = (int) m.kept[1];
   l17 = (int) m.kept[2];
@@ -8492,7 +8647,7 @@ static int f179(State m, long l0, long l1, long l2, long l3, long l4, long l5) {
    l16 = ((l14 << 6) | ((l13 << 12) | ((l12 << 18) & 1835008))) | ((b[((int) l2) - 58909] & 0xff) & 63);
    l1 = 4L;
   }
-  final int x183 = f179_12(m, l0, l1, l2, l3, l4, l7, l15, l16, l17, l18, l19);
+  final int x183 = f180_12(m, l0, l1, l2, l3, l4, l7, l15, l16, l17, l18, l19);
   l0 = m.kept[0];
   l1 = m.kept[1];
   l7 = m.kept[2];
@@ -8546,7 +8701,7 @@ static int f179(State m, long l0, long l1, long l2, long l3, long l4, long l5) {
    l16 = ((l14 << 6) | ((l13 << 12) | ((l12 << 18) & 1835008))) | ((b[((int) l2) - 58909] & 0xff) & 63);
    l1 = 4L;
   }
-  final int x200 = f179_13(m, l0, l1, l2, l3, l4, l5, l11, l12, l13, l14, l16, l17, l18, l19);
+  final int x200 = f180_13(m, l0, l1, l2, l3, l4, l5, l11, l12, l13, l14, l16, l17, l18, l19);
   l0 = m.kept[0];
   l1 = m.kept[1];
   l16 = (int) m.kept[2];
@@ -8566,7 +8721,7 @@ static int f179(State m, long l0, long l1, long l2, long l3, long l4, long l5) {
    l16 = ((l14 << 6) | ((l13 << 12) | ((l12 << 18) & 1835008))) | ((b[((int) l2) - 58909] & 0xff) & 63);
    l1 = 4L;
   }
-  final int x223 = f179_14(m, l0, l1, l2, l3, l4, l7, l11, l12, l13, l14, l15, l16, l17, l18, l19);
+  final int x223 = f180_14(m, l0, l1, l2, l3, l4, l7, l11, l12, l13, l14, l15, l16, l17, l18, l19);
   l0 = m.kept[0];
   l1 = m.kept[1];
   l7 = m.kept[2];
@@ -8749,7 +8904,7 @@ static int f179(State m, long l0, long l1, long l2, long l3, long l4, long l5) {
    l15 = ((l14 << 6) | ((l13 << 12) | ((l12 << 18) & 1835008))) | ((b[((int) l2) - 58909] & 0xff) & 63);
    l1 = 4L;
   }
-  final int x256 = f179_15(m, l0, l1, l2, l3, l5, l15, l16, l17, l18);
+  final int x256 = f180_15(m, l0, l1, l2, l3, l5, l15, l16, l17, l18);
   l0 = m.kept[0];
   l1 = m.kept[1];
   l5 = m.kept[2];
@@ -8842,7 +8997,7 @@ static int f179(State m, long l0, long l1, long l2, long l3, long l4, long l5) {
  return l10;
 }
 
-static int f180(State m, int l0) {
+static int f181(State m, int l0) {
  final byte[] b = m.bytes;
  long l1 = 0;
  long l2 = 0;

@@ -2,7 +2,7 @@
 package chinesenumber;
 
 final class Core6 {
-static int f181(State m, int l0, long l1, long l2, long l3, long l4) {
+static int f182(State m, int l0, long l1, long l2, long l3, long l4) {
  final byte[] b = m.bytes;
  long l5 = 0;
  long l6 = 0;
@@ -376,7 +376,7 @@ static int f181(State m, int l0, long l1, long l2, long l3, long l4) {
  return l19;
 }
 
-static int f182_1(State m, long l8, long l11, long l14, long l15, long l16, long l17, long l18, int l20, int l21, int l22, int l23, int l24) {
+static int f183_1(State m, long l8, long l11, long l14, long l15, long l16, long l17, long l18, int l20, int l21, int l22, int l23, int l24) {
  final byte[] b = m.bytes;
  int exit = 0;
  PART: {
@@ -605,7 +605,7 @@ static int f182_1(State m, long l8, long l11, long l14, long l15, long l16, long
  return exit;
 }
 
-static int f182(State m, long l0, long l1, long l2, int l3, int l4, long l5, long l6, long l7) {
+static int f183(State m, long l0, long l1, long l2, int l3, int l4, long l5, long l6, long l7) {
  final byte[] b = m.bytes;
  long l8 = 0;
  long l9 = 0;
@@ -654,14 +654,14 @@ static int f182(State m, long l0, long l1, long l2, int l3, int l4, long l5, lon
     Words.put64(b, ((int) l8) - 58896, 0L);
     Words.put64(b, ((int) l8) - 58904, 0L);
     if (l2 == 0L) { break L2; }
-    f183(m, l8 + 8L, l3, l4, l0, l1, l10, l2);
+    f184(m, l8 + 8L, l3, l4, l0, l1, l10, l2);
     if ((b[((int) l8) - 58904] & 0xff) != 1) { break L2; }
     l12 = Words.get64(b, ((int) l8) - 58872);
     l13 = Words.get64(b, ((int) l8) - 58880);
     l14 = Words.get64(b, ((int) l8) - 58896);
     l2 = Words.get64(b, ((int) l8) - 58856);
     l10 = Words.get64(b, ((int) l8) - 58864);
-    f182_1(m, l8, l11, l14, l15, l16, l17, l18, l20, l21, l22, l23, l24);
+    f183_1(m, l8, l11, l14, l15, l16, l17, l18, l20, l21, l22, l23, l24);
     l15 = m.kept[0];
     l16 = m.kept[1];
     l17 = m.kept[2];
@@ -985,7 +985,7 @@ static int f182(State m, long l0, long l1, long l2, int l3, int l4, long l5, lon
  throw State.trap();
 }
 
-static void f183(State m, long l0, int l1, int l2, long l3, long l4, long l5, long l6) {
+static void f184(State m, long l0, int l1, int l2, long l3, long l4, long l5, long l6) {
  final byte[] b = m.bytes;
  long l7 = 0;
  long l8 = 0;
@@ -1098,7 +1098,7 @@ static void f183(State m, long l0, int l1, int l2, long l3, long l4, long l5, lo
              if ((l11 + -991120) + Integer.MIN_VALUE >= -2147483638) { break L26; }
              break L2;
             }
-            if (Core5.f146(m, l1, l2, l12, l14, l15, l5, l6) == 0) { break L26; }
+            if (Core4.f146(m, l1, l2, l12, l14, l15, l5, l6) == 0) { break L26; }
             if (Core5.f147(m, l1, l2, l3, l10, l12, l5, l6) == 0) { break L2; }
            }
            if (Core5.f148(m, l1, l2, l3, l10, l12, l5, l6) == 0) { continue L4; }
@@ -1281,7 +1281,7 @@ static void f183(State m, long l0, int l1, int l2, long l3, long l4, long l5, lo
            if ((l12 + -65296) + Integer.MIN_VALUE >= -2147483638) { break L60; }
            break L2;
           }
-          if (Core5.f146(m, l1, l2, l12, l11, l14, l5, l6) == 0) { break L60; }
+          if (Core4.f146(m, l1, l2, l12, l11, l14, l5, l6) == 0) { break L60; }
           if (Core5.f147(m, l1, l2, l3, l10, l12, l5, l6) == 0) { break L2; }
          }
          if (Core5.f148(m, l1, l2, l3, l10, l12, l5, l6) == 0) { continue L4; }
@@ -1375,7 +1375,7 @@ static void f183(State m, long l0, int l1, int l2, long l3, long l4, long l5, lo
  m.g0 = l8 + 16L;
 }
 
-static void f184(State m, long l0, long l1, long l2, long l3, long l4) {
+static void f185(State m, long l0, long l1, long l2, long l3, long l4) {
  final byte[] b = m.bytes;
  long l5 = 0;
  long l6 = 0;
@@ -1539,15 +1539,15 @@ static void f184(State m, long l0, long l1, long l2, long l3, long l4) {
                       }
                       if (l18 == 21040) { break L31; }
                       if (l18 == 33267) { break L31; }
-                      if (f185(m, l1, l8) != 0) { break L28; }
+                      if (f186(m, l1, l8) != 0) { break L28; }
                       break L33;
                      }
-                     if (f185(m, l1, l8) == 0) { break L33; }
+                     if (f186(m, l1, l8) == 0) { break L33; }
                      break L28;
                     }
                     l12 = l7;
                     l17 = l16;
-                    if (f185(m, l1, l8) == 0) { break L32; }
+                    if (f186(m, l1, l8) == 0) { break L32; }
                     break L28;
                    }
                    l11 = -2L;
@@ -1573,7 +1573,7 @@ static void f184(State m, long l0, long l1, long l2, long l3, long l4) {
                   }
                   L43: {
                    if ((l17 + -19968) + Integer.MIN_VALUE > -2147462657) { break L43; }
-                   if (f185(m, l1, l12) != 0) { break L28; }
+                   if (f186(m, l1, l12) != 0) { break L28; }
                    if (l12 == 0L) { break L43; }
                    if (((int) b[((int) ((l11 = l1 + l12) + -1L)) - 58912]) > -1) { break L43; }
                    l13 = -2L;
@@ -1604,7 +1604,7 @@ static void f184(State m, long l0, long l1, long l2, long l3, long l4) {
                     if (l19 + Integer.MIN_VALUE > -2147483457) { break L48; }
                     l13 = ((b[((int) (l11 + -3L)) - 58912] & 0xff) + Integer.MIN_VALUE > -2147483457) ? -3L : -4L;
                    }
-                   if (f185(m, l1, l13 + l12) != 0) { break L28; }
+                   if (f186(m, l1, l13 + l12) != 0) { break L28; }
                   }
                   if (l16 > -1) { break L30; }
                   l17 = b[((int) (l9 + -2L)) - 58912] & 0xff;
@@ -1618,7 +1618,7 @@ static void f184(State m, long l0, long l1, long l2, long l3, long l4) {
                 }
                 L50: {
                  L51: {
-                  if (f186(m, l1, l7) != 0) { break L51; }
+                  if (f187(m, l1, l7) != 0) { break L51; }
                   l12 = l7;
                   break L50;
                  }
@@ -1632,7 +1632,7 @@ static void f184(State m, long l0, long l1, long l2, long l3, long l4) {
                  l12 = l12 + l7;
                 }
                 L53: {
-                 if (f186(m, l1, l12) != 0) { break L53; }
+                 if (f187(m, l1, l12) != 0) { break L53; }
                  l10 = l12;
                  break L29;
                 }
@@ -1647,7 +1647,7 @@ static void f184(State m, long l0, long l1, long l2, long l3, long l4) {
                }
                L55: {
                 L56: {
-                 if (f186(m, l1, l10) != 0) { break L56; }
+                 if (f187(m, l1, l10) != 0) { break L56; }
                  l7 = l10;
                  break L55;
                 }
@@ -1666,8 +1666,8 @@ static void f184(State m, long l0, long l1, long l2, long l3, long l4) {
                }
                L59: {
                 L60: {
-                 if (f186(m, l1, l8) == 0) { break L60; }
-                 l16 = f187(m, l1, l7);
+                 if (f187(m, l1, l8) == 0) { break L60; }
+                 l16 = f188(m, l1, l7);
                  L61: {
                   if (l14 != 0) { break L61; }
                   if (l16 == 0) { break L59; }
@@ -1879,7 +1879,7 @@ static void f184(State m, long l0, long l1, long l2, long l3, long l4) {
  throw State.trap();
 }
 
-static int f185(State m, long l0, long l1) {
+static int f186(State m, long l0, long l1) {
  final byte[] b = m.bytes;
  long l2 = 0;
  long l3 = 0;
@@ -1919,7 +1919,7 @@ static int f185(State m, long l0, long l1) {
       }
       l6 = ((l9 << 6) | ((l8 << 12) | ((l6 << 18) & 1835008))) | ((b[((int) l4) - 58909] & 0xff) & 63);
      }
-     if (f188(m, l6) == 0) { break L2; }
+     if (f189(m, l6) == 0) { break L2; }
      l4 = -2L;
      L9: {
       if ((b[((int) (l3 + -2L)) - 58912] & 0xff) + Integer.MIN_VALUE > -2147483457) { break L9; }
@@ -1928,10 +1928,10 @@ static int f185(State m, long l0, long l1) {
      l1 = l4 + l1;
      break L3;
     }
-    if (f188(m, l6) == 0) { break L2; }
+    if (f189(m, l6) == 0) { break L2; }
     l1 = l1 + -1L;
    }
-   l5 = f187(m, l0, l1);
+   l5 = f188(m, l0, l1);
   }
   m.g0 = l2;
   final int t10 = l5;
@@ -1940,7 +1940,7 @@ static int f185(State m, long l0, long l1) {
  throw State.trap();
 }
 
-static int f186(State m, long l0, long l1) {
+static int f187(State m, long l0, long l1) {
  final byte[] b = m.bytes;
  long l2 = 0;
  long l3 = 0;
@@ -1997,7 +1997,7 @@ static int f186(State m, long l0, long l1) {
  throw State.trap();
 }
 
-static int f187(State m, long l0, long l1) {
+static int f188(State m, long l0, long l1) {
  final byte[] b = m.bytes;
  int l2 = 0;
  int l3 = 0;
@@ -2107,7 +2107,7 @@ static int f187(State m, long l0, long l1) {
  throw State.trap();
 }
 
-static int f188(State m, int l0) {
+static int f189(State m, int l0) {
  final byte[] b = m.bytes;
  long l1 = 0;
  int l2 = 0;
@@ -2225,7 +2225,7 @@ static int f188(State m, int l0) {
  throw State.trap();
 }
 
-static int f189_1(State m, long l1, long l2, long l3, long l4, int l5, int l6, long l7, long l8, long l9, long l10, long l11, long l12, long l13, long l14, long l15, long l16, long l17, long l18, long l19, long l20, long l21, long l22, long l23, long l24, long l25, long l26, long l27, long l28, long l29, long l30, int l31, int l32, int l33) {
+static int f190_1(State m, long l1, long l2, long l3, long l4, int l5, int l6, long l7, long l8, long l9, long l10, long l11, long l12, long l13, long l14, long l15, long l16, long l17, long l18, long l19, long l20, long l21, long l22, long l23, long l24, long l25, long l26, long l27, long l28, long l29, long l30, int l31, int l32, int l33) {
  final byte[] b = m.bytes;
  int exit = 0;
  PART: {
@@ -2417,7 +2417,7 @@ static int f189_1(State m, long l1, long l2, long l3, long l4, int l5, int l6, l
    l4 = 0L;
    l3 = 0L;
    l18 = 0L;
-   if (f191(m, l1, l28, l20, l19, l7 + 1040L) == 0) { break L21; }
+   if (f192(m, l1, l28, l20, l19, l7 + 1040L) == 0) { break L21; }
    Words.put64(b, ((int) l7) - 57824, 0L);
    Words.put64(b, ((int) l7) - 57832, 0L);
    Words.put64(b, ((int) l7) - 57840, 0L);
@@ -2450,7 +2450,7 @@ static int f189_1(State m, long l1, long l2, long l3, long l4, int l5, int l6, l
      Words.put64(b, ((int) l7) - 57736, 0L);
      Words.put64(b, ((int) l7) - 57744, 0L);
      Words.put64(b, ((int) l7) - 57752, 0L);
-     f192(m, l7 + 1160L, l29, l26);
+     f193(m, l7 + 1160L, l29, l26);
      final long t48 = Words.get64(b, ((int) l7) - 57720);
      final long t49 = l26;
      final int t50 = l6 = ((b[((int) l7) - 57752] & 0xff) == 1) ? 1 : 0;
@@ -2466,7 +2466,7 @@ static int f189_1(State m, long l1, long l2, long l3, long l4, int l5, int l6, l
     Words.put64(b, ((int) l7) - 57736, 0L);
     Words.put64(b, ((int) l7) - 57744, 0L);
     Words.put64(b, ((int) l7) - 57752, 0L);
-    f192(m, l7 + 1160L, l30, l23);
+    f193(m, l7 + 1160L, l30, l23);
     final long t54 = Words.get64(b, ((int) l7) - 57720);
     final long t55 = l23;
     final int t56 = l6 = ((b[((int) l7) - 57752] & 0xff) == 1) ? 1 : 0;
@@ -2476,7 +2476,7 @@ static int f189_1(State m, long l1, long l2, long l3, long l4, int l5, int l6, l
     final int t59 = l6;
     l18 = t59 != 0 ? t57 : t58;
    }
-   f193(m, l7 + 1040L, 0, 1, l18, l3);
+   f194(m, l7 + 1040L, 0, 1, l18, l3);
    Words.put64(b, ((int) l7) - 58112, Words.get64(b, ((int) l7) - 57864));
    Words.put64(b, ((int) l7) - 58104, Words.get64(b, ((int) l7) - 57856));
    Words.put64(b, ((int) l7) - 58096, Words.get64(b, ((int) l7) - 57848));
@@ -2536,7 +2536,7 @@ static int f189_1(State m, long l1, long l2, long l3, long l4, int l5, int l6, l
  return exit;
 }
 
-static void f189(State m, long l0, long l1, long l2, long l3, long l4, int l5, int l6) {
+static void f190(State m, long l0, long l1, long l2, long l3, long l4, int l5, int l6) {
  final byte[] b = m.bytes;
  long l7 = 0;
  long l8 = 0;
@@ -2570,7 +2570,7 @@ static void f189(State m, long l0, long l1, long l2, long l3, long l4, int l5, i
  L1: {
   if ((l7 = l7) < 16L) { break L1; }
   m.fill((int) (l7 + 112L), 0, (int) 232L);
-  f190(m, l7 + 112L, l1, l2, l3, l4, l5, l6);
+  f191(m, l7 + 112L, l1, l2, l3, l4, l5, l6);
   L2: {
    L3: {
     if ((b[((int) l7) - 58800] & 0xff) != 1) { break L3; }
@@ -2652,7 +2652,7 @@ static void f189(State m, long l0, long l1, long l2, long l3, long l4, int l5, i
           }
           l19 = l4 - l18;
           l20 = l3 + l18;
-          l21 = 98015L;
+          l21 = 97991L;
           l18 = 0L;
           L14: {
            L15: {
@@ -2692,10 +2692,10 @@ static void f189(State m, long l0, long l1, long l2, long l3, long l4, int l5, i
              l4 = 0L;
              l3 = 0L;
              if (l32 != 8364) { break L5; }
-             l21 = 98021L;
+             l21 = 97997L;
              break L6;
             }
-            l22 = 97976L;
+            l22 = 97952L;
             l23 = 12L;
             l17 = 0L;
             l16 = 0L;
@@ -2733,11 +2733,11 @@ static void f189(State m, long l0, long l1, long l2, long l3, long l4, int l5, i
             if (l32 == 65284) { break L6; }
             break L5;
            }
-           l22 = 98000L;
+           l22 = 97976L;
            l23 = 6L;
            break L8;
           }
-          l22 = 98006L;
+          l22 = 97982L;
           l23 = 9L;
           break L8;
          }
@@ -2770,9 +2770,9 @@ static void f189(State m, long l0, long l1, long l2, long l3, long l4, int l5, i
          l3 = 0L;
          break L4;
         }
-        l22 = 97988L;
+        l22 = 97964L;
        }
-       f190(m, l7 + 456L, l1, l2, l20, l19, l5, l6);
+       f191(m, l7 + 456L, l1, l2, l20, l19, l5, l6);
        l16 = 0L;
        Words.put64(b, ((int) l7) - 58176, 0L);
        Words.put64(b, ((int) l7) - 58168, 0L);
@@ -2865,7 +2865,7 @@ static void f189(State m, long l0, long l1, long l2, long l3, long l4, int l5, i
        Words.put64(b, ((int) l7) - 58872, Words.get64(b, ((int) l7) - 58184));
        break L4;
       }
-      l21 = 98027L;
+      l21 = 98003L;
      }
      m.fill((int) (l7 + 912L), 0, (int) 128L);
      l18 = 0L;
@@ -2884,7 +2884,7 @@ static void f189(State m, long l0, long l1, long l2, long l3, long l4, int l5, i
      Words.put64(b, ((int) l7) - 58080, 0L);
      Words.put64(b, ((int) l7) - 58072, 0L);
      Core4.f119(m, l7 + 912L, l1, l2, l20, l19, l5, l6);
-     final int x60 = f189_1(m, l1, l2, l3, l4, l5, l6, l7, l8, l9, l10, l11, l12, l13, l14, l15, l16, l17, l18, l19, l20, l21, l22, l23, l24, l25, l26, l27, l28, l29, l30, l31, l32, l33);
+     final int x60 = f190_1(m, l1, l2, l3, l4, l5, l6, l7, l8, l9, l10, l11, l12, l13, l14, l15, l16, l17, l18, l19, l20, l21, l22, l23, l24, l25, l26, l27, l28, l29, l30, l31, l32, l33);
      l3 = m.kept[0];
      l4 = m.kept[1];
      l5 = (int) m.kept[2];
@@ -2983,20 +2983,20 @@ static void f189(State m, long l0, long l1, long l2, long l3, long l4, int l5, i
  throw State.trap();
 }
 
-static int f190_1(State m, long l1, long l2, long l3, long l4, long l7, long l8, long l9, long l10, long l11, long l12, long l13, long l14, long l15, long l16, int l23, int l24, int l25, int l26) {
+static int f191_1(State m, long l1, long l2, long l3, long l4, long l7, long l8, long l9, long l10, long l11, long l12, long l13, long l14, long l15, long l16, int l23, int l24, int l25, int l26) {
  final byte[] b = m.bytes;
  int exit = 0;
  PART: {
   L46: {
    L47: {
-    if (f195(m, l11, l10) == 0) { break L47; }
+    if (f196(m, l11, l10) == 0) { break L47; }
     if (l24 != 47) { exit = 1; break PART; }
     Words.put64(b, ((int) l7) - 58280, 0L);
     Words.put64(b, ((int) l7) - 58288, 0L);
     Words.put64(b, ((int) l7) - 58296, 0L);
-    f196(m, l7 + 616L, 87448L, 4L, l11, l10);
+    f197(m, l7 + 616L, 87448L, 4L, l11, l10);
     if ((b[((int) l7) - 58296] & 0xff) == 1) { break L46; }
-    f196(m, l7 + 616L, 87452L, 12L, l11, l10);
+    f197(m, l7 + 616L, 87452L, 12L, l11, l10);
     if ((b[((int) l7) - 58296] & 0xff) != 1) { exit = 1; break PART; }
     break L46;
    }
@@ -3016,13 +3016,13 @@ static int f190_1(State m, long l1, long l2, long l3, long l4, long l7, long l8,
     Words.put32(b, ((int) l7) - 58280, l24);
     Words.put64(b, ((int) l7) - 58288, l13);
     Words.put64(b, ((int) l7) - 58296, l3);
-    if (f197(m, l1, l8, l7 + 616L) == 0) { exit = 1; break PART; }
+    if (f198(m, l1, l8, l7 + 616L) == 0) { exit = 1; break PART; }
     l12 = 4L;
     exit = 2; break PART;
    }
    L50: {
-    if (f198(m, 1899, l3, l13) != 0) { break L50; }
-    if (f198(m, 2099, l3, l13) == 0) { break L50; }
+    if (f199(m, 1899, l3, l13) != 0) { break L50; }
+    if (f199(m, 2099, l3, l13) == 0) { break L50; }
     L51: {
      L52: {
       if (l25 <= -1) { break L52; }
@@ -3114,38 +3114,38 @@ static int f190_1(State m, long l1, long l2, long l3, long l4, long l7, long l8,
     Words.put64(b, ((int) l7) - 58120, 0L);
     Words.put64(b, ((int) l7) - 58128, 0L);
     Words.put64(b, ((int) l7) - 58136, 0L);
-    f196(m, l7 + 776L, 87624L, 6L, l11, l10);
+    f197(m, l7 + 776L, 87624L, 6L, l11, l10);
     l12 = 3L;
     if ((b[((int) l7) - 58136] & 0xff) == 1) { exit = 2; break PART; }
     Words.put64(b, ((int) l7) - 58120, 0L);
     Words.put64(b, ((int) l7) - 58128, 0L);
     Words.put64(b, ((int) l7) - 58136, 0L);
-    f196(m, l7 + 776L, 87630L, 6L, l11, l10);
+    f197(m, l7 + 776L, 87630L, 6L, l11, l10);
     if ((b[((int) l7) - 58136] & 0xff) == 1) { exit = 2; break PART; }
     Words.put64(b, ((int) l7) - 58120, 0L);
     Words.put64(b, ((int) l7) - 58128, 0L);
     Words.put64(b, ((int) l7) - 58136, 0L);
-    f196(m, l7 + 776L, 87636L, 6L, l11, l10);
+    f197(m, l7 + 776L, 87636L, 6L, l11, l10);
     if ((b[((int) l7) - 58136] & 0xff) == 1) { exit = 2; break PART; }
     Words.put64(b, ((int) l7) - 58120, 0L);
     Words.put64(b, ((int) l7) - 58128, 0L);
     Words.put64(b, ((int) l7) - 58136, 0L);
-    f196(m, l7 + 776L, 87642L, 6L, l11, l10);
+    f197(m, l7 + 776L, 87642L, 6L, l11, l10);
     if ((b[((int) l7) - 58136] & 0xff) == 1) { exit = 2; break PART; }
     Words.put64(b, ((int) l7) - 58120, 0L);
     Words.put64(b, ((int) l7) - 58128, 0L);
     Words.put64(b, ((int) l7) - 58136, 0L);
-    f196(m, l7 + 776L, 87648L, 6L, l11, l10);
+    f197(m, l7 + 776L, 87648L, 6L, l11, l10);
     if ((b[((int) l7) - 58136] & 0xff) == 1) { exit = 2; break PART; }
     Words.put64(b, ((int) l7) - 58120, 0L);
     Words.put64(b, ((int) l7) - 58128, 0L);
     Words.put64(b, ((int) l7) - 58136, 0L);
-    f196(m, l7 + 776L, 87654L, 6L, l11, l10);
+    f197(m, l7 + 776L, 87654L, 6L, l11, l10);
     if ((b[((int) l7) - 58136] & 0xff) == 1) { exit = 2; break PART; }
     Words.put64(b, ((int) l7) - 58120, 0L);
     Words.put64(b, ((int) l7) - 58128, 0L);
     Words.put64(b, ((int) l7) - 58136, 0L);
-    f196(m, l7 + 776L, 87660L, 6L, l11, l10);
+    f197(m, l7 + 776L, 87660L, 6L, l11, l10);
     if ((b[((int) l7) - 58136] & 0xff) == 1) { exit = 2; break PART; }
    }
    Words.put64(b, ((int) l7) - 58248, l10);
@@ -3156,7 +3156,7 @@ static int f190_1(State m, long l1, long l2, long l3, long l4, long l7, long l8,
    Words.put64(b, ((int) l7) - 58288, l13);
    Words.put64(b, ((int) l7) - 58296, l3);
    L71: {
-    if (f197(m, l1, l8, l7 + 616L) == 0) { break L71; }
+    if (f198(m, l1, l8, l7 + 616L) == 0) { break L71; }
     l12 = 4L;
     exit = 2; break PART;
    }
@@ -3192,7 +3192,7 @@ static int f190_1(State m, long l1, long l2, long l3, long l4, long l7, long l8,
    Words.put64(b, ((int) l7) - 58432, 45L);
    Words.put64(b, ((int) l7) - 58440, l13);
    Words.put64(b, ((int) l7) - 58448, l3);
-   if (f199(m, l7 + 464L) == 0) { exit = 1; break PART; }
+   if (f200(m, l7 + 464L) == 0) { exit = 1; break PART; }
    l12 = 5L;
    exit = 2; break PART;
   }
@@ -3207,18 +3207,18 @@ static int f190_1(State m, long l1, long l2, long l3, long l4, long l7, long l8,
  return exit;
 }
 
-static int f190_2(State m, long l1, long l2, long l3, long l4, long l7, long l8, long l9, long l10, long l11, long l12, long l13, long l14, long l15, long l16, int l23, int l24, int l25, int l26, int l27, int l28) {
+static int f191_2(State m, long l1, long l2, long l3, long l4, long l7, long l8, long l9, long l10, long l11, long l12, long l13, long l14, long l15, long l16, int l23, int l24, int l25, int l26, int l27, int l28) {
  final byte[] b = m.bytes;
  int exit = 0;
  PART: {
   L78: {
    if ((b[((int) l7) - 58296] & 0xff) == 1) { break L78; }
-   f196(m, l7 + 616L, 87452L, 12L, l11, l10);
+   f197(m, l7 + 616L, 87452L, 12L, l11, l10);
    if ((b[((int) l7) - 58296] & 0xff) == 1) { break L78; }
-   f200(m, l7 + 16L, l14, l9);
+   f201(m, l7 + 16L, l14, l9);
    l12 = Words.get64(b, ((int) l7) - 58888);
    l25 = b[((int) l7) - 58896] & 0xff;
-   f200(m, l7, l3, l13);
+   f201(m, l7, l3, l13);
    if (((l25 & (b[((int) l7) - 58912] & 0xff)) & 255) == 0) { exit = 1; break PART; }
    if (l12 + Long.MIN_VALUE > -9223372036854775798L) { exit = 1; break PART; }
    if ((l16 = Words.get64(b, ((int) l7) - 58904)) == 0L) { exit = 1; break PART; }
@@ -3400,7 +3400,7 @@ static int f190_2(State m, long l1, long l2, long l3, long l4, long l7, long l8,
  return exit;
 }
 
-static int f190_3(State m, long l1, long l2, long l3, long l4, long l7, long l8, long l9, long l10, long l11, long l12, long l13, long l14, long l15, long l16, long l17, long l18, long l19, long l20, long l21, long l22, int l23, int l24, int l25, int l26, int l27) {
+static int f191_3(State m, long l1, long l2, long l3, long l4, long l7, long l8, long l9, long l10, long l11, long l12, long l13, long l14, long l15, long l16, long l17, long l18, long l19, long l20, long l21, long l22, int l23, int l24, int l25, int l26, int l27) {
  final byte[] b = m.bytes;
  int exit = 0;
  PART: {
@@ -3491,7 +3491,7 @@ static int f190_3(State m, long l1, long l2, long l3, long l4, long l7, long l8,
       }
       break L120;
      }
-     if (f202(m, l1, l8) != 0) { break L119; }
+     if (f203(m, l1, l8) != 0) { break L119; }
      Words.put64(b, ((int) l7) - 58248, l19);
      Words.put64(b, ((int) l7) - 58256, l18);
      Words.put64(b, ((int) l7) - 58264, l17);
@@ -3507,7 +3507,7 @@ static int f190_3(State m, long l1, long l2, long l3, long l4, long l7, long l8,
      Words.put64(b, ((int) l7) - 58224, Words.get64(b, ((int) l21) - 58896));
      Words.put64(b, ((int) l7) - 58216, Words.get64(b, ((int) l21) - 58888));
      Words.put64(b, ((int) l7) - 58208, Words.get64(b, ((int) l21) - 58880));
-     if (f191(m, l1, l8, l3, l4, l7 + 616L) == 0) { break L119; }
+     if (f192(m, l1, l8, l3, l4, l7 + 616L) == 0) { break L119; }
      Words.put64(b, ((int) l7) - 58248, 0L);
      Words.put64(b, ((int) l7) - 58256, 0L);
      Words.put64(b, ((int) l7) - 58264, 0L);
@@ -3550,14 +3550,14 @@ static int f190_3(State m, long l1, long l2, long l3, long l4, long l7, long l8,
          l9 = l15;
          break L125;
         }
-        f192(m, l7 + 776L, l16, l10);
+        f193(m, l7 + 776L, l16, l10);
         l25 = b[((int) l7) - 58136] & 0xff;
         Words.put64(b, ((int) l7) - 58104, 0L);
         Words.put64(b, ((int) l7) - 58112, 0L);
         Words.put64(b, ((int) l7) - 58120, 0L);
         Words.put64(b, ((int) l7) - 58128, 0L);
         Words.put64(b, ((int) l7) - 58136, 0L);
-        f192(m, l7 + 776L, l16, l10);
+        f193(m, l7 + 776L, l16, l10);
         final long t131 = Words.get64(b, ((int) l7) - 58104);
         final long t132 = l10;
         final int t133 = l23 = ((b[((int) l7) - 58136] & 0xff) == 1) ? 1 : 0;
@@ -3569,14 +3569,14 @@ static int f190_3(State m, long l1, long l2, long l3, long l4, long l7, long l8,
         l23 = (l25 == 1) ? 1 : 0;
         break L127;
        }
-       f192(m, l7 + 736L, l14, l2);
+       f193(m, l7 + 736L, l14, l2);
        l25 = b[((int) l7) - 58176] & 0xff;
        Words.put64(b, ((int) l7) - 58104, 0L);
        Words.put64(b, ((int) l7) - 58112, 0L);
        Words.put64(b, ((int) l7) - 58120, 0L);
        Words.put64(b, ((int) l7) - 58128, 0L);
        Words.put64(b, ((int) l7) - 58136, 0L);
-       f192(m, l7 + 776L, l14, l2);
+       f193(m, l7 + 776L, l14, l2);
        final long t137 = Words.get64(b, ((int) l7) - 58104);
        final long t138 = l2;
        final int t139 = l23 = ((b[((int) l7) - 58136] & 0xff) == 1) ? 1 : 0;
@@ -3589,7 +3589,7 @@ static int f190_3(State m, long l1, long l2, long l3, long l4, long l7, long l8,
       }
       l25 = 0;
      }
-     f193(m, l7 + 616L, l25 & 1, l23, l11, l9);
+     f194(m, l7 + 616L, l25 & 1, l23, l11, l9);
      Words.put64(b, ((int) l7) - 58376, Words.get64(b, ((int) l7) - 58336));
      Words.put64(b, ((int) l7) - 58368, Words.get64(b, ((int) l7) - 58328));
      Words.put64(b, ((int) l7) - 58360, Words.get64(b, ((int) l7) - 58320));
@@ -3697,7 +3697,7 @@ static int f190_3(State m, long l1, long l2, long l3, long l4, long l7, long l8,
  return exit;
 }
 
-static void f190(State m, long l0, long l1, long l2, long l3, long l4, int l5, int l6) {
+static void f191(State m, long l0, long l1, long l2, long l3, long l4, int l5, int l6) {
  final byte[] b = m.bytes;
  long l7 = 0;
  long l8 = 0;
@@ -3989,9 +3989,9 @@ static void f190(State m, long l0, long l1, long l2, long l3, long l4, int l5, i
     }
     if (l9 != (l16 + l12)) { break L2; }
    }
-   if (f194(m, l1, l8) != 0) { break L2; }
+   if (f195(m, l1, l8) != 0) { break L2; }
    L45: {
-    final int x76 = f190_1(m, l1, l2, l3, l4, l7, l8, l9, l10, l11, l12, l13, l14, l15, l16, l23, l24, l25, l26);
+    final int x76 = f191_1(m, l1, l2, l3, l4, l7, l8, l9, l10, l11, l12, l13, l14, l15, l16, l23, l24, l25, l26);
     l12 = m.kept[0];
     l15 = m.kept[1];
     l16 = m.kept[2];
@@ -4007,10 +4007,10 @@ static void f190(State m, long l0, long l1, long l2, long l3, long l4, int l5, i
     Words.put64(b, ((int) l7) - 58288, 0L);
     Words.put64(b, ((int) l7) - 58296, 0L);
     L77: {
-     if (f198(m, 0, l3, l13) != 0) { break L77; }
-     if (f198(m, 12, l3, l13) == 0) { break L77; }
-     if (f198(m, 0, l14, l9) != 0) { break L77; }
-     if (f198(m, 31, l14, l9) == 0) { break L77; }
+     if (f199(m, 0, l3, l13) != 0) { break L77; }
+     if (f199(m, 12, l3, l13) == 0) { break L77; }
+     if (f199(m, 0, l14, l9) != 0) { break L77; }
+     if (f199(m, 31, l14, l9) == 0) { break L77; }
      Core4.f134(m, l7 + 616L, 21, l11, l10);
      if ((b[((int) l7) - 58296] & 0xff) != 1) { break L77; }
      l12 = 0L;
@@ -4019,8 +4019,8 @@ static void f190(State m, long l0, long l1, long l2, long l3, long l4, int l5, i
     Words.put64(b, ((int) l7) - 58280, 0L);
     Words.put64(b, ((int) l7) - 58288, 0L);
     Words.put64(b, ((int) l7) - 58296, 0L);
-    f196(m, l7 + 616L, 87448L, 4L, l11, l10);
-    final int x105 = f190_2(m, l1, l2, l3, l4, l7, l8, l9, l10, l11, l12, l13, l14, l15, l16, l23, l24, l25, l26, l27, l28);
+    f197(m, l7 + 616L, 87448L, 4L, l11, l10);
+    final int x105 = f191_2(m, l1, l2, l3, l4, l7, l8, l9, l10, l11, l12, l13, l14, l15, l16, l23, l24, l25, l26, l27, l28);
     l12 = m.kept[0];
     l15 = m.kept[1];
     l16 = m.kept[2];
@@ -4037,11 +4037,11 @@ static void f190(State m, long l0, long l1, long l2, long l3, long l4, int l5, i
     Words.put64(b, ((int) l7) - 58280, 0L);
     Words.put64(b, ((int) l7) - 58288, 0L);
     Words.put64(b, ((int) l7) - 58296, 0L);
-    f196(m, l7 + 616L, 87448L, 4L, l11, l10);
+    f197(m, l7 + 616L, 87448L, 4L, l11, l10);
     L106: {
      L107: {
       if ((b[((int) l7) - 58296] & 0xff) == 1) { break L107; }
-      f196(m, l7 + 616L, 87452L, 12L, l11, l10);
+      f197(m, l7 + 616L, 87452L, 12L, l11, l10);
       if ((b[((int) l7) - 58296] & 0xff) != 1) { break L106; }
      }
      l10 = Words.get64(b, ((int) l7) - 58280);
@@ -4056,7 +4056,7 @@ static void f190(State m, long l0, long l1, long l2, long l3, long l4, int l5, i
    Words.put64(b, ((int) l7) - 58280, 0L);
    Words.put64(b, ((int) l7) - 58288, 0L);
    Words.put64(b, ((int) l7) - 58296, 0L);
-   f193(m, l7 + 616L, 0, 0, l11, l10);
+   f194(m, l7 + 616L, 0, 0, l11, l10);
    Words.put64(b, ((int) l7) - 58496, Words.get64(b, ((int) l7) - 58288));
    Words.put64(b, ((int) l7) - 58488, Words.get64(b, ((int) l7) - 58280));
    Words.put64(b, ((int) l7) - 58480, Words.get64(b, ((int) l7) - 58272));
@@ -4122,7 +4122,7 @@ static void f190(State m, long l0, long l1, long l2, long l3, long l4, int l5, i
     if ((l25 + -48) + Integer.MIN_VALUE < -2147483638) { break L112; }
     if ((l25 + -65296) + Integer.MIN_VALUE >= -2147483638) { break L108; }
    }
-   f201(m, l7 + 616L, l1, l8, l3, l4);
+   f202(m, l7 + 616L, l1, l8, l3, l4);
    if ((b[((int) l7) - 58296] & 0xff) != 1) { break L108; }
    l11 = Words.get64(b, ((int) l7) - 58272);
    l9 = Words.get64(b, ((int) l7) - 58280);
@@ -4134,7 +4134,7 @@ static void f190(State m, long l0, long l1, long l2, long l3, long l4, int l5, i
    Words.put64(b, ((int) l7) - 58280, 0L);
    Words.put64(b, ((int) l7) - 58288, 0L);
    Words.put64(b, ((int) l7) - 58296, 0L);
-   f193(m, l7 + 616L, 0, 0, l9, l11);
+   f194(m, l7 + 616L, 0, 0, l9, l11);
    Words.put64(b, ((int) l7) - 58544, Words.get64(b, ((int) l7) - 58288));
    Words.put64(b, ((int) l7) - 58536, Words.get64(b, ((int) l7) - 58280));
    Words.put64(b, ((int) l7) - 58528, Words.get64(b, ((int) l7) - 58272));
@@ -4177,7 +4177,7 @@ static void f190(State m, long l0, long l1, long l2, long l3, long l4, int l5, i
   l9 = 0L;
   l12 = 0L;
   l21 = 0L;
-  f190_3(m, l1, l2, l3, l4, l7, l8, l9, l10, l11, l12, l13, l14, l15, l16, l17, l18, l19, l20, l21, l22, l23, l24, l25, l26, l27);
+  f191_3(m, l1, l2, l3, l4, l7, l8, l9, l10, l11, l12, l13, l14, l15, l16, l17, l18, l19, l20, l21, l22, l23, l24, l25, l26, l27);
   l2 = m.kept[0];
   l9 = m.kept[1];
   l10 = m.kept[2];
@@ -4231,7 +4231,7 @@ static void f190(State m, long l0, long l1, long l2, long l3, long l4, int l5, i
  m.g0 = l7 + 816L;
 }
 
-static int f191_1(State m, long l0, long l1, long l2, long l3, long l4, long l5, long l6, long l7, long l8, long l9, long l10, int l11, int l12, int l13, int l14, int l15, int l16, int l17) {
+static int f192_1(State m, long l0, long l1, long l2, long l3, long l4, long l5, long l6, long l7, long l8, long l9, long l10, int l11, int l12, int l13, int l14, int l15, int l16, int l17) {
  final byte[] b = m.bytes;
  int exit = 0;
  PART: {
@@ -4311,7 +4311,7 @@ static int f191_1(State m, long l0, long l1, long l2, long l3, long l4, long l5,
       exit = 1; break PART;
      }
      if ((l12 & 255) != 21) { exit = 2; break PART; }
-     if (Core7.f217(m, l0, l1, l8, l7) != 0) { exit = 1; break PART; }
+     if (Core7.f218(m, l0, l1, l8, l7) != 0) { exit = 1; break PART; }
      exit = 2; break PART;
     }
     l3 = Words.get64(b, ((int) (l4 + 112L)) - 58912);
@@ -4349,7 +4349,7 @@ static int f191_1(State m, long l0, long l1, long l2, long l3, long l4, long l5,
       }
       break L20;
      }
-     Core7.f218(m, l5 + 8L, l8, l10);
+     Core7.f219(m, l5 + 8L, l8, l10);
      l4 = Words.get64(b, ((int) l5) - 58896);
      l9 = Words.get64(b, ((int) l5) - 58904);
      Words.put64(b, ((int) l5) - 58808, 0L);
@@ -4365,9 +4365,9 @@ static int f191_1(State m, long l0, long l1, long l2, long l3, long l4, long l5,
      if ((b[((int) l5) - 58864] & 0xff) != 0) { exit = 1; break PART; }
     }
     l11 = 0;
-    if (f202(m, l0, l1) != 0) { exit = 1; break PART; }
-    if (Core7.f219(m, l0, l1, l8, l10, l6, l3) != 0) { exit = 1; break PART; }
-    l11 = Core7.f220(m, l8, l10, l6, l3) ^ 1;
+    if (f203(m, l0, l1) != 0) { exit = 1; break PART; }
+    if (Core7.f220(m, l0, l1, l8, l10, l6, l3) != 0) { exit = 1; break PART; }
+    l11 = Core7.f221(m, l8, l10, l6, l3) ^ 1;
     exit = 1; break PART;
    }
    l1 = Words.get64(b, ((int) (l4 + 96L)) - 58912);
@@ -4461,8 +4461,8 @@ static int f191_1(State m, long l0, long l1, long l2, long l3, long l4, long l5,
     exit = 1; break PART;
    }
    l11 = 1;
-   if (Core7.f214(m, l1, l6) != 0) { exit = 1; break PART; }
-   f192(m, l5 + 168L, l1, l6);
+   if (Core7.f215(m, l1, l6) != 0) { exit = 1; break PART; }
+   f193(m, l5 + 168L, l1, l6);
    l11 = ((b[((int) l5) - 58744] & 0xff) == 1) ? 1 : 0;
    exit = 1; break PART;
   }
@@ -4483,7 +4483,7 @@ static int f191_1(State m, long l0, long l1, long l2, long l3, long l4, long l5,
  return exit;
 }
 
-static int f191(State m, long l0, long l1, long l2, long l3, long l4) {
+static int f192(State m, long l0, long l1, long l2, long l3, long l4) {
  final byte[] b = m.bytes;
  long l5 = 0;
  long l6 = 0;
@@ -4510,7 +4510,7 @@ static int f191(State m, long l0, long l1, long l2, long l3, long l4) {
       l8 = Words.get64(b, ((int) (l4 + 16L)) - 58912);
       l9 = Words.get64(b, ((int) (l4 + 8L)) - 58912);
       l10 = Words.get64(b, ((int) (l4 + 56L)) - 58912);
-      final int x37 = f191_1(m, l0, l1, l2, l3, l4, l5, l6, l7, l8, l9, l10, l11, l12, l13, l14, l15, l16, l17);
+      final int x37 = f192_1(m, l0, l1, l2, l3, l4, l5, l6, l7, l8, l9, l10, l11, l12, l13, l14, l15, l16, l17);
       l1 = m.kept[0];
       l2 = m.kept[1];
       l3 = m.kept[2];
@@ -4529,7 +4529,7 @@ static int f191(State m, long l0, long l1, long l2, long l3, long l4) {
       case 2: break L2;
       case 3: break L3;
       }
-      Core7.f221(m, l5 + 32L, l2, l7 = l3 - l8);
+      Core7.f222(m, l5 + 32L, l2, l7 = l3 - l8);
       l4 = Words.get64(b, ((int) l5) - 58872);
       l10 = Words.get64(b, ((int) l5) - 58880);
       Words.put64(b, ((int) l5) - 58808, 0L);
@@ -4543,13 +4543,13 @@ static int f191(State m, long l0, long l1, long l2, long l3, long l4) {
       Core3.f80(m, l5 + 48L, l10, l4, 1);
       l11 = 0;
       if ((b[((int) l5) - 58864] & 0xff) != 0) { break L1; }
-      if (Core7.f219(m, l0, l1, l2, l7, l9, l8) != 0) { break L1; }
+      if (Core7.f220(m, l0, l1, l2, l7, l9, l8) != 0) { break L1; }
       Words.put64(b, ((int) l5) - 58832, 0L);
       Words.put64(b, ((int) l5) - 58840, 0L);
       Words.put64(b, ((int) l5) - 58848, 0L);
       Words.put64(b, ((int) l5) - 58856, 0L);
       Words.put64(b, ((int) l5) - 58864, 0L);
-      f192(m, l5 + 48L, l9, l8);
+      f193(m, l5 + 48L, l9, l8);
       final long t38 = l2;
       final long t39 = l7;
       final long t40 = Words.get64(b, ((int) l5) - 58840);
@@ -4559,7 +4559,7 @@ static int f191(State m, long l0, long l1, long l2, long l3, long l4) {
       final long t44 = Words.get64(b, ((int) l5) - 58832);
       final long t45 = l8;
       final int t46 = l12;
-      if (Core7.f220(m, t38, t39, t43, t46 != 0 ? t44 : t45) != 0) { break L1; }
+      if (Core7.f221(m, t38, t39, t43, t46 != 0 ? t44 : t45) != 0) { break L1; }
       if (l3 == l8) { break L4; }
       L47: {
        L48: {
@@ -4590,7 +4590,7 @@ static int f191(State m, long l0, long l1, long l2, long l3, long l4) {
         l3 = (l13 + Integer.MIN_VALUE < 2147483632) ? 3L : 4L;
        }
        if (l7 != (l3 + l4)) { break L50; }
-       if (f198(m, 60, l2, l7) != 0) { break L50; }
+       if (f199(m, 60, l2, l7) != 0) { break L50; }
        L54: {
         L55: {
          if (l12 <= -1) { break L55; }
@@ -4604,7 +4604,7 @@ static int f191(State m, long l0, long l1, long l2, long l3, long l4) {
         }
         l4 = (l12 + Integer.MIN_VALUE < 2147483632) ? 3L : 4L;
        }
-       l13 = Core7.f211(m, l2 + l4, l7 - l4);
+       l13 = Core7.f212(m, l2 + l4, l7 - l4);
        if (l8 == 0L) { break L50; }
        if (l13 != 0) { break L50; }
        if ((l13 = (int) b[((int) l9) - 58912]) > -1) { break L50; }
@@ -4799,8 +4799,8 @@ static int f191(State m, long l0, long l1, long l2, long l3, long l4) {
         break L1;
        }
       }
-      if (Core7.f222(m, l9, l8) != 0) { break L1; }
-      f192(m, l5 + 48L, l9, l8);
+      if (Core7.f223(m, l9, l8) != 0) { break L1; }
+      f193(m, l5 + 48L, l9, l8);
       l11 = ((b[((int) l5) - 58864] & 0xff) == 1) ? 1 : 0;
       break L1;
      }
@@ -4827,7 +4827,7 @@ static int f191(State m, long l0, long l1, long l2, long l3, long l4) {
  return l11;
 }
 
-static void f192(State m, long l0, long l1, long l2) {
+static void f193(State m, long l0, long l1, long l2) {
  final byte[] b = m.bytes;
  long l3 = 0;
  long l4 = 0;
@@ -4948,7 +4948,7 @@ static void f192(State m, long l0, long l1, long l2) {
      Words.put64(b, ((int) l3) - 58888, 0L);
      Words.put64(b, ((int) l3) - 58896, 0L);
      Words.put64(b, ((int) l3) - 58904, 0L);
-     f196(m, l3 + 8L, l7 = Words.get64(b, ((int) (l4 + 96768L)) - 58912), l8 = Words.get64(b, ((int) (l4 + 96776L)) - 58912), l1, l2);
+     f197(m, l3 + 8L, l7 = Words.get64(b, ((int) (l4 + 96744L)) - 58912), l8 = Words.get64(b, ((int) (l4 + 96752L)) - 58912), l1, l2);
      L22: {
       if ((b[((int) l3) - 58904] & 0xff) != 1) { break L22; }
       l6 = Words.get64(b, ((int) l3) - 58896);
@@ -5044,14 +5044,14 @@ static void f192(State m, long l0, long l1, long l2) {
     l6 = 0L;
     break L1;
    }
-   l8 = Words.get64(b, ((int) (l4 + 96792L)) - 58912);
-   l7 = Words.get64(b, ((int) (l4 + 96784L)) - 58912);
+   l8 = Words.get64(b, ((int) (l4 + 96768L)) - 58912);
+   l7 = Words.get64(b, ((int) (l4 + 96760L)) - 58912);
    l4 = 1L;
    break L1;
   }
   l4 = 1L;
   l8 = 3L;
-  l7 = 93944L;
+  l7 = 93920L;
  }
  Words.put64(b, ((int) l0) - 58912, l4);
  Words.put64(b, ((int) (l0 + 32L)) - 58912, l5);
@@ -5061,7 +5061,7 @@ static void f192(State m, long l0, long l1, long l2) {
  m.g0 = l3 + 32L;
 }
 
-static void f193(State m, long l0, int l1, int l2, long l3, long l4) {
+static void f194(State m, long l0, int l1, int l2, long l3, long l4) {
  final byte[] b = m.bytes;
  long l5 = 0;
  long l6 = 0;
@@ -5085,7 +5085,7 @@ static void f193(State m, long l0, int l1, int l2, long l3, long l4) {
   Words.put64(b, ((int) l5) - 58888, 0L);
   Words.put64(b, ((int) l5) - 58912, 0L);
   Words.put64(b, ((int) l5) - 58904, 0L);
-  f204(m, l5 + 32L, l1, l2, l3, l4);
+  f205(m, l5 + 32L, l1, l2, l3, l4);
   L2: {
    L3: {
     if ((b[((int) l5) - 58880] & 0xff) != 1) { break L3; }
@@ -5120,15 +5120,15 @@ static void f193(State m, long l0, int l1, int l2, long l3, long l4) {
         }
         l10 = ((l12 << 6) | ((l11 << 12) | ((l10 << 18) & 1835008))) | ((b[((int) l3) - 58909] & 0xff) & 63);
        }
-       if (f188(m, l10) == 0) { break L4; }
+       if (f189(m, l10) == 0) { break L4; }
        l7 = (l2 + Integer.MIN_VALUE < 2147483632) ? 3L : 4L;
        break L5;
       }
-      if (f188(m, ((l10 << 6) & 1984) | l11) == 0) { break L4; }
+      if (f189(m, ((l10 << 6) & 1984) | l11) == 0) { break L4; }
       l7 = 2L;
       break L5;
      }
-     if (f188(m, l10) == 0) { break L4; }
+     if (f189(m, l10) == 0) { break L4; }
      l7 = 1L;
     }
     l6 = l3 + l7;
@@ -5185,7 +5185,7 @@ static void f193(State m, long l0, int l1, int l2, long l3, long l4) {
      l8 = l7 - (l9 = ((l2 & 255) + Integer.MIN_VALUE < -2147483408) ? 3L : 4L);
      l6 = l6 + l9;
     }
-    f204(m, l5 + 72L, l1, 1, l6, l8);
+    f205(m, l5 + 72L, l1, 1, l6, l8);
     if ((b[((int) l5) - 58840] & 0xff) != 1) { break L4; }
     Words.put64(b, ((int) l5) - 58888, Words.get64(b, ((int) l5) - 58824));
     Words.put64(b, ((int) l5) - 58896, Words.get64(b, ((int) l5) - 58832));
@@ -5216,7 +5216,7 @@ static void f193(State m, long l0, int l1, int l2, long l3, long l4) {
  throw State.trap();
 }
 
-static int f194(State m, long l0, long l1) {
+static int f195(State m, long l0, long l1) {
  final byte[] b = m.bytes;
  long l2 = 0;
  long l3 = 0;
@@ -5273,7 +5273,7 @@ static int f194(State m, long l0, long l1) {
  throw State.trap();
 }
 
-static int f195(State m, long l0, long l1) {
+static int f196(State m, long l0, long l1) {
  final byte[] b = m.bytes;
  int l2 = 0;
  int l3 = 0;
@@ -5368,7 +5368,7 @@ static int f195(State m, long l0, long l1) {
  return l5;
 }
 
-static void f196(State m, long l0, long l1, long l2, long l3, long l4) {
+static void f197(State m, long l0, long l1, long l2, long l3, long l4) {
  final byte[] b = m.bytes;
  int l5 = 0;
  int l6 = 0;
@@ -5450,7 +5450,7 @@ static void f196(State m, long l0, long l1, long l2, long l3, long l4) {
  Words.put64(b, ((int) l0) - 58912, 0L);
 }
 
-static int f197(State m, long l0, long l1, long l2) {
+static int f198(State m, long l0, long l1, long l2) {
  final byte[] b = m.bytes;
  long l3 = 0;
  long l4 = 0;
@@ -5480,7 +5480,7 @@ static int f197(State m, long l0, long l1, long l2) {
      Words.put64(b, ((int) l3) - 58884, Words.get64(b, ((int) l2) - 58884));
      Words.put32(b, ((int) l3) - 58876, Words.get32(b, ((int) l2) - 58876));
      l9 = 0;
-     if (f199(m, l3) == 0) { break L1; }
+     if (f200(m, l3) == 0) { break L1; }
      l2 = -672L;
      L5: {
       L6: while (true) {
@@ -5494,7 +5494,7 @@ static int f197(State m, long l0, long l1, long l2) {
        Words.put64(b, ((int) l3) - 58840, 0L);
        Words.put64(b, ((int) l3) - 58848, 0L);
        Words.put64(b, ((int) l3) - 58856, 0L);
-       f196(m, l3 + 56L, Words.get64(b, ((int) (l2 + 88344L)) - 58912), Words.get64(b, ((int) (l2 + 88352L)) - 58912), l5, l4);
+       f197(m, l3 + 56L, Words.get64(b, ((int) (l2 + 88344L)) - 58912), Words.get64(b, ((int) (l2 + 88352L)) - 58912), l5, l4);
        l9 = 1;
        l2 = l6;
        if ((b[((int) l3) - 58856] & 0xff) != 1) { continue L6; }
@@ -5528,7 +5528,7 @@ static int f197(State m, long l0, long l1, long l2) {
       Words.put64(b, ((int) l3) - 58840, 0L);
       Words.put64(b, ((int) l3) - 58848, 0L);
       Words.put64(b, ((int) l3) - 58856, 0L);
-      f203(m, l3 + 56L, 88568L, 6L, l0, l2);
+      f204(m, l3 + 56L, 88568L, 6L, l0, l2);
       l9 = 1;
       if ((b[((int) l3) - 58856] & 0xff) == 1) { break L1; }
       L13: {
@@ -5585,116 +5585,116 @@ static int f197(State m, long l0, long l1, long l2) {
   Words.put64(b, ((int) l3) - 58840, 0L);
   Words.put64(b, ((int) l3) - 58848, 0L);
   Words.put64(b, ((int) l3) - 58856, 0L);
-  f203(m, l3 + 56L, 88704L, 6L, l0, l1);
+  f204(m, l3 + 56L, 88704L, 6L, l0, l1);
   l9 = 1;
   if ((b[((int) l3) - 58856] & 0xff) == 1) { break L1; }
   Words.put64(b, ((int) l3) - 58840, 0L);
   Words.put64(b, ((int) l3) - 58848, 0L);
   Words.put64(b, ((int) l3) - 58856, 0L);
-  f203(m, l3 + 56L, 88710L, 9L, l0, l1);
+  f204(m, l3 + 56L, 88710L, 9L, l0, l1);
   l9 = 1;
   if ((b[((int) l3) - 58856] & 0xff) == 1) { break L1; }
   Words.put64(b, ((int) l3) - 58840, 0L);
   Words.put64(b, ((int) l3) - 58848, 0L);
   Words.put64(b, ((int) l3) - 58856, 0L);
-  f203(m, l3 + 56L, 88719L, 9L, l0, l1);
+  f204(m, l3 + 56L, 88719L, 9L, l0, l1);
   l9 = 1;
   if ((b[((int) l3) - 58856] & 0xff) == 1) { break L1; }
   Words.put64(b, ((int) l3) - 58840, 0L);
   Words.put64(b, ((int) l3) - 58848, 0L);
   Words.put64(b, ((int) l3) - 58856, 0L);
-  f203(m, l3 + 56L, 88728L, 9L, l0, l1);
+  f204(m, l3 + 56L, 88728L, 9L, l0, l1);
   l9 = 1;
   if ((b[((int) l3) - 58856] & 0xff) == 1) { break L1; }
   Words.put64(b, ((int) l3) - 58840, 0L);
   Words.put64(b, ((int) l3) - 58848, 0L);
   Words.put64(b, ((int) l3) - 58856, 0L);
-  f203(m, l3 + 56L, 88737L, 9L, l0, l1);
+  f204(m, l3 + 56L, 88737L, 9L, l0, l1);
   l9 = 1;
   if ((b[((int) l3) - 58856] & 0xff) == 1) { break L1; }
   Words.put64(b, ((int) l3) - 58840, 0L);
   Words.put64(b, ((int) l3) - 58848, 0L);
   Words.put64(b, ((int) l3) - 58856, 0L);
-  f203(m, l3 + 56L, 88746L, 9L, l0, l1);
+  f204(m, l3 + 56L, 88746L, 9L, l0, l1);
   l9 = 1;
   if ((b[((int) l3) - 58856] & 0xff) == 1) { break L1; }
   Words.put64(b, ((int) l3) - 58840, 0L);
   Words.put64(b, ((int) l3) - 58848, 0L);
   Words.put64(b, ((int) l3) - 58856, 0L);
-  f203(m, l3 + 56L, 88755L, 6L, l0, l1);
+  f204(m, l3 + 56L, 88755L, 6L, l0, l1);
   l9 = 1;
   if ((b[((int) l3) - 58856] & 0xff) == 1) { break L1; }
   Words.put64(b, ((int) l3) - 58840, 0L);
   Words.put64(b, ((int) l3) - 58848, 0L);
   Words.put64(b, ((int) l3) - 58856, 0L);
-  f203(m, l3 + 56L, 88761L, 6L, l0, l1);
+  f204(m, l3 + 56L, 88761L, 6L, l0, l1);
   l9 = 1;
   if ((b[((int) l3) - 58856] & 0xff) == 1) { break L1; }
   Words.put64(b, ((int) l3) - 58840, 0L);
   Words.put64(b, ((int) l3) - 58848, 0L);
   Words.put64(b, ((int) l3) - 58856, 0L);
-  f196(m, l3 + 56L, 88928L, 9L, l5, l4);
+  f197(m, l3 + 56L, 88928L, 9L, l5, l4);
   l9 = 1;
   if ((b[((int) l3) - 58856] & 0xff) == 1) { break L1; }
   Words.put64(b, ((int) l3) - 58840, 0L);
   Words.put64(b, ((int) l3) - 58848, 0L);
   Words.put64(b, ((int) l3) - 58856, 0L);
-  f196(m, l3 + 56L, 88937L, 6L, l5, l4);
+  f197(m, l3 + 56L, 88937L, 6L, l5, l4);
   l9 = 1;
   if ((b[((int) l3) - 58856] & 0xff) == 1) { break L1; }
   Words.put64(b, ((int) l3) - 58840, 0L);
   Words.put64(b, ((int) l3) - 58848, 0L);
   Words.put64(b, ((int) l3) - 58856, 0L);
-  f196(m, l3 + 56L, 88943L, 6L, l5, l4);
+  f197(m, l3 + 56L, 88943L, 6L, l5, l4);
   l9 = 1;
   if ((b[((int) l3) - 58856] & 0xff) == 1) { break L1; }
   Words.put64(b, ((int) l3) - 58840, 0L);
   Words.put64(b, ((int) l3) - 58848, 0L);
   Words.put64(b, ((int) l3) - 58856, 0L);
-  f196(m, l3 + 56L, 88949L, 6L, l5, l4);
+  f197(m, l3 + 56L, 88949L, 6L, l5, l4);
   l9 = 1;
   if ((b[((int) l3) - 58856] & 0xff) == 1) { break L1; }
   Words.put64(b, ((int) l3) - 58840, 0L);
   Words.put64(b, ((int) l3) - 58848, 0L);
   Words.put64(b, ((int) l3) - 58856, 0L);
-  f196(m, l3 + 56L, 88955L, 6L, l5, l4);
+  f197(m, l3 + 56L, 88955L, 6L, l5, l4);
   l9 = 1;
   if ((b[((int) l3) - 58856] & 0xff) == 1) { break L1; }
   Words.put64(b, ((int) l3) - 58840, 0L);
   Words.put64(b, ((int) l3) - 58848, 0L);
   Words.put64(b, ((int) l3) - 58856, 0L);
-  f196(m, l3 + 56L, 88961L, 6L, l5, l4);
+  f197(m, l3 + 56L, 88961L, 6L, l5, l4);
   l9 = 1;
   if ((b[((int) l3) - 58856] & 0xff) == 1) { break L1; }
   Words.put64(b, ((int) l3) - 58840, 0L);
   Words.put64(b, ((int) l3) - 58848, 0L);
   Words.put64(b, ((int) l3) - 58856, 0L);
-  f196(m, l3 + 56L, 88967L, 6L, l5, l4);
+  f197(m, l3 + 56L, 88967L, 6L, l5, l4);
   l9 = 1;
   if ((b[((int) l3) - 58856] & 0xff) == 1) { break L1; }
   Words.put64(b, ((int) l3) - 58840, 0L);
   Words.put64(b, ((int) l3) - 58848, 0L);
   Words.put64(b, ((int) l3) - 58856, 0L);
-  f196(m, l3 + 56L, 88973L, 6L, l5, l4);
+  f197(m, l3 + 56L, 88973L, 6L, l5, l4);
   l9 = 1;
   if ((b[((int) l3) - 58856] & 0xff) == 1) { break L1; }
   Words.put64(b, ((int) l3) - 58840, 0L);
   Words.put64(b, ((int) l3) - 58848, 0L);
   Words.put64(b, ((int) l3) - 58856, 0L);
-  f196(m, l3 + 56L, 88979L, 6L, l5, l4);
+  f197(m, l3 + 56L, 88979L, 6L, l5, l4);
   l9 = 1;
   if ((b[((int) l3) - 58856] & 0xff) == 1) { break L1; }
   Words.put64(b, ((int) l3) - 58840, 0L);
   Words.put64(b, ((int) l3) - 58848, 0L);
   Words.put64(b, ((int) l3) - 58856, 0L);
-  f196(m, l3 + 56L, 88985L, 6L, l5, l4);
+  f197(m, l3 + 56L, 88985L, 6L, l5, l4);
   l9 = ((b[((int) l3) - 58856] & 0xff) == 1) ? 1 : 0;
  }
  m.g0 = l3 + 80L;
  return l9;
 }
 
-static int f198(State m, int l0, long l1, long l2) {
+static int f199(State m, int l0, long l1, long l2) {
  final byte[] b = m.bytes;
  long l3 = 0;
  long l4 = 0;
@@ -5781,7 +5781,7 @@ static int f198(State m, int l0, long l1, long l2) {
  throw State.trap();
 }
 
-static int f199(State m, long l0) {
+static int f200(State m, long l0) {
  final byte[] b = m.bytes;
  long l1 = 0;
  long l2 = 0;
@@ -5892,7 +5892,7 @@ static int f199(State m, long l0) {
  throw State.trap();
 }
 
-static void f200(State m, long l0, long l1, long l2) {
+static void f201(State m, long l0, long l1, long l2) {
  final byte[] b = m.bytes;
  long l3 = 0;
  long l4 = 0;
@@ -5983,7 +5983,7 @@ static void f200(State m, long l0, long l1, long l2) {
  throw State.trap();
 }
 
-static int f201_1(State m, long l0, long l1, long l2, long l3, long l4, long l5, long l6, long l7, long l8, long l9, long l10, long l11, long l12, int l14, int l15, int l16, int l17, int l18, int l19) {
+static int f202_1(State m, long l0, long l1, long l2, long l3, long l4, long l5, long l6, long l7, long l8, long l9, long l10, long l11, long l12, int l14, int l15, int l16, int l17, int l18, int l19) {
  final byte[] b = m.bytes;
  int exit = 0;
  PART: {
@@ -6212,7 +6212,7 @@ static int f201_1(State m, long l0, long l1, long l2, long l3, long l4, long l5,
     }
     break L14;
    }
-   f206(m, l6 + 56L, l1, l2, 0, l6 + 88L, l5, Words.get64(b, ((int) ((l7 = (l6 + 88L) + (l5 * 40L)) + -16L)) - 58912), Words.get64(b, ((int) (l7 + -8L)) - 58912));
+   f207(m, l6 + 56L, l1, l2, 0, l6 + 88L, l5, Words.get64(b, ((int) ((l7 = (l6 + 88L) + (l5 * 40L)) + -16L)) - 58912), Words.get64(b, ((int) (l7 + -8L)) - 58912));
    l7 = l3;
    l8 = l4;
    L37: {
@@ -6256,7 +6256,7 @@ static int f201_1(State m, long l0, long l1, long l2, long l3, long l4, long l5,
       break L40;
      }
     }
-    Core7.f207(m, l6 + 448L, l1, l2, 0, l3, l4 - l12, l5, l12);
+    Core7.f208(m, l6 + 448L, l1, l2, 0, l3, l4 - l12, l5, l12);
     Words.put64(b, ((int) l6) - 58880, Words.get64(b, ((int) l6) - 58456));
     Words.put64(b, ((int) l6) - 58872, Words.get64(b, ((int) l6) - 58448));
     Words.put64(b, ((int) l6) - 58864, Words.get64(b, ((int) l6) - 58440));
@@ -6285,7 +6285,7 @@ static int f201_1(State m, long l0, long l1, long l2, long l3, long l4, long l5,
  return exit;
 }
 
-static void f201(State m, long l0, long l1, long l2, long l3, long l4) {
+static void f202(State m, long l0, long l1, long l2, long l3, long l4) {
  final byte[] b = m.bytes;
  long l5 = 0;
  long l6 = 0;
@@ -6332,7 +6332,7 @@ static void f201(State m, long l0, long l1, long l2, long l3, long l4) {
      }
      l16 = ((l17 << 6) | ((l16 << 12) | ((l15 << 18) & 1835008))) | ((b[((int) l3) - 58909] & 0xff) & 63);
     }
-    final int x44 = f201_1(m, l0, l1, l2, l3, l4, l5, l6, l7, l8, l9, l10, l11, l12, l14, l15, l16, l17, l18, l19);
+    final int x44 = f202_1(m, l0, l1, l2, l3, l4, l5, l6, l7, l8, l9, l10, l11, l12, l14, l15, l16, l17, l18, l19);
     l5 = m.kept[0];
     l7 = m.kept[1];
     l8 = m.kept[2];
@@ -6413,7 +6413,7 @@ static void f201(State m, long l0, long l1, long l2, long l3, long l4) {
      }
      if (l16 != 0) { break L3; }
     }
-    if (Core7.f208(m, l1, l2) != 0) { break L3; }
+    if (Core7.f209(m, l1, l2) != 0) { break L3; }
     l10 = 0L;
     Words.put64(b, ((int) l6) - 58464, 0L);
     Words.put64(b, ((int) l6) - 58456, 0L);
@@ -6630,7 +6630,7 @@ static void f201(State m, long l0, long l1, long l2, long l3, long l4) {
      }
      break L57;
     }
-    f206(m, l6 + 56L, l1, l2, 1, l6 + 88L, l5, Words.get64(b, ((int) ((l7 = (l6 + 88L) + (l5 * 40L)) + -16L)) - 58912), Words.get64(b, ((int) (l7 + -8L)) - 58912));
+    f207(m, l6 + 56L, l1, l2, 1, l6 + 88L, l5, Words.get64(b, ((int) ((l7 = (l6 + 88L) + (l5 * 40L)) + -16L)) - 58912), Words.get64(b, ((int) (l7 + -8L)) - 58912));
     l5 = l3;
     l12 = l4;
     L85: {
@@ -6682,7 +6682,7 @@ static void f201(State m, long l0, long l1, long l2, long l3, long l4) {
       break L87;
      }
     }
-    Core7.f207(m, l6 + 448L, l1, l2, 1, l3, l4 - l9, l7, l9);
+    Core7.f208(m, l6 + 448L, l1, l2, 1, l3, l4 - l9, l7, l9);
     Words.put64(b, ((int) l6) - 58904, Words.get64(b, ((int) l6) - 58456));
     Words.put64(b, ((int) l6) - 58896, Words.get64(b, ((int) l6) - 58448));
     Words.put64(b, ((int) l6) - 58888, Words.get64(b, ((int) l6) - 58440));
@@ -6699,7 +6699,7 @@ static void f201(State m, long l0, long l1, long l2, long l3, long l4) {
  m.g0 = l6 + 480L;
 }
 
-static int f202(State m, long l0, long l1) {
+static int f203(State m, long l0, long l1) {
  final byte[] b = m.bytes;
  long l2 = 0;
  long l3 = 0;
@@ -6753,7 +6753,7 @@ static int f202(State m, long l0, long l1) {
  throw State.trap();
 }
 
-static void f203(State m, long l0, long l1, long l2, long l3, long l4) {
+static void f204(State m, long l0, long l1, long l2, long l3, long l4) {
  final byte[] b = m.bytes;
  long l5 = 0;
  long l6 = 0;
@@ -6836,7 +6836,7 @@ static void f203(State m, long l0, long l1, long l2, long l3, long l4) {
  Words.put64(b, ((int) l0) - 58912, 0L);
 }
 
-static void f204(State m, long l0, int l1, int l2, long l3, long l4) {
+static void f205(State m, long l0, int l1, int l2, long l3, long l4) {
  final byte[] b = m.bytes;
  long l5 = 0;
  long l6 = 0;
@@ -6988,7 +6988,7 @@ static void f204(State m, long l0, int l1, int l2, long l3, long l4) {
        Words.put64(b, ((int) l6) - 58896, 0L);
        Words.put64(b, ((int) l6) - 58904, 0L);
        Words.put64(b, ((int) l6) - 58912, 0L);
-       f196(m, l6, 89120L, 6L, l5, l4);
+       f197(m, l6, 89120L, 6L, l5, l4);
        l3 = 3L;
        l7 = 88992L;
        l8 = 1L;
@@ -6996,32 +6996,32 @@ static void f204(State m, long l0, int l1, int l2, long l3, long l4) {
        Words.put64(b, ((int) l6) - 58896, 0L);
        Words.put64(b, ((int) l6) - 58904, 0L);
        Words.put64(b, ((int) l6) - 58912, 0L);
-       f196(m, l6, 89126L, 6L, l5, l4);
+       f197(m, l6, 89126L, 6L, l5, l4);
        if ((b[((int) l6) - 58912] & 0xff) == 1) { break L2; }
        Words.put64(b, ((int) l6) - 58896, 0L);
        Words.put64(b, ((int) l6) - 58904, 0L);
        Words.put64(b, ((int) l6) - 58912, 0L);
-       f196(m, l6, 89132L, 6L, l5, l4);
+       f197(m, l6, 89132L, 6L, l5, l4);
        if ((b[((int) l6) - 58912] & 0xff) == 1) { break L2; }
        Words.put64(b, ((int) l6) - 58896, 0L);
        Words.put64(b, ((int) l6) - 58904, 0L);
        Words.put64(b, ((int) l6) - 58912, 0L);
-       f196(m, l6, 89138L, 6L, l5, l4);
+       f197(m, l6, 89138L, 6L, l5, l4);
        if ((b[((int) l6) - 58912] & 0xff) == 1) { break L2; }
        Words.put64(b, ((int) l6) - 58896, 0L);
        Words.put64(b, ((int) l6) - 58904, 0L);
        Words.put64(b, ((int) l6) - 58912, 0L);
-       f196(m, l6, 89144L, 6L, l5, l4);
+       f197(m, l6, 89144L, 6L, l5, l4);
        if ((b[((int) l6) - 58912] & 0xff) == 1) { break L2; }
        Words.put64(b, ((int) l6) - 58896, 0L);
        Words.put64(b, ((int) l6) - 58904, 0L);
        Words.put64(b, ((int) l6) - 58912, 0L);
-       f196(m, l6, 89150L, 6L, l5, l4);
+       f197(m, l6, 89150L, 6L, l5, l4);
        if ((b[((int) l6) - 58912] & 0xff) == 1) { break L2; }
        Words.put64(b, ((int) l6) - 58896, 0L);
        Words.put64(b, ((int) l6) - 58904, 0L);
        Words.put64(b, ((int) l6) - 58912, 0L);
-       f196(m, l6, 89156L, 9L, l5, l4);
+       f197(m, l6, 89156L, 9L, l5, l4);
        l1 = ((l9 = b[((int) l6) - 58912] & 0xff) == 1) ? 1 : 0;
        if (l12 != 0) { break L6; }
        if (l9 == 1) { break L6; }
@@ -7060,7 +7060,7 @@ static void f204(State m, long l0, int l1, int l2, long l3, long l4) {
      Words.put64(b, ((int) l6) - 58896, 0L);
      Words.put64(b, ((int) l6) - 58904, 0L);
      Words.put64(b, ((int) l6) - 58912, 0L);
-     f205(m, l6, l5, l4);
+     f206(m, l6, l5, l4);
      L33: {
       L34: {
        L35: {
@@ -7130,7 +7130,7 @@ static void f204(State m, long l0, int l1, int l2, long l3, long l4) {
         }
         l9 = ((l1 << 6) | ((l11 << 12) | ((l9 << 18) & 1835008))) | ((b[((int) l5) - 58909] & 0xff) & 63);
        }
-       if (f188(m, l9) == 0) { break L34; }
+       if (f189(m, l9) == 0) { break L34; }
        l3 = 3L;
        l7 = 88998L;
        break L3;
@@ -7160,7 +7160,7 @@ static void f204(State m, long l0, int l1, int l2, long l3, long l4) {
  m.g0 = l6 + 32L;
 }
 
-static void f205(State m, long l0, long l1, long l2) {
+static void f206(State m, long l0, long l1, long l2) {
  final byte[] b = m.bytes;
  long l3 = 0;
  long l4 = 0;
@@ -7235,7 +7235,7 @@ static void f205(State m, long l0, long l1, long l2) {
  throw State.trap();
 }
 
-static int f206_1(State m, long l1, long l2, int l3, long l4, long l5, long l6, long l7, long l8, long l9, long l10, long l11, long l12, long l13, long l14, int l18, int l19, int l20, int l21) {
+static int f207_1(State m, long l1, long l2, int l3, long l4, long l5, long l6, long l7, long l8, long l9, long l10, long l11, long l12, long l13, long l14, int l18, int l19, int l20, int l21) {
  final byte[] b = m.bytes;
  int exit = 0;
  PART: {
@@ -7332,15 +7332,15 @@ static int f206_1(State m, long l1, long l2, int l3, long l4, long l5, long l6, 
         default: break L24;
         }
        }
-       if (f198(m, 255, Words.get64(b, ((int) l4) - 58912), Words.get64(b, ((int) l4) - 58904)) == 0) { break L6; }
-       if (f198(m, 255, Words.get64(b, ((int) (l4 + 40L)) - 58912), Words.get64(b, ((int) (l4 + 48L)) - 58912)) == 0) { break L6; }
-       if (f198(m, 255, Words.get64(b, ((int) (l4 + 80L)) - 58912), Words.get64(b, ((int) (l4 + 88L)) - 58912)) == 0) { break L6; }
-       if (f198(m, 255, Words.get64(b, ((int) (l4 + 120L)) - 58912), Words.get64(b, ((int) (l4 + 128L)) - 58912)) == 0) { break L6; }
+       if (f199(m, 255, Words.get64(b, ((int) l4) - 58912), Words.get64(b, ((int) l4) - 58904)) == 0) { break L6; }
+       if (f199(m, 255, Words.get64(b, ((int) (l4 + 40L)) - 58912), Words.get64(b, ((int) (l4 + 48L)) - 58912)) == 0) { break L6; }
+       if (f199(m, 255, Words.get64(b, ((int) (l4 + 80L)) - 58912), Words.get64(b, ((int) (l4 + 88L)) - 58912)) == 0) { break L6; }
+       if (f199(m, 255, Words.get64(b, ((int) (l4 + 120L)) - 58912), Words.get64(b, ((int) (l4 + 128L)) - 58912)) == 0) { break L6; }
       }
       L26: {
        if (l3 != 0) { break L26; }
        L27: {
-        if (f194(m, l1, l2) == 0) { break L27; }
+        if (f195(m, l1, l2) == 0) { break L27; }
         if (l2 == 0L) { break L6; }
         l3 = l18 = (int) b[((int) ((l9 = l1 + l2) + -1L)) - 58912];
         L28: {
@@ -7406,7 +7406,7 @@ static int f206_1(State m, long l1, long l2, int l3, long l4, long l5, long l6, 
         }
         if (((l18 & -33) + -91) + Integer.MIN_VALUE > 2147483621) { break L6; }
        }
-       if (f195(m, l6, l7) != 0) { break L6; }
+       if (f196(m, l6, l7) != 0) { break L6; }
        l18 = 1;
        if (l5 != 3L) { exit = 2; break PART; }
        if ((l9 = Words.get64(b, ((int) l4) - 58904)) == 0L) { exit = 2; break PART; }
@@ -7468,18 +7468,18 @@ static int f206_1(State m, long l1, long l2, int l3, long l4, long l5, long l6, 
        if (l9 != (l11 + l10)) { exit = 2; break PART; }
        l9 = Words.get64(b, ((int) (l4 + 88L)) - 58912);
        l10 = Words.get64(b, ((int) (l4 + 80L)) - 58912);
-       if (f198(m, 12, Words.get64(b, ((int) (l4 + 40L)) - 58912), Words.get64(b, ((int) (l4 + 48L)) - 58912)) == 0) { exit = 2; break PART; }
-       if (f198(m, 31, l10, l9) != 0) { break L6; }
+       if (f199(m, 12, Words.get64(b, ((int) (l4 + 40L)) - 58912), Words.get64(b, ((int) (l4 + 48L)) - 58912)) == 0) { exit = 2; break PART; }
+       if (f199(m, 31, l10, l9) != 0) { break L6; }
        exit = 2; break PART;
       }
-      if (Core7.f209(m, l4, l5, l6, l7) == 0) { break L6; }
+      if (Core7.f210(m, l4, l5, l6, l7) == 0) { break L6; }
       l18 = 1;
       exit = 2; break PART;
      }
      if ((l5 + -2L) + Long.MIN_VALUE > -9223372036854775802L) { exit = 1; break PART; }
     }
-    if (f194(m, l1, l2) != 0) { exit = 1; break PART; }
-    if (f195(m, l6, l7) != 0) { exit = 1; break PART; }
+    if (f195(m, l1, l2) != 0) { exit = 1; break PART; }
+    if (f196(m, l6, l7) != 0) { exit = 1; break PART; }
     l9 = l4 + 20L;
     l10 = l5;
     L51: while (true) {
@@ -7521,7 +7521,7 @@ static int f206_1(State m, long l1, long l2, int l3, long l4, long l5, long l6, 
  return exit;
 }
 
-static int f206_2(State m, int l3, long l4, long l5, long l9, long l10, long l11, long l12, long l13, long l14, long l15, long l16, int l18, int l19) {
+static int f207_2(State m, int l3, long l4, long l5, long l9, long l10, long l11, long l12, long l13, long l14, long l15, long l16, int l18, int l19) {
  final byte[] b = m.bytes;
  int exit = 0;
  PART: {
@@ -7681,12 +7681,12 @@ static int f206_2(State m, int l3, long l4, long l5, long l9, long l10, long l11
     }
     if (l5 + Long.MIN_VALUE > -9223372036854775805L) { break L56; }
     if (l11 != (l12 + l13)) { break L56; }
-    if (Core7.f210(m, 89168L, 7L, l10, l9) == 0) { break L56; }
+    if (Core7.f211(m, 89168L, 7L, l10, l9) == 0) { break L56; }
     l18 = 0;
     exit = 1; break PART;
    }
    if (l5 != 2L) { break L56; }
-   l3 = Core7.f211(m, l10, l9);
+   l3 = Core7.f212(m, l10, l9);
    if (l18 != 0) { break L56; }
    if (l3 == 0) { break L56; }
    L89: {
@@ -8023,7 +8023,7 @@ static int f206_2(State m, int l3, long l4, long l5, long l9, long l10, long l11
  return exit;
 }
 
-static void f206(State m, long l0, long l1, long l2, int l3, long l4, long l5, long l6, long l7) {
+static void f207(State m, long l0, long l1, long l2, int l3, long l4, long l5, long l6, long l7) {
  final byte[] b = m.bytes;
  long l8 = 0;
  long l9 = 0;
@@ -8042,7 +8042,7 @@ static void f206(State m, long l0, long l1, long l2, int l3, long l4, long l5, l
  L1: {
   L2: {
    L3: {
-    final int x55 = f206_1(m, l1, l2, l3, l4, l5, l6, l7, l8, l9, l10, l11, l12, l13, l14, l18, l19, l20, l21);
+    final int x55 = f207_1(m, l1, l2, l3, l4, l5, l6, l7, l8, l9, l10, l11, l12, l13, l14, l18, l19, l20, l21);
     l3 = (int) m.kept[0];
     l8 = m.kept[1];
     l9 = m.kept[2];
@@ -8061,7 +8061,7 @@ static void f206(State m, long l0, long l1, long l2, int l3, long l4, long l5, l
     case 3: break L3;
     }
     l10 = Words.get64(b, ((int) l4) - 58912);
-    final int x158 = f206_2(m, l3, l4, l5, l9, l10, l11, l12, l13, l14, l15, l16, l18, l19);
+    final int x158 = f207_2(m, l3, l4, l5, l9, l10, l11, l12, l13, l14, l15, l16, l18, l19);
     l3 = (int) m.kept[0];
     l9 = m.kept[1];
     l11 = m.kept[2];
@@ -8075,7 +8075,7 @@ static void f206(State m, long l0, long l1, long l2, int l3, long l4, long l5, l
     switch (x158) {
     case 1: break L2;
     }
-    l3 = Core7.f210(m, 89296L, 2L, l10, l9);
+    l3 = Core7.f211(m, 89296L, 2L, l10, l9);
     L159: {
      if (l18 != 0) { break L159; }
      if (l3 == 0) { break L159; }
@@ -8525,7 +8525,7 @@ static void f206(State m, long l0, long l1, long l2, int l3, long l4, long l5, l
     if ((l5 = l5 + -1L) != 0L) { continue L249; }
     break L249;
    }
-   if (Core7.f212(m, l1, l2) == 0) { break L1; }
+   if (Core7.f213(m, l1, l2) == 0) { break L1; }
    l18 = 2;
   }
   Words.put64(b, ((int) l0) - 58912, 1L);

@@ -2,7 +2,7 @@
 package chinesenumber;
 
 final class Core7 {
-static int f207_1(State m, int l3, long l6, long l7, long l9, long l10, long l11, int l15, int l16, int l17) {
+static int f208_1(State m, int l3, long l6, long l7, long l9, long l10, long l11, int l15, int l16, int l17) {
  final byte[] b = m.bytes;
  int exit = 0;
  PART: {
@@ -103,7 +103,7 @@ static int f207_1(State m, int l3, long l6, long l7, long l9, long l10, long l11
  return exit;
 }
 
-static int f207_2(State m, long l1, long l2, int l3, long l4, long l5, long l6, long l7, long l8, long l9, long l10, long l11, int l15, int l16, int l17) {
+static int f208_2(State m, long l1, long l2, int l3, long l4, long l5, long l6, long l7, long l8, long l9, long l10, long l11, int l15, int l16, int l17) {
  final byte[] b = m.bytes;
  int exit = 0;
  PART: {
@@ -136,7 +136,7 @@ static int f207_2(State m, long l1, long l2, int l3, long l4, long l5, long l6, 
    l9 = 0L;
    l10 = 0L;
    l11 = 0L;
-   if (f213(m, l1, l2) == 0) { exit = 1; break PART; }
+   if (f214(m, l1, l2) == 0) { exit = 1; break PART; }
    L24: {
     if ((l3 = (l5 == 0L) ? 1 : 0) != 0) { break L24; }
     L25: {
@@ -171,78 +171,78 @@ static int f207_2(State m, long l1, long l2, int l3, long l4, long l5, long l6, 
    Words.put64(b, ((int) l8) - 58856, 0L);
    Words.put64(b, ((int) l8) - 58864, 0L);
    Words.put64(b, ((int) l8) - 58872, 0L);
-   Core6.f196(m, l8 + 40L, 92064L, 3L, l6, l7);
+   Core6.f197(m, l8 + 40L, 92064L, 3L, l6, l7);
    if ((b[((int) l8) - 58872] & 0xff) == 1) { exit = 2; break PART; }
    Words.put64(b, ((int) l8) - 58856, 0L);
    Words.put64(b, ((int) l8) - 58864, 0L);
    Words.put64(b, ((int) l8) - 58872, 0L);
-   Core6.f196(m, l8 + 40L, 92067L, 3L, l6, l7);
+   Core6.f197(m, l8 + 40L, 92067L, 3L, l6, l7);
    if ((b[((int) l8) - 58872] & 0xff) == 1) { exit = 2; break PART; }
    Words.put64(b, ((int) l8) - 58856, 0L);
    Words.put64(b, ((int) l8) - 58864, 0L);
    Words.put64(b, ((int) l8) - 58872, 0L);
-   Core6.f196(m, l8 + 40L, 92070L, 3L, l6, l7);
+   Core6.f197(m, l8 + 40L, 92070L, 3L, l6, l7);
    if ((b[((int) l8) - 58872] & 0xff) == 1) { exit = 2; break PART; }
    Words.put64(b, ((int) l8) - 58856, 0L);
    Words.put64(b, ((int) l8) - 58864, 0L);
    Words.put64(b, ((int) l8) - 58872, 0L);
-   Core6.f196(m, l8 + 40L, 92073L, 6L, l6, l7);
+   Core6.f197(m, l8 + 40L, 92073L, 6L, l6, l7);
    if ((b[((int) l8) - 58872] & 0xff) == 1) { exit = 2; break PART; }
    Words.put64(b, ((int) l8) - 58856, 0L);
    Words.put64(b, ((int) l8) - 58864, 0L);
    Words.put64(b, ((int) l8) - 58872, 0L);
-   Core6.f196(m, l8 + 40L, 92079L, 6L, l6, l7);
+   Core6.f197(m, l8 + 40L, 92079L, 6L, l6, l7);
    if ((b[((int) l8) - 58872] & 0xff) == 1) { exit = 2; break PART; }
    Words.put64(b, ((int) l8) - 58856, 0L);
    Words.put64(b, ((int) l8) - 58864, 0L);
    Words.put64(b, ((int) l8) - 58872, 0L);
-   Core6.f196(m, l8 + 40L, 92085L, 6L, l6, l7);
+   Core6.f197(m, l8 + 40L, 92085L, 6L, l6, l7);
    if ((b[((int) l8) - 58872] & 0xff) == 1) { exit = 2; break PART; }
    Words.put64(b, ((int) l8) - 58856, 0L);
    Words.put64(b, ((int) l8) - 58864, 0L);
    Words.put64(b, ((int) l8) - 58872, 0L);
-   Core6.f196(m, l8 + 40L, 92091L, 6L, l6, l7);
+   Core6.f197(m, l8 + 40L, 92091L, 6L, l6, l7);
    if ((b[((int) l8) - 58872] & 0xff) == 1) { exit = 2; break PART; }
    Words.put64(b, ((int) l8) - 58856, 0L);
    Words.put64(b, ((int) l8) - 58864, 0L);
    Words.put64(b, ((int) l8) - 58872, 0L);
-   Core6.f196(m, l8 + 40L, 92097L, 6L, l6, l7);
+   Core6.f197(m, l8 + 40L, 92097L, 6L, l6, l7);
    if ((b[((int) l8) - 58872] & 0xff) == 1) { exit = 2; break PART; }
    Words.put64(b, ((int) l8) - 58856, 0L);
    Words.put64(b, ((int) l8) - 58864, 0L);
    Words.put64(b, ((int) l8) - 58872, 0L);
-   Core6.f196(m, l8 + 40L, 92103L, 6L, l6, l7);
+   Core6.f197(m, l8 + 40L, 92103L, 6L, l6, l7);
    if ((b[((int) l8) - 58872] & 0xff) == 1) { exit = 2; break PART; }
    Words.put64(b, ((int) l8) - 58856, 0L);
    Words.put64(b, ((int) l8) - 58864, 0L);
    Words.put64(b, ((int) l8) - 58872, 0L);
-   Core6.f196(m, l8 + 40L, 92109L, 6L, l6, l7);
+   Core6.f197(m, l8 + 40L, 92109L, 6L, l6, l7);
    if ((b[((int) l8) - 58872] & 0xff) == 1) { exit = 2; break PART; }
    Words.put64(b, ((int) l8) - 58856, 0L);
    Words.put64(b, ((int) l8) - 58864, 0L);
    Words.put64(b, ((int) l8) - 58872, 0L);
-   Core6.f196(m, l8 + 40L, 92115L, 6L, l6, l7);
+   Core6.f197(m, l8 + 40L, 92115L, 6L, l6, l7);
    if ((b[((int) l8) - 58872] & 0xff) == 1) { exit = 2; break PART; }
    Words.put64(b, ((int) l8) - 58856, 0L);
    Words.put64(b, ((int) l8) - 58864, 0L);
    Words.put64(b, ((int) l8) - 58872, 0L);
-   Core6.f196(m, l8 + 40L, 92121L, 9L, l6, l7);
+   Core6.f197(m, l8 + 40L, 92121L, 9L, l6, l7);
    if ((b[((int) l8) - 58872] & 0xff) == 1) { exit = 2; break PART; }
    Words.put64(b, ((int) l8) - 58856, 0L);
    Words.put64(b, ((int) l8) - 58864, 0L);
    Words.put64(b, ((int) l8) - 58872, 0L);
-   Core6.f196(m, l8 + 40L, 92130L, 9L, l6, l7);
+   Core6.f197(m, l8 + 40L, 92130L, 9L, l6, l7);
    if ((b[((int) l8) - 58872] & 0xff) == 1) { exit = 2; break PART; }
    Words.put64(b, ((int) l8) - 58856, 0L);
    Words.put64(b, ((int) l8) - 58864, 0L);
    Words.put64(b, ((int) l8) - 58872, 0L);
-   Core6.f196(m, l8 + 40L, 92139L, 9L, l6, l7);
+   Core6.f197(m, l8 + 40L, 92139L, 9L, l6, l7);
    if ((b[((int) l8) - 58872] & 0xff) == 1) { exit = 2; break PART; }
    l9 = 0L;
    Words.put64(b, ((int) l8) - 58856, 0L);
    Words.put64(b, ((int) l8) - 58864, 0L);
    Words.put64(b, ((int) l8) - 58872, 0L);
-   Core6.f196(m, l8 + 40L, 92148L, 9L, l6, l7);
+   Core6.f197(m, l8 + 40L, 92148L, 9L, l6, l7);
    l15 = b[((int) l8) - 58872] & 0xff;
    if (l3 != 0) { exit = 3; break PART; }
    if ((l15 & 255) == 1) { exit = 3; break PART; }
@@ -266,7 +266,7 @@ static int f207_2(State m, long l1, long l2, int l3, long l4, long l5, long l6, 
    l9 = 0L;
    l10 = 0L;
    l11 = 0L;
-   if (f214(m, l6, l7) == 0) { exit = 2; break PART; }
+   if (f215(m, l6, l7) == 0) { exit = 2; break PART; }
    exit = 1; break PART;
   }
  }
@@ -281,7 +281,7 @@ static int f207_2(State m, long l1, long l2, int l3, long l4, long l5, long l6, 
  return exit;
 }
 
-static int f207_3(State m, long l1, long l2, int l3, long l4, long l5, long l6, long l7, long l9, long l10, long l11, int l15) {
+static int f208_3(State m, long l1, long l2, int l3, long l4, long l5, long l6, long l7, long l9, long l10, long l11, int l15) {
  final byte[] b = m.bytes;
  int exit = 0;
  PART: {
@@ -331,7 +331,7 @@ static int f207_3(State m, long l1, long l2, int l3, long l4, long l5, long l6, 
     }
     if (l5 != (l11 + l10)) { break L49; }
    }
-   if (f216(m, l1, l2, l6, l7) != 0) { exit = 1; break PART; }
+   if (f217(m, l1, l2, l6, l7) != 0) { exit = 1; break PART; }
    l3 = b[((int) l4) - 58912] & 0xff;
   }
  }
@@ -343,7 +343,7 @@ static int f207_3(State m, long l1, long l2, int l3, long l4, long l5, long l6, 
  return exit;
 }
 
-static int f207_4(State m, int l3, long l4, long l5, long l8, long l10, int l15, int l16, int l17, int l18) {
+static int f208_4(State m, int l3, long l4, long l5, long l8, long l10, int l15, int l16, int l17, int l18) {
  final byte[] b = m.bytes;
  int exit = 0;
  PART: {
@@ -422,7 +422,7 @@ static int f207_4(State m, int l3, long l4, long l5, long l8, long l10, int l15,
  return exit;
 }
 
-static int f207_5(State m, long l1, long l2, int l3, long l4, long l5, long l9, long l10, long l11, long l12, long l13, int l15, int l16, int l17, int l18, int l19) {
+static int f208_5(State m, long l1, long l2, int l3, long l4, long l5, long l9, long l10, long l11, long l12, long l13, int l15, int l16, int l17, int l18, int l19) {
  final byte[] b = m.bytes;
  int exit = 0;
  PART: {
@@ -552,7 +552,7 @@ static int f207_5(State m, long l1, long l2, int l3, long l4, long l5, long l9, 
  return exit;
 }
 
-static int f207_6(State m, long l1, long l2, int l3, long l4, long l5, long l6, long l7, long l9, long l10, long l11, long l12, long l13, long l14, int l15, int l16, int l17, int l18, int l19, int l20, int l21, int l22) {
+static int f208_6(State m, long l1, long l2, int l3, long l4, long l5, long l6, long l7, long l9, long l10, long l11, long l12, long l13, long l14, int l15, int l16, int l17, int l18, int l19, int l20, int l21, int l22) {
  final byte[] b = m.bytes;
  int exit = 0;
  PART: {
@@ -835,22 +835,22 @@ static int f207_6(State m, long l1, long l2, int l3, long l4, long l5, long l6, 
         l11 = 0L;
         if ((l16 + -65296) + Integer.MIN_VALUE < -2147483638) { exit = 2; break PART; }
        }
-       if (f213(m, l1, l2) != 0) { break L118; }
+       if (f214(m, l1, l2) != 0) { break L118; }
        l3 = 0;
        break L119;
       }
       l9 = 0L;
       l10 = 0L;
       l11 = 0L;
-      if (f213(m, l1, l2) != 0) { exit = 2; break PART; }
+      if (f214(m, l1, l2) != 0) { exit = 2; break PART; }
       l3 = 1;
      }
      l9 = 0L;
      l10 = 0L;
      l11 = 0L;
-     if (Core6.f194(m, l1, l2) != 0) { exit = 2; break PART; }
-     if (f215(m, l4, l5) != 0) { exit = 4; break PART; }
-     if ((l3 | f214(m, l6, l7)) != 0) { exit = 5; break PART; }
+     if (Core6.f195(m, l1, l2) != 0) { exit = 2; break PART; }
+     if (f216(m, l4, l5) != 0) { exit = 4; break PART; }
+     if ((l3 | f215(m, l6, l7)) != 0) { exit = 5; break PART; }
      if ((l15 = (int) b[((int) l4) - 58912]) <= -1) { break L117; }
      l10 = 1L;
      break L116;
@@ -917,7 +917,7 @@ static int f207_6(State m, long l1, long l2, int l3, long l4, long l5, long l6, 
  return exit;
 }
 
-static int f207_7(State m, long l4, long l5, long l9, long l10, long l11, int l16) {
+static int f208_7(State m, long l4, long l5, long l9, long l10, long l11, int l16) {
  final byte[] b = m.bytes;
  int exit = 0;
  PART: {
@@ -979,7 +979,7 @@ static int f207_7(State m, long l4, long l5, long l9, long l10, long l11, int l1
     l11 = (l16 + Integer.MIN_VALUE < 2147483632) ? 3L : 4L;
    }
    if (l5 != (l11 + l10)) { break L180; }
-   if (f210(m, 92232L, 12L, l4, l5) != 0) { exit = 1; break PART; }
+   if (f211(m, 92232L, 11L, l4, l5) != 0) { exit = 1; break PART; }
   }
  }
  m.kept[0] = l9;
@@ -989,7 +989,7 @@ static int f207_7(State m, long l4, long l5, long l9, long l10, long l11, int l1
  return exit;
 }
 
-static int f207_8(State m, long l1, long l8, long l11) {
+static int f208_8(State m, long l1, long l8, long l11) {
  final byte[] b = m.bytes;
  int exit = 0;
  PART: {
@@ -998,40 +998,40 @@ static int f207_8(State m, long l1, long l8, long l11) {
    Words.put64(b, ((int) l8) - 58856, 0L);
    Words.put64(b, ((int) l8) - 58864, 0L);
    Words.put64(b, ((int) l8) - 58872, 0L);
-   Core6.f203(m, l8 + 40L, 92587L, 3L, l1, l11);
+   Core6.f204(m, l8 + 40L, 92563L, 3L, l1, l11);
    if ((b[((int) l8) - 58872] & 0xff) == 1) { break L213; }
    Words.put64(b, ((int) l8) - 58856, 0L);
    Words.put64(b, ((int) l8) - 58864, 0L);
    Words.put64(b, ((int) l8) - 58872, 0L);
-   Core6.f203(m, l8 + 40L, 92590L, 3L, l1, l11);
+   Core6.f204(m, l8 + 40L, 92566L, 3L, l1, l11);
    if ((b[((int) l8) - 58872] & 0xff) == 1) { break L213; }
    Words.put64(b, ((int) l8) - 58856, 0L);
    Words.put64(b, ((int) l8) - 58864, 0L);
    Words.put64(b, ((int) l8) - 58872, 0L);
-   Core6.f203(m, l8 + 40L, 92593L, 3L, l1, l11);
+   Core6.f204(m, l8 + 40L, 92569L, 3L, l1, l11);
    if ((b[((int) l8) - 58872] & 0xff) == 1) { break L213; }
    Words.put64(b, ((int) l8) - 58856, 0L);
    Words.put64(b, ((int) l8) - 58864, 0L);
    Words.put64(b, ((int) l8) - 58872, 0L);
-   Core6.f203(m, l8 + 40L, 92596L, 3L, l1, l11);
+   Core6.f204(m, l8 + 40L, 92572L, 3L, l1, l11);
    if ((b[((int) l8) - 58872] & 0xff) == 1) { break L213; }
    Words.put64(b, ((int) l8) - 58856, 0L);
    Words.put64(b, ((int) l8) - 58864, 0L);
    Words.put64(b, ((int) l8) - 58872, 0L);
-   Core6.f203(m, l8 + 40L, 92599L, 3L, l1, l11);
+   Core6.f204(m, l8 + 40L, 92575L, 3L, l1, l11);
    if ((b[((int) l8) - 58872] & 0xff) != 1) { exit = 1; break PART; }
   }
  }
  return exit;
 }
 
-static int f207_9(State m, long l4, long l5, long l6, long l10, long l11, int l15, int l16, int l17, int l19, int l20, int l21) {
+static int f208_9(State m, long l4, long l5, long l6, long l10, long l11, int l15, int l16, int l17, int l19, int l20, int l21) {
  final byte[] b = m.bytes;
  int exit = 0;
  PART: {
   L224: {
    if (l5 == l10) { break L224; }
-   if (f211(m, l4, l5) == 0) { break L224; }
+   if (f212(m, l4, l5) == 0) { break L224; }
    L225: {
     L226: {
      if (l15 <= -1) { break L226; }
@@ -1113,7 +1113,7 @@ static int f207_9(State m, long l4, long l5, long l6, long l10, long l11, int l1
  return exit;
 }
 
-static int f207_10(State m, long l1, long l2, long l4, long l5, long l6, long l7, long l8, long l9, long l10, long l11, int l15, int l16) {
+static int f208_10(State m, long l1, long l2, long l4, long l5, long l6, long l7, long l8, long l9, long l10, long l11, int l15, int l16) {
  final byte[] b = m.bytes;
  int exit = 0;
  PART: {
@@ -1210,94 +1210,94 @@ static int f207_10(State m, long l1, long l2, long l4, long l5, long l6, long l7
    Words.put64(b, ((int) l8) - 58856, 0L);
    Words.put64(b, ((int) l8) - 58864, 0L);
    Words.put64(b, ((int) l8) - 58872, 0L);
-   Core6.f196(m, l8 + 40L, 92896L, 3L, l6, l7);
+   Core6.f197(m, l8 + 40L, 92872L, 3L, l6, l7);
    if ((b[((int) l8) - 58872] & 0xff) == 1) { exit = 1; break PART; }
    Words.put64(b, ((int) l8) - 58856, 0L);
    Words.put64(b, ((int) l8) - 58864, 0L);
    Words.put64(b, ((int) l8) - 58872, 0L);
-   Core6.f196(m, l8 + 40L, 92899L, 3L, l6, l7);
+   Core6.f197(m, l8 + 40L, 92875L, 3L, l6, l7);
    if ((b[((int) l8) - 58872] & 0xff) == 1) { exit = 1; break PART; }
    Words.put64(b, ((int) l8) - 58856, 0L);
    Words.put64(b, ((int) l8) - 58864, 0L);
    Words.put64(b, ((int) l8) - 58872, 0L);
-   Core6.f196(m, l8 + 40L, 92902L, 6L, l6, l7);
+   Core6.f197(m, l8 + 40L, 92878L, 6L, l6, l7);
    if ((b[((int) l8) - 58872] & 0xff) == 1) { exit = 1; break PART; }
    Words.put64(b, ((int) l8) - 58856, 0L);
    Words.put64(b, ((int) l8) - 58864, 0L);
    Words.put64(b, ((int) l8) - 58872, 0L);
-   Core6.f196(m, l8 + 40L, 92908L, 6L, l6, l7);
+   Core6.f197(m, l8 + 40L, 92884L, 6L, l6, l7);
    if ((b[((int) l8) - 58872] & 0xff) == 1) { exit = 1; break PART; }
    Words.put64(b, ((int) l8) - 58856, 0L);
    Words.put64(b, ((int) l8) - 58864, 0L);
    Words.put64(b, ((int) l8) - 58872, 0L);
-   Core6.f196(m, l8 + 40L, 92914L, 6L, l6, l7);
+   Core6.f197(m, l8 + 40L, 92890L, 6L, l6, l7);
    if ((b[((int) l8) - 58872] & 0xff) == 1) { exit = 1; break PART; }
    Words.put64(b, ((int) l8) - 58856, 0L);
    Words.put64(b, ((int) l8) - 58864, 0L);
    Words.put64(b, ((int) l8) - 58872, 0L);
-   Core6.f196(m, l8 + 40L, 92920L, 6L, l6, l7);
+   Core6.f197(m, l8 + 40L, 92896L, 6L, l6, l7);
    if ((b[((int) l8) - 58872] & 0xff) == 1) { exit = 1; break PART; }
    Words.put64(b, ((int) l8) - 58856, 0L);
    Words.put64(b, ((int) l8) - 58864, 0L);
    Words.put64(b, ((int) l8) - 58872, 0L);
-   Core6.f196(m, l8 + 40L, 92926L, 6L, l6, l7);
+   Core6.f197(m, l8 + 40L, 92902L, 6L, l6, l7);
    if ((b[((int) l8) - 58872] & 0xff) == 1) { exit = 1; break PART; }
    Words.put64(b, ((int) l8) - 58856, 0L);
    Words.put64(b, ((int) l8) - 58864, 0L);
    Words.put64(b, ((int) l8) - 58872, 0L);
-   Core6.f196(m, l8 + 40L, 92932L, 6L, l6, l7);
+   Core6.f197(m, l8 + 40L, 92908L, 6L, l6, l7);
    if ((b[((int) l8) - 58872] & 0xff) == 1) { exit = 1; break PART; }
    Words.put64(b, ((int) l8) - 58856, 0L);
    Words.put64(b, ((int) l8) - 58864, 0L);
    Words.put64(b, ((int) l8) - 58872, 0L);
-   Core6.f196(m, l8 + 40L, 92938L, 6L, l6, l7);
+   Core6.f197(m, l8 + 40L, 92914L, 6L, l6, l7);
    if ((b[((int) l8) - 58872] & 0xff) == 1) { exit = 1; break PART; }
    Words.put64(b, ((int) l8) - 58856, 0L);
    Words.put64(b, ((int) l8) - 58864, 0L);
    Words.put64(b, ((int) l8) - 58872, 0L);
-   Core6.f196(m, l8 + 40L, 92944L, 6L, l6, l7);
+   Core6.f197(m, l8 + 40L, 92920L, 6L, l6, l7);
    if ((b[((int) l8) - 58872] & 0xff) == 1) { exit = 1; break PART; }
    Words.put64(b, ((int) l8) - 58856, 0L);
    Words.put64(b, ((int) l8) - 58864, 0L);
    Words.put64(b, ((int) l8) - 58872, 0L);
-   Core6.f196(m, l8 + 40L, 92950L, 9L, l6, l7);
+   Core6.f197(m, l8 + 40L, 92926L, 9L, l6, l7);
    if ((b[((int) l8) - 58872] & 0xff) == 1) { exit = 1; break PART; }
    Words.put64(b, ((int) l8) - 58856, 0L);
    Words.put64(b, ((int) l8) - 58864, 0L);
    Words.put64(b, ((int) l8) - 58872, 0L);
-   Core6.f196(m, l8 + 40L, 92959L, 9L, l6, l7);
+   Core6.f197(m, l8 + 40L, 92935L, 9L, l6, l7);
    if ((b[((int) l8) - 58872] & 0xff) == 1) { exit = 1; break PART; }
    Words.put64(b, ((int) l8) - 58856, 0L);
    Words.put64(b, ((int) l8) - 58864, 0L);
    Words.put64(b, ((int) l8) - 58872, 0L);
-   Core6.f196(m, l8 + 40L, 92968L, 6L, l6, l7);
+   Core6.f197(m, l8 + 40L, 92944L, 6L, l6, l7);
    if ((b[((int) l8) - 58872] & 0xff) == 1) { exit = 1; break PART; }
    Words.put64(b, ((int) l8) - 58856, 0L);
    Words.put64(b, ((int) l8) - 58864, 0L);
    Words.put64(b, ((int) l8) - 58872, 0L);
-   Core6.f196(m, l8 + 40L, 92974L, 6L, l6, l7);
+   Core6.f197(m, l8 + 40L, 92950L, 6L, l6, l7);
    if ((b[((int) l8) - 58872] & 0xff) == 1) { exit = 1; break PART; }
    Words.put64(b, ((int) l8) - 58856, 0L);
    Words.put64(b, ((int) l8) - 58864, 0L);
    Words.put64(b, ((int) l8) - 58872, 0L);
-   Core6.f196(m, l8 + 40L, 92980L, 6L, l6, l7);
+   Core6.f197(m, l8 + 40L, 92956L, 6L, l6, l7);
    if ((b[((int) l8) - 58872] & 0xff) == 1) { exit = 1; break PART; }
    Words.put64(b, ((int) l8) - 58856, 0L);
    Words.put64(b, ((int) l8) - 58864, 0L);
    Words.put64(b, ((int) l8) - 58872, 0L);
-   Core6.f196(m, l8 + 40L, 92986L, 6L, l6, l7);
+   Core6.f197(m, l8 + 40L, 92962L, 6L, l6, l7);
    if ((b[((int) l8) - 58872] & 0xff) == 1) { exit = 1; break PART; }
    Words.put64(b, ((int) l8) - 58856, 0L);
    Words.put64(b, ((int) l8) - 58864, 0L);
    Words.put64(b, ((int) l8) - 58872, 0L);
-   Core6.f196(m, l8 + 40L, 92992L, 6L, l6, l7);
+   Core6.f197(m, l8 + 40L, 92968L, 6L, l6, l7);
    if ((b[((int) l8) - 58872] & 0xff) == 1) { exit = 1; break PART; }
    Words.put64(b, ((int) l8) - 58856, 0L);
    Words.put64(b, ((int) l8) - 58864, 0L);
    Words.put64(b, ((int) l8) - 58872, 0L);
-   Core6.f196(m, l8 + 40L, 92998L, 6L, l6, l7);
+   Core6.f197(m, l8 + 40L, 92974L, 6L, l6, l7);
    if ((b[((int) l8) - 58872] & 0xff) == 1) { exit = 1; break PART; }
-   if (f216(m, l1, l2, l6, l7) != 0) { exit = 1; break PART; }
+   if (f217(m, l1, l2, l6, l7) != 0) { exit = 1; break PART; }
    l15 = b[((int) l4) - 58912] & 0xff;
   }
  }
@@ -1309,7 +1309,7 @@ static int f207_10(State m, long l1, long l2, long l4, long l5, long l6, long l7
  return exit;
 }
 
-static int f207_11(State m, long l4, long l5, long l6, long l7, long l9, long l10, long l11, int l17, int l19, int l20, int l21, int l22) {
+static int f208_11(State m, long l4, long l5, long l6, long l7, long l9, long l10, long l11, int l17, int l19, int l20, int l21, int l22) {
  final byte[] b = m.bytes;
  int exit = 0;
  PART: {
@@ -1387,7 +1387,7 @@ static int f207_11(State m, long l4, long l5, long l6, long l7, long l9, long l1
  return exit;
 }
 
-static int f207_12(State m, long l1, long l2, long l4, long l5, long l6, long l7, long l8, long l9, long l10, long l11, int l15, int l16, int l17, int l18, int l20) {
+static int f208_12(State m, long l1, long l2, long l4, long l5, long l6, long l7, long l8, long l9, long l10, long l11, int l15, int l16, int l17, int l18, int l20) {
  final byte[] b = m.bytes;
  int exit = 0;
  PART: {
@@ -1435,66 +1435,66 @@ static int f207_12(State m, long l1, long l2, long l4, long l5, long l6, long l7
     l11 = (l16 + Integer.MIN_VALUE < 2147483632) ? 3L : 4L;
    }
    if (l5 != (l11 + l10)) { break L281; }
-   if (f210(m, 93008L, 2L, l4, l5) == 0) { break L281; }
+   if (f211(m, 92984L, 2L, l4, l5) == 0) { break L281; }
    Words.put64(b, ((int) l8) - 58856, 0L);
    Words.put64(b, ((int) l8) - 58864, 0L);
    Words.put64(b, ((int) l8) - 58872, 0L);
-   Core6.f196(m, l8 + 40L, 93240L, 3L, l6, l7);
+   Core6.f197(m, l8 + 40L, 93216L, 3L, l6, l7);
    if ((b[((int) l8) - 58872] & 0xff) == 1) { exit = 1; break PART; }
    Words.put64(b, ((int) l8) - 58856, 0L);
    Words.put64(b, ((int) l8) - 58864, 0L);
    Words.put64(b, ((int) l8) - 58872, 0L);
-   Core6.f196(m, l8 + 40L, 93243L, 3L, l6, l7);
+   Core6.f197(m, l8 + 40L, 93219L, 3L, l6, l7);
    if ((b[((int) l8) - 58872] & 0xff) == 1) { exit = 1; break PART; }
    Words.put64(b, ((int) l8) - 58856, 0L);
    Words.put64(b, ((int) l8) - 58864, 0L);
    Words.put64(b, ((int) l8) - 58872, 0L);
-   Core6.f196(m, l8 + 40L, 93246L, 3L, l6, l7);
+   Core6.f197(m, l8 + 40L, 93222L, 3L, l6, l7);
    if ((b[((int) l8) - 58872] & 0xff) == 1) { exit = 1; break PART; }
    Words.put64(b, ((int) l8) - 58856, 0L);
    Words.put64(b, ((int) l8) - 58864, 0L);
    Words.put64(b, ((int) l8) - 58872, 0L);
-   Core6.f196(m, l8 + 40L, 93249L, 3L, l6, l7);
+   Core6.f197(m, l8 + 40L, 93225L, 3L, l6, l7);
    if ((b[((int) l8) - 58872] & 0xff) == 1) { exit = 1; break PART; }
    Words.put64(b, ((int) l8) - 58856, 0L);
    Words.put64(b, ((int) l8) - 58864, 0L);
    Words.put64(b, ((int) l8) - 58872, 0L);
-   Core6.f196(m, l8 + 40L, 93252L, 3L, l6, l7);
+   Core6.f197(m, l8 + 40L, 93228L, 3L, l6, l7);
    if ((b[((int) l8) - 58872] & 0xff) == 1) { exit = 1; break PART; }
    Words.put64(b, ((int) l8) - 58856, 0L);
    Words.put64(b, ((int) l8) - 58864, 0L);
    Words.put64(b, ((int) l8) - 58872, 0L);
-   Core6.f196(m, l8 + 40L, 93255L, 3L, l6, l7);
+   Core6.f197(m, l8 + 40L, 93231L, 3L, l6, l7);
    if ((b[((int) l8) - 58872] & 0xff) == 1) { exit = 1; break PART; }
    Words.put64(b, ((int) l8) - 58856, 0L);
    Words.put64(b, ((int) l8) - 58864, 0L);
    Words.put64(b, ((int) l8) - 58872, 0L);
-   Core6.f196(m, l8 + 40L, 93258L, 6L, l6, l7);
+   Core6.f197(m, l8 + 40L, 93234L, 6L, l6, l7);
    if ((b[((int) l8) - 58872] & 0xff) == 1) { exit = 1; break PART; }
    Words.put64(b, ((int) l8) - 58856, 0L);
    Words.put64(b, ((int) l8) - 58864, 0L);
    Words.put64(b, ((int) l8) - 58872, 0L);
-   Core6.f196(m, l8 + 40L, 93264L, 6L, l6, l7);
+   Core6.f197(m, l8 + 40L, 93240L, 6L, l6, l7);
    if ((b[((int) l8) - 58872] & 0xff) == 1) { exit = 1; break PART; }
    Words.put64(b, ((int) l8) - 58856, 0L);
    Words.put64(b, ((int) l8) - 58864, 0L);
    Words.put64(b, ((int) l8) - 58872, 0L);
-   Core6.f196(m, l8 + 40L, 93270L, 6L, l6, l7);
+   Core6.f197(m, l8 + 40L, 93246L, 6L, l6, l7);
    if ((b[((int) l8) - 58872] & 0xff) == 1) { exit = 1; break PART; }
    Words.put64(b, ((int) l8) - 58856, 0L);
    Words.put64(b, ((int) l8) - 58864, 0L);
    Words.put64(b, ((int) l8) - 58872, 0L);
-   Core6.f196(m, l8 + 40L, 93276L, 6L, l6, l7);
+   Core6.f197(m, l8 + 40L, 93252L, 6L, l6, l7);
    if ((b[((int) l8) - 58872] & 0xff) == 1) { exit = 1; break PART; }
    Words.put64(b, ((int) l8) - 58856, 0L);
    Words.put64(b, ((int) l8) - 58864, 0L);
    Words.put64(b, ((int) l8) - 58872, 0L);
-   Core6.f196(m, l8 + 40L, 93282L, 6L, l6, l7);
+   Core6.f197(m, l8 + 40L, 93258L, 6L, l6, l7);
    if ((b[((int) l8) - 58872] & 0xff) == 1) { exit = 1; break PART; }
    Words.put64(b, ((int) l8) - 58856, 0L);
    Words.put64(b, ((int) l8) - 58864, 0L);
    Words.put64(b, ((int) l8) - 58872, 0L);
-   Core6.f196(m, l8 + 40L, 93288L, 6L, l6, l7);
+   Core6.f197(m, l8 + 40L, 93264L, 6L, l6, l7);
    if ((b[((int) l8) - 58872] & 0xff) == 1) { exit = 1; break PART; }
    L291: {
     if (l18 != 0) { break L291; }
@@ -1533,7 +1533,7 @@ static int f207_12(State m, long l1, long l2, long l4, long l5, long l6, long l7
  return exit;
 }
 
-static int f207_13(State m, long l1, long l2, int l3, long l9, long l10, long l11, int l15, int l16, int l17, int l18) {
+static int f208_13(State m, long l1, long l2, int l3, long l9, long l10, long l11, int l15, int l16, int l17, int l18) {
  final byte[] b = m.bytes;
  int exit = 0;
  PART: {
@@ -1592,7 +1592,7 @@ static int f207_13(State m, long l1, long l2, int l3, long l9, long l10, long l1
  return exit;
 }
 
-static int f207_14(State m, int l3, long l4, long l5, long l8, long l9, long l10, long l11, int l15) {
+static int f208_14(State m, int l3, long l4, long l5, long l8, long l9, long l10, long l11, int l15) {
  final byte[] b = m.bytes;
  int exit = 0;
  PART: {
@@ -1671,7 +1671,7 @@ static int f207_14(State m, int l3, long l4, long l5, long l8, long l9, long l10
    Words.put64(b, ((int) l8) - 58856, 0L);
    Words.put64(b, ((int) l8) - 58864, 0L);
    Words.put64(b, ((int) l8) - 58872, 0L);
-   Core6.f203(m, l8 + 40L, 93528L, 5L, l4, l5);
+   Core6.f204(m, l8 + 40L, 93504L, 5L, l4, l5);
    if ((b[((int) l8) - 58872] & 0xff) != 1) { exit = 1; break PART; }
    l3 = b[((int) l4) - 58912] & 0xff;
   }
@@ -1684,7 +1684,7 @@ static int f207_14(State m, int l3, long l4, long l5, long l8, long l9, long l10
  return exit;
 }
 
-static void f207(State m, long l0, long l1, long l2, int l3, long l4, long l5, long l6, long l7) {
+static void f208(State m, long l0, long l1, long l2, int l3, long l4, long l5, long l6, long l7) {
  final byte[] b = m.bytes;
  long l8 = 0;
  long l9 = 0;
@@ -1715,7 +1715,7 @@ static void f207(State m, long l0, long l1, long l2, int l3, long l4, long l5, l
       L6: {
        L7: {
         if (l3 == 0) { break L7; }
-        final int x18 = f207_1(m, l3, l6, l7, l9, l10, l11, l15, l16, l17);
+        final int x18 = f208_1(m, l3, l6, l7, l9, l10, l11, l15, l16, l17);
         l3 = (int) m.kept[0];
         l9 = m.kept[1];
         l10 = m.kept[2];
@@ -1727,7 +1727,7 @@ static void f207(State m, long l0, long l1, long l2, int l3, long l4, long l5, l
         case 1: break L1;
         case 2: break L2;
         }
-        final int x34 = f207_2(m, l1, l2, l3, l4, l5, l6, l7, l8, l9, l10, l11, l15, l16, l17);
+        final int x34 = f208_2(m, l1, l2, l3, l4, l5, l6, l7, l8, l9, l10, l11, l15, l16, l17);
         l2 = m.kept[0];
         l3 = (int) m.kept[1];
         l9 = m.kept[2];
@@ -1808,9 +1808,9 @@ static void f207(State m, long l0, long l1, long l2, int l3, long l4, long l5, l
           break L5;
          }
         }
-        if (f211(m, l4, l5) != 0) { break L5; }
-        if (f215(m, l4, l5) != 0) { break L5; }
-        if (f212(m, l1, l2) != 0) { break L5; }
+        if (f212(m, l4, l5) != 0) { break L5; }
+        if (f216(m, l4, l5) != 0) { break L5; }
+        if (f213(m, l1, l2) != 0) { break L5; }
         L46: {
          L47: {
           if ((l3 = (int) b[((int) l4) - 58912]) <= -1) { break L47; }
@@ -1824,7 +1824,7 @@ static void f207(State m, long l0, long l1, long l2, int l3, long l4, long l5, l
          }
          l10 = (l3 + Integer.MIN_VALUE < 2147483632) ? 3L : 4L;
         }
-        final int x60 = f207_3(m, l1, l2, l3, l4, l5, l6, l7, l9, l10, l11, l15);
+        final int x60 = f208_3(m, l1, l2, l3, l4, l5, l6, l7, l9, l10, l11, l15);
         l3 = (int) m.kept[0];
         l9 = m.kept[1];
         l10 = m.kept[2];
@@ -1936,7 +1936,7 @@ static void f207(State m, long l0, long l1, long l2, int l3, long l4, long l5, l
         l11 = 0L;
         if (l5 == (l12 + l2)) { break L1; }
         l17 = 0;
-        final int x90 = f207_4(m, l3, l4, l5, l8, l10, l15, l16, l17, l18);
+        final int x90 = f208_4(m, l3, l4, l5, l8, l10, l15, l16, l17, l18);
         l3 = (int) m.kept[0];
         l4 = m.kept[1];
         l5 = m.kept[2];
@@ -1953,8 +1953,8 @@ static void f207(State m, long l0, long l1, long l2, int l3, long l4, long l5, l
        l9 = 0L;
        l10 = 0L;
        l11 = 0L;
-       if (Core6.f195(m, l6, l7) != 0) { break L1; }
-       final int x112 = f207_5(m, l1, l2, l3, l4, l5, l9, l10, l11, l12, l13, l15, l16, l17, l18, l19);
+       if (Core6.f196(m, l6, l7) != 0) { break L1; }
+       final int x112 = f208_5(m, l1, l2, l3, l4, l5, l9, l10, l11, l12, l13, l15, l16, l17, l18, l19);
        l3 = (int) m.kept[0];
        l9 = m.kept[1];
        l10 = m.kept[2];
@@ -1972,7 +1972,7 @@ static void f207(State m, long l0, long l1, long l2, int l3, long l4, long l5, l
        L113: {
         L114: {
          L115: {
-          final int x179 = f207_6(m, l1, l2, l3, l4, l5, l6, l7, l9, l10, l11, l12, l13, l14, l15, l16, l17, l18, l19, l20, l21, l22);
+          final int x179 = f208_6(m, l1, l2, l3, l4, l5, l6, l7, l9, l10, l11, l12, l13, l14, l15, l16, l17, l18, l19, l20, l21, l22);
           l2 = m.kept[0];
           l3 = (int) m.kept[1];
           l9 = m.kept[2];
@@ -1995,7 +1995,7 @@ static void f207(State m, long l0, long l1, long l2, int l3, long l4, long l5, l
           case 4: break L5;
           case 5: break L115;
           }
-          final int x193 = f207_7(m, l4, l5, l9, l10, l11, l16);
+          final int x193 = f208_7(m, l4, l5, l9, l10, l11, l16);
           l9 = m.kept[0];
           l10 = m.kept[1];
           l11 = m.kept[2];
@@ -2045,7 +2045,7 @@ static void f207(State m, long l0, long l1, long l2, int l3, long l4, long l5, l
            l11 = (l15 + Integer.MIN_VALUE < 2147483632) ? 3L : 4L;
           }
           if (l5 != (l11 + l10)) { break L114; }
-          l15 = f210(m, 92488L, 6L, l4, l5);
+          l15 = f211(m, 92464L, 6L, l4, l5);
           if (l18 != 0) { break L114; }
           if (l15 == 0) { break L114; }
           if (((int) b[((int) ((l10 = l1 + l2) + -1L)) - 58912]) > -1) { break L114; }
@@ -2107,27 +2107,27 @@ static void f207(State m, long l0, long l1, long l2, int l3, long l4, long l5, l
           Words.put64(b, ((int) l8) - 58856, 0L);
           Words.put64(b, ((int) l8) - 58864, 0L);
           Words.put64(b, ((int) l8) - 58872, 0L);
-          Core6.f203(m, l8 + 40L, 92584L, 3L, l1, l11);
-          final int x214 = f207_8(m, l1, l8, l11);
+          Core6.f204(m, l8 + 40L, 92560L, 3L, l1, l11);
+          final int x214 = f208_8(m, l1, l8, l11);
           switch (x214) {
           case 1: break L114;
           }
           Words.put64(b, ((int) l8) - 58856, 0L);
           Words.put64(b, ((int) l8) - 58864, 0L);
           Words.put64(b, ((int) l8) - 58872, 0L);
-          Core6.f203(m, l8 + 40L, 92584L, 3L, l1, l11);
+          Core6.f204(m, l8 + 40L, 92560L, 3L, l1, l11);
           L215: {
            L216: {
             if ((b[((int) l8) - 58872] & 0xff) == 1) { break L216; }
-            Core6.f203(m, l8 + 40L, 92587L, 3L, l1, l11);
+            Core6.f204(m, l8 + 40L, 92563L, 3L, l1, l11);
             if ((b[((int) l8) - 58872] & 0xff) == 1) { break L216; }
-            Core6.f203(m, l8 + 40L, 92590L, 3L, l1, l11);
+            Core6.f204(m, l8 + 40L, 92566L, 3L, l1, l11);
             if ((b[((int) l8) - 58872] & 0xff) == 1) { break L216; }
-            Core6.f203(m, l8 + 40L, 92593L, 3L, l1, l11);
+            Core6.f204(m, l8 + 40L, 92569L, 3L, l1, l11);
             if ((b[((int) l8) - 58872] & 0xff) == 1) { break L216; }
-            Core6.f203(m, l8 + 40L, 92596L, 3L, l1, l11);
+            Core6.f204(m, l8 + 40L, 92572L, 3L, l1, l11);
             if ((b[((int) l8) - 58872] & 0xff) == 1) { break L216; }
-            Core6.f203(m, l8 + 40L, 92599L, 3L, l1, l11);
+            Core6.f204(m, l8 + 40L, 92575L, 3L, l1, l11);
             l10 = l1;
             if ((b[((int) l8) - 58872] & 0xff) != 1) { break L215; }
            }
@@ -2179,7 +2179,7 @@ static void f207(State m, long l0, long l1, long l2, int l3, long l4, long l5, l
          }
          l10 = (l15 + Integer.MIN_VALUE < 2147483632) ? 3L : 4L;
         }
-        final int x237 = f207_9(m, l4, l5, l6, l10, l11, l15, l16, l17, l19, l20, l21);
+        final int x237 = f208_9(m, l4, l5, l6, l10, l11, l15, l16, l17, l19, l20, l21);
         l10 = m.kept[0];
         l11 = m.kept[1];
         l16 = (int) m.kept[2];
@@ -2202,7 +2202,7 @@ static void f207(State m, long l0, long l1, long l2, int l3, long l4, long l5, l
          }
          l10 = (l15 + Integer.MIN_VALUE < 2147483632) ? 3L : 4L;
         }
-        final int x262 = f207_10(m, l1, l2, l4, l5, l6, l7, l8, l9, l10, l11, l15, l16);
+        final int x262 = f208_10(m, l1, l2, l4, l5, l6, l7, l8, l9, l10, l11, l15, l16);
         l9 = m.kept[0];
         l10 = m.kept[1];
         l11 = m.kept[2];
@@ -2224,7 +2224,7 @@ static void f207(State m, long l0, long l1, long l2, int l3, long l4, long l5, l
          }
          l10 = (l17 + Integer.MIN_VALUE < -2147483408) ? 3L : 4L;
         }
-        final int x277 = f207_11(m, l4, l5, l6, l7, l9, l10, l11, l17, l19, l20, l21, l22);
+        final int x277 = f208_11(m, l4, l5, l6, l7, l9, l10, l11, l17, l19, l20, l21, l22);
         l9 = m.kept[0];
         l10 = m.kept[1];
         l11 = m.kept[2];
@@ -2248,7 +2248,7 @@ static void f207(State m, long l0, long l1, long l2, int l3, long l4, long l5, l
          }
          l10 = (l16 + Integer.MIN_VALUE < -2147483408) ? 3L : 4L;
         }
-        final int x295 = f207_12(m, l1, l2, l4, l5, l6, l7, l8, l9, l10, l11, l15, l16, l17, l18, l20);
+        final int x295 = f208_12(m, l1, l2, l4, l5, l6, l7, l8, l9, l10, l11, l15, l16, l17, l18, l20);
         l9 = m.kept[0];
         l10 = m.kept[1];
         l11 = m.kept[2];
@@ -2287,7 +2287,7 @@ static void f207(State m, long l0, long l1, long l2, int l3, long l4, long l5, l
          l11 = (l15 + Integer.MIN_VALUE < 2147483632) ? 3L : 4L;
         }
         if (l5 != (l11 + l10)) { break L113; }
-        l15 = f210(m, 93296L, 12L, l4, l5);
+        l15 = f211(m, 93272L, 12L, l4, l5);
         if (l19 != 0) { break L113; }
         if (l15 == 0) { break L113; }
         if ((l15 = (int) b[((int) l6) - 58912]) > -1) { break L113; }
@@ -2370,8 +2370,8 @@ static void f207(State m, long l0, long l1, long l2, int l3, long l4, long l5, l
        l9 = 0L;
        l10 = 0L;
        l11 = 0L;
-       if (f214(m, l6, l7) != 0) { break L1; }
-       final int x321 = f207_13(m, l1, l2, l3, l9, l10, l11, l15, l16, l17, l18);
+       if (f215(m, l6, l7) != 0) { break L1; }
+       final int x321 = f208_13(m, l1, l2, l3, l9, l10, l11, l15, l16, l17, l18);
        l9 = m.kept[0];
        l10 = m.kept[1];
        l11 = m.kept[2];
@@ -2396,7 +2396,7 @@ static void f207(State m, long l0, long l1, long l2, int l3, long l4, long l5, l
         }
         l10 = (l3 + Integer.MIN_VALUE < 2147483632) ? 3L : 4L;
        }
-       final int x341 = f207_14(m, l3, l4, l5, l8, l9, l10, l11, l15);
+       final int x341 = f208_14(m, l3, l4, l5, l8, l9, l10, l11, l15);
        l3 = (int) m.kept[0];
        l9 = m.kept[1];
        l10 = m.kept[2];
@@ -2442,7 +2442,7 @@ static void f207(State m, long l0, long l1, long l2, int l3, long l4, long l5, l
        l9 = 0L;
        l10 = 0L;
        l11 = 0L;
-       if (f212(m, l1, l2) != 0) { break L5; }
+       if (f213(m, l1, l2) != 0) { break L5; }
        break L1;
       }
       l10 = 0L;
@@ -2472,7 +2472,7 @@ static void f207(State m, long l0, long l1, long l2, int l3, long l4, long l5, l
  m.g0 = l8 + 64L;
 }
 
-static int f208(State m, long l0, long l1) {
+static int f209(State m, long l0, long l1) {
  final byte[] b = m.bytes;
  int l2 = 0;
  int l3 = 0;
@@ -2538,7 +2538,7 @@ static int f208(State m, long l0, long l1) {
  throw State.trap();
 }
 
-static int f209(State m, long l0, long l1, long l2, long l3) {
+static int f210(State m, long l0, long l1, long l2, long l3) {
  final byte[] b = m.bytes;
  int l4 = 0;
  int l5 = 0;
@@ -2661,7 +2661,7 @@ static int f209(State m, long l0, long l1, long l2, long l3) {
  return l5;
 }
 
-static int f210(State m, long l0, long l1, long l2, long l3) {
+static int f211(State m, long l0, long l1, long l2, long l3) {
  final byte[] b = m.bytes;
  long l4 = 0;
  long l5 = 0;
@@ -2807,7 +2807,7 @@ static int f210(State m, long l0, long l1, long l2, long l3) {
  throw State.trap();
 }
 
-static int f211(State m, long l0, long l1) {
+static int f212(State m, long l0, long l1) {
  final byte[] b = m.bytes;
  long l2 = 0;
  int l3 = 0;
@@ -2872,7 +2872,7 @@ static int f211(State m, long l0, long l1) {
  throw State.trap();
 }
 
-static int f212(State m, long l0, long l1) {
+static int f213(State m, long l0, long l1) {
  final byte[] b = m.bytes;
  long l2 = 0;
  long l3 = 0;
@@ -2946,25 +2946,25 @@ static int f212(State m, long l0, long l1) {
  Words.put64(b, ((int) l2) - 58888, 0L);
  Words.put64(b, ((int) l2) - 58896, 0L);
  Words.put64(b, ((int) l2) - 58904, 0L);
- Core6.f203(m, l2 + 8L, 89480L, 9L, l0, l3);
+ Core6.f204(m, l2 + 8L, 89480L, 9L, l0, l3);
  L13: {
   L14: {
    if ((b[((int) l2) - 58904] & 0xff) == 1) { break L14; }
-   Core6.f203(m, l2 + 8L, 89489L, 9L, l0, l3);
+   Core6.f204(m, l2 + 8L, 89489L, 9L, l0, l3);
    if ((b[((int) l2) - 58904] & 0xff) == 1) { break L14; }
-   Core6.f203(m, l2 + 8L, 89498L, 6L, l0, l3);
+   Core6.f204(m, l2 + 8L, 89498L, 6L, l0, l3);
    if ((b[((int) l2) - 58904] & 0xff) == 1) { break L14; }
-   Core6.f203(m, l2 + 8L, 89504L, 6L, l0, l3);
+   Core6.f204(m, l2 + 8L, 89504L, 6L, l0, l3);
    if ((b[((int) l2) - 58904] & 0xff) == 1) { break L14; }
-   Core6.f203(m, l2 + 8L, 89510L, 6L, l0, l3);
+   Core6.f204(m, l2 + 8L, 89510L, 6L, l0, l3);
    if ((b[((int) l2) - 58904] & 0xff) == 1) { break L14; }
-   Core6.f203(m, l2 + 8L, 89516L, 6L, l0, l3);
+   Core6.f204(m, l2 + 8L, 89516L, 6L, l0, l3);
    if ((b[((int) l2) - 58904] & 0xff) == 1) { break L14; }
-   Core6.f203(m, l2 + 8L, 89522L, 3L, l0, l3);
+   Core6.f204(m, l2 + 8L, 89522L, 3L, l0, l3);
    if ((b[((int) l2) - 58904] & 0xff) == 1) { break L14; }
-   Core6.f203(m, l2 + 8L, 89525L, 3L, l0, l3);
+   Core6.f204(m, l2 + 8L, 89525L, 3L, l0, l3);
    if ((b[((int) l2) - 58904] & 0xff) == 1) { break L14; }
-   Core6.f203(m, l2 + 8L, 89528L, 3L, l0, l3);
+   Core6.f204(m, l2 + 8L, 89528L, 3L, l0, l3);
    if ((b[((int) l2) - 58904] & 0xff) != 1) { break L13; }
   }
   l3 = Words.get64(b, ((int) l2) - 58888);
@@ -2977,7 +2977,7 @@ static int f212(State m, long l0, long l1) {
    Words.put64(b, ((int) l2) - 58888, 0L);
    Words.put64(b, ((int) l2) - 58896, 0L);
    Words.put64(b, ((int) l2) - 58904, 0L);
-   Core6.f203(m, l2 + 8L, Words.get64(b, ((int) (l1 + 91152L)) - 58912), Words.get64(b, ((int) (l1 + 91160L)) - 58912), l0, l3);
+   Core6.f204(m, l2 + 8L, Words.get64(b, ((int) (l1 + 91152L)) - 58912), Words.get64(b, ((int) (l1 + 91160L)) - 58912), l0, l3);
    l1 = l4;
    if ((b[((int) l2) - 58904] & 0xff) != 1) { continue L16; }
    break L16;
@@ -2987,7 +2987,7 @@ static int f212(State m, long l0, long l1) {
  return (l4 != 0L) ? 1 : 0;
 }
 
-static int f213(State m, long l0, long l1) {
+static int f214(State m, long l0, long l1) {
  final byte[] b = m.bytes;
  long l2 = 0;
  long l3 = 0;
@@ -3167,13 +3167,13 @@ static int f213(State m, long l0, long l1) {
     break L27;
    }
   }
-  l6 = Core6.f194(m, l0, l3) ^ 1;
+  l6 = Core6.f195(m, l0, l3) ^ 1;
  }
  m.g0 = l2;
  return l6;
 }
 
-static int f214(State m, long l0, long l1) {
+static int f215(State m, long l0, long l1) {
  final byte[] b = m.bytes;
  long l2 = 0;
  long l3 = 0;
@@ -3244,13 +3244,13 @@ static int f214(State m, long l0, long l1) {
    }
    l6 = ((l7 << 6) | ((l4 << 12) | ((l6 << 18) & 1835008))) | ((b[((int) l0) - 58909] & 0xff) & 63);
   }
-  l4 = Core6.f188(m, l6);
+  l4 = Core6.f189(m, l6);
  }
  m.g0 = l2;
  return l4;
 }
 
-static int f215(State m, long l0, long l1) {
+static int f216(State m, long l0, long l1) {
  final byte[] b = m.bytes;
  long l2 = 0;
  long l3 = 0;
@@ -3417,7 +3417,7 @@ static int f215(State m, long l0, long l1) {
     l5 = (l7 + Integer.MIN_VALUE < 2147483632) ? 3L : 4L;
    }
    if (l1 != (l3 + l5)) { break L2; }
-   l6 = f210(m, 89168L, 7L, l0, l1);
+   l6 = f211(m, 89168L, 7L, l0, l1);
   }
   m.g0 = l2;
   final int t36 = l6;
@@ -3426,7 +3426,7 @@ static int f215(State m, long l0, long l1) {
  throw State.trap();
 }
 
-static int f216(State m, long l0, long l1, long l2, long l3) {
+static int f217(State m, long l0, long l1, long l2, long l3) {
  final byte[] b = m.bytes;
  long l4 = 0;
  long l5 = 0;
@@ -3476,22 +3476,22 @@ static int f216(State m, long l0, long l1, long l2, long l3) {
     Words.put64(b, ((int) l4) - 58888, 0L);
     Words.put64(b, ((int) l4) - 58896, 0L);
     Words.put64(b, ((int) l4) - 58904, 0L);
-    Core6.f203(m, l4 + 8L, 92208L, 6L, l0, l1);
+    Core6.f204(m, l4 + 8L, 92208L, 6L, l0, l1);
     if ((b[((int) l4) - 58904] & 0xff) == 1) { break L3; }
     Words.put64(b, ((int) l4) - 58888, 0L);
     Words.put64(b, ((int) l4) - 58896, 0L);
     Words.put64(b, ((int) l4) - 58904, 0L);
-    Core6.f203(m, l4 + 8L, 92214L, 6L, l0, l1);
+    Core6.f204(m, l4 + 8L, 92214L, 6L, l0, l1);
     if ((b[((int) l4) - 58904] & 0xff) == 1) { break L3; }
     Words.put64(b, ((int) l4) - 58888, 0L);
     Words.put64(b, ((int) l4) - 58896, 0L);
     Words.put64(b, ((int) l4) - 58904, 0L);
-    Core6.f203(m, l4 + 8L, 92220L, 6L, l0, l1);
+    Core6.f204(m, l4 + 8L, 92220L, 6L, l0, l1);
     l7 = 0;
     if ((b[((int) l4) - 58904] & 0xff) != 1) { break L2; }
    }
    l7 = 0;
-   if (f214(m, l2, l3) != 0) { break L2; }
+   if (f215(m, l2, l3) != 0) { break L2; }
    L9: {
     if (l3 == 0L) { break L9; }
     if ((l8 = (int) b[((int) l2) - 58912]) > -1) { break L9; }
@@ -3526,7 +3526,7 @@ static int f216(State m, long l0, long l1, long l2, long l3) {
  throw State.trap();
 }
 
-static int f217(State m, long l0, long l1, long l2, long l3) {
+static int f218(State m, long l0, long l1, long l2, long l3) {
  final byte[] b = m.bytes;
  long l4 = 0;
  int l5 = 0;
@@ -3540,14 +3540,14 @@ static int f217(State m, long l0, long l1, long l2, long l3) {
   Words.put64(b, ((int) l4) - 58888, 0L);
   Words.put64(b, ((int) l4) - 58896, 0L);
   Words.put64(b, ((int) l4) - 58904, 0L);
-  Core6.f196(m, l4 + 8L, 93568L, 9L, l2, l3);
+  Core6.f197(m, l4 + 8L, 93544L, 9L, l2, l3);
   l5 = 1;
   L2: {
    if ((b[((int) l4) - 58904] & 0xff) == 1) { break L2; }
    Words.put64(b, ((int) l4) - 58888, 0L);
    Words.put64(b, ((int) l4) - 58896, 0L);
    Words.put64(b, ((int) l4) - 58904, 0L);
-   Core6.f196(m, l4 + 8L, 93577L, 9L, l2, l3);
+   Core6.f197(m, l4 + 8L, 93553L, 9L, l2, l3);
    l5 = 1;
    if ((b[((int) l4) - 58904] & 0xff) == 1) { break L2; }
    l3 = 0L;
@@ -3601,61 +3601,61 @@ static int f217(State m, long l0, long l1, long l2, long l3) {
    Words.put64(b, ((int) l4) - 58888, 0L);
    Words.put64(b, ((int) l4) - 58896, 0L);
    Words.put64(b, ((int) l4) - 58904, 0L);
-   Core6.f203(m, l4 + 8L, 93752L, 6L, l0, l3);
+   Core6.f204(m, l4 + 8L, 93728L, 6L, l0, l3);
    l5 = 1;
    if ((b[((int) l4) - 58904] & 0xff) == 1) { break L2; }
    Words.put64(b, ((int) l4) - 58888, 0L);
    Words.put64(b, ((int) l4) - 58896, 0L);
    Words.put64(b, ((int) l4) - 58904, 0L);
-   Core6.f203(m, l4 + 8L, 93758L, 6L, l0, l3);
+   Core6.f204(m, l4 + 8L, 93734L, 6L, l0, l3);
    l5 = 1;
    if ((b[((int) l4) - 58904] & 0xff) == 1) { break L2; }
    Words.put64(b, ((int) l4) - 58888, 0L);
    Words.put64(b, ((int) l4) - 58896, 0L);
    Words.put64(b, ((int) l4) - 58904, 0L);
-   Core6.f203(m, l4 + 8L, 93764L, 6L, l0, l3);
+   Core6.f204(m, l4 + 8L, 93740L, 6L, l0, l3);
    l5 = 1;
    if ((b[((int) l4) - 58904] & 0xff) == 1) { break L2; }
    Words.put64(b, ((int) l4) - 58888, 0L);
    Words.put64(b, ((int) l4) - 58896, 0L);
    Words.put64(b, ((int) l4) - 58904, 0L);
-   Core6.f203(m, l4 + 8L, 93770L, 6L, l0, l3);
+   Core6.f204(m, l4 + 8L, 93746L, 6L, l0, l3);
    l5 = 1;
    if ((b[((int) l4) - 58904] & 0xff) == 1) { break L2; }
    Words.put64(b, ((int) l4) - 58888, 0L);
    Words.put64(b, ((int) l4) - 58896, 0L);
    Words.put64(b, ((int) l4) - 58904, 0L);
-   Core6.f203(m, l4 + 8L, 93776L, 6L, l0, l3);
+   Core6.f204(m, l4 + 8L, 93752L, 6L, l0, l3);
    l5 = 1;
    if ((b[((int) l4) - 58904] & 0xff) == 1) { break L2; }
    Words.put64(b, ((int) l4) - 58888, 0L);
    Words.put64(b, ((int) l4) - 58896, 0L);
    Words.put64(b, ((int) l4) - 58904, 0L);
-   Core6.f203(m, l4 + 8L, 93782L, 6L, l0, l3);
+   Core6.f204(m, l4 + 8L, 93758L, 6L, l0, l3);
    l5 = 1;
    if ((b[((int) l4) - 58904] & 0xff) == 1) { break L2; }
    Words.put64(b, ((int) l4) - 58888, 0L);
    Words.put64(b, ((int) l4) - 58896, 0L);
    Words.put64(b, ((int) l4) - 58904, 0L);
-   Core6.f203(m, l4 + 8L, 93788L, 6L, l0, l3);
+   Core6.f204(m, l4 + 8L, 93764L, 6L, l0, l3);
    l5 = 1;
    if ((b[((int) l4) - 58904] & 0xff) == 1) { break L2; }
    Words.put64(b, ((int) l4) - 58888, 0L);
    Words.put64(b, ((int) l4) - 58896, 0L);
    Words.put64(b, ((int) l4) - 58904, 0L);
-   Core6.f203(m, l4 + 8L, 93794L, 6L, l0, l3);
+   Core6.f204(m, l4 + 8L, 93770L, 6L, l0, l3);
    l5 = 1;
    if ((b[((int) l4) - 58904] & 0xff) == 1) { break L2; }
    Words.put64(b, ((int) l4) - 58888, 0L);
    Words.put64(b, ((int) l4) - 58896, 0L);
    Words.put64(b, ((int) l4) - 58904, 0L);
-   Core6.f203(m, l4 + 8L, 93800L, 9L, l0, l3);
+   Core6.f204(m, l4 + 8L, 93776L, 9L, l0, l3);
    l5 = 1;
    if ((b[((int) l4) - 58904] & 0xff) == 1) { break L2; }
    Words.put64(b, ((int) l4) - 58888, 0L);
    Words.put64(b, ((int) l4) - 58896, 0L);
    Words.put64(b, ((int) l4) - 58904, 0L);
-   Core6.f203(m, l4 + 8L, 93809L, 9L, l0, l3);
+   Core6.f204(m, l4 + 8L, 93785L, 9L, l0, l3);
    l5 = ((b[((int) l4) - 58904] & 0xff) == 1) ? 1 : 0;
   }
   m.g0 = l4 + 32L;
@@ -3665,7 +3665,7 @@ static int f217(State m, long l0, long l1, long l2, long l3) {
  throw State.trap();
 }
 
-static void f218(State m, long l0, long l1, long l2) {
+static void f219(State m, long l0, long l1, long l2) {
  final byte[] b = m.bytes;
  long l3 = 0;
  long l4 = 0;
@@ -3819,7 +3819,7 @@ static void f218(State m, long l0, long l1, long l2) {
  throw State.trap();
 }
 
-static int f219(State m, long l0, long l1, long l2, long l3, long l4, long l5) {
+static int f220(State m, long l0, long l1, long l2, long l3, long l4, long l5) {
  final byte[] b = m.bytes;
  long l6 = 0;
  long l7 = 0;
@@ -3866,7 +3866,7 @@ static int f219(State m, long l0, long l1, long l2, long l3, long l4, long l5) {
     L8: {
      if (((l14 & -33) + -65) + Integer.MIN_VALUE > -2147483623) { break L8; }
      l14 = 1;
-     if (f213(m, l0, l1) == 0) { break L2; }
+     if (f214(m, l0, l1) == 0) { break L2; }
      if (l5 == 0L) { break L8; }
      l15 = (l16 = (int) b[((int) l4) - 58912]) & 255;
      L9: {
@@ -3945,7 +3945,7 @@ static int f219(State m, long l0, long l1, long l2, long l3, long l4, long l5) {
     l7 = -68L;
     L21: {
      L22: while (true) {
-      if ((l15 = (Words.get32(b, ((int) (l7 + 93892L)) - 58912) == l13) ? 1 : 0) != 0) { break L21; }
+      if ((l15 = (Words.get32(b, ((int) (l7 + 93868L)) - 58912) == l13) ? 1 : 0) != 0) { break L21; }
       l14 = (l7 != 0L) ? 1 : 0;
       l7 = l7 + 4L;
       if (l14 != 0) { continue L22; }
@@ -4185,7 +4185,7 @@ static int f219(State m, long l0, long l1, long l2, long l3, long l4, long l5) {
      if ((l14 + -48) + Integer.MIN_VALUE < -2147483638) { break L64; }
      if ((l14 + -65296) + Integer.MIN_VALUE > -2147483639) { break L28; }
     }
-    if (f223(m, l2, l3) == 0) { break L28; }
+    if (f224(m, l2, l3) == 0) { break L28; }
     m.g0 = l6;
     return 1;
    }
@@ -4247,7 +4247,7 @@ static int f219(State m, long l0, long l1, long l2, long l3, long l4, long l5) {
     if (l13 != 32) { break L2; }
     l7 = 1L;
    }
-   l14 = f223(m, l4 + l7, l5 - l7);
+   l14 = f224(m, l4 + l7, l5 - l7);
   }
   m.g0 = l6;
   final int t75 = l14;
@@ -4256,7 +4256,7 @@ static int f219(State m, long l0, long l1, long l2, long l3, long l4, long l5) {
  throw State.trap();
 }
 
-static int f220(State m, long l0, long l1, long l2, long l3) {
+static int f221(State m, long l0, long l1, long l2, long l3) {
  final byte[] b = m.bytes;
  int l4 = 0;
  int l5 = 0;
@@ -4424,7 +4424,7 @@ static int f220(State m, long l0, long l1, long l2, long l3) {
       l1 = -44L;
       L32: {
        L33: while (true) {
-        if ((l8 = (Words.get32(b, ((int) (l1 + 93940L)) - 58912) == l7) ? 1 : 0) != 0) { break L32; }
+        if ((l8 = (Words.get32(b, ((int) (l1 + 93916L)) - 58912) == l7) ? 1 : 0) != 0) { break L32; }
         l4 = (l1 != 0L) ? 1 : 0;
         l1 = l1 + 4L;
         if (l4 != 0) { continue L33; }
@@ -4546,7 +4546,7 @@ static int f220(State m, long l0, long l1, long l2, long l3) {
  return l4;
 }
 
-static void f221(State m, long l0, long l1, long l2) {
+static void f222(State m, long l0, long l1, long l2) {
  final byte[] b = m.bytes;
  long l3 = 0;
  long l4 = 0;
@@ -4557,7 +4557,7 @@ static void f221(State m, long l0, long l1, long l2) {
  m.g0 = l3 = m.g0 - 32L;
  L1: {
   if ((l3 = l3) < 16L) { break L1; }
-  f224(m, l3 + 16L, l1, l2);
+  f225(m, l3 + 16L, l1, l2);
   l2 = Words.get64(b, ((int) l3) - 58896);
   L2: {
    if ((l1 = Words.get64(b, ((int) l3) - 58888)) == 0L) { break L2; }
@@ -4595,7 +4595,7 @@ static void f221(State m, long l0, long l1, long l2) {
     }
     l4 = (l5 + Integer.MIN_VALUE < 2147483632) ? 3L : 4L;
    }
-   f218(m, l3, l2 + l4, l1 - l4);
+   f219(m, l3, l2 + l4, l1 - l4);
    l1 = Words.get64(b, ((int) l3) - 58904);
    l2 = Words.get64(b, ((int) l3) - 58912);
   }
@@ -4607,7 +4607,7 @@ static void f221(State m, long l0, long l1, long l2) {
  throw State.trap();
 }
 
-static int f222(State m, long l0, long l1) {
+static int f223(State m, long l0, long l1) {
  final byte[] b = m.bytes;
  long l2 = 0;
  long l3 = 0;
@@ -4693,109 +4693,109 @@ static int f222(State m, long l0, long l1) {
   Words.put64(b, ((int) l3) - 58888, 0L);
   Words.put64(b, ((int) l3) - 58896, 0L);
   Words.put64(b, ((int) l3) - 58904, 0L);
-  Core6.f196(m, l3 + 8L, 97848L, 6L, l0, l1);
+  Core6.f197(m, l3 + 8L, 97824L, 6L, l0, l1);
   if ((b[((int) l3) - 58904] & 0xff) == 1) { break L1; }
   Words.put64(b, ((int) l3) - 58888, 0L);
   Words.put64(b, ((int) l3) - 58896, 0L);
   Words.put64(b, ((int) l3) - 58904, 0L);
-  Core6.f196(m, l3 + 8L, 97854L, 6L, l0, l1);
+  Core6.f197(m, l3 + 8L, 97830L, 6L, l0, l1);
   if ((b[((int) l3) - 58904] & 0xff) == 1) { break L1; }
   Words.put64(b, ((int) l3) - 58888, 0L);
   Words.put64(b, ((int) l3) - 58896, 0L);
   Words.put64(b, ((int) l3) - 58904, 0L);
-  Core6.f196(m, l3 + 8L, 97860L, 6L, l0, l1);
+  Core6.f197(m, l3 + 8L, 97836L, 6L, l0, l1);
   if ((b[((int) l3) - 58904] & 0xff) == 1) { break L1; }
   Words.put64(b, ((int) l3) - 58888, 0L);
   Words.put64(b, ((int) l3) - 58896, 0L);
   Words.put64(b, ((int) l3) - 58904, 0L);
-  Core6.f196(m, l3 + 8L, 97866L, 6L, l0, l1);
+  Core6.f197(m, l3 + 8L, 97842L, 6L, l0, l1);
   if ((b[((int) l3) - 58904] & 0xff) == 1) { break L1; }
   Words.put64(b, ((int) l3) - 58888, 0L);
   Words.put64(b, ((int) l3) - 58896, 0L);
   Words.put64(b, ((int) l3) - 58904, 0L);
-  Core6.f196(m, l3 + 8L, 97872L, 6L, l0, l1);
+  Core6.f197(m, l3 + 8L, 97848L, 6L, l0, l1);
   if ((b[((int) l3) - 58904] & 0xff) == 1) { break L1; }
   Words.put64(b, ((int) l3) - 58888, 0L);
   Words.put64(b, ((int) l3) - 58896, 0L);
   Words.put64(b, ((int) l3) - 58904, 0L);
-  Core6.f196(m, l3 + 8L, 97878L, 6L, l0, l1);
+  Core6.f197(m, l3 + 8L, 97854L, 6L, l0, l1);
   if ((b[((int) l3) - 58904] & 0xff) == 1) { break L1; }
   Words.put64(b, ((int) l3) - 58888, 0L);
   Words.put64(b, ((int) l3) - 58896, 0L);
   Words.put64(b, ((int) l3) - 58904, 0L);
-  Core6.f196(m, l3 + 8L, 97884L, 6L, l0, l1);
+  Core6.f197(m, l3 + 8L, 97860L, 6L, l0, l1);
   if ((b[((int) l3) - 58904] & 0xff) == 1) { break L1; }
   Words.put64(b, ((int) l3) - 58888, 0L);
   Words.put64(b, ((int) l3) - 58896, 0L);
   Words.put64(b, ((int) l3) - 58904, 0L);
-  Core6.f196(m, l3 + 8L, 97890L, 6L, l0, l1);
+  Core6.f197(m, l3 + 8L, 97866L, 6L, l0, l1);
   if ((b[((int) l3) - 58904] & 0xff) == 1) { break L1; }
   Words.put64(b, ((int) l3) - 58888, 0L);
   Words.put64(b, ((int) l3) - 58896, 0L);
   Words.put64(b, ((int) l3) - 58904, 0L);
-  Core6.f196(m, l3 + 8L, 97896L, 6L, l0, l1);
+  Core6.f197(m, l3 + 8L, 97872L, 6L, l0, l1);
   if ((b[((int) l3) - 58904] & 0xff) == 1) { break L1; }
   Words.put64(b, ((int) l3) - 58888, 0L);
   Words.put64(b, ((int) l3) - 58896, 0L);
   Words.put64(b, ((int) l3) - 58904, 0L);
-  Core6.f196(m, l3 + 8L, 97902L, 6L, l0, l1);
+  Core6.f197(m, l3 + 8L, 97878L, 6L, l0, l1);
   if ((b[((int) l3) - 58904] & 0xff) == 1) { break L1; }
   Words.put64(b, ((int) l3) - 58888, 0L);
   Words.put64(b, ((int) l3) - 58896, 0L);
   Words.put64(b, ((int) l3) - 58904, 0L);
-  Core6.f196(m, l3 + 8L, 97908L, 6L, l0, l1);
+  Core6.f197(m, l3 + 8L, 97884L, 6L, l0, l1);
   if ((b[((int) l3) - 58904] & 0xff) == 1) { break L1; }
   Words.put64(b, ((int) l3) - 58888, 0L);
   Words.put64(b, ((int) l3) - 58896, 0L);
   Words.put64(b, ((int) l3) - 58904, 0L);
-  Core6.f196(m, l3 + 8L, 97914L, 6L, l0, l1);
+  Core6.f197(m, l3 + 8L, 97890L, 6L, l0, l1);
   if ((b[((int) l3) - 58904] & 0xff) == 1) { break L1; }
   Words.put64(b, ((int) l3) - 58888, 0L);
   Words.put64(b, ((int) l3) - 58896, 0L);
   Words.put64(b, ((int) l3) - 58904, 0L);
-  Core6.f196(m, l3 + 8L, 97920L, 6L, l0, l1);
+  Core6.f197(m, l3 + 8L, 97896L, 6L, l0, l1);
   if ((b[((int) l3) - 58904] & 0xff) == 1) { break L1; }
   Words.put64(b, ((int) l3) - 58888, 0L);
   Words.put64(b, ((int) l3) - 58896, 0L);
   Words.put64(b, ((int) l3) - 58904, 0L);
-  Core6.f196(m, l3 + 8L, 97926L, 6L, l0, l1);
+  Core6.f197(m, l3 + 8L, 97902L, 6L, l0, l1);
   if ((b[((int) l3) - 58904] & 0xff) == 1) { break L1; }
   Words.put64(b, ((int) l3) - 58888, 0L);
   Words.put64(b, ((int) l3) - 58896, 0L);
   Words.put64(b, ((int) l3) - 58904, 0L);
-  Core6.f196(m, l3 + 8L, 97932L, 6L, l0, l1);
+  Core6.f197(m, l3 + 8L, 97908L, 6L, l0, l1);
   if ((b[((int) l3) - 58904] & 0xff) == 1) { break L1; }
   Words.put64(b, ((int) l3) - 58888, 0L);
   Words.put64(b, ((int) l3) - 58896, 0L);
   Words.put64(b, ((int) l3) - 58904, 0L);
-  Core6.f196(m, l3 + 8L, 97938L, 6L, l0, l1);
+  Core6.f197(m, l3 + 8L, 97914L, 6L, l0, l1);
   if ((b[((int) l3) - 58904] & 0xff) == 1) { break L1; }
   Words.put64(b, ((int) l3) - 58888, 0L);
   Words.put64(b, ((int) l3) - 58896, 0L);
   Words.put64(b, ((int) l3) - 58904, 0L);
-  Core6.f196(m, l3 + 8L, 97944L, 6L, l0, l1);
+  Core6.f197(m, l3 + 8L, 97920L, 6L, l0, l1);
   if ((b[((int) l3) - 58904] & 0xff) == 1) { break L1; }
   Words.put64(b, ((int) l3) - 58888, 0L);
   Words.put64(b, ((int) l3) - 58896, 0L);
   Words.put64(b, ((int) l3) - 58904, 0L);
-  Core6.f196(m, l3 + 8L, 97950L, 6L, l0, l1);
+  Core6.f197(m, l3 + 8L, 97926L, 6L, l0, l1);
   if ((b[((int) l3) - 58904] & 0xff) == 1) { break L1; }
   Words.put64(b, ((int) l3) - 58888, 0L);
   Words.put64(b, ((int) l3) - 58896, 0L);
   Words.put64(b, ((int) l3) - 58904, 0L);
-  Core6.f196(m, l3 + 8L, 97956L, 6L, l0, l1);
+  Core6.f197(m, l3 + 8L, 97932L, 6L, l0, l1);
   if ((b[((int) l3) - 58904] & 0xff) == 1) { break L1; }
   Words.put64(b, ((int) l3) - 58888, 0L);
   Words.put64(b, ((int) l3) - 58896, 0L);
   Words.put64(b, ((int) l3) - 58904, 0L);
-  Core6.f196(m, l3 + 8L, 97962L, 9L, l0, l1);
+  Core6.f197(m, l3 + 8L, 97938L, 9L, l0, l1);
   l4 = ((b[((int) l3) - 58904] & 0xff) != 1) ? 1 : 0;
  }
  m.g0 = l3 + 32L;
  return l4;
 }
 
-static int f223(State m, long l0, long l1) {
+static int f224(State m, long l0, long l1) {
  final byte[] b = m.bytes;
  long l2 = 0;
  long l3 = 0;
@@ -4892,7 +4892,7 @@ static int f223(State m, long l0, long l1) {
  throw State.trap();
 }
 
-static void f224(State m, long l0, long l1, long l2) {
+static void f225(State m, long l0, long l1, long l2) {
  final byte[] b = m.bytes;
  long l3 = 0;
  long l4 = 0;
@@ -4902,7 +4902,7 @@ static void f224(State m, long l0, long l1, long l2) {
   if ((l3 = m.g0) < 16L) { break L1; }
   L2: {
    L3: {
-    if (Core5.f157(m, 97520L, 1L, 86088L, 1L, l1, l2) == 0) { break L3; }
+    if (Core5.f157(m, 97496L, 1L, 86088L, 1L, l1, l2) == 0) { break L3; }
     L4: {
      if (!(l2 == 0L)) { break L4; }
      l2 = 0L;
@@ -4944,7 +4944,7 @@ static void f224(State m, long l0, long l1, long l2) {
     l2 = l2 - (l4 + l5);
     break L2;
    }
-   if (f225(m, l1, l2) == 0) { break L2; }
+   if (f226(m, l1, l2) == 0) { break L2; }
    L12: {
     if (!(l2 == 0L)) { break L12; }
     l2 = 0L;
@@ -4974,7 +4974,7 @@ static void f224(State m, long l0, long l1, long l2) {
  throw State.trap();
 }
 
-static int f225(State m, long l0, long l1) {
+static int f226(State m, long l0, long l1) {
  final byte[] b = m.bytes;
  int l2 = 0;
  int l3 = 0;
@@ -5032,7 +5032,7 @@ static int f225(State m, long l0, long l1) {
  throw State.trap();
 }
 
-static void f226(State m, long l0, long l1, long l2, long l3) {
+static void f227(State m, long l0, long l1, long l2, long l3) {
  final byte[] b = m.bytes;
  long l4 = 0;
  long l5 = 0;
@@ -5109,7 +5109,7 @@ static void f226(State m, long l0, long l1, long l2, long l3) {
      Words.put64(b, ((int) l4) - 58888, 0L);
      Words.put64(b, ((int) l4) - 58896, 0L);
      Words.put64(b, ((int) l4) - 58904, 0L);
-     Core6.f192(m, l4 + 8L, l1, l2);
+     Core6.f193(m, l4 + 8L, l1, l2);
      final long t12 = Words.get64(b, ((int) l4) - 58872);
      final long t13 = l2;
      final int t14 = l12 = ((b[((int) l4) - 58904] & 0xff) == 1) ? 1 : 0;
@@ -5125,7 +5125,7 @@ static void f226(State m, long l0, long l1, long l2, long l3) {
     Words.put64(b, ((int) l4) - 58888, 0L);
     Words.put64(b, ((int) l4) - 58896, 0L);
     Words.put64(b, ((int) l4) - 58904, 0L);
-    Core6.f192(m, l4 + 8L, l9, l8);
+    Core6.f193(m, l4 + 8L, l9, l8);
     final long t18 = Words.get64(b, ((int) l4) - 58872);
     final long t19 = l8;
     final int t20 = l12 = ((b[((int) l4) - 58904] & 0xff) == 1) ? 1 : 0;
@@ -5181,7 +5181,7 @@ static void f226(State m, long l0, long l1, long l2, long l3) {
     Words.put64(b, ((int) l4) - 58888, 0L);
     Words.put64(b, ((int) l4) - 58896, 0L);
     Words.put64(b, ((int) l4) - 58904, 0L);
-    Core6.f192(m, l4 + 8L, l5, l2);
+    Core6.f193(m, l4 + 8L, l5, l2);
     final long t31 = Words.get64(b, ((int) l4) - 58872);
     final long t32 = l2;
     final int t33 = l12 = ((b[((int) l4) - 58904] & 0xff) == 1) ? 1 : 0;
@@ -5197,7 +5197,7 @@ static void f226(State m, long l0, long l1, long l2, long l3) {
    Words.put64(b, ((int) l4) - 58888, 0L);
    Words.put64(b, ((int) l4) - 58896, 0L);
    Words.put64(b, ((int) l4) - 58904, 0L);
-   Core6.f192(m, l4 + 8L, l7, l10);
+   Core6.f193(m, l4 + 8L, l7, l10);
    final long t37 = Words.get64(b, ((int) l4) - 58872);
    final long t38 = l10;
    final int t39 = l12 = ((b[((int) l4) - 58904] & 0xff) == 1) ? 1 : 0;
@@ -5215,7 +5215,7 @@ static void f226(State m, long l0, long l1, long l2, long l3) {
  throw State.trap();
 }
 
-static void f227(State m, long l0, int l1, long l2, long l3) {
+static void f228(State m, long l0, int l1, long l2, long l3) {
  final byte[] b = m.bytes;
  long l4 = 0;
  long l5 = 0;
@@ -5410,7 +5410,7 @@ static void f227(State m, long l0, int l1, long l2, long l3) {
  m.g0 = l5 + 16L;
 }
 
-static void f228(State m, long l0, int l1, int l2, int l3, long l4, long l5) {
+static void f229(State m, long l0, int l1, int l2, int l3, long l4, long l5) {
  final byte[] b = m.bytes;
  long l6 = 0;
  long l7 = 0;
@@ -5796,7 +5796,7 @@ static void f228(State m, long l0, int l1, int l2, int l3, long l4, long l5) {
   }
   L74: {
    if ((l2 & 255) == 0) { break L74; }
-   l13 = f229(m, l4, l5, l13, l6) & 255;
+   l13 = f230(m, l4, l5, l13, l6) & 255;
    break L72;
   }
   l13 = 33620992 >>> (l13 << 3);
@@ -5806,7 +5806,7 @@ static void f228(State m, long l0, int l1, int l2, int l3, long l4, long l5) {
  m.g0 = l7 + 32L;
 }
 
-static int f229(State m, long l0, long l1, int l2, long l3) {
+static int f230(State m, long l0, long l1, int l2, long l3) {
  final byte[] b = m.bytes;
  long l4 = 0;
  long l5 = 0;
@@ -5872,7 +5872,7 @@ static int f229(State m, long l0, long l1, int l2, long l3) {
       Words.put64(b, ((int) l5) - 58880, 0L);
       Words.put64(b, ((int) l5) - 58888, 0L);
       Words.put64(b, ((int) l5) - 58896, 0L);
-      f230(m, l5 + 16L, l0 + l4, l1 - l4);
+      f231(m, l5 + 16L, l0 + l4, l1 - l4);
       l2 = 3;
       if ((b[((int) l5) - 58896] & 0xff) != 1) { break L1; }
       l2 = 4;
@@ -5891,7 +5891,7 @@ static int f229(State m, long l0, long l1, int l2, long l3) {
        Words.put64(b, ((int) l5) - 58848, 0L);
        Words.put64(b, ((int) l5) - 58856, 0L);
        Words.put64(b, ((int) l5) - 58864, 0L);
-       f230(m, l5 + 48L, l3, l4);
+       f231(m, l5 + 48L, l3, l4);
        final int t16 = (((b[((int) l5) - 58856] & 0xff) & 255) != 0) ? 3 : 5;
        final int t17 = ((b[((int) l5) - 58864] & 0xff) != 1) ? 1 : 0;
        final int t18 = t17 != 0 ? 3 : t16;
@@ -5906,7 +5906,7 @@ static int f229(State m, long l0, long l1, int l2, long l3) {
       Words.put64(b, ((int) l5) - 58848, 0L);
       Words.put64(b, ((int) l5) - 58856, 0L);
       Words.put64(b, ((int) l5) - 58864, 0L);
-      f230(m, l5 + 48L, l3, l4);
+      f231(m, l5 + 48L, l3, l4);
       L20: {
        if ((l8 = (((b[((int) l5) - 58864] & 0xff) == 1) & (((b[((int) l5) - 58856] & 0xff) & 255) == 1)) ? 1 : 0) != 1) { break L20; }
        final int t21 = l7 & 255;
@@ -5926,7 +5926,7 @@ static int f229(State m, long l0, long l1, int l2, long l3) {
       Words.put64(b, ((int) l5) - 58848, 0L);
       Words.put64(b, ((int) l5) - 58856, 0L);
       Words.put64(b, ((int) l5) - 58864, 0L);
-      f230(m, l5 + 48L, l3, l4);
+      f231(m, l5 + 48L, l3, l4);
       if ((b[((int) l5) - 58864] & 0xff) != 1) { break L2; }
       L25: {
        L26: while (true) {
@@ -5934,7 +5934,7 @@ static int f229(State m, long l0, long l1, int l2, long l3) {
          if ((b[((int) l5) - 58856] & 0xff) != 1) { break L27; }
          if ((l2 = (b[((int) l5) - 58855] & 0xff) & 255) + Integer.MIN_VALUE >= (l8 = l7 & 255) + Integer.MIN_VALUE) { break L25; }
         }
-        f230(m, l5 + 48L, Words.get64(b, ((int) l5) - 58848), Words.get64(b, ((int) l5) - 58840));
+        f231(m, l5 + 48L, Words.get64(b, ((int) l5) - 58848), Words.get64(b, ((int) l5) - 58840));
         if ((b[((int) l5) - 58864] & 0xff) == 1) { continue L26; }
         break L2;
        }
@@ -5957,7 +5957,7 @@ static int f229(State m, long l0, long l1, int l2, long l3) {
  return l2;
 }
 
-static void f230(State m, long l0, long l1, long l2) {
+static void f231(State m, long l0, long l1, long l2) {
  final byte[] b = m.bytes;
  int l3 = 0;
  int l4 = 0;
@@ -6108,7 +6108,7 @@ static void f230(State m, long l0, long l1, long l2) {
  b[((int) (l0 + 8L)) - 58912] = (byte) l4;
 }
 
-static int f231(State m, long l0, long l1, int l2, int l3, int l4, long l5) {
+static int f232(State m, long l0, long l1, int l2, int l3, int l4, long l5) {
  final byte[] b = m.bytes;
  long l6 = 0;
  long l7 = 0;
@@ -6576,7 +6576,7 @@ static int f231(State m, long l0, long l1, int l2, int l3, int l4, long l5) {
  return l2;
 }
 
-static int f232(State m, long l0, long l1, int l2, int l3, int l4, long l5) {
+static int f233(State m, long l0, long l1, int l2, int l3, int l4, long l5) {
  final byte[] b = m.bytes;
  long l6 = 0;
  long l7 = 0;
@@ -6690,7 +6690,7 @@ static int f232(State m, long l0, long l1, int l2, int l3, int l4, long l5) {
  return l3;
 }
 
-static int f233(State m, long l0, long l1, int l2, long l3) {
+static int f234(State m, long l0, long l1, int l2, long l3) {
  final byte[] b = m.bytes;
  long l4 = 0;
  int l5 = 0;
@@ -6698,16 +6698,16 @@ static int f233(State m, long l0, long l1, int l2, long l3) {
  m.g0 = l4 = m.g0 - 16L;
  L1: {
   if ((l4 = l4) < 16L) { break L1; }
-  f227(m, l4 + 8L, l2, l0, l1);
+  f228(m, l4 + 8L, l2, l0, l1);
   l5 = b[((int) l4) - 58903] & 0xff;
   l6 = b[((int) l4) - 58904] & 0xff;
   L2: {
    L3: {
     if ((l2 & 255) + Integer.MIN_VALUE < -2147483643) { break L3; }
-    l2 = f231(m, l0, l1, l2, l6, l5, l3);
+    l2 = f232(m, l0, l1, l2, l6, l5, l3);
     break L2;
    }
-   l2 = f232(m, l0, l1, l2, l6, l5, l3);
+   l2 = f233(m, l0, l1, l2, l6, l5, l3);
   }
   m.g0 = l4 + 16L;
   final int t4 = l2;
@@ -6716,7 +6716,7 @@ static int f233(State m, long l0, long l1, int l2, long l3) {
  throw State.trap();
 }
 
-static int f234(State m, long l0, long l1) {
+static int f235(State m, long l0, long l1) {
  final byte[] b = m.bytes;
  long l2 = 0;
  long l3 = 0;
@@ -6990,7 +6990,7 @@ static int f234(State m, long l0, long l1) {
         break L1;
        }
        L47: {
-        if (f235(m, l7) == 0) { break L47; }
+        if (f236(m, l7) == 0) { break L47; }
         l6 = 1;
         L48: {
          L49: {
@@ -7053,7 +7053,7 @@ static int f234(State m, long l0, long l1) {
      throw State.trap();
     }
     L56: {
-     if (f236(m, l3, l0, l4, l1) != 0) { break L56; }
+     if (f237(m, l3, l0, l4, l1) != 0) { break L56; }
      l6 = 1;
      break L1;
     }
@@ -7080,7 +7080,7 @@ static int f234(State m, long l0, long l1) {
     if (l7 != 27611) { break L2; }
    }
    l6 = 0;
-   if (f236(m, l3, l0, l4, l1) != 0) { break L1; }
+   if (f237(m, l3, l0, l4, l1) != 0) { break L1; }
    Words.put32(b, ((int) l2) - 58900, 0);
    L60: {
     L61: {
@@ -7229,7 +7229,7 @@ static int f234(State m, long l0, long l1) {
  return l6;
 }
 
-static int f235(State m, int l0) {
+static int f236(State m, int l0) {
  int l1 = 0;
  L1: {
   if (m.g0 < 16L) { break L1; }
@@ -7307,7 +7307,7 @@ static int f235(State m, int l0) {
  throw State.trap();
 }
 
-static int f236(State m, long l0, long l1, long l2, long l3) {
+static int f237(State m, long l0, long l1, long l2, long l3) {
  final byte[] b = m.bytes;
  long l4 = 0;
  int l5 = 0;
@@ -7358,7 +7358,7 @@ static int f236(State m, long l0, long l1, long l2, long l3) {
    if ((l6 + -19968) + Integer.MIN_VALUE > -2147462657) { break L2; }
    if (l6 == 21040) { break L2; }
    if (l6 == 33267) { break L2; }
-   if (f235(m, l6) != 0) { break L2; }
+   if (f236(m, l6) != 0) { break L2; }
    L8: {
     L9: {
      if (l6 > 23566) { break L9; }
@@ -7409,7 +7409,7 @@ static int f236(State m, long l0, long l1, long l2, long l3) {
  throw State.trap();
 }
 
-static int f237(State m, long l0, long l1) {
+static int f238(State m, long l0, long l1) {
  final byte[] b = m.bytes;
  long l2 = 0;
  long l3 = 0;
@@ -7436,10 +7436,10 @@ static int f237(State m, long l0, long l1) {
     b[((int) l2) - 58786] = (byte) ((l6 = (int) l0) >>> 24);
     Words.put16(b, ((int) l2) - 58788, (short) (l6 >>> 8));
     l7 = 0;
-    if (f238(m, l6, l2 + 124L, l2 + 72L) == 0) { break L1; }
+    if (f239(m, l6, l2 + 124L, l2 + 72L) == 0) { break L1; }
     L4: {
-     if (f239(m, l3, l4) != 0) { break L4; }
-     l8 = f240(m, l3, l4);
+     if (f240(m, l3, l4) != 0) { break L4; }
+     l8 = f241(m, l3, l4);
      L5: {
       if ((l0 & 1095216660480L) != 0L) { break L5; }
       if (l8 != 0) { break L1; }
@@ -7478,10 +7478,10 @@ static int f237(State m, long l0, long l1) {
       Words.put64(b, ((int) l2) - 58720, 0L);
       Words.put64(b, ((int) l2) - 58728, 0L);
       Words.put64(b, ((int) l2) - 58736, 0L);
-      f241(m, l2 + 176L, l3, l4);
+      f242(m, l2 + 176L, l3, l4);
       L11: {
        if ((b[((int) l2) - 58736] & 0xff) != 1) { break L11; }
-       f242(m, l2 + 24L, l6, Words.get64(b, ((int) l2) - 58728), Words.get64(b, ((int) l2) - 58720));
+       f243(m, l2 + 24L, l6, Words.get64(b, ((int) l2) - 58728), Words.get64(b, ((int) l2) - 58720));
        l7 = b[((int) l2) - 58887] & 0xff;
        break L1;
       }
@@ -7518,7 +7518,7 @@ static int f237(State m, long l0, long l1) {
        if (l8 == 65293) { break L15; }
        if (l8 != 36127) { break L2; }
       }
-      f242(m, l2 + 40L, l6, l3 + l1, l4 - l1);
+      f243(m, l2 + 40L, l6, l3 + l1, l4 - l1);
       l7 = b[((int) l2) - 58871] & 0xff;
       break L1;
      }
@@ -7639,7 +7639,7 @@ static int f237(State m, long l0, long l1) {
        }
        l8 = (((l8 + -48) + Integer.MIN_VALUE < -2147483638) | ((l8 + -65296) + Integer.MIN_VALUE < -2147483638)) ? 1 : 0;
       }
-      f243(m, l2 + 8L, l8, l6);
+      f244(m, l2 + 8L, l8, l6);
       L34: {
        L35: {
         if (((l7 | l8) & 1) == 0) { break L35; }
@@ -7657,14 +7657,14 @@ static int f237(State m, long l0, long l1) {
    }
    throw State.trap();
   }
-  f242(m, l2 + 32L, l6, l3, l4);
+  f243(m, l2 + 32L, l6, l3, l4);
   l7 = b[((int) l2) - 58879] & 0xff;
  }
  m.g0 = l2 + 256L;
  return l7 & 1;
 }
 
-static int f238(State m, int l0, long l1, long l2) {
+static int f239(State m, int l0, long l1, long l2) {
  final byte[] b = m.bytes;
  long l3 = 0;
  long l4 = 0;
@@ -7793,10 +7793,10 @@ static int f238(State m, int l0, long l1, long l2) {
        }
        if (l12 == 21319) { break L14; }
       }
-      if (Core5.f157(m, 98044L, 7L, 98072L, 9L, l5, l4) != 0) { break L14; }
-      if (Core5.f157(m, 98108L, 2L, 98116L, 4L, l5, l4) != 0) { break L14; }
-      if (Core5.f157(m, 98132L, 5L, 98152L, 1L, l5, l4) != 0) { break L14; }
-      if (Core5.f157(m, 86220L, 1L, 83844L, 1L, l5, l4) != 0) { break L14; }
+      if (Core5.f157(m, 98020L, 7L, 98048L, 9L, l5, l4) != 0) { break L14; }
+      if (Core5.f157(m, 98084L, 2L, 98092L, 4L, l5, l4) != 0) { break L14; }
+      if (Core5.f157(m, 98108L, 5L, 98128L, 1L, l5, l4) != 0) { break L14; }
+      if (Core5.f157(m, 86328L, 1L, 83844L, 1L, l5, l4) != 0) { break L14; }
       if (l8 == 0L) { break L2; }
       if (((int) b[((int) ((l1 = l2 + l8) + -1L)) - 58912]) > -1) { break L2; }
       l9 = -2L;
@@ -7901,7 +7901,7 @@ static int f238(State m, int l0, long l1, long l2) {
  return l11;
 }
 
-static int f239(State m, long l0, long l1) {
+static int f240(State m, long l0, long l1) {
  final byte[] b = m.bytes;
  int l2 = 0;
  int l3 = 0;
@@ -7952,7 +7952,7 @@ static int f239(State m, long l0, long l1) {
  throw State.trap();
 }
 
-static int f240(State m, long l0, long l1) {
+static int f241(State m, long l0, long l1) {
  final byte[] b = m.bytes;
  long l2 = 0;
  long l3 = 0;
@@ -8008,7 +8008,7 @@ static int f240(State m, long l0, long l1) {
     }
     break L3;
    }
-   f244(m, l3 + 8L, l0, l1);
+   f245(m, l3 + 8L, l0, l1);
    l6 = ((b[((int) l3) - 58904] & 0xff) != 1) ? 1 : 0;
   }
   m.g0 = l3 + 48L;
@@ -8018,7 +8018,7 @@ static int f240(State m, long l0, long l1) {
  throw State.trap();
 }
 
-static void f241(State m, long l0, long l1, long l2) {
+static void f242(State m, long l0, long l1, long l2) {
  final byte[] b = m.bytes;
  int l3 = 0;
  int l4 = 0;
@@ -8099,7 +8099,7 @@ static void f241(State m, long l0, long l1, long l2) {
  throw State.trap();
 }
 
-static void f242(State m, long l0, int l1, long l2, long l3) {
+static void f243(State m, long l0, int l1, long l2, long l3) {
  final byte[] b = m.bytes;
  long l4 = 0;
  long l5 = 0;
@@ -8128,7 +8128,7 @@ static void f242(State m, long l0, int l1, long l2, long l3) {
        Words.put64(b, ((int) l4) - 58824, 0L);
        Words.put64(b, ((int) l4) - 58832, 0L);
        Words.put64(b, ((int) l4) - 58840, 0L);
-       f244(m, l4 + 72L, l2, l3);
+       f245(m, l4 + 72L, l2, l3);
        if ((b[((int) l4) - 58840] & 0xff) != 1) { break L2; }
        l5 = Words.get64(b, ((int) l4) - 58808);
        l6 = Words.get64(b, ((int) l4) - 58816);
@@ -8216,7 +8216,7 @@ static void f242(State m, long l0, int l1, long l2, long l3) {
          if (l15 == 65293) { break L16; }
          if (l15 != 36127) { break L5; }
         }
-        f245(m, l4 + 40L, l1, l6 + l3, l5 - l3);
+        f246(m, l4 + 40L, l1, l6 + l3, l5 - l3);
         l15 = b[((int) l4) - 58871] & 0xff;
         break L4;
        }
@@ -8232,7 +8232,7 @@ static void f242(State m, long l0, int l1, long l2, long l3) {
       }
       throw State.trap();
      }
-     f245(m, l4 + 32L, l1, l6, l5);
+     f246(m, l4 + 32L, l1, l6, l5);
      l15 = b[((int) l4) - 58879] & 0xff;
     }
     if ((l15 & 1) == 0) { break L1; }
@@ -8256,7 +8256,7 @@ static void f242(State m, long l0, int l1, long l2, long l3) {
    final int t20 = ((l3 = Words.get64(b, ((int) l4) - 58776)) > 0L) ? 1 : 0;
    final int t21 = (l3 == 0L) ? 1 : 0;
    if ((t21 != 0 ? t19 : t20) != 0) { break L1; }
-   f245(m, l4 + 8L, l1, l8, l7);
+   f246(m, l4 + 8L, l1, l8, l7);
    l12 = b[((int) l4) - 58903] & 0xff;
    break L1;
   }
@@ -8294,11 +8294,11 @@ static void f242(State m, long l0, int l1, long l2, long l3) {
     if (l15 == 65285) { break L28; }
     if (l15 != 8240) { break L27; }
    }
-   f245(m, l4 + 64L, l1, l2, l11);
+   f246(m, l4 + 64L, l1, l2, l11);
    l12 = (b[((int) l4) - 58847] & 0xff) & 1;
    break L1;
   }
-  f245(m, l4 + 56L, l1, l2, l3);
+  f246(m, l4 + 56L, l1, l2, l3);
   l12 = b[((int) l4) - 58855] & 0xff;
  }
  b[((int) l0) - 58911] = (byte) l12;
@@ -8306,7 +8306,7 @@ static void f242(State m, long l0, int l1, long l2, long l3) {
  m.g0 = l4 + 240L;
 }
 
-static void f243(State m, long l0, int l1, int l2) {
+static void f244(State m, long l0, int l1, int l2) {
  final byte[] b = m.bytes;
  long l3 = 0;
  long l4 = 0;
@@ -8318,7 +8318,7 @@ static void f243(State m, long l0, int l1, int l2) {
     l4 = 83372L;
     if (l1 != 0) { break L1; }
     l3 = 1L;
-    l4 = 98156L;
+    l4 = 98132L;
     L4: {
      L5: {
       L6: {
@@ -8366,34 +8366,34 @@ static void f243(State m, long l0, int l1, int l2) {
                 default: break L5;
                 }
                }
-               l4 = 98157L;
+               l4 = 98133L;
                break L1;
               }
-              l4 = 98158L;
+              l4 = 98134L;
               break L1;
              }
-             l4 = 98159L;
+             l4 = 98135L;
              break L1;
             }
-            l4 = 98160L;
+            l4 = 98136L;
             break L1;
            }
-           l4 = 98161L;
+           l4 = 98137L;
            break L1;
           }
-          l4 = 98162L;
+          l4 = 98138L;
           break L1;
          }
-         l4 = 98163L;
+         l4 = 98139L;
          break L1;
         }
-        l4 = 98164L;
+        l4 = 98140L;
         break L1;
        }
-       l4 = 98165L;
+       l4 = 98141L;
        break L1;
       }
-      l4 = 98166L;
+      l4 = 98142L;
       break L1;
      }
      if (l2 == 8722) { break L2; }
@@ -8410,7 +8410,7 @@ static void f243(State m, long l0, int l1, int l2) {
  Words.put64(b, ((int) l0) - 58912, l4);
 }
 
-static void f244(State m, long l0, long l1, long l2) {
+static void f245(State m, long l0, long l1, long l2) {
  final byte[] b = m.bytes;
  int l3 = 0;
  int l4 = 0;
@@ -8502,7 +8502,7 @@ static void f244(State m, long l0, long l1, long l2) {
  throw State.trap();
 }
 
-static void f245(State m, long l0, int l1, long l2, long l3) {
+static void f246(State m, long l0, int l1, long l2, long l3) {
  final byte[] b = m.bytes;
  long l4 = 0;
  long l5 = 0;
@@ -8587,7 +8587,7 @@ static void f245(State m, long l0, int l1, long l2, long l3) {
         }
         break L11;
        }
-       f246(m, l4 + 104L, l2, l3);
+       f247(m, l4 + 104L, l2, l3);
        if ((b[((int) l4) - 58808] & 0xff) != 1) { break L8; }
        l7 = Words.get64(b, ((int) l4) - 58776);
        l2 = Words.get64(b, ((int) l4) - 58784);
@@ -8675,7 +8675,7 @@ static void f245(State m, long l0, int l1, long l2, long l3) {
      }
     }
     L24: {
-     if (f247(m, l2, l3) == 0) { break L24; }
+     if (f248(m, l2, l3) == 0) { break L24; }
      l16 = 1;
      if (l11 != 0) { break L1; }
      l8 = l4 + 272L;
@@ -8704,7 +8704,7 @@ static void f245(State m, long l0, int l1, long l2, long l3) {
        l5 = 4L;
       }
       L29: {
-       if (f248(m, l13, l9 = l9 + l5, l10 = l10 - l5) == 0) { break L29; }
+       if (f249(m, l13, l9 = l9 + l5, l10 = l10 - l5) == 0) { break L29; }
        L30: {
         L31: {
          if (!((l7 = l3 - l10) == 0L)) { break L31; }
@@ -8749,7 +8749,7 @@ static void f245(State m, long l0, int l1, long l2, long l3) {
        Words.put64(b, ((int) l4) - 58688, 0L);
        Words.put64(b, ((int) l4) - 58696, 0L);
        Words.put64(b, ((int) l4) - 58704, 0L);
-       f249(m, l4 + 208L, l2, l6);
+       f250(m, l4 + 208L, l2, l6);
        l2 = Words.get64(b, ((int) l4) - 58696);
        l5 = Words.get64(b, ((int) l4) - 58704);
        Words.put64(b, ((int) l4) - 58600, 0L);
@@ -8785,7 +8785,7 @@ static void f245(State m, long l0, int l1, long l2, long l3) {
     Words.put64(b, ((int) l4) - 58752, 0L);
     Words.put64(b, ((int) l4) - 58760, 0L);
     Words.put64(b, ((int) l4) - 58768, 0L);
-    f250(m, l4 + 144L, l2, l3);
+    f251(m, l4 + 144L, l2, l3);
     L37: {
      L38: {
       L39: {
@@ -8849,7 +8849,7 @@ static void f245(State m, long l0, int l1, long l2, long l3) {
  m.g0 = l4 + 336L;
 }
 
-static void f246(State m, long l0, long l1, long l2) {
+static void f247(State m, long l0, long l1, long l2) {
  final byte[] b = m.bytes;
  long l3 = 0;
  long l4 = 0;
@@ -8981,7 +8981,7 @@ static void f246(State m, long l0, long l1, long l2) {
  m.g0 = l4 + 16L;
 }
 
-static int f247(State m, long l0, long l1) {
+static int f248(State m, long l0, long l1) {
  final byte[] b = m.bytes;
  long l2 = 0;
  long l3 = 0;
@@ -9032,7 +9032,7 @@ static int f247(State m, long l0, long l1) {
  throw State.trap();
 }
 
-static int f248(State m, int l0, long l1, long l2) {
+static int f249(State m, int l0, long l1, long l2) {
  final byte[] b = m.bytes;
  long l3 = 0;
  long l4 = 0;
@@ -9087,7 +9087,7 @@ static int f248(State m, int l0, long l1, long l2) {
  throw State.trap();
 }
 
-static void f249(State m, long l0, long l1, long l2) {
+static void f250(State m, long l0, long l1, long l2) {
  final byte[] b = m.bytes;
  long l3 = 0;
  long l4 = 0;
@@ -9230,7 +9230,7 @@ static void f249(State m, long l0, long l1, long l2) {
          break L15;
         }
        }
-       if (f248(m, l13, l1, l8 = l2 - l6) != 0) { break L3; }
+       if (f249(m, l13, l1, l8 = l2 - l6) != 0) { break L3; }
        L28: {
         if (l13 == 20491) { break L28; }
         if (l13 != 20010) { break L13; }
@@ -9253,7 +9253,7 @@ static void f249(State m, long l0, long l1, long l2) {
         }
         l12 = ((l17 << 6) | ((l15 << 12) | ((l12 << 18) & 1835008))) | ((b[((int) l10) - 58909] & 0xff) & 63);
        }
-       if (f248(m, l12, l1, l8) != 0) { break L3; }
+       if (f249(m, l12, l1, l8) != 0) { break L3; }
       }
       if (!(l4 == 0L)) { continue L5; }
       break L5;
@@ -9275,7 +9275,7 @@ static void f249(State m, long l0, long l1, long l2) {
  throw State.trap();
 }
 
-static void f250(State m, long l0, long l1, long l2) {
+static void f251(State m, long l0, long l1, long l2) {
  final byte[] b = m.bytes;
  long l3 = 0;
  long l4 = 0;

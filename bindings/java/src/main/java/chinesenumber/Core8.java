@@ -2,7 +2,7 @@
 package chinesenumber;
 
 final class Core8 {
-static void f251(State m, long l0, long l1, int l2, long l3, long l4) {
+static void f252(State m, long l0, long l1, int l2, long l3, long l4) {
  final byte[] b = m.bytes;
  long l5 = 0;
  long l6 = 0;
@@ -31,7 +31,7 @@ static void f251(State m, long l0, long l1, int l2, long l3, long l4) {
        Words.put64(b, ((int) l5) - 58824, 0L);
        Words.put64(b, ((int) l5) - 58832, 0L);
        Words.put64(b, ((int) l5) - 58840, 0L);
-       Core7.f244(m, l5 + 72L, l3, l4);
+       Core7.f245(m, l5 + 72L, l3, l4);
        if ((b[((int) l5) - 58840] & 0xff) != 1) { break L2; }
        l6 = Words.get64(b, ((int) l5) - 58808);
        l7 = Words.get64(b, ((int) l5) - 58816);
@@ -120,7 +120,7 @@ static void f251(State m, long l0, long l1, int l2, long l3, long l4) {
          if (l16 != 36127) { break L5; }
         }
         Core2.f53(m, l1, 77252L, 1L);
-        f252(m, l5 + 40L, l1, l2, l7 + l4, l6 - l4);
+        f253(m, l5 + 40L, l1, l2, l7 + l4, l6 - l4);
         l16 = b[((int) l5) - 58871] & 0xff;
         break L4;
        }
@@ -137,7 +137,7 @@ static void f251(State m, long l0, long l1, int l2, long l3, long l4) {
       }
       throw State.trap();
      }
-     f252(m, l5 + 32L, l1, l2, l7, l6);
+     f253(m, l5 + 32L, l1, l2, l7, l6);
      l16 = b[((int) l5) - 58879] & 0xff;
     }
     if ((l16 & 1) == 0) { break L1; }
@@ -163,7 +163,7 @@ static void f251(State m, long l0, long l1, int l2, long l3, long l4) {
    final int t21 = (l4 == 0L) ? 1 : 0;
    if ((t21 != 0 ? t19 : t20) != 0) { break L1; }
    Core2.f53(m, l1, 77253L, 1L);
-   f252(m, l5 + 8L, l1, l2, l9, l8);
+   f253(m, l5 + 8L, l1, l2, l9, l8);
    l13 = b[((int) l5) - 58903] & 0xff;
    break L1;
   }
@@ -201,7 +201,7 @@ static void f251(State m, long l0, long l1, int l2, long l3, long l4) {
     if (l16 == 65285) { break L28; }
     if (l16 != 8240) { break L27; }
    }
-   f252(m, l5 + 64L, l1, l2, l3, l12);
+   f253(m, l5 + 64L, l1, l2, l3, l12);
    l13 = 1;
    L29: {
     if (((b[((int) l5) - 58847] & 0xff) & 1) != 0) { break L29; }
@@ -211,7 +211,7 @@ static void f251(State m, long l0, long l1, int l2, long l3, long l4) {
    Core2.f53(m, l1, l3 + l12, l4 - l12);
    break L1;
   }
-  f252(m, l5 + 56L, l1, l2, l3, l4);
+  f253(m, l5 + 56L, l1, l2, l3, l4);
   l13 = b[((int) l5) - 58855] & 0xff;
  }
  b[((int) l0) - 58911] = (byte) l13;
@@ -219,7 +219,7 @@ static void f251(State m, long l0, long l1, int l2, long l3, long l4) {
  m.g0 = l5 + 240L;
 }
 
-static void f252(State m, long l0, long l1, int l2, long l3, long l4) {
+static void f253(State m, long l0, long l1, int l2, long l3, long l4) {
  final byte[] b = m.bytes;
  long l5 = 0;
  long l6 = 0;
@@ -309,7 +309,7 @@ static void f252(State m, long l0, long l1, int l2, long l3, long l4) {
        }
        break L11;
       }
-      Core7.f246(m, l5 + 88L, l3, l4);
+      Core7.f247(m, l5 + 88L, l3, l4);
       L16: {
        if ((b[((int) l5) - 58824] & 0xff) != 1) { break L16; }
        l7 = Words.get64(b, ((int) l5) - 58792);
@@ -339,12 +339,12 @@ static void f252(State m, long l0, long l1, int l2, long l3, long l4) {
        m.fill((int) (l5 + 240L), 0, (int) 80L);
        Core2.f52(m, l5 + 8L, l5 + 240L, l5 + 128L);
        Core2.f53(m, l1, Words.get64(b, ((int) l5) - 58904), Words.get64(b, ((int) l5) - 58896));
-       Core2.f53(m, l1, 98166L, 1L);
-       f253(m, l1, l9, l7);
+       Core2.f53(m, l1, 98142L, 1L);
+       f254(m, l1, l9, l7);
        break L2;
       }
       L18: {
-       if (Core7.f247(m, l3, l4) == 0) { break L18; }
+       if (Core7.f248(m, l3, l4) == 0) { break L18; }
        l18 = 1;
        if (l13 != 0) { break L1; }
        l10 = l5 + 256L;
@@ -373,7 +373,7 @@ static void f252(State m, long l0, long l1, int l2, long l3, long l4) {
          l6 = 4L;
         }
         L23: {
-         if (Core7.f248(m, l15, l11 = l11 + l6, l12 = l12 - l6) == 0) { break L23; }
+         if (Core7.f249(m, l15, l11 = l11 + l6, l12 = l12 - l6) == 0) { break L23; }
          l6 = l3;
          l9 = 0L;
          L24: {
@@ -419,7 +419,7 @@ static void f252(State m, long l0, long l1, int l2, long l3, long l4) {
          Words.put64(b, ((int) l5) - 58704, 0L);
          Words.put64(b, ((int) l5) - 58712, 0L);
          Words.put64(b, ((int) l5) - 58720, 0L);
-         Core7.f249(m, l5 + 192L, l6, l9);
+         Core7.f250(m, l5 + 192L, l6, l9);
          l7 = Words.get64(b, ((int) l5) - 58696);
          l9 = Words.get64(b, ((int) l5) - 58704);
          l6 = Words.get64(b, ((int) l5) - 58712);
@@ -459,7 +459,7 @@ static void f252(State m, long l0, long l1, int l2, long l3, long l4) {
       Words.put64(b, ((int) l5) - 58768, 0L);
       Words.put64(b, ((int) l5) - 58776, 0L);
       Words.put64(b, ((int) l5) - 58784, 0L);
-      Core7.f250(m, l5 + 128L, l3, l4);
+      Core7.f251(m, l5 + 128L, l3, l4);
       L30: {
        L31: {
         if ((b[((int) l5) - 58784] & 0xff) != 1) { break L31; }
@@ -514,12 +514,12 @@ static void f252(State m, long l0, long l1, int l2, long l3, long l4) {
       m.fill((int) (l5 + 240L), 0, (int) 80L);
       Core2.f52(m, l5 + 48L, l5 + 240L, l5 + 192L);
       Core2.f53(m, l1, Words.get64(b, ((int) l5) - 58864), Words.get64(b, ((int) l5) - 58856));
-      Core2.f53(m, l1, 98166L, 1L);
+      Core2.f53(m, l1, 98142L, 1L);
       Core2.f63(m, l5 + 40L, l15);
       L32: {
        L33: {
         if ((b[((int) l5) - 58872] & 0xff) != 1) { break L33; }
-        Core2.f53(m, l1, Words.get64(b, State.far((int) ((((b[((int) l5) - 58871] & 0xff) & 0xffffffffL) & 255L) << 3L), 102728)), 1L);
+        Core2.f53(m, l1, Words.get64(b, State.far((int) ((((b[((int) l5) - 58871] & 0xff) & 0xffffffffL) & 255L) << 3L), 102816)), 1L);
         break L32;
        }
        Core2.f53(m, l1, l4, l3);
@@ -529,7 +529,7 @@ static void f252(State m, long l0, long l1, int l2, long l3, long l4) {
      }
      throw State.trap();
     }
-    f253(m, l1, l3, l4);
+    f254(m, l1, l3, l4);
     break L2;
    }
    l18 = 0;
@@ -542,7 +542,7 @@ static void f252(State m, long l0, long l1, int l2, long l3, long l4) {
  m.g0 = l5 + 320L;
 }
 
-static void f253(State m, long l0, long l1, long l2) {
+static void f254(State m, long l0, long l1, long l2) {
  final byte[] b = m.bytes;
  long l3 = 0;
  long l4 = 0;
@@ -582,7 +582,7 @@ static void f253(State m, long l0, long l1, long l2) {
     L7: {
      L8: {
       if ((b[((int) l4) - 58904] & 0xff) != 1) { break L8; }
-      Core2.f53(m, l0, Words.get64(b, State.far((int) ((((b[((int) l4) - 58903] & 0xff) & 0xffffffffL) & 255L) << 3L), 102728)), 1L);
+      Core2.f53(m, l0, Words.get64(b, State.far((int) ((((b[((int) l4) - 58903] & 0xff) & 0xffffffffL) & 255L) << 3L), 102816)), 1L);
       break L7;
      }
      Core2.f53(m, l0, l1, l3);
@@ -598,7 +598,7 @@ static void f253(State m, long l0, long l1, long l2) {
  throw State.trap();
 }
 
-static void f254(State m, long l0, long l1, long l2, int l3) {
+static void f255(State m, long l0, long l1, long l2, int l3) {
  final byte[] b = m.bytes;
  long l4 = 0;
  long l5 = 0;
@@ -665,7 +665,7 @@ static void f254(State m, long l0, long l1, long l2, int l3) {
      if ((b[((int) l4) - 58800] & 0xff) == 1) { break L8; }
      Core3.f84(m, l4 + 64L, l1, l2);
      if ((b[((int) l4) - 58848] & 0xff) != 1) { break L8; }
-     f255(m, l4 + 144L, l3, Words.get64(b, ((int) l4) - 58840), Words.get64(b, ((int) l4) - 58832), Words.get64(b, ((int) l4) - 58816), Words.get64(b, ((int) l4) - 58808));
+     f256(m, l4 + 144L, l3, Words.get64(b, ((int) l4) - 58840), Words.get64(b, ((int) l4) - 58832), Words.get64(b, ((int) l4) - 58816), Words.get64(b, ((int) l4) - 58808));
      l9 = b[((int) l4) - 58766] & 0xff;
      l8 = b[((int) l4) - 58767] & 0xff;
      l7 = b[((int) l4) - 58768] & 0xff;
@@ -685,7 +685,7 @@ static void f254(State m, long l0, long l1, long l2, int l3) {
     L9: {
      L10: {
       if ((b[((int) l4) - 58760] & 0xff) != 1) { break L10; }
-      f255(m, l4 + 204L, l3, Words.get64(b, ((int) l4) - 58752), Words.get64(b, ((int) l4) - 58744), Words.get64(b, ((int) l4) - 58728), Words.get64(b, ((int) l4) - 58720));
+      f256(m, l4 + 204L, l3, Words.get64(b, ((int) l4) - 58752), Words.get64(b, ((int) l4) - 58744), Words.get64(b, ((int) l4) - 58728), Words.get64(b, ((int) l4) - 58720));
       l2 = l4 + 204L;
       l9 = b[((int) l4) - 58706] & 0xff;
       l8 = b[((int) l4) - 58707] & 0xff;
@@ -707,10 +707,10 @@ static void f254(State m, long l0, long l1, long l2, int l3) {
         if (l7 == 65285) { break L13; }
         if (l7 != 8240) { break L12; }
        }
-       f256(m, l4 + 148L, l3, l5, l6);
+       f257(m, l4 + 148L, l3, l5, l6);
        break L11;
       }
-      f256(m, l4 + 148L, l3, l1, l2);
+      f257(m, l4 + 148L, l3, l1, l2);
      }
      l2 = l4 + 148L;
      l9 = b[((int) l4) - 58762] & 0xff;
@@ -728,7 +728,7 @@ static void f254(State m, long l0, long l1, long l2, int l3) {
  m.g0 = l4 + 240L;
 }
 
-static void f255(State m, long l0, int l1, long l2, long l3, long l4, long l5) {
+static void f256(State m, long l0, int l1, long l2, long l3, long l4, long l5) {
  final byte[] b = m.bytes;
  long l6 = 0;
  int l7 = 0;
@@ -806,7 +806,7 @@ static void f255(State m, long l0, int l1, long l2, long l3, long l4, long l5) {
       l9 = 1;
       break L2;
      }
-     f256(m, l6 + 44L, l1, l2, l3);
+     f257(m, l6 + 44L, l1, l2, l3);
      final int t13 = b[((int) l6) - 58866] & 0xff;
      final int t14 = l1 = (((b[((int) l6) - 58868] & 0xff) & 255) == 1) ? 1 : 0;
      l7 = t14 != 0 ? t13 : 0;
@@ -851,7 +851,7 @@ static void f255(State m, long l0, int l1, long l2, long l3, long l4, long l5) {
     l7 = 0;
     break L2;
    }
-   f256(m, l6, l1, l4, l5);
+   f257(m, l6, l1, l4, l5);
    l7 = b[((int) l6) - 58910] & 0xff;
    l8 = b[((int) l6) - 58911] & 0xff;
    l9 = b[((int) l6) - 58912] & 0xff;
@@ -865,7 +865,7 @@ static void f255(State m, long l0, int l1, long l2, long l3, long l4, long l5) {
  throw State.trap();
 }
 
-static void f256(State m, long l0, int l1, long l2, long l3) {
+static void f257(State m, long l0, int l1, long l2, long l3) {
  final byte[] b = m.bytes;
  long l4 = 0;
  long l5 = 0;
@@ -942,7 +942,7 @@ static void f256(State m, long l0, int l1, long l2, long l3) {
      l12 = 0;
      l13 = 0;
      if ((l11 = b[((int) l4) - 58784] & 0xff) == 0) { break L3; }
-     l13 = Core7.f229(m, l2, l3, b[((int) l4) - 58776] & 0xff, Words.get64(b, ((int) l4) - 58768)) & 255;
+     l13 = Core7.f230(m, l2, l3, b[((int) l4) - 58776] & 0xff, Words.get64(b, ((int) l4) - 58768)) & 255;
      break L3;
     }
     l7 = b[((int) (l4 + 127L)) - 58912] & 0xffL;
@@ -1007,7 +1007,7 @@ static void f256(State m, long l0, int l1, long l2, long l3) {
         if (((b[((int) l4) - 58896] & 0xff) & 255) == 0) { break L14; }
         if (Words.get64(b, ((int) l4) - 58888) + Long.MIN_VALUE >= l5 + Long.MIN_VALUE) { break L3; }
        }
-       l13 = Core7.f229(m, l2, l3, l1, l5) & 255;
+       l13 = Core7.f230(m, l2, l3, l1, l5) & 255;
        break L9;
       }
       Words.put16(b, ((int) l4) - 58732, (short) 0);
@@ -1018,7 +1018,7 @@ static void f256(State m, long l0, int l1, long l2, long l3) {
       Words.put64(b, ((int) l4) - 58680, 0L);
       Words.put64(b, ((int) l4) - 58672, 0L);
       Words.put64(b, ((int) l4) - 58664, 0L);
-      f257(m, l4 + 180L, l1, l9, l8);
+      f258(m, l4 + 180L, l1, l9, l8);
       l11 = 1;
       L15: {
        if ((b[((int) l4) - 58732] & 0xff) != 1) { break L15; }
@@ -1026,7 +1026,7 @@ static void f256(State m, long l0, int l1, long l2, long l3) {
        l12 = b[((int) l4) - 58731] & 0xff;
        break L3;
       }
-      f257(m, l4 + 176L, l1, l6, l5);
+      f258(m, l4 + 176L, l1, l6, l5);
       L16: {
        if ((b[((int) l4) - 58736] & 0xff) != 1) { break L16; }
        l11 = 1;
@@ -1067,7 +1067,7 @@ static void f256(State m, long l0, int l1, long l2, long l3) {
       if (((b[((int) l4) - 58912] & 0xff) & 255) == 0) { break L17; }
       if (Words.get64(b, ((int) l4) - 58904) + Long.MIN_VALUE >= l5 + Long.MIN_VALUE) { break L3; }
      }
-     l13 = Core7.f229(m, l2, l3, l1, l5) & 255;
+     l13 = Core7.f230(m, l2, l3, l1, l5) & 255;
     }
     l12 = 0;
    }
@@ -1081,7 +1081,7 @@ static void f256(State m, long l0, int l1, long l2, long l3) {
  m.g0 = l4 + 256L;
 }
 
-static void f257(State m, long l0, int l1, long l2, long l3) {
+static void f258(State m, long l0, int l1, long l2, long l3) {
  final byte[] b = m.bytes;
  long l4 = 0;
  long l5 = 0;
@@ -1326,7 +1326,7 @@ static void f257(State m, long l0, int l1, long l2, long l3) {
    }
    l12 = 1;
   }
-  l13 = Core7.f229(m, l2, l3, l11, l4) & 255;
+  l13 = Core7.f230(m, l2, l3, l11, l4) & 255;
  }
  b[((int) l0) - 58912] = (byte) l12;
  b[((int) (l0 + 2L)) - 58912] = (byte) l13;
@@ -1334,7 +1334,7 @@ static void f257(State m, long l0, int l1, long l2, long l3) {
  m.g0 = l5 + 128L;
 }
 
-static int f258(State m, long l0, long l1, long l2) {
+static int f259(State m, long l0, long l1, long l2) {
  final byte[] b = m.bytes;
  long l3 = 0;
  long l4 = 0;
@@ -1445,7 +1445,7 @@ static int f258(State m, long l0, long l1, long l2) {
  throw State.trap();
 }
 
-static void f259(State m, long l0, int l1, int l2, long l3, long l4, long l5, long l6) {
+static void f260(State m, long l0, int l1, int l2, long l3, long l4, long l5, long l6) {
  final byte[] b = m.bytes;
  long l7 = 0;
  long l8 = 0;
@@ -1488,7 +1488,7 @@ static void f259(State m, long l0, int l1, int l2, long l3, long l4, long l5, lo
       Words.put64(b, ((int) l7) - 58752, 0L);
       Words.put64(b, ((int) l7) - 58744, 0L);
       m.fill((int) (l7 + 8L), 0, (int) 128L);
-      f260(m, l7 + 136L, l3, l4, l5, l6, l1, l2);
+      f261(m, l7 + 136L, l3, l4, l5, l6, l1, l2);
       L10: {
        if ((b[((int) l7) - 58776] & 0xff) != 1) { break L10; }
        final long t11 = l9 = Words.get64(b, ((int) l7) - 58752);
@@ -1559,7 +1559,7 @@ static void f259(State m, long l0, int l1, int l2, long l3, long l4, long l5, lo
  m.g0 = l7 + 176L;
 }
 
-static int f260_1(State m, long l1, long l2, long l3, long l4, long l7, long l8, long l9, long l10, long l11, long l12, long l13, long l14, long l15, int l16, int l17, int l18, int l19, int l20) {
+static int f261_1(State m, long l1, long l2, long l3, long l4, long l7, long l8, long l9, long l10, long l11, long l12, long l13, long l14, long l15, int l16, int l17, int l18, int l19, int l20) {
  final byte[] b = m.bytes;
  int exit = 0;
  PART: {
@@ -1572,7 +1572,7 @@ static int f260_1(State m, long l1, long l2, long l3, long l4, long l7, long l8,
     Words.put64(b, ((int) l8) - 58744, 0L);
     Words.put64(b, ((int) l8) - 58752, 0L);
     Words.put64(b, ((int) l8) - 58760, 0L);
-    Core6.f201(m, l8 + 152L, l1, l9 = l2 - l4, l3, l4);
+    Core6.f202(m, l8 + 152L, l1, l9 = l2 - l4, l3, l4);
     l7 = l3;
     l10 = l4;
     L6: {
@@ -1611,7 +1611,7 @@ static int f260_1(State m, long l1, long l2, long l3, long l4, long l7, long l8,
        l7 = -32L;
        L13: {
         L14: while (true) {
-         if ((l19 = (Words.get32(b, ((int) (l7 + 98224L)) - 58912) == l18) ? 1 : 0) != 0) { break L13; }
+         if ((l19 = (Words.get32(b, ((int) (l7 + 98200L)) - 58912) == l18) ? 1 : 0) != 0) { break L13; }
          l16 = (l7 != 0L) ? 1 : 0;
          l7 = l7 + 4L;
          if (l16 != 0) { continue L14; }
@@ -1653,7 +1653,7 @@ static int f260_1(State m, long l1, long l2, long l3, long l4, long l7, long l8,
        l7 = -32L;
        L20: {
         L21: while (true) {
-         if ((l19 = (Words.get32(b, ((int) (l7 + 98224L)) - 58912) == l18) ? 1 : 0) != 0) { break L20; }
+         if ((l19 = (Words.get32(b, ((int) (l7 + 98200L)) - 58912) == l18) ? 1 : 0) != 0) { break L20; }
          l16 = (l7 != 0L) ? 1 : 0;
          l7 = l7 + 4L;
          if (l16 != 0) { continue L21; }
@@ -1731,7 +1731,7 @@ static int f260_1(State m, long l1, long l2, long l3, long l4, long l7, long l8,
        l7 = -32L;
        L34: {
         L35: while (true) {
-         if ((l19 = (Words.get32(b, ((int) (l7 + 98224L)) - 58912) == l18) ? 1 : 0) != 0) { break L34; }
+         if ((l19 = (Words.get32(b, ((int) (l7 + 98200L)) - 58912) == l18) ? 1 : 0) != 0) { break L34; }
          l16 = (l7 != 0L) ? 1 : 0;
          l7 = l7 + 4L;
          if (l16 != 0) { continue L35; }
@@ -1798,7 +1798,7 @@ static int f260_1(State m, long l1, long l2, long l3, long l4, long l7, long l8,
       }
       if (l19 != 0) { break L4; }
      }
-     if (Core7.f208(m, l1, l9) != 0) { break L4; }
+     if (Core7.f209(m, l1, l9) != 0) { break L4; }
      l7 = l3;
      l10 = l4;
      L47: {
@@ -1833,7 +1833,7 @@ static int f260_1(State m, long l1, long l2, long l3, long l4, long l7, long l8,
        l7 = -32L;
        L53: {
         L54: while (true) {
-         if ((l19 = (Words.get32(b, ((int) (l7 + 98224L)) - 58912) == l18) ? 1 : 0) != 0) { break L53; }
+         if ((l19 = (Words.get32(b, ((int) (l7 + 98200L)) - 58912) == l18) ? 1 : 0) != 0) { break L53; }
          l16 = (l7 != 0L) ? 1 : 0;
          l7 = l7 + 4L;
          if (l16 != 0) { continue L54; }
@@ -1889,7 +1889,7 @@ static int f260_1(State m, long l1, long l2, long l3, long l4, long l7, long l8,
        l7 = -32L;
        L63: {
         L64: while (true) {
-         if ((l19 = (Words.get32(b, ((int) (l7 + 98224L)) - 58912) == l18) ? 1 : 0) != 0) { break L63; }
+         if ((l19 = (Words.get32(b, ((int) (l7 + 98200L)) - 58912) == l18) ? 1 : 0) != 0) { break L63; }
          l16 = (l7 != 0L) ? 1 : 0;
          l7 = l7 + 4L;
          if (l16 != 0) { continue L64; }
@@ -1908,9 +1908,9 @@ static int f260_1(State m, long l1, long l2, long l3, long l4, long l7, long l8,
      Words.put64(b, ((int) l8) - 58712, 0L);
      Words.put64(b, ((int) l8) - 58720, 0L);
      Words.put64(b, ((int) l8) - 58728, 0L);
-     f261(m, l8 + 184L, l11, l10);
+     f262(m, l8 + 184L, l11, l10);
      if ((b[((int) l8) - 58728] & 0xff) != 1) { break L4; }
-     f261(m, l8 + 184L, Words.get64(b, ((int) l8) - 58696), Words.get64(b, ((int) l8) - 58688));
+     f262(m, l8 + 184L, Words.get64(b, ((int) l8) - 58696), Words.get64(b, ((int) l8) - 58688));
      if ((b[((int) l8) - 58728] & 0xff) != 1) { break L4; }
      l16 = b[((int) l8) - 58704] & 0xff;
      l18 = Words.get32(b, ((int) l8) - 58700);
@@ -1922,7 +1922,7 @@ static int f260_1(State m, long l1, long l2, long l3, long l4, long l7, long l8,
      Words.put64(b, ((int) l8) - 58672, Words.get64(b, ((int) (l12 = l8 + 192L)) - 58904));
      Words.put64(b, ((int) l8) - 58680, Words.get64(b, ((int) l12) - 58912));
      l10 = 1L;
-     if (Core7.f209(m, l8 + 232L, 1L, l11, l7) == 0) { break L4; }
+     if (Core7.f210(m, l8 + 232L, 1L, l11, l7) == 0) { break L4; }
      l16 = 0;
     }
     l12 = l7;
@@ -1949,7 +1949,7 @@ static int f260_1(State m, long l1, long l2, long l3, long l4, long l7, long l8,
  return exit;
 }
 
-static void f260(State m, long l0, long l1, long l2, long l3, long l4, int l5, int l6) {
+static void f261(State m, long l0, long l1, long l2, long l3, long l4, int l5, int l6) {
  final byte[] b = m.bytes;
  long l7 = 0;
  long l8 = 0;
@@ -1972,7 +1972,7 @@ static void f260(State m, long l0, long l1, long l2, long l3, long l4, int l5, i
  L1: {
   L2: {
    L3: {
-    final int x65 = f260_1(m, l1, l2, l3, l4, l7, l8, l9, l10, l11, l12, l13, l14, l15, l16, l17, l18, l19, l20);
+    final int x65 = f261_1(m, l1, l2, l3, l4, l7, l8, l9, l10, l11, l12, l13, l14, l15, l16, l17, l18, l19, l20);
     l7 = m.kept[0];
     l8 = m.kept[1];
     l9 = m.kept[2];
@@ -2118,7 +2118,7 @@ static void f260(State m, long l0, long l1, long l2, long l3, long l4, int l5, i
           Words.put64(b, ((int) l8) - 58712, 0L);
           Words.put64(b, ((int) l8) - 58720, 0L);
           Words.put64(b, ((int) l8) - 58728, 0L);
-          Core6.f196(m, l8 + 184L, Words.get64(b, ((int) (l7 + 98792L)) - 58912), Words.get64(b, ((int) (l7 + 98800L)) - 58912), l10, l11);
+          Core6.f197(m, l8 + 184L, Words.get64(b, ((int) (l7 + 98768L)) - 58912), Words.get64(b, ((int) (l7 + 98776L)) - 58912), l10, l11);
           l7 = l12;
           if ((b[((int) l8) - 58728] & 0xff) != 1) { continue L90; }
           break L88;
@@ -2222,84 +2222,84 @@ static void f260(State m, long l0, long l1, long l2, long l3, long l4, int l5, i
         Words.put64(b, ((int) l8) - 58712, 0L);
         Words.put64(b, ((int) l8) - 58720, 0L);
         Words.put64(b, ((int) l8) - 58728, 0L);
-        Core6.f196(m, l8 + 184L, 99208L, 6L, l10, l11);
+        Core6.f197(m, l8 + 184L, 99184L, 6L, l10, l11);
         L107: {
          if ((b[((int) l8) - 58728] & 0xff) == 1) { break L107; }
          Words.put64(b, ((int) l8) - 58712, 0L);
          Words.put64(b, ((int) l8) - 58720, 0L);
          Words.put64(b, ((int) l8) - 58728, 0L);
-         Core6.f196(m, l8 + 184L, 99214L, 6L, l10, l11);
+         Core6.f197(m, l8 + 184L, 99190L, 6L, l10, l11);
          if ((b[((int) l8) - 58728] & 0xff) == 1) { break L107; }
          Words.put64(b, ((int) l8) - 58712, 0L);
          Words.put64(b, ((int) l8) - 58720, 0L);
          Words.put64(b, ((int) l8) - 58728, 0L);
-         Core6.f196(m, l8 + 184L, 99220L, 6L, l10, l11);
+         Core6.f197(m, l8 + 184L, 99196L, 6L, l10, l11);
          if ((b[((int) l8) - 58728] & 0xff) == 1) { break L107; }
          Words.put64(b, ((int) l8) - 58712, 0L);
          Words.put64(b, ((int) l8) - 58720, 0L);
          Words.put64(b, ((int) l8) - 58728, 0L);
-         Core6.f196(m, l8 + 184L, 99226L, 6L, l10, l11);
+         Core6.f197(m, l8 + 184L, 99202L, 6L, l10, l11);
          if ((b[((int) l8) - 58728] & 0xff) == 1) { break L107; }
          Words.put64(b, ((int) l8) - 58712, 0L);
          Words.put64(b, ((int) l8) - 58720, 0L);
          Words.put64(b, ((int) l8) - 58728, 0L);
-         Core6.f196(m, l8 + 184L, 99232L, 3L, l10, l11);
+         Core6.f197(m, l8 + 184L, 99208L, 3L, l10, l11);
          if ((b[((int) l8) - 58728] & 0xff) == 1) { break L107; }
          Words.put64(b, ((int) l8) - 58712, 0L);
          Words.put64(b, ((int) l8) - 58720, 0L);
          Words.put64(b, ((int) l8) - 58728, 0L);
-         Core6.f196(m, l8 + 184L, 99235L, 6L, l10, l11);
+         Core6.f197(m, l8 + 184L, 99211L, 6L, l10, l11);
          if ((b[((int) l8) - 58728] & 0xff) == 1) { break L107; }
          Words.put64(b, ((int) l8) - 58712, 0L);
          Words.put64(b, ((int) l8) - 58720, 0L);
          Words.put64(b, ((int) l8) - 58728, 0L);
-         Core6.f196(m, l8 + 184L, 99241L, 6L, l10, l11);
+         Core6.f197(m, l8 + 184L, 99217L, 6L, l10, l11);
          if ((b[((int) l8) - 58728] & 0xff) == 1) { break L107; }
          Words.put64(b, ((int) l8) - 58712, 0L);
          Words.put64(b, ((int) l8) - 58720, 0L);
          Words.put64(b, ((int) l8) - 58728, 0L);
-         Core6.f196(m, l8 + 184L, 99247L, 6L, l10, l11);
+         Core6.f197(m, l8 + 184L, 99223L, 6L, l10, l11);
          if ((b[((int) l8) - 58728] & 0xff) == 1) { break L107; }
          Words.put64(b, ((int) l8) - 58712, 0L);
          Words.put64(b, ((int) l8) - 58720, 0L);
          Words.put64(b, ((int) l8) - 58728, 0L);
-         Core6.f196(m, l8 + 184L, 99253L, 6L, l10, l11);
+         Core6.f197(m, l8 + 184L, 99229L, 6L, l10, l11);
          if ((b[((int) l8) - 58728] & 0xff) == 1) { break L107; }
          Words.put64(b, ((int) l8) - 58712, 0L);
          Words.put64(b, ((int) l8) - 58720, 0L);
          Words.put64(b, ((int) l8) - 58728, 0L);
-         Core6.f196(m, l8 + 184L, 99259L, 6L, l10, l11);
+         Core6.f197(m, l8 + 184L, 99235L, 6L, l10, l11);
          if ((b[((int) l8) - 58728] & 0xff) == 1) { break L107; }
          Words.put64(b, ((int) l8) - 58712, 0L);
          Words.put64(b, ((int) l8) - 58720, 0L);
          Words.put64(b, ((int) l8) - 58728, 0L);
-         Core6.f196(m, l8 + 184L, 99265L, 9L, l10, l11);
+         Core6.f197(m, l8 + 184L, 99241L, 9L, l10, l11);
          if ((b[((int) l8) - 58728] & 0xff) == 1) { break L107; }
          Words.put64(b, ((int) l8) - 58712, 0L);
          Words.put64(b, ((int) l8) - 58720, 0L);
          Words.put64(b, ((int) l8) - 58728, 0L);
-         Core6.f196(m, l8 + 184L, 99274L, 9L, l10, l11);
+         Core6.f197(m, l8 + 184L, 99250L, 9L, l10, l11);
          if ((b[((int) l8) - 58728] & 0xff) == 1) { break L107; }
          Words.put64(b, ((int) l8) - 58712, 0L);
          Words.put64(b, ((int) l8) - 58720, 0L);
          Words.put64(b, ((int) l8) - 58728, 0L);
-         Core6.f196(m, l8 + 184L, 99283L, 9L, l10, l11);
+         Core6.f197(m, l8 + 184L, 99259L, 9L, l10, l11);
          if ((b[((int) l8) - 58728] & 0xff) != 1) { break L2; }
         }
         Words.put64(b, ((int) l8) - 58712, 0L);
         Words.put64(b, ((int) l8) - 58720, 0L);
         Words.put64(b, ((int) l8) - 58728, 0L);
-        Core6.f196(m, l8 + 184L, 99344L, 12L, l10, l11);
+        Core6.f197(m, l8 + 184L, 99320L, 12L, l10, l11);
         if ((b[((int) l8) - 58728] & 0xff) == 1) { break L2; }
         Words.put64(b, ((int) l8) - 58712, 0L);
         Words.put64(b, ((int) l8) - 58720, 0L);
         Words.put64(b, ((int) l8) - 58728, 0L);
-        Core6.f196(m, l8 + 184L, 99356L, 12L, l10, l11);
+        Core6.f197(m, l8 + 184L, 99332L, 12L, l10, l11);
         if ((b[((int) l8) - 58728] & 0xff) == 1) { break L2; }
         Words.put64(b, ((int) l8) - 58712, 0L);
         Words.put64(b, ((int) l8) - 58720, 0L);
         Words.put64(b, ((int) l8) - 58728, 0L);
-        Core6.f196(m, l8 + 184L, 99368L, 6L, l10, l11);
+        Core6.f197(m, l8 + 184L, 99344L, 6L, l10, l11);
         if ((b[((int) l8) - 58728] & 0xff) == 1) { break L2; }
        }
        if (l18 != 0) { break L85; }
@@ -2384,7 +2384,7 @@ static void f260(State m, long l0, long l1, long l2, long l3, long l4, int l5, i
  m.g0 = l8 + 272L;
 }
 
-static void f261(State m, long l0, long l1, long l2) {
+static void f262(State m, long l0, long l1, long l2) {
  final byte[] b = m.bytes;
  int l3 = 0;
  int l4 = 0;
@@ -2607,7 +2607,7 @@ static void f261(State m, long l0, long l1, long l2) {
  Words.put64(b, ((int) (l0 + 8L)) - 58912, l15);
 }
 
-static int f262(State m, long l0, long l1, long l2, long l3) {
+static int f263(State m, long l0, long l1, long l2, long l3) {
  final byte[] b = m.bytes;
  long l4 = 0;
  long l5 = 0;
@@ -2676,7 +2676,7 @@ static int f262(State m, long l0, long l1, long l2, long l3) {
    Words.put64(b, ((int) l5) - 58912, b[((int) l5) - 58720] & 0xffL);
    Words.put64(b, ((int) l5) - 58904, b[((int) l5) - 58712] & 0xffL);
    m.copy((int) (l5 + 16L), (int) ((l5 + 192L) + 16L), (int) 112L);
-   l11 = f263(m, l5 + 176L, l1, l2, l5 + 128L, l5) ^ 1;
+   l11 = f264(m, l5 + 176L, l1, l2, l5 + 128L, l5) ^ 1;
   }
   m.g0 = l5 + 320L;
   final int t8 = l11;
@@ -2685,7 +2685,7 @@ static int f262(State m, long l0, long l1, long l2, long l3) {
  throw State.trap();
 }
 
-static int f263_1(State m, long l0, long l1, long l2, long l3, long l4, long l5, long l6, long l7, long l8, long l9, long l10, long l11, long l12, long l13, long l14, long l15, long l16, int l17, int l18, int l19, int l20, int l21, int l22, int l23, int l24) {
+static int f264_1(State m, long l0, long l1, long l2, long l3, long l4, long l5, long l6, long l7, long l8, long l9, long l10, long l11, long l12, long l13, long l14, long l15, long l16, int l17, int l18, int l19, int l20, int l21, int l22, int l23, int l24) {
  final byte[] b = m.bytes;
  int exit = 0;
  PART: {
@@ -2711,7 +2711,7 @@ static int f263_1(State m, long l0, long l1, long l2, long l3, long l4, long l5,
     Words.put64(b, ((int) l5) - 58634, l4 = Words.get64(b, ((int) l4) - 58906));
     Words.put64(b, ((int) l5) - 58774, l7);
     Words.put64(b, ((int) l5) - 58768, l4);
-    if ((l23 = f264(m, l5 + 288L, l14, l13, l5 + 136L, l4 = l1 + l13, l7 = l2 - l13)) == 0) { exit = 2; break PART; }
+    if ((l23 = f265(m, l5 + 288L, l14, l13, l5 + 136L, l4 = l1 + l13, l7 = l2 - l13)) == 0) { exit = 2; break PART; }
     L9: {
      if ((l0 & 281474976710656L) == 0L) { break L9; }
      b[((int) l5) - 58463] = (byte) l17;
@@ -2719,13 +2719,13 @@ static int f263_1(State m, long l0, long l1, long l2, long l3, long l4, long l5,
      Words.put64(b, ((int) l5) - 58462, Words.get64(b, ((int) l5) - 58640));
      Words.put64(b, ((int) l5) - 58456, Words.get64(b, ((int) l5) - 58634));
      Words.put64(b, ((int) l5) - 58448, l12);
-     if ((f265(m, l14, l13, l5 + 448L, l4, l7) & 1) == 0) { break L9; }
+     if ((f266(m, l14, l13, l5 + 448L, l4, l7) & 1) == 0) { break L9; }
      b[((int) l5) - 58463] = (byte) l17;
      b[((int) l5) - 58464] = (byte) l20;
      Words.put64(b, ((int) l5) - 58462, Words.get64(b, ((int) l5) - 58640));
      Words.put64(b, ((int) l5) - 58456, Words.get64(b, ((int) l5) - 58634));
      Words.put64(b, ((int) l5) - 58448, l12);
-     final int t10 = f265(m, l14, l13, l5 + 448L, l4, l7);
+     final int t10 = f266(m, l14, l13, l5 + 448L, l4, l7);
      exit = 2; break PART;
     }
     l6 = 0L;
@@ -2740,8 +2740,8 @@ static int f263_1(State m, long l0, long l1, long l2, long l3, long l4, long l5,
     Words.put64(b, ((int) l5) - 58744, 0L);
     Words.put64(b, ((int) l5) - 58736, 0L);
     Words.put64(b, ((int) l5) - 58728, 0L);
-    l11 = Words.get64(b, State.far((int) (l4 = ((l17 & 0xffffffffL) & 255L) << 3L), 102456));
-    l15 = Words.get64(b, State.far((int) l4, 102200));
+    l11 = Words.get64(b, State.far((int) (l4 = ((l17 & 0xffffffffL) & 255L) << 3L), 102544));
+    l15 = Words.get64(b, State.far((int) l4, 102288));
     l18 = 0;
     l4 = 0L;
     l19 = 0;
@@ -2800,8 +2800,8 @@ static int f263_1(State m, long l0, long l1, long l2, long l3, long l4, long l5,
         break L12;
        }
       }
-      if ((f266(m, 1, l12, l16) & 1) == 0) { break L12; }
-      final int t18 = f266(m, 1, l12, l16);
+      if ((f267(m, 1, l12, l16) & 1) == 0) { break L12; }
+      final int t18 = f267(m, 1, l12, l16);
      }
      l4 = (Words.get32(b, ((int) l5) - 58744) & 0xffffffffL) | ((Words.get16(b, ((int) (l5 + 172L)) - 58912) & 0xffffL) << 32L);
      if ((l6 = l6 + 1L) != l15) { continue L11; }
@@ -2823,7 +2823,7 @@ static int f263_1(State m, long l0, long l1, long l2, long l3, long l4, long l5,
     Words.put64(b, ((int) l5) - 58464, l11);
     Words.put64(b, ((int) l5) - 58432, Words.get64(b, ((int) l16) - 58912));
     Words.put64(b, ((int) l5) - 58424, Words.get64(b, ((int) l16) - 58904));
-    l23 = f267(m, l0, l5 + 448L);
+    l23 = f268(m, l0, l5 + 448L);
     exit = 2; break PART;
    }
    L20: {
@@ -2981,7 +2981,7 @@ static int f263_1(State m, long l0, long l1, long l2, long l3, long l4, long l5,
     l23 = 0;
     exit = 2; break PART;
    }
-   if ((f266(m, 1, l9, l8) & 1) != 0) { exit = 3; break PART; }
+   if ((f267(m, 1, l9, l8) & 1) != 0) { exit = 3; break PART; }
    l23 = 0;
    exit = 2; break PART;
   }
@@ -3006,7 +3006,7 @@ static int f263_1(State m, long l0, long l1, long l2, long l3, long l4, long l5,
  return exit;
 }
 
-static int f263(State m, long l0, long l1, long l2, long l3, long l4) {
+static int f264(State m, long l0, long l1, long l2, long l3, long l4) {
  final byte[] b = m.bytes;
  long l5 = 0;
  long l6 = 0;
@@ -3066,7 +3066,7 @@ static int f263(State m, long l0, long l1, long l2, long l3, long l4) {
     l24 = (int) (l0 >>> 32L);
     l22 = (int) (l0 >>> 24L);
     L5: {
-     final int x34 = f263_1(m, l0, l1, l2, l3, l4, l5, l6, l7, l8, l9, l10, l11, l12, l13, l14, l15, l16, l17, l18, l19, l20, l21, l22, l23, l24);
+     final int x34 = f264_1(m, l0, l1, l2, l3, l4, l5, l6, l7, l8, l9, l10, l11, l12, l13, l14, l15, l16, l17, l18, l19, l20, l21, l22, l23, l24);
      l0 = m.kept[0];
      l3 = m.kept[1];
      l4 = m.kept[2];
@@ -3121,8 +3121,8 @@ static int f263(State m, long l0, long l1, long l2, long l3, long l4) {
       if (Core4.f125(m, l5 + 160L) != 0) { break L1; }
      }
      L36: {
-      if (f268(m, l12, l11, l7, l6) == 0) { break L36; }
-      if (f269(m, l24, l12, l11, l7, l6) == 0) { break L1; }
+      if (f269(m, l12, l11, l7, l6) == 0) { break L36; }
+      if (f270(m, l24, l12, l11, l7, l6) == 0) { break L1; }
      }
      Words.put64(b, ((int) l5) - 58408, 0L);
      Words.put64(b, ((int) l5) - 58416, 0L);
@@ -3155,7 +3155,7 @@ static int f263(State m, long l0, long l1, long l2, long l3, long l4) {
       l4 = Words.get64(b, ((int) l5) - 58832);
       l3 = Words.get64(b, ((int) l5) - 58840);
      }
-     if ((f270(m, l24, l12, l11, l3, l4) & 1) == 0) { break L1; }
+     if ((f271(m, l24, l12, l11, l3, l4) & 1) == 0) { break L1; }
      l4 = 0L;
      Words.put64(b, ((int) l5) - 58408, 0L);
      Words.put64(b, ((int) l5) - 58416, 0L);
@@ -3182,7 +3182,7 @@ static int f263(State m, long l0, long l1, long l2, long l3, long l4) {
       l3 = ((l22 = ((((b[((int) l5) - 58464] & 0xff) & 255) != 0) | (((b[((int) l5) - 58416] & 0xff) & 255) != 2)) ? 1 : 0) != 0) ? 77254L : 83372L;
       l4 = l22 & 0xffffffffL;
      }
-     l23 = f270(m, l24, l7, l6, l3, l4);
+     l23 = f271(m, l24, l7, l6, l3, l4);
      break L1;
     }
     Words.put64(b, ((int) l5) - 58816, l13);
@@ -3191,7 +3191,7 @@ static int f263(State m, long l0, long l1, long l2, long l3, long l4) {
     Words.put64(b, ((int) l5) - 58800, Words.get64(b, ((int) l4) - 58904));
     Words.put64(b, ((int) l5) - 58792, Words.get64(b, ((int) l4) - 58896));
     Words.put64(b, ((int) l5) - 58784, Words.get64(b, ((int) l4) - 58888));
-    l23 = f267(m, l0, l5 + 88L);
+    l23 = f268(m, l0, l5 + 88L);
     break L1;
    }
    throw State.trap();
@@ -3263,7 +3263,7 @@ static int f263(State m, long l0, long l1, long l2, long l3, long l4) {
  return l23 & 1;
 }
 
-static int f264(State m, long l0, long l1, long l2, long l3, long l4, long l5) {
+static int f265(State m, long l0, long l1, long l2, long l3, long l4, long l5) {
  final byte[] b = m.bytes;
  long l6 = 0;
  int l7 = 0;
@@ -3356,7 +3356,7 @@ static int f264(State m, long l0, long l1, long l2, long l3, long l4, long l5) {
  throw State.trap();
 }
 
-static int f265(State m, long l0, long l1, long l2, long l3, long l4) {
+static int f266(State m, long l0, long l1, long l2, long l3, long l4) {
  final byte[] b = m.bytes;
  long l5 = 0;
  long l6 = 0;
@@ -3390,7 +3390,7 @@ static int f265(State m, long l0, long l1, long l2, long l3, long l4) {
       default: break L5;
       }
      }
-     if (f271(m, l7, l6) != 0) { break L2; }
+     if (f272(m, l7, l6) != 0) { break L2; }
      if ((l2 & 71777214277878015L) != 281479271677953L) { break L2; }
      if (((((int) (l4 = l2 >>> 16L)) + -10000) & 65535) + Integer.MIN_VALUE < -2147427112) { break L2; }
      Words.put64(b, ((int) l5) - 58632, 0L);
@@ -3429,8 +3429,8 @@ static int f265(State m, long l0, long l1, long l2, long l3, long l4) {
     }
     b[((int) l5) - 58755] = (byte) (b[((int) l5) - 58765] & 0xff);
     Words.put16(b, ((int) l5) - 58754, (short) l2);
-    if (f272(m, l9, l0, l1, l3, l4, l7, l6) != 0) { break L2; }
-    if (f273(m, l7, l6) != 0) { break L2; }
+    if (f273(m, l9, l0, l1, l3, l4, l7, l6) != 0) { break L2; }
+    if (f274(m, l7, l6) != 0) { break L2; }
     Core4.f122(m, l5 + 96L, l9, l3, l4, l5 + 157L);
     if ((b[((int) l5) - 58816] & 0xff) != 1) { break L2; }
     l10 = b[((int) l5) - 58815] & 0xff;
@@ -3486,7 +3486,7 @@ static int f265(State m, long l0, long l1, long l2, long l3, long l4) {
    Words.put64(b, ((int) l5) - 58672, ((l2 & 65535L) * 10L) + 5L);
    m.fill((int) (l5 + 160L), 0, (int) 80L);
    Core2.f52(m, l5 + 120L, l5 + 160L, l5 + 240L);
-   f274(m, l5 + 104L, l3, l4);
+   f275(m, l5 + 104L, l3, l4);
    l2 = Words.get64(b, ((int) l5) - 58800);
    l6 = Words.get64(b, ((int) l5) - 58808);
    Words.put64(b, ((int) l5) - 58656, 0L);
@@ -3504,7 +3504,7 @@ static int f265(State m, long l0, long l1, long l2, long l3, long l4) {
  throw State.trap();
 }
 
-static int f266(State m, int l0, long l1, long l2) {
+static int f267(State m, int l0, long l1, long l2) {
  final byte[] b = m.bytes;
  long l3 = 0;
  long l4 = 0;
@@ -3520,10 +3520,10 @@ static int f266(State m, int l0, long l1, long l2) {
     Words.put64(b, ((int) l3) - 58872, 0L);
     Words.put64(b, ((int) l3) - 58880, 0L);
     Words.put64(b, ((int) l3) - 58888, 0L);
-    Core7.f241(m, l3 + 24L, l1, l2);
+    Core7.f242(m, l3 + 24L, l1, l2);
     L4: {
      if ((b[((int) l3) - 58888] & 0xff) != 1) { break L4; }
-     f275(m, l3, l0, Words.get64(b, ((int) l3) - 58880), Words.get64(b, ((int) l3) - 58872));
+     f276(m, l3, l0, Words.get64(b, ((int) l3) - 58880), Words.get64(b, ((int) l3) - 58872));
      l0 = b[((int) l3) - 58911] & 0xff;
      break L1;
     }
@@ -3560,20 +3560,20 @@ static int f266(State m, int l0, long l1, long l2) {
      if (l6 == 65293) { break L8; }
      if (l6 != 36127) { break L2; }
     }
-    f275(m, l3 + 16L, l0, l1 + l4, l2 - l4);
+    f276(m, l3 + 16L, l0, l1 + l4, l2 - l4);
     l0 = b[((int) l3) - 58895] & 0xff;
     break L1;
    }
    throw State.trap();
   }
-  f275(m, l3 + 8L, l0, l1, l2);
+  f276(m, l3 + 8L, l0, l1, l2);
   l0 = b[((int) l3) - 58903] & 0xff;
  }
  m.g0 = l3 + 48L;
  return l0;
 }
 
-static int f267(State m, long l0, long l1) {
+static int f268(State m, long l0, long l1) {
  final byte[] b = m.bytes;
  long l2 = 0;
  long l3 = 0;
@@ -3599,11 +3599,11 @@ static int f267(State m, long l0, long l1) {
   Words.put16(b, ((int) l2) - 58820, (short) (l6 >>> 8));
   l7 = 0;
   L2: {
-   if (Core7.f238(m, l6, l2 + 92L, l2 + 40L) == 0) { break L2; }
+   if (Core7.f239(m, l6, l2 + 92L, l2 + 40L) == 0) { break L2; }
    L3: {
     L4: {
-     if (Core7.f239(m, l3, l4) != 0) { break L4; }
-     l8 = Core7.f240(m, l3, l4);
+     if (Core7.f240(m, l3, l4) != 0) { break L4; }
+     l8 = Core7.f241(m, l3, l4);
      L5: {
       if ((l0 & 1095216660480L) != 0L) { break L5; }
       if (l8 != 0) { break L2; }
@@ -3639,7 +3639,7 @@ static int f267(State m, long l0, long l1) {
         break L2;
        }
       }
-      l7 = f266(m, l6, l3, l4);
+      l7 = f267(m, l6, l3, l4);
       break L2;
      }
      L11: {
@@ -3756,7 +3756,7 @@ static int f267(State m, long l0, long l1) {
       }
       l8 = (((l8 + -48) + Integer.MIN_VALUE < -2147483638) | ((l8 + -65296) + Integer.MIN_VALUE < -2147483638)) ? 1 : 0;
      }
-     Core7.f243(m, l2, l8, l6);
+     Core7.f244(m, l2, l8, l6);
      L26: {
       L27: {
        if (((l7 | l8) & 1) == 0) { break L27; }
@@ -3778,7 +3778,7 @@ static int f267(State m, long l0, long l1) {
  throw State.trap();
 }
 
-static int f268(State m, long l0, long l1, long l2, long l3) {
+static int f269(State m, long l0, long l1, long l2, long l3) {
  final byte[] b = m.bytes;
  int l4 = 0;
  int l5 = 0;
@@ -3860,7 +3860,7 @@ static int f268(State m, long l0, long l1, long l2, long l3) {
  throw State.trap();
 }
 
-static int f269(State m, int l0, long l1, long l2, long l3, long l4) {
+static int f270(State m, int l0, long l1, long l2, long l3, long l4) {
  final byte[] b = m.bytes;
  long l5 = 0;
  long l6 = 0;
@@ -3949,7 +3949,7 @@ static int f269(State m, int l0, long l1, long l2, long l3, long l4) {
  throw State.trap();
 }
 
-static int f270(State m, int l0, long l1, long l2, long l3, long l4) {
+static int f271(State m, int l0, long l1, long l2, long l3, long l4) {
  final byte[] b = m.bytes;
  long l5 = 0;
  int l6 = 0;
@@ -3974,7 +3974,7 @@ static int f270(State m, int l0, long l1, long l2, long l3, long l4) {
    l2 = l7 != 0 ? 0L : l2;
    L5: {
     if ((l0 & 255) != 0) { break L5; }
-    l6 = f266(m, 1, l4, l2);
+    l6 = f267(m, 1, l4, l2);
     break L2;
    }
    Words.put64(b, ((int) l5) - 58696, 0L);
@@ -4004,7 +4004,7 @@ static int f270(State m, int l0, long l1, long l2, long l3, long l4) {
  throw State.trap();
 }
 
-static int f271(State m, long l0, long l1) {
+static int f272(State m, long l0, long l1) {
  final byte[] b = m.bytes;
  long l2 = 0;
  long l3 = 0;
@@ -4044,7 +4044,7 @@ static int f271(State m, long l0, long l1) {
    l2 = -68L;
    L6: {
     L7: while (true) {
-     if ((l8 = Words.get32(b, ((int) (l2 + 99444L)) - 58912)) == l7) { break L6; }
+     if ((l8 = Words.get32(b, ((int) (l2 + 99420L)) - 58912)) == l7) { break L6; }
      l6 = (l2 != 0L) ? 1 : 0;
      l2 = l2 + 4L;
      if (l6 != 0) { continue L7; }
@@ -4053,7 +4053,7 @@ static int f271(State m, long l0, long l1) {
    }
    if (l8 != l7) { break L2; }
    if (Core4.f130(m, l2 = l0 + l4, l0 = l1 - l4) == 0) { break L2; }
-   f274(m, l3, l2, l0);
+   f275(m, l3, l2, l0);
    if (Words.get64(b, ((int) l3) - 58904) == 0L) { break L2; }
    l6 = (l7 = (int) b[((int) (l2 = Words.get64(b, ((int) l3) - 58912))) - 58912]) & 255;
    L8: {
@@ -4105,7 +4105,7 @@ static int f271(State m, long l0, long l1) {
  throw State.trap();
 }
 
-static int f272(State m, int l0, long l1, long l2, long l3, long l4, long l5, long l6) {
+static int f273(State m, int l0, long l1, long l2, long l3, long l4, long l5, long l6) {
  final byte[] b = m.bytes;
  long l7 = 0;
  int l8 = 0;
@@ -4276,13 +4276,13 @@ static int f272(State m, int l0, long l1, long l2, long l3, long l4, long l5, lo
    }
    if (l0 == 12295) { break L1; }
   }
-  l8 = f271(m, l5, l6);
+  l8 = f272(m, l5, l6);
  }
  m.g0 = l7;
  return l8;
 }
 
-static int f273(State m, long l0, long l1) {
+static int f274(State m, long l0, long l1) {
  final byte[] b = m.bytes;
  long l2 = 0;
  int l3 = 0;
@@ -4343,7 +4343,7 @@ static int f273(State m, long l0, long l1) {
     if (l4 == 38047) { break L2; }
     if (l4 == 39192) { break L2; }
    }
-   l3 = Core5.f157(m, 99448L, 1L, 99452L, 1L, l0, l1);
+   l3 = Core5.f157(m, 99424L, 1L, 99428L, 1L, l0, l1);
   }
   m.g0 = l2;
   final int t11 = l3;
@@ -4352,7 +4352,7 @@ static int f273(State m, long l0, long l1) {
  throw State.trap();
 }
 
-static void f274(State m, long l0, long l1, long l2) {
+static void f275(State m, long l0, long l1, long l2) {
  final byte[] b = m.bytes;
  long l3 = 0;
  long l4 = 0;
@@ -4406,7 +4406,7 @@ static void f274(State m, long l0, long l1, long l2) {
  throw State.trap();
 }
 
-static void f275(State m, long l0, int l1, long l2, long l3) {
+static void f276(State m, long l0, int l1, long l2, long l3) {
  final byte[] b = m.bytes;
  long l4 = 0;
  long l5 = 0;
@@ -4435,7 +4435,7 @@ static void f275(State m, long l0, int l1, long l2, long l3) {
        Words.put64(b, ((int) l4) - 58824, 0L);
        Words.put64(b, ((int) l4) - 58832, 0L);
        Words.put64(b, ((int) l4) - 58840, 0L);
-       Core7.f244(m, l4 + 72L, l2, l3);
+       Core7.f245(m, l4 + 72L, l2, l3);
        if ((b[((int) l4) - 58840] & 0xff) != 1) { break L2; }
        l5 = Words.get64(b, ((int) l4) - 58808);
        l6 = Words.get64(b, ((int) l4) - 58816);
@@ -4523,7 +4523,7 @@ static void f275(State m, long l0, int l1, long l2, long l3) {
          if (l15 == 65293) { break L16; }
          if (l15 != 36127) { break L5; }
         }
-        f276(m, l4 + 40L, l1, l6 + l3, l5 - l3);
+        f277(m, l4 + 40L, l1, l6 + l3, l5 - l3);
         l15 = b[((int) l4) - 58871] & 0xff;
         break L4;
        }
@@ -4539,7 +4539,7 @@ static void f275(State m, long l0, int l1, long l2, long l3) {
       }
       throw State.trap();
      }
-     f276(m, l4 + 32L, l1, l6, l5);
+     f277(m, l4 + 32L, l1, l6, l5);
      l15 = b[((int) l4) - 58879] & 0xff;
     }
     if ((l15 & 1) == 0) { break L1; }
@@ -4563,7 +4563,7 @@ static void f275(State m, long l0, int l1, long l2, long l3) {
    final int t20 = ((l3 = Words.get64(b, ((int) l4) - 58776)) > 0L) ? 1 : 0;
    final int t21 = (l3 == 0L) ? 1 : 0;
    if ((t21 != 0 ? t19 : t20) != 0) { break L1; }
-   f276(m, l4 + 8L, l1, l8, l7);
+   f277(m, l4 + 8L, l1, l8, l7);
    l12 = b[((int) l4) - 58903] & 0xff;
    break L1;
   }
@@ -4601,11 +4601,11 @@ static void f275(State m, long l0, int l1, long l2, long l3) {
     if (l15 == 65285) { break L28; }
     if (l15 != 8240) { break L27; }
    }
-   f276(m, l4 + 64L, l1, l2, l11);
+   f277(m, l4 + 64L, l1, l2, l11);
    l12 = (b[((int) l4) - 58847] & 0xff) & 1;
    break L1;
   }
-  f276(m, l4 + 56L, l1, l2, l3);
+  f277(m, l4 + 56L, l1, l2, l3);
   l12 = b[((int) l4) - 58855] & 0xff;
  }
  b[((int) l0) - 58911] = (byte) l12;
@@ -4613,7 +4613,7 @@ static void f275(State m, long l0, int l1, long l2, long l3) {
  m.g0 = l4 + 240L;
 }
 
-static void f276(State m, long l0, int l1, long l2, long l3) {
+static void f277(State m, long l0, int l1, long l2, long l3) {
  final byte[] b = m.bytes;
  long l4 = 0;
  long l5 = 0;
@@ -4698,7 +4698,7 @@ static void f276(State m, long l0, int l1, long l2, long l3) {
         }
         break L11;
        }
-       Core7.f246(m, l4 + 104L, l2, l3);
+       Core7.f247(m, l4 + 104L, l2, l3);
        if ((b[((int) l4) - 58808] & 0xff) != 1) { break L8; }
        l7 = Words.get64(b, ((int) l4) - 58776);
        l2 = Words.get64(b, ((int) l4) - 58784);
@@ -4786,7 +4786,7 @@ static void f276(State m, long l0, int l1, long l2, long l3) {
      }
     }
     L24: {
-     if (Core7.f247(m, l2, l3) == 0) { break L24; }
+     if (Core7.f248(m, l2, l3) == 0) { break L24; }
      l16 = 1;
      if (l11 != 0) { break L1; }
      l8 = l4 + 272L;
@@ -4815,7 +4815,7 @@ static void f276(State m, long l0, int l1, long l2, long l3) {
        l5 = 4L;
       }
       L29: {
-       if (Core7.f248(m, l13, l9 = l9 + l5, l10 = l10 - l5) == 0) { break L29; }
+       if (Core7.f249(m, l13, l9 = l9 + l5, l10 = l10 - l5) == 0) { break L29; }
        L30: {
         L31: {
          if (!((l7 = l3 - l10) == 0L)) { break L31; }
@@ -4860,7 +4860,7 @@ static void f276(State m, long l0, int l1, long l2, long l3) {
        Words.put64(b, ((int) l4) - 58688, 0L);
        Words.put64(b, ((int) l4) - 58696, 0L);
        Words.put64(b, ((int) l4) - 58704, 0L);
-       Core7.f249(m, l4 + 208L, l2, l6);
+       Core7.f250(m, l4 + 208L, l2, l6);
        l2 = Words.get64(b, ((int) l4) - 58696);
        l5 = Words.get64(b, ((int) l4) - 58704);
        Words.put64(b, ((int) l4) - 58600, 0L);
@@ -4896,7 +4896,7 @@ static void f276(State m, long l0, int l1, long l2, long l3) {
     Words.put64(b, ((int) l4) - 58752, 0L);
     Words.put64(b, ((int) l4) - 58760, 0L);
     Words.put64(b, ((int) l4) - 58768, 0L);
-    Core7.f250(m, l4 + 144L, l2, l3);
+    Core7.f251(m, l4 + 144L, l2, l3);
     L37: {
      L38: {
       L39: {
@@ -4960,7 +4960,7 @@ static void f276(State m, long l0, int l1, long l2, long l3) {
  m.g0 = l4 + 336L;
 }
 
-static void f277(State m, long l0, long l1, long l2) {
+static void f278(State m, long l0, long l1, long l2) {
  final byte[] b = m.bytes;
  long l3 = 0;
  long l4 = 0;
@@ -5013,7 +5013,7 @@ static void f277(State m, long l0, long l1, long l2) {
       L11: {
        L12: {
         if (l7 != 24186) { break L12; }
-        l3 = 98157L;
+        l3 = 98133L;
         break L11;
        }
        l3 = -44L;
@@ -5040,10 +5040,10 @@ static void f277(State m, long l0, long l1, long l2) {
        }
        L17: {
         if ((l6 & 255) == 1) { break L17; }
-        l3 = 98156L;
+        l3 = 98132L;
         break L11;
        }
-       l3 = Words.get64(b, State.far((int) (((l7 & 0xffffffffL) & 255L) << 3L), 102728));
+       l3 = Words.get64(b, State.far((int) (((l7 & 0xffffffffL) & 255L) << 3L), 102816));
       }
       Core2.f53(m, l0, l3, 1L);
       break L9;
@@ -5063,7 +5063,7 @@ static void f277(State m, long l0, long l1, long l2) {
          if (l7 == 40670) { break L21; }
          if (l7 != 28857) { break L19; }
         }
-        Core2.f53(m, l0, 98166L, 1L);
+        Core2.f53(m, l0, 98142L, 1L);
         break L9;
        }
        if (l7 == 26464) { break L18; }
@@ -5113,7 +5113,7 @@ static void f277(State m, long l0, long l1, long l2) {
  throw State.trap();
 }
 
-static int f278_1(State m, long l0, long l1, long l2, long l3, long l4, long l5, long l6, long l7, long l8, long l9, long l10, long l11, long l14, long l15, int l16, int l17, int l18, int l19, int l20, int l21, int l22, int l23) {
+static int f279_1(State m, long l0, long l1, long l2, long l3, long l4, long l5, long l6, long l7, long l8, long l9, long l10, long l11, long l14, long l15, int l16, int l17, int l18, int l19, int l20, int l21, int l22, int l23) {
  final byte[] b = m.bytes;
  int exit = 0;
  PART: {
@@ -5138,7 +5138,7 @@ static int f278_1(State m, long l0, long l1, long l2, long l3, long l4, long l5,
    Words.put64(b, ((int) l5) - 58288, l10);
    Words.put64(b, ((int) l5) - 58296, l9);
    l18 = 0;
-   if (f264(m, l5 + 632L, l6, l0, l5 + 608L, l7, l8) == 0) { exit = 3; break PART; }
+   if (f265(m, l5 + 632L, l6, l0, l5 + 608L, l7, l8) == 0) { exit = 3; break PART; }
    L8: {
     if ((l3 & 281474976710656L) == 0L) { break L8; }
     b[((int) l5) - 58479] = (byte) l20;
@@ -5147,7 +5147,7 @@ static int f278_1(State m, long l0, long l1, long l2, long l3, long l4, long l5,
     Words.put16(b, ((int) l5) - 58474, (short) (Words.get16(b, ((int) l5) - 58532) & 0xffff));
     Words.put64(b, ((int) l5) - 58464, l10);
     Words.put64(b, ((int) l5) - 58472, l9);
-    if ((f265(m, l6, l0, l5 + 432L, l7, l8) & 1) == 0) { break L8; }
+    if ((f266(m, l6, l0, l5 + 432L, l7, l8) & 1) == 0) { break L8; }
     Words.put32(b, ((int) l5) - 58088, 0);
     Words.put64(b, ((int) l5) - 58096, 0L);
     Core4.f120(m, l5 + 816L, l20, l5 + 376L);
@@ -5164,7 +5164,7 @@ static int f278_1(State m, long l0, long l1, long l2, long l3, long l4, long l5,
         default: break L12;
         }
        }
-       if (f271(m, l9, l10) != 0) { break L9; }
+       if (f272(m, l9, l10) != 0) { break L9; }
        if ((l4 & 71777214277878015L) != 281479271677953L) { break L9; }
        if (((((int) (l0 = l4 >>> 16L)) + -10000) & 65535) + Integer.MIN_VALUE < -2147427112) { break L9; }
        Words.put64(b, ((int) l5) - 58232, 0L);
@@ -5178,16 +5178,16 @@ static int f278_1(State m, long l0, long l1, long l2, long l3, long l4, long l5,
        m.fill((int) (l5 + 432L), 0, (int) 80L);
        Core2.f52(m, l5 + 24L, l5 + 432L, l5 + 640L);
        Core2.f53(m, l1, Words.get64(b, ((int) l5) - 58888), Words.get64(b, ((int) l5) - 58880));
-       f279(m, l1, (int) (l4 >>> 40L));
-       f279(m, l1, (int) (l4 >>> 56L));
+       f280(m, l1, (int) (l4 >>> 40L));
+       f280(m, l1, (int) (l4 >>> 56L));
        Words.put64(b, ((int) l5) - 58464, 0L);
        Words.put64(b, ((int) l5) - 58472, 0L);
        Words.put64(b, ((int) l5) - 58480, 0L);
-       l4 = 99457L;
+       l4 = 99433L;
        L13: {
         if (Core4.f130(m, l9, l10) != 0) { break L13; }
         Core4.f134(m, l5 + 432L, 21, l9, l10);
-        l4 = ((l18 = (((b[((int) l5) - 58480] & 0xff) & 255) == 1) ? 1 : 0) != 0) ? 99457L : 83372L;
+        l4 = ((l18 = (((b[((int) l5) - 58480] & 0xff) & 255) == 1) ? 1 : 0) != 0) ? 99433L : 83372L;
         l3 = l18 & 0xffffffffL;
        }
        Core2.f53(m, l1, l4, l3);
@@ -5196,8 +5196,8 @@ static int f278_1(State m, long l0, long l1, long l2, long l3, long l4, long l5,
       }
       b[((int) l5) - 58160] = (byte) (b[((int) l5) - 58093] & 0xff);
       Words.put16(b, ((int) l5) - 58159, (short) l4);
-      if (f272(m, l19, l6, l0, l7, l8, l9, l10) != 0) { break L9; }
-      if (f273(m, l9, l10) != 0) { break L9; }
+      if (f273(m, l19, l6, l0, l7, l8, l9, l10) != 0) { break L9; }
+      if (f274(m, l9, l10) != 0) { break L9; }
       Core4.f122(m, l5 + 56L, l19, l7, l8, l5 + 752L);
       if ((b[((int) l5) - 58856] & 0xff) != 1) { break L9; }
       l18 = b[((int) l5) - 58855] & 0xff;
@@ -5215,7 +5215,7 @@ static int f278_1(State m, long l0, long l1, long l2, long l3, long l4, long l5,
       L15: {
        L16: {
         if ((l18 & 255) + Integer.MIN_VALUE > -2147483639) { break L16; }
-        Core2.f53(m, l1, 98156L, 1L);
+        Core2.f53(m, l1, 98132L, 1L);
         break L15;
        }
        Core2.f53(m, l1, 83372L, 0L);
@@ -5231,22 +5231,22 @@ static int f278_1(State m, long l0, long l1, long l2, long l3, long l4, long l5,
       m.fill((int) (l5 + 432L), 0, (int) 80L);
       Core2.f52(m, l5 + 40L, l5 + 432L, l5 + 640L);
       Core2.f53(m, l1, Words.get64(b, ((int) l5) - 58872), Words.get64(b, ((int) l5) - 58864));
-      f280(m, l1, l16);
+      f281(m, l1, l16);
       L17: {
        if (((1 << l20) & -1064961) != 0) { break L17; }
-       f280(m, l1, l17);
+       f281(m, l1, l17);
       }
       Words.put64(b, ((int) l5) - 58464, 0L);
       Words.put64(b, ((int) l5) - 58472, 0L);
       Words.put64(b, ((int) l5) - 58480, 0L);
       L18: {
        if (Core4.f130(m, l9, l10) == 0) { break L18; }
-       Core2.f53(m, l1, 99457L, 1L);
+       Core2.f53(m, l1, 99433L, 1L);
        l18 = 1;
        exit = 3; break PART;
       }
       Core4.f134(m, l5 + 432L, 21, l9, l10);
-      Core2.f53(m, l1, ((l18 = (((b[((int) l5) - 58480] & 0xff) & 255) == 1) ? 1 : 0) != 0) ? 99457L : 83372L, l18 & 0xffffffffL);
+      Core2.f53(m, l1, ((l18 = (((b[((int) l5) - 58480] & 0xff) & 255) == 1) ? 1 : 0) != 0) ? 99433L : 83372L, l18 & 0xffffffffL);
       l18 = 1;
       exit = 3; break PART;
      }
@@ -5260,7 +5260,7 @@ static int f278_1(State m, long l0, long l1, long l2, long l3, long l4, long l5,
      m.fill((int) (l5 + 432L), 0, (int) 80L);
      Core2.f52(m, l5 + 80L, l5 + 432L, l5 + 640L);
      Core2.f53(m, l1, Words.get64(b, ((int) l5) - 58832), Words.get64(b, ((int) l5) - 58824));
-     f274(m, l5 + 64L, l7, l8);
+     f275(m, l5 + 64L, l7, l8);
      l0 = Words.get64(b, ((int) l5) - 58840);
      l4 = Words.get64(b, ((int) l5) - 58848);
      Words.put64(b, ((int) l5) - 58256, 0L);
@@ -5351,8 +5351,8 @@ static int f278_1(State m, long l0, long l1, long l2, long l3, long l4, long l5,
    Words.put64(b, ((int) l5) - 58264, 0L);
    Words.put64(b, ((int) l5) - 58256, 0L);
    Words.put64(b, ((int) l5) - 58248, 0L);
-   l11 = Words.get64(b, State.far((int) (l4 = (l20 & 0xffffffffL) << 3L), 102456));
-   l6 = Words.get64(b, State.far((int) l4, 102200));
+   l11 = Words.get64(b, State.far((int) (l4 = (l20 & 0xffffffffL) << 3L), 102544));
+   l6 = Words.get64(b, State.far((int) l4, 102288));
    l19 = 0;
    l4 = 0L;
    l20 = 0;
@@ -5429,11 +5429,11 @@ static int f278_1(State m, long l0, long l1, long l2, long l3, long l4, long l5,
        break L32;
       }
       L42: {
-       if ((f266(m, 1, l9, l14) & 1) != 0) { break L42; }
+       if ((f267(m, 1, l9, l14) & 1) != 0) { break L42; }
        Core2.f53(m, l1, l9, l14);
        break L32;
       }
-      final int t43 = f281(m, l1, 1, l9, l14);
+      final int t43 = f282(m, l1, 1, l9, l14);
       break L32;
      }
      Core2.f53(m, l1, l3, l0 - l15);
@@ -5464,7 +5464,7 @@ static int f278_1(State m, long l0, long l1, long l2, long l3, long l4, long l5,
  return exit;
 }
 
-static int f278_2(State m, long l0, long l1, long l2, long l3, long l5, long l13, long l14, int l16, int l17, int l18, int l19, int l23) {
+static int f279_2(State m, long l0, long l1, long l2, long l3, long l5, long l13, long l14, int l16, int l17, int l18, int l19, int l23) {
  final byte[] b = m.bytes;
  int exit = 0;
  PART: {
@@ -5563,7 +5563,7 @@ static int f278_2(State m, long l0, long l1, long l2, long l3, long l5, long l13
      l18 = 0;
      exit = 1; break PART;
     }
-    if ((f281(m, l1, 1, l13, l14) & 1) != 0) { break L48; }
+    if ((f282(m, l1, 1, l13, l14) & 1) != 0) { break L48; }
     l18 = 0;
     exit = 1; break PART;
    }
@@ -5580,7 +5580,7 @@ static int f278_2(State m, long l0, long l1, long l2, long l3, long l5, long l13
  return exit;
 }
 
-static int f278(State m, long l0, long l1, long l2, long l3, long l4) {
+static int f279(State m, long l0, long l1, long l2, long l3, long l4) {
  final byte[] b = m.bytes;
  long l5 = 0;
  long l6 = 0;
@@ -5668,7 +5668,7 @@ static int f278(State m, long l0, long l1, long l2, long l3, long l4) {
      Words.put64(b, ((int) l5) - 58632, Words.get64(b, ((int) l5) - 58562));
      Words.put64(b, ((int) l5) - 58638, Words.get64(b, ((int) l5) - 58568));
      Words.put64(b, ((int) l5) - 58646, Words.get64(b, ((int) l5) - 58576));
-     if (f263(m, l5 + 416L, l2, l3, l5 + 288L, l5 + 160L) == 0) { break L1; }
+     if (f264(m, l5 + 416L, l2, l3, l5 + 288L, l5 + 160L) == 0) { break L1; }
      l3 = Words.get64(b, ((int) l5) - 58494);
      Words.put64(b, ((int) l5) - 58312, 0L);
      Words.put64(b, ((int) l5) - 58320, 0L);
@@ -5683,7 +5683,7 @@ static int f278(State m, long l0, long l1, long l2, long l3, long l4) {
      }
      l23 = (int) (l3 >>> 32L);
      l16 = (int) (l3 >>> 24L);
-     final int x44 = f278_1(m, l0, l1, l2, l3, l4, l5, l6, l7, l8, l9, l10, l11, l14, l15, l16, l17, l18, l19, l20, l21, l22, l23);
+     final int x44 = f279_1(m, l0, l1, l2, l3, l4, l5, l6, l7, l8, l9, l10, l11, l14, l15, l16, l17, l18, l19, l20, l21, l22, l23);
      l0 = m.kept[0];
      l2 = m.kept[1];
      l3 = m.kept[2];
@@ -5716,7 +5716,7 @@ static int f278(State m, long l0, long l1, long l2, long l3, long l4) {
       Words.put64(b, ((int) l5) - 58440, Words.get64(b, ((int) l5) - 58544));
       Core2.f53(m, l1, l9, l10);
       l18 = 0;
-      if ((f282(m, l3, l5 + 432L, l1) & 1) == 0) { break L1; }
+      if ((f283(m, l3, l5 + 432L, l1) & 1) == 0) { break L1; }
       Core2.f53(m, l1, l4, l15);
       l18 = 1;
       break L1;
@@ -5785,10 +5785,10 @@ static int f278(State m, long l0, long l1, long l2, long l3, long l4) {
       m.fill((int) (l5 + 816L), 0, (int) 80L);
       Core2.f52(m, l5 + 128L, l5 + 816L, l5 + 768L);
       Core2.f53(m, l1, Words.get64(b, ((int) l5) - 58784), Words.get64(b, ((int) l5) - 58776));
-      Core2.f53(m, l1, 99458L, 3L);
+      Core2.f53(m, l1, 99434L, 3L);
       break L1;
      }
-     final int x62 = f278_2(m, l0, l1, l2, l3, l5, l13, l14, l16, l17, l18, l19, l23);
+     final int x62 = f279_2(m, l0, l1, l2, l3, l5, l13, l14, l16, l17, l18, l19, l23);
      l0 = m.kept[0];
      l2 = m.kept[1];
      l3 = m.kept[2];
@@ -5866,7 +5866,7 @@ static int f278(State m, long l0, long l1, long l2, long l3, long l4) {
           l2 = 0L;
           break L75;
          }
-         l3 = Words.get64(b, ((int) ((((l16 & 0xffffffffL) & 255L) << 3L) + 102120L)) - 58912);
+         l3 = Words.get64(b, ((int) ((((l16 & 0xffffffffL) & 255L) << 3L) + 102208L)) - 58912);
          l2 = 1L;
         }
         Core2.f53(m, l1, l3, l2);
@@ -5887,7 +5887,7 @@ static int f278(State m, long l0, long l1, long l2, long l3, long l4) {
    Words.put64(b, ((int) l5) - 58328, Words.get64(b, ((int) l5) - 58520));
    Words.put64(b, ((int) l5) - 58320, Words.get64(b, ((int) l5) - 58512));
    Words.put64(b, ((int) l5) - 58312, Words.get64(b, ((int) l5) - 58504));
-   l18 = f282(m, l3, l5 + 560L, l1);
+   l18 = f283(m, l3, l5 + 560L, l1);
    break L1;
   }
   l18 = 0;
@@ -5917,8 +5917,8 @@ static int f278(State m, long l0, long l1, long l2, long l3, long l4) {
    if (Core4.f125(m, l5 + 640L) != 0) { break L1; }
   }
   L78: {
-   if (f268(m, l10, l11, l4, l15) == 0) { break L78; }
-   if (f269(m, l23, l10, l11, l4, l15) == 0) { break L1; }
+   if (f269(m, l10, l11, l4, l15) == 0) { break L78; }
+   if (f270(m, l23, l10, l11, l4, l15) == 0) { break L1; }
   }
   Words.put64(b, ((int) l5) - 58424, 0L);
   Words.put64(b, ((int) l5) - 58432, 0L);
@@ -5951,7 +5951,7 @@ static int f278(State m, long l0, long l1, long l2, long l3, long l4) {
    l0 = Words.get64(b, ((int) l5) - 58760);
    l3 = Words.get64(b, ((int) l5) - 58768);
   }
-  if ((f283(m, l1, l23, l10, l11, l3, l0) & 1) == 0) { break L1; }
+  if ((f284(m, l1, l23, l10, l11, l3, l0) & 1) == 0) { break L1; }
   Words.put32(b, ((int) l5) - 58272, 0);
   L81: {
    L82: {
@@ -6008,13 +6008,13 @@ static int f278(State m, long l0, long l1, long l2, long l3, long l4) {
    l3 = ((l18 = ((((b[((int) l5) - 58480] & 0xff) & 255) != 0) | (((b[((int) l5) - 58432] & 0xff) & 255) != 2)) ? 1 : 0) != 0) ? 77254L : 83372L;
    l0 = l18 & 0xffffffffL;
   }
-  l18 = f283(m, l1, l23, l4, l15, l3, l0);
+  l18 = f284(m, l1, l23, l4, l15, l3, l0);
  }
  m.g0 = l5 + 896L;
  return l18;
 }
 
-static void f279(State m, long l0, int l1) {
+static void f280(State m, long l0, int l1) {
  final byte[] b = m.bytes;
  long l2 = 0;
  m.g0 = l2 = m.g0 - 144L;
@@ -6024,7 +6024,7 @@ static void f279(State m, long l0, int l1) {
   L2: {
    L3: {
     if ((l1 & 255) + Integer.MIN_VALUE > -2147483639) { break L3; }
-    Core2.f53(m, l0, 98156L, 1L);
+    Core2.f53(m, l0, 98132L, 1L);
     break L2;
    }
    Core2.f53(m, l0, 83372L, 0L);
@@ -6045,17 +6045,17 @@ static void f279(State m, long l0, int l1) {
  throw State.trap();
 }
 
-static void f280(State m, long l0, int l1) {
+static void f281(State m, long l0, int l1) {
  final byte[] b = m.bytes;
  long l2 = 0;
  m.g0 = l2 = m.g0 - 144L;
  L1: {
   if ((l2 = l2) < 16L) { break L1; }
-  Core2.f53(m, l0, 99456L, 1L);
+  Core2.f53(m, l0, 99432L, 1L);
   L2: {
    L3: {
     if ((l1 & 255) + Integer.MIN_VALUE > -2147483639) { break L3; }
-    Core2.f53(m, l0, 98156L, 1L);
+    Core2.f53(m, l0, 98132L, 1L);
     break L2;
    }
    Core2.f53(m, l0, 83372L, 0L);
@@ -6076,7 +6076,7 @@ static void f280(State m, long l0, int l1) {
  throw State.trap();
 }
 
-static int f281(State m, long l0, int l1, long l2, long l3) {
+static int f282(State m, long l0, int l1, long l2, long l3) {
  final byte[] b = m.bytes;
  long l4 = 0;
  long l5 = 0;
@@ -6093,12 +6093,12 @@ static int f281(State m, long l0, int l1, long l2, long l3) {
     Words.put64(b, ((int) l4) - 58872, 0L);
     Words.put64(b, ((int) l4) - 58880, 0L);
     Words.put64(b, ((int) l4) - 58888, 0L);
-    Core7.f241(m, l4 + 24L, l2, l3);
+    Core7.f242(m, l4 + 24L, l2, l3);
     L4: {
      if ((b[((int) l4) - 58888] & 0xff) != 1) { break L4; }
      l5 = Words.get64(b, ((int) l4) - 58880);
      Core2.f53(m, l0, l2, l3 - (l6 = Words.get64(b, ((int) l4) - 58872)));
-     f284(m, l4, l0, l1, l5, l6);
+     f285(m, l4, l0, l1, l5, l6);
      l1 = b[((int) l4) - 58911] & 0xff;
      break L1;
     }
@@ -6136,20 +6136,20 @@ static int f281(State m, long l0, int l1, long l2, long l3) {
      if (l8 != 36127) { break L2; }
     }
     Core2.f53(m, l0, 77252L, 1L);
-    f284(m, l4 + 16L, l0, l1, l2 + l5, l3 - l5);
+    f285(m, l4 + 16L, l0, l1, l2 + l5, l3 - l5);
     l1 = b[((int) l4) - 58895] & 0xff;
     break L1;
    }
    throw State.trap();
   }
-  f284(m, l4 + 8L, l0, l1, l2, l3);
+  f285(m, l4 + 8L, l0, l1, l2, l3);
   l1 = b[((int) l4) - 58903] & 0xff;
  }
  m.g0 = l4 + 48L;
  return l1;
 }
 
-static int f282(State m, long l0, long l1, long l2) {
+static int f283(State m, long l0, long l1, long l2) {
  final byte[] b = m.bytes;
  long l3 = 0;
  long l4 = 0;
@@ -6175,11 +6175,11 @@ static int f282(State m, long l0, long l1, long l2) {
   Words.put16(b, ((int) l3) - 58820, (short) (l7 >>> 8));
   l8 = 0;
   L2: {
-   if (Core7.f238(m, l7, l3 + 92L, l3 + 40L) == 0) { break L2; }
+   if (Core7.f239(m, l7, l3 + 92L, l3 + 40L) == 0) { break L2; }
    L3: {
     L4: {
-     if (Core7.f239(m, l4, l5) != 0) { break L4; }
-     l9 = Core7.f240(m, l4, l5);
+     if (Core7.f240(m, l4, l5) != 0) { break L4; }
+     l9 = Core7.f241(m, l4, l5);
      L5: {
       if ((l0 & 1095216660480L) != 0L) { break L5; }
       if (l9 != 0) { break L2; }
@@ -6215,7 +6215,7 @@ static int f282(State m, long l0, long l1, long l2) {
         break L2;
        }
       }
-      l8 = f281(m, l2, l7, l4, l5);
+      l8 = f282(m, l2, l7, l4, l5);
       break L2;
      }
      L11: {
@@ -6333,7 +6333,7 @@ static int f282(State m, long l0, long l1, long l2) {
       }
       l9 = (((l9 + -48) + Integer.MIN_VALUE < -2147483638) | ((l9 + -65296) + Integer.MIN_VALUE < -2147483638)) ? 1 : 0;
      }
-     Core7.f243(m, l3, l9, l7);
+     Core7.f244(m, l3, l9, l7);
      Core2.f53(m, l2, Words.get64(b, ((int) l3) - 58912), Words.get64(b, ((int) l3) - 58904));
      L26: {
       L27: {
@@ -6356,7 +6356,7 @@ static int f282(State m, long l0, long l1, long l2) {
  throw State.trap();
 }
 
-static int f283(State m, long l0, int l1, long l2, long l3, long l4, long l5) {
+static int f284(State m, long l0, int l1, long l2, long l3, long l4, long l5) {
  final byte[] b = m.bytes;
  long l6 = 0;
  int l7 = 0;
@@ -6381,7 +6381,7 @@ static int f283(State m, long l0, int l1, long l2, long l3, long l4, long l5) {
    l3 = l8 != 0 ? 0L : l3;
    L5: {
     if ((l1 & 255) != 0) { break L5; }
-    l7 = f281(m, l0, 1, l5, l3);
+    l7 = f282(m, l0, 1, l5, l3);
     break L2;
    }
    Words.put64(b, ((int) l6) - 58696, 0L);
@@ -6412,7 +6412,7 @@ static int f283(State m, long l0, int l1, long l2, long l3, long l4, long l5) {
  throw State.trap();
 }
 
-static void f284(State m, long l0, long l1, int l2, long l3, long l4) {
+static void f285(State m, long l0, long l1, int l2, long l3, long l4) {
  final byte[] b = m.bytes;
  long l5 = 0;
  long l6 = 0;
@@ -6441,7 +6441,7 @@ static void f284(State m, long l0, long l1, int l2, long l3, long l4) {
        Words.put64(b, ((int) l5) - 58824, 0L);
        Words.put64(b, ((int) l5) - 58832, 0L);
        Words.put64(b, ((int) l5) - 58840, 0L);
-       Core7.f244(m, l5 + 72L, l3, l4);
+       Core7.f245(m, l5 + 72L, l3, l4);
        if ((b[((int) l5) - 58840] & 0xff) != 1) { break L2; }
        l6 = Words.get64(b, ((int) l5) - 58808);
        l7 = Words.get64(b, ((int) l5) - 58816);
@@ -6530,7 +6530,7 @@ static void f284(State m, long l0, long l1, int l2, long l3, long l4) {
          if (l16 != 36127) { break L5; }
         }
         Core2.f53(m, l1, 77252L, 1L);
-        f285(m, l5 + 40L, l1, l2, l7 + l4, l6 - l4);
+        f286(m, l5 + 40L, l1, l2, l7 + l4, l6 - l4);
         l16 = b[((int) l5) - 58871] & 0xff;
         break L4;
        }
@@ -6547,7 +6547,7 @@ static void f284(State m, long l0, long l1, int l2, long l3, long l4) {
       }
       throw State.trap();
      }
-     f285(m, l5 + 32L, l1, l2, l7, l6);
+     f286(m, l5 + 32L, l1, l2, l7, l6);
      l16 = b[((int) l5) - 58879] & 0xff;
     }
     if ((l16 & 1) == 0) { break L1; }
@@ -6573,7 +6573,7 @@ static void f284(State m, long l0, long l1, int l2, long l3, long l4) {
    final int t21 = (l4 == 0L) ? 1 : 0;
    if ((t21 != 0 ? t19 : t20) != 0) { break L1; }
    Core2.f53(m, l1, 77253L, 1L);
-   f285(m, l5 + 8L, l1, l2, l9, l8);
+   f286(m, l5 + 8L, l1, l2, l9, l8);
    l13 = b[((int) l5) - 58903] & 0xff;
    break L1;
   }
@@ -6611,7 +6611,7 @@ static void f284(State m, long l0, long l1, int l2, long l3, long l4) {
     if (l16 == 65285) { break L28; }
     if (l16 != 8240) { break L27; }
    }
-   f285(m, l5 + 64L, l1, l2, l3, l12);
+   f286(m, l5 + 64L, l1, l2, l3, l12);
    l13 = 1;
    L29: {
     if (((b[((int) l5) - 58847] & 0xff) & 1) != 0) { break L29; }
@@ -6621,7 +6621,7 @@ static void f284(State m, long l0, long l1, int l2, long l3, long l4) {
    Core2.f53(m, l1, l3 + l12, l4 - l12);
    break L1;
   }
-  f285(m, l5 + 56L, l1, l2, l3, l4);
+  f286(m, l5 + 56L, l1, l2, l3, l4);
   l13 = b[((int) l5) - 58855] & 0xff;
  }
  b[((int) l0) - 58911] = (byte) l13;
@@ -6629,7 +6629,7 @@ static void f284(State m, long l0, long l1, int l2, long l3, long l4) {
  m.g0 = l5 + 240L;
 }
 
-static void f285(State m, long l0, long l1, int l2, long l3, long l4) {
+static void f286(State m, long l0, long l1, int l2, long l3, long l4) {
  final byte[] b = m.bytes;
  long l5 = 0;
  long l6 = 0;
@@ -6719,7 +6719,7 @@ static void f285(State m, long l0, long l1, int l2, long l3, long l4) {
        }
        break L11;
       }
-      Core7.f246(m, l5 + 88L, l3, l4);
+      Core7.f247(m, l5 + 88L, l3, l4);
       L16: {
        if ((b[((int) l5) - 58824] & 0xff) != 1) { break L16; }
        l7 = Words.get64(b, ((int) l5) - 58792);
@@ -6749,12 +6749,12 @@ static void f285(State m, long l0, long l1, int l2, long l3, long l4) {
        m.fill((int) (l5 + 240L), 0, (int) 80L);
        Core2.f52(m, l5 + 8L, l5 + 240L, l5 + 128L);
        Core2.f53(m, l1, Words.get64(b, ((int) l5) - 58904), Words.get64(b, ((int) l5) - 58896));
-       Core2.f53(m, l1, 98166L, 1L);
-       f286(m, l1, l9, l7);
+       Core2.f53(m, l1, 98142L, 1L);
+       f287(m, l1, l9, l7);
        break L2;
       }
       L18: {
-       if (Core7.f247(m, l3, l4) == 0) { break L18; }
+       if (Core7.f248(m, l3, l4) == 0) { break L18; }
        l18 = 1;
        if (l13 != 0) { break L1; }
        l10 = l5 + 256L;
@@ -6783,7 +6783,7 @@ static void f285(State m, long l0, long l1, int l2, long l3, long l4) {
          l6 = 4L;
         }
         L23: {
-         if (Core7.f248(m, l15, l11 = l11 + l6, l12 = l12 - l6) == 0) { break L23; }
+         if (Core7.f249(m, l15, l11 = l11 + l6, l12 = l12 - l6) == 0) { break L23; }
          l6 = l3;
          l9 = 0L;
          L24: {
@@ -6829,7 +6829,7 @@ static void f285(State m, long l0, long l1, int l2, long l3, long l4) {
          Words.put64(b, ((int) l5) - 58704, 0L);
          Words.put64(b, ((int) l5) - 58712, 0L);
          Words.put64(b, ((int) l5) - 58720, 0L);
-         Core7.f249(m, l5 + 192L, l6, l9);
+         Core7.f250(m, l5 + 192L, l6, l9);
          l7 = Words.get64(b, ((int) l5) - 58696);
          l9 = Words.get64(b, ((int) l5) - 58704);
          l6 = Words.get64(b, ((int) l5) - 58712);
@@ -6869,7 +6869,7 @@ static void f285(State m, long l0, long l1, int l2, long l3, long l4) {
       Words.put64(b, ((int) l5) - 58768, 0L);
       Words.put64(b, ((int) l5) - 58776, 0L);
       Words.put64(b, ((int) l5) - 58784, 0L);
-      Core7.f250(m, l5 + 128L, l3, l4);
+      Core7.f251(m, l5 + 128L, l3, l4);
       L30: {
        L31: {
         if ((b[((int) l5) - 58784] & 0xff) != 1) { break L31; }
@@ -6924,12 +6924,12 @@ static void f285(State m, long l0, long l1, int l2, long l3, long l4) {
       m.fill((int) (l5 + 240L), 0, (int) 80L);
       Core2.f52(m, l5 + 48L, l5 + 240L, l5 + 192L);
       Core2.f53(m, l1, Words.get64(b, ((int) l5) - 58864), Words.get64(b, ((int) l5) - 58856));
-      Core2.f53(m, l1, 98166L, 1L);
+      Core2.f53(m, l1, 98142L, 1L);
       Core2.f63(m, l5 + 40L, l15);
       L32: {
        L33: {
         if ((b[((int) l5) - 58872] & 0xff) != 1) { break L33; }
-        Core2.f53(m, l1, Words.get64(b, State.far((int) ((((b[((int) l5) - 58871] & 0xff) & 0xffffffffL) & 255L) << 3L), 102728)), 1L);
+        Core2.f53(m, l1, Words.get64(b, State.far((int) ((((b[((int) l5) - 58871] & 0xff) & 0xffffffffL) & 255L) << 3L), 102816)), 1L);
         break L32;
        }
        Core2.f53(m, l1, l4, l3);
@@ -6939,7 +6939,7 @@ static void f285(State m, long l0, long l1, int l2, long l3, long l4) {
      }
      throw State.trap();
     }
-    f286(m, l1, l3, l4);
+    f287(m, l1, l3, l4);
     break L2;
    }
    l18 = 0;
@@ -6952,7 +6952,7 @@ static void f285(State m, long l0, long l1, int l2, long l3, long l4) {
  m.g0 = l5 + 320L;
 }
 
-static void f286(State m, long l0, long l1, long l2) {
+static void f287(State m, long l0, long l1, long l2) {
  final byte[] b = m.bytes;
  long l3 = 0;
  long l4 = 0;
@@ -6992,7 +6992,7 @@ static void f286(State m, long l0, long l1, long l2) {
     L7: {
      L8: {
       if ((b[((int) l4) - 58904] & 0xff) != 1) { break L8; }
-      Core2.f53(m, l0, Words.get64(b, State.far((int) ((((b[((int) l4) - 58903] & 0xff) & 0xffffffffL) & 255L) << 3L), 102728)), 1L);
+      Core2.f53(m, l0, Words.get64(b, State.far((int) ((((b[((int) l4) - 58903] & 0xff) & 0xffffffffL) & 255L) << 3L), 102816)), 1L);
       break L7;
      }
      Core2.f53(m, l0, l1, l3);
@@ -7008,7 +7008,7 @@ static void f286(State m, long l0, long l1, long l2) {
  throw State.trap();
 }
 
-static int f287(State m, long l0, long l1, int l2, int l3, long l4) {
+static int f288(State m, long l0, long l1, int l2, int l3, long l4) {
  final byte[] b = m.bytes;
  long l5 = 0;
  long l6 = 0;
@@ -7052,26 +7052,26 @@ static int f287(State m, long l0, long l1, int l2, int l3, long l4) {
      }
      L10: {
       if (l3 + Integer.MIN_VALUE > -2147483644) { break L10; }
-      l3 = b[((int) ((l6 = (l3 & 0xffffffffL) << 1L) + 98034L)) - 58912] & 0xff;
-      l8 = b[((int) (l6 + 98033L)) - 58912] & 0xff;
+      l3 = b[((int) ((l6 = (l3 & 0xffffffffL) << 1L) + 98010L)) - 58912] & 0xff;
+      l8 = b[((int) (l6 + 98009L)) - 58912] & 0xff;
       L11: {
        if (l2 + Integer.MIN_VALUE < -2147483643) { break L11; }
-       l2 = Core7.f231(m, l0, l1, l2, l8, l3, l4);
+       l2 = Core7.f232(m, l0, l1, l2, l8, l3, l4);
        m.g0 = l5;
        final int t12 = l2;
        return t12;
       }
-      l2 = Core7.f232(m, l0, l1, l2, l8, l3, l4);
+      l2 = Core7.f233(m, l0, l1, l2, l8, l3, l4);
       m.g0 = l5;
       final int t13 = l2;
       return t13;
      }
-     l2 = Core7.f233(m, l0, l1, l2, l4);
+     l2 = Core7.f234(m, l0, l1, l2, l4);
      m.g0 = l5;
      final int t14 = l2;
      return t14;
     }
-    l2 = f288(m, l0, l1, l2, l3, l4);
+    l2 = f289(m, l0, l1, l2, l3, l4);
     m.g0 = l5;
     final int t15 = l2;
     return t15;
@@ -7087,7 +7087,7 @@ static int f287(State m, long l0, long l1, int l2, int l3, long l4) {
  return 8;
 }
 
-static int f288(State m, long l0, long l1, int l2, int l3, long l4) {
+static int f289(State m, long l0, long l1, int l2, int l3, long l4) {
  final byte[] b = m.bytes;
  long l5 = 0;
  long l6 = 0;
@@ -7204,7 +7204,7 @@ static int f288(State m, long l0, long l1, int l2, int l3, long l4) {
      if (l3 + Integer.MIN_VALUE < -2147483643) { break L23; }
      if (l2 + Integer.MIN_VALUE > -2147483639) { break L22; }
      if (l3 != 5) { break L22; }
-     l12 = Core7.f233(m, l0, l1, l2, l4);
+     l12 = Core7.f234(m, l0, l1, l2, l4);
      m.g0 = l5;
      final int t24 = l12;
      return t24;
@@ -7218,16 +7218,16 @@ static int f288(State m, long l0, long l1, int l2, int l3, long l4) {
    m.g0 = l5;
    return 8;
   }
-  l12 = b[((int) ((l7 = (l3 & 0xffffffffL) << 1L) + 98034L)) - 58912] & 0xff;
-  l3 = b[((int) (l7 + 98033L)) - 58912] & 0xff;
+  l12 = b[((int) ((l7 = (l3 & 0xffffffffL) << 1L) + 98010L)) - 58912] & 0xff;
+  l3 = b[((int) (l7 + 98009L)) - 58912] & 0xff;
   L25: {
    if (l2 + Integer.MIN_VALUE < -2147483643) { break L25; }
-   l12 = Core7.f231(m, l0, l1, l2, l3, l12, l4);
+   l12 = Core7.f232(m, l0, l1, l2, l3, l12, l4);
    m.g0 = l5;
    final int t26 = l12;
    return t26;
   }
-  l12 = Core7.f232(m, l0, l1, l2, l3, l12, l4);
+  l12 = Core7.f233(m, l0, l1, l2, l3, l12, l4);
   m.g0 = l5;
   final int t27 = l12;
   return t27;

@@ -2,7 +2,7 @@
 package chinesenumber;
 
 final class Core9 {
-static int f289_1(State m, long l0, long l1, long l4, long l5, long l6, long l7, long l14, long l15, long l16, long l17, int l22, int l23, int l24, int l25, int l26, int l27, int l28) {
+static int f290_1(State m, long l0, long l1, long l4, long l5, long l6, long l7, long l14, long l15, long l16, long l17, int l22, int l23, int l24, int l25, int l26, int l27, int l28) {
  final byte[] b = m.bytes;
  int exit = 0;
  PART: {
@@ -32,26 +32,26 @@ static int f289_1(State m, long l0, long l1, long l4, long l5, long l6, long l7,
          }
          Words.put16(b, ((int) l7) - 58623, (short) l23);
          b[((int) l7) - 58624] = (byte) l24;
-         f290(m, l0, l7 + 288L, l17, l16);
-         f291(m, l0, l24, 26376);
-         f290(m, l0, l7 + 288L, l15, l14);
+         f291(m, l0, l7 + 288L, l17, l16);
+         f292(m, l0, l24, 26376);
+         f291(m, l0, l7 + 288L, l15, l14);
          Words.put32(b, ((int) l7) - 58624, 10852326);
          Core2.f53(m, l0, l7 + 288L, 3L);
          exit = 1; break PART;
         }
         Words.put16(b, ((int) l7) - 58623, (short) l23);
         b[((int) l7) - 58624] = (byte) l24;
-        f290(m, l0, l7 + 288L, l17, l16);
-        f291(m, l0, l24, 27604);
-        f290(m, l0, l7 + 288L, l15, l14);
-        Core2.f53(m, l0, 99469L, 12L);
+        f291(m, l0, l7 + 288L, l17, l16);
+        f292(m, l0, l24, 27604);
+        f291(m, l0, l7 + 288L, l15, l14);
+        Core2.f53(m, l0, 99445L, 12L);
         exit = 1; break PART;
        }
        Words.put16(b, ((int) l7) - 58623, (short) l23);
        b[((int) l7) - 58624] = (byte) l24;
-       f290(m, l0, l7 + 288L, l15, l14);
-       Core2.f53(m, l0, 99463L, 6L);
-       f290(m, l0, l7 + 288L, l17, l16);
+       f291(m, l0, l7 + 288L, l15, l14);
+       Core2.f53(m, l0, 99439L, 6L);
+       f291(m, l0, l7 + 288L, l17, l16);
        exit = 1; break PART;
       }
       L12: {
@@ -78,7 +78,7 @@ static int f289_1(State m, long l0, long l1, long l4, long l5, long l6, long l7,
          l26 = ((l23 << 6) | ((l22 << 12) | ((l26 << 18) & 1835008))) | ((b[((int) l17) - 58909] & 0xff) & 63);
          l6 = 4L;
         }
-        f292(m, l0, l24, l26);
+        f293(m, l0, l24, l26);
         l17 = l17 + l6;
         if ((l16 = l16 - l6) != 0L) { continue L13; }
         break L13;
@@ -109,7 +109,7 @@ static int f289_1(State m, long l0, long l1, long l4, long l5, long l6, long l7,
         l26 = ((l23 << 6) | ((l22 << 12) | ((l26 << 18) & 1835008))) | ((b[((int) l15) - 58909] & 0xff) & 63);
         l6 = 4L;
        }
-       f292(m, l0, l24, l26);
+       f293(m, l0, l24, l26);
        l15 = l15 + l6;
        if (!((l14 = l14 - l6) == 0L)) { continue L17; }
        exit = 1; break PART;
@@ -117,16 +117,16 @@ static int f289_1(State m, long l0, long l1, long l4, long l5, long l6, long l7,
      }
      Words.put16(b, ((int) l7) - 58623, (short) l23);
      b[((int) l7) - 58624] = (byte) l24;
-     f290(m, l0, l7 + 288L, l17, l16);
-     f291(m, l0, l24, 27604);
-     f290(m, l0, l7 + 288L, l15, l14);
+     f291(m, l0, l7 + 288L, l17, l16);
+     f292(m, l0, l24, 27604);
+     f291(m, l0, l7 + 288L, l15, l14);
      exit = 1; break PART;
     }
     Words.put16(b, ((int) l7) - 58623, (short) l23);
     b[((int) l7) - 58624] = (byte) l24;
-    f290(m, l0, l7 + 288L, l17, l16);
-    f291(m, l0, l24, 26464);
-    f290(m, l0, l7 + 288L, l15, l14);
+    f291(m, l0, l7 + 288L, l17, l16);
+    f292(m, l0, l24, 26464);
+    f291(m, l0, l7 + 288L, l15, l14);
     exit = 1; break PART;
    }
    Words.put16(b, ((int) l7) - 58663, (short) l23);
@@ -274,11 +274,11 @@ static int f289_1(State m, long l0, long l1, long l4, long l5, long l6, long l7,
       break L38;
      }
     }
-    f290(m, l0, l7 + 288L, l4, l15 - l17);
-    f293(m, l0, l7 + 288L, 1, l6, l17);
+    f291(m, l0, l7 + 288L, l4, l15 - l17);
+    f294(m, l0, l7 + 288L, 1, l6, l17);
     exit = 1; break PART;
    }
-   f293(m, l0, l7 + 248L, l22, l4, l15);
+   f294(m, l0, l7 + 248L, l22, l4, l15);
    exit = 1; break PART;
   }
  }
@@ -297,7 +297,7 @@ static int f289_1(State m, long l0, long l1, long l4, long l5, long l6, long l7,
  return exit;
 }
 
-static int f289_2(State m, long l0, long l1, long l2, long l3, long l4, long l5, long l6, long l7, long l14, long l15, long l16, long l17, long l18, long l19, int l22, int l23, int l24, int l25, int l26, int l27, int l28, int l29, int l30, int l31, int l32, int l33, int l34, int l35) {
+static int f290_2(State m, long l0, long l1, long l2, long l3, long l4, long l5, long l6, long l7, long l14, long l15, long l16, long l17, long l18, long l19, int l22, int l23, int l24, int l25, int l26, int l27, int l28, int l29, int l30, int l31, int l32, int l33, int l34, int l35) {
  final byte[] b = m.bytes;
  int exit = 0;
  PART: {
@@ -484,7 +484,7 @@ static int f289_2(State m, long l0, long l1, long l2, long l3, long l4, long l5,
              l28 = ((l34 << 6) | ((l32 << 12) | ((l28 << 18) & 1835008))) | ((b[((int) l1) - 58909] & 0xff) & 63);
              l15 = 4L;
             }
-            f292(m, l0, l24, l28);
+            f293(m, l0, l24, l28);
             l1 = l1 + l15;
             if (!((l17 = l17 - l15) == 0L)) { continue L98; }
             break L64;
@@ -521,7 +521,7 @@ static int f289_2(State m, long l0, long l1, long l2, long l3, long l4, long l5,
            l28 = ((l34 << 6) | ((l32 << 12) | ((l28 << 18) & 1835008))) | ((b[((int) l1) - 58909] & 0xff) & 63);
            l15 = 4L;
           }
-          f292(m, l0, l24, l28);
+          f293(m, l0, l24, l28);
           l1 = l1 + l15;
           if (!((l17 = l17 - l15) == 0L)) { continue L102; }
           break L64;
@@ -540,7 +540,7 @@ static int f289_2(State m, long l0, long l1, long l2, long l3, long l4, long l5,
         }
         L107: {
          if ((l25 & 65535) != 2) { break L107; }
-         f294(m, l0, l24, 99496L, 3L);
+         f295(m, l0, l24, 99472L, 3L);
          break L64;
         }
         m.fill((int) (l7 + 288L), 0, (int) 235L);
@@ -555,7 +555,7 @@ static int f289_2(State m, long l0, long l1, long l2, long l3, long l4, long l5,
        b[((int) l7) - 58622] = (byte) l31;
        b[((int) l7) - 58623] = (byte) l23;
        b[((int) l7) - 58624] = (byte) l24;
-       f296(m, l0, l7 + 288L, l1, l17, l25);
+       f297(m, l0, l7 + 288L, l1, l17, l25);
        break L64;
       }
       Core4.f132(m, l7, 1, l19, l14);
@@ -581,7 +581,7 @@ static int f289_2(State m, long l0, long l1, long l2, long l3, long l4, long l5,
         }
         L113: {
          if ((l25 & 65535) != 2) { break L113; }
-         f294(m, l0, l24, 99496L, 3L);
+         f295(m, l0, l24, 99472L, 3L);
          break L64;
         }
         m.fill((int) (l7 + 288L), 0, (int) 235L);
@@ -608,7 +608,7 @@ static int f289_2(State m, long l0, long l1, long l2, long l3, long l4, long l5,
        b[((int) l7) - 58625] = (byte) l31;
        b[((int) l7) - 58626] = (byte) l23;
        b[((int) l7) - 58627] = (byte) l24;
-       f296(m, l0, l7 + 285L, l1, l17, l25);
+       f297(m, l0, l7 + 285L, l1, l17, l25);
        break L64;
       }
       m.fill((int) (l7 + 288L), 0, (int) 235L);
@@ -654,10 +654,10 @@ static int f289_2(State m, long l0, long l1, long l2, long l3, long l4, long l5,
        Core2.f53(m, l0, l15, l17 - Words.get64(b, ((int) l7) - 58608));
        break L64;
       }
-      f294(m, l0, l24, 88992L, 3L);
+      f295(m, l0, l24, 88992L, 3L);
       break L64;
      }
-     f294(m, l0, l24, 99508L, 3L);
+     f295(m, l0, l24, 99484L, 3L);
      break L64;
     }
     Words.put64(b, ((int) l7) - 58608, 0L);
@@ -691,20 +691,20 @@ static int f289_2(State m, long l0, long l1, long l2, long l3, long l4, long l5,
  return exit;
 }
 
-static int f289_3(State m, long l0, long l1, long l4, long l5, long l6, long l7, long l14, long l15, long l16, long l17, long l19, int l22, int l24, int l25, int l26, int l27, int l28) {
+static int f290_3(State m, long l0, long l1, long l4, long l5, long l6, long l7, long l14, long l15, long l16, long l17, long l19, int l22, int l24, int l25, int l26, int l27, int l28) {
  final byte[] b = m.bytes;
  int exit = 0;
  PART: {
   L152: {
    L153: {
-    if (Core5.f157(m, 97520L, 1L, 86088L, 1L, l4, l1 = l5 - l16) == 0) { break L153; }
-    f294(m, l0, l24, 99738L, 6L);
+    if (Core5.f157(m, 97496L, 1L, 86088L, 1L, l4, l1 = l5 - l16) == 0) { break L153; }
+    f295(m, l0, l24, 99826L, 6L);
     break L152;
    }
-   if (Core7.f225(m, l4, l1) == 0) { break L152; }
+   if (Core7.f226(m, l4, l1) == 0) { break L152; }
    L154: {
     L155: {
-     if (f299(m, l17, l16) != 0) { break L155; }
+     if (f300(m, l17, l16) != 0) { break L155; }
      if (l16 == 0L) { break L154; }
      L156: {
       L157: {
@@ -793,7 +793,7 @@ static int f289_3(State m, long l0, long l1, long l4, long l5, long l6, long l7,
      Words.put64(b, ((int) l7) - 58608, 0L);
      Words.put64(b, ((int) l7) - 58616, 0L);
      Words.put64(b, ((int) l7) - 58624, 0L);
-     Core6.f205(m, l7 + 288L, l15, l14);
+     Core6.f206(m, l7 + 288L, l15, l14);
      if (l14 == 0L) { break L154; }
      l26 = (l25 = (int) b[((int) l15) - 58912]) & 255;
      L171: {
@@ -818,12 +818,12 @@ static int f289_3(State m, long l0, long l1, long l4, long l5, long l6, long l7,
       if ((l26 + -48) + Integer.MIN_VALUE < -2147483638) { break L174; }
       if ((l26 + -65296) + Integer.MIN_VALUE >= -2147483638) { break L154; }
      }
-     if (f299(m, l15, l6) == 0) { break L154; }
+     if (f300(m, l15, l6) == 0) { break L154; }
     }
-    f294(m, l0, l24, 99738L, 6L);
+    f295(m, l0, l24, 99826L, 6L);
     break L152;
    }
-   f291(m, l0, l24, 36127);
+   f292(m, l0, l24, 36127);
   }
  }
  m.kept[0] = l1;
@@ -839,14 +839,14 @@ static int f289_3(State m, long l0, long l1, long l4, long l5, long l6, long l7,
  return exit;
 }
 
-static int f289_4(State m, long l0, long l1, long l2, long l3, long l4, long l6, long l7, long l15, long l16, long l17, long l19, int l22, int l23, int l24, int l25, int l26) {
+static int f290_4(State m, long l0, long l1, long l2, long l3, long l4, long l6, long l7, long l15, long l16, long l17, long l19, int l22, int l23, int l24, int l25, int l26) {
  final byte[] b = m.bytes;
  int exit = 0;
  PART: {
   L176: {
    L177: {
-    if (f297(m, l2, l3, l4, l1, l17, l16) == 0) { break L177; }
-    f291(m, l0, l24, 20004);
+    if (f298(m, l2, l3, l4, l1, l17, l16) == 0) { break L177; }
+    f292(m, l0, l24, 20004);
     break L176;
    }
    Words.put16(b, ((int) l7) - 58623, (short) l23);
@@ -881,7 +881,7 @@ static int f289_4(State m, long l0, long l1, long l2, long l3, long l4, long l6,
      l15 = (l25 + Integer.MIN_VALUE < 2147483632) ? 3L : 4L;
     }
     if (l1 != (l15 + l6)) { break L178; }
-    if (Core7.f211(m, l4, l1) != 0) { break L178; }
+    if (Core7.f212(m, l4, l1) != 0) { break L178; }
     L185: {
      L186: {
       if (l26 <= -1) { break L186; }
@@ -895,7 +895,7 @@ static int f289_4(State m, long l0, long l1, long l2, long l3, long l4, long l6,
      }
      l6 = (l26 + Integer.MIN_VALUE < 2147483632) ? 3L : 4L;
     }
-    l26 = Core7.f211(m, l4 + l6, l1 - l6);
+    l26 = Core7.f212(m, l4 + l6, l1 - l6);
     if (l16 == 0L) { break L178; }
     if (l26 != 0) { break L178; }
     if ((l26 = (int) b[((int) l17) - 58912]) > -1) { break L178; }
@@ -936,14 +936,14 @@ static int f289_4(State m, long l0, long l1, long l2, long l3, long l4, long l6,
       l26 = ((l23 << 6) | ((l22 << 12) | ((l26 << 18) & 1835008))) | ((b[((int) l6) - 58909] & 0xff) & 63);
       l15 = 4L;
      }
-     f292(m, l0, l24, l26);
+     f293(m, l0, l24, l26);
      l6 = l6 + l15;
      if (!((l19 = l19 - l15) == 0L)) { continue L190; }
      break L176;
     }
    }
-   Core7.f221(m, l7 + 96L, l4, l1);
-   f300(m, l0, l7 + 288L, l2, l3, Words.get64(b, ((int) l7) - 58816), Words.get64(b, ((int) l7) - 58808));
+   Core7.f222(m, l7 + 96L, l4, l1);
+   f301(m, l0, l7 + 288L, l2, l3, Words.get64(b, ((int) l7) - 58816), Words.get64(b, ((int) l7) - 58808));
   }
  }
  m.kept[0] = l6;
@@ -956,7 +956,7 @@ static int f289_4(State m, long l0, long l1, long l2, long l3, long l4, long l6,
  return exit;
 }
 
-static int f289_5(State m, long l0, long l1, long l6, long l7, long l15, long l17, long l19, int l22, int l23, int l25, int l26) {
+static int f290_5(State m, long l0, long l1, long l6, long l7, long l15, long l17, long l19, int l22, int l23, int l25, int l26) {
  final byte[] b = m.bytes;
  int exit = 0;
  PART: {
@@ -1061,7 +1061,7 @@ static int f289_5(State m, long l0, long l1, long l6, long l7, long l15, long l1
  return exit;
 }
 
-static void f289(State m, long l0, long l1, long l2, long l3, long l4, long l5, long l6) {
+static void f290(State m, long l0, long l1, long l2, long l3, long l4, long l5, long l6) {
  final byte[] b = m.bytes;
  long l7 = 0;
  long l8 = 0;
@@ -1110,7 +1110,7 @@ static void f289(State m, long l0, long l1, long l2, long l3, long l4, long l5, 
   l23 = Words.get16(b, ((int) l1) - 58911) & 0xffff;
   l24 = b[((int) l1) - 58912] & 0xff;
   L2: {
-   final int x42 = f289_1(m, l0, l1, l4, l5, l6, l7, l14, l15, l16, l17, l22, l23, l24, l25, l26, l27, l28);
+   final int x42 = f290_1(m, l0, l1, l4, l5, l6, l7, l14, l15, l16, l17, l22, l23, l24, l25, l26, l27, l28);
    l1 = m.kept[0];
    l6 = m.kept[1];
    l14 = m.kept[2];
@@ -1203,13 +1203,13 @@ static void f289(State m, long l0, long l1, long l2, long l3, long l4, long l5, 
                   l26 = ((l27 << 6) | ((l22 << 12) | ((l26 << 18) & 1835008))) | ((b[((int) l6) - 58909] & 0xff) & 63);
                   l1 = 4L;
                  }
-                 f292(m, l0, l24, l26);
+                 f293(m, l0, l24, l26);
                  l6 = l6 + l1;
                  if ((l17 = l17 - l1) != 0L) { continue L58; }
                  break L58;
                 }
                }
-               f294(m, l0, l24, 99481L, 3L);
+               f295(m, l0, l24, 99457L, 3L);
                m.fill((int) (l7 + 288L), 0, (int) 235L);
                Words.put32(b, ((int) l7) - 58662, 0);
                b[((int) l7) - 58663] = (byte) 1;
@@ -1217,7 +1217,7 @@ static void f289(State m, long l0, long l1, long l2, long l3, long l4, long l5, 
                Words.put16(b, ((int) l7) - 58658, (short) 0);
                Words.put64(b, ((int) l7) - 58656, l6 = ((l24 & 255) != 0) ? 69676L : 69244L);
                Core2.f53(m, l0, (l7 + 288L) + (l1 = Core2.f49(m, l7 + 288L, l7 + 248L, l23, 0, l18 & 65535L, 0L)), 235L - l1);
-               f294(m, l0, l24, 99484L, 3L);
+               f295(m, l0, l24, 99460L, 3L);
                m.fill((int) (l7 + 288L), 0, (int) 235L);
                Words.put32(b, ((int) l7) - 58662, 0);
                b[((int) l7) - 58663] = (byte) 1;
@@ -1225,18 +1225,18 @@ static void f289(State m, long l0, long l1, long l2, long l3, long l4, long l5, 
                Words.put16(b, ((int) l7) - 58658, (short) 0);
                Words.put64(b, ((int) l7) - 58656, l6);
                Core2.f53(m, l0, (l7 + 288L) + (l6 = Core2.f49(m, l7 + 288L, l7 + 248L, l23, 0, l20, 0L)), 235L - l6);
-               f294(m, l0, l24, 99487L, 3L);
+               f295(m, l0, l24, 99463L, 3L);
                break L2;
               }
               Words.put32(b, ((int) l7) - 58760, (int) l18);
-              f295(m, l0, l7 + 141L, 98184L, 3L, l7 + 152L);
+              f296(m, l0, l7 + 141L, 98160L, 3L, l7 + 152L);
               break L2;
              }
-             l26 = Core7.f217(m, l2, l3, l16, l15);
+             l26 = Core7.f218(m, l2, l3, l16, l15);
              Words.put16(b, ((int) l7) - 58764, (short) ((int) l20));
              Words.put16(b, ((int) l7) - 58766, (short) ((int) l18));
              Words.put16(b, ((int) l7) - 58768, (short) ((int) (l17 >>> 16L)));
-             f295(m, l0, l7 + 141L, l26 != 0 ? 99490L : 98184L, l26 != 0 ? 6L : 3L, l7 + 144L);
+             f296(m, l0, l7 + 141L, l26 != 0 ? 99466L : 98160L, l26 != 0 ? 6L : 3L, l7 + 144L);
              break L2;
             }
             l26 = l23 & 65280;
@@ -1253,14 +1253,14 @@ static void f289(State m, long l0, long l1, long l2, long l3, long l4, long l5, 
             Words.put64(b, ((int) l7) - 58680, 0L);
             Words.put64(b, ((int) l7) - 58672, 0L);
             l2 = ((l24 & 255) != 0) ? 69676L : 69244L;
-            l4 = Words.get64(b, State.far((int) (l1 = (l1 & 255L) << 3L), 102456));
-            l5 = Words.get64(b, State.far((int) l1, 102200));
+            l4 = Words.get64(b, State.far((int) (l1 = (l1 & 255L) << 3L), 102544));
+            l5 = Words.get64(b, State.far((int) l1, 102288));
             l3 = (l7 + 528L) | 2L;
             l22 = 0;
             l27 = 0;
             l26 = 0;
             l25 = 0;
-            final int x123 = f289_2(m, l0, l1, l2, l3, l4, l5, l6, l7, l14, l15, l16, l17, l18, l19, l22, l23, l24, l25, l26, l27, l28, l29, l30, l31, l32, l33, l34, l35);
+            final int x123 = f290_2(m, l0, l1, l2, l3, l4, l5, l6, l7, l14, l15, l16, l17, l18, l19, l22, l23, l24, l25, l26, l27, l28, l29, l30, l31, l32, l33, l34, l35);
             l1 = m.kept[0];
             l6 = m.kept[1];
             l14 = m.kept[2];
@@ -1318,7 +1318,7 @@ static void f289(State m, long l0, long l1, long l2, long l3, long l4, long l5, 
              }
              break L125;
             }
-            Core7.f218(m, l7 + 48L, l16, l20);
+            Core7.f219(m, l7 + 48L, l16, l20);
             l6 = Words.get64(b, ((int) l7) - 58864);
             if ((l17 = Words.get64(b, ((int) l7) - 58856)) == 0L) { break L45; }
             L130: {
@@ -1430,13 +1430,13 @@ static void f289(State m, long l0, long l1, long l2, long l3, long l4, long l5, 
            }
           }
           L144: {
-           if (f297(m, l2, l3, l15, l14, l5, l18) == 0) { break L144; }
-           f291(m, l0, l24, 20004);
+           if (f298(m, l2, l3, l15, l14, l5, l18) == 0) { break L144; }
+           f292(m, l0, l24, 20004);
            break L47;
           }
           Words.put16(b, ((int) l7) - 58623, (short) l23);
           b[((int) l7) - 58624] = (byte) l24;
-          f298(m, l0, l7 + 288L, l2, l3, l15, l14);
+          f299(m, l0, l7 + 288L, l2, l3, l15, l14);
           L145: {
            L146: {
             if (!(l14 == 0L)) { break L146; }
@@ -1481,12 +1481,12 @@ static void f289(State m, long l0, long l1, long l2, long l3, long l4, long l5, 
             break L147;
            }
           }
-          if (Core6.f198(m, 99, l15, l14 - l4) != 0) { break L47; }
+          if (Core6.f199(m, 99, l15, l14 - l4) != 0) { break L47; }
           Core3.f81(m, l7 + 64L, l15, l14, l1, l19);
           Core2.f53(m, l0, Words.get64(b, ((int) l7) - 58848), Words.get64(b, ((int) l7) - 58840));
           break L47;
          }
-         f289_3(m, l0, l1, l4, l5, l6, l7, l14, l15, l16, l17, l19, l22, l24, l25, l26, l27, l28);
+         f290_3(m, l0, l1, l4, l5, l6, l7, l14, l15, l16, l17, l19, l22, l24, l25, l26, l27, l28);
          l1 = m.kept[0];
          l6 = m.kept[1];
          l14 = m.kept[2];
@@ -1497,7 +1497,7 @@ static void f289(State m, long l0, long l1, long l2, long l3, long l4, long l5, 
          l26 = (int) m.kept[7];
          l27 = (int) m.kept[8];
          l28 = (int) m.kept[9];
-         f289_4(m, l0, l1, l2, l3, l4, l6, l7, l15, l16, l17, l19, l22, l23, l24, l25, l26);
+         f290_4(m, l0, l1, l2, l3, l4, l6, l7, l15, l16, l17, l19, l22, l23, l24, l25, l26);
          l6 = m.kept[0];
          l15 = m.kept[1];
          l19 = m.kept[2];
@@ -1505,7 +1505,7 @@ static void f289(State m, long l0, long l1, long l2, long l3, long l4, long l5, 
          l23 = (int) m.kept[4];
          l25 = (int) m.kept[5];
          l26 = (int) m.kept[6];
-         Core7.f224(m, l7 + 80L, l4, l1);
+         Core7.f225(m, l7 + 80L, l4, l1);
          L195: {
           if (Words.get64(b, ((int) l7) - 58824) == 0L) { break L195; }
           l26 = (l25 = (int) b[((int) (l6 = Words.get64(b, ((int) l7) - 58832))) - 58912]) & 255;
@@ -1529,22 +1529,22 @@ static void f289(State m, long l0, long l1, long l2, long l3, long l4, long l5, 
            if (l26 == 65509) { break L199; }
            if (l26 != 165) { break L195; }
           }
-          f291(m, l0, l24, 20803);
+          f292(m, l0, l24, 20803);
          }
          Words.put64(b, ((int) l7) - 58592, 0L);
          Words.put64(b, ((int) l7) - 58600, 0L);
          Words.put64(b, ((int) l7) - 58608, 0L);
          Words.put64(b, ((int) l7) - 58616, 0L);
          Words.put64(b, ((int) l7) - 58624, 0L);
-         Core6.f192(m, l7 + 288L, l17, l16);
+         Core6.f193(m, l7 + 288L, l17, l16);
          if ((b[((int) l7) - 58624] & 0xff) != 1) { break L2; }
-         f294(m, l0, l24, Words.get64(b, ((int) l7) - 58616), Words.get64(b, ((int) l7) - 58608));
+         f295(m, l0, l24, Words.get64(b, ((int) l7) - 58616), Words.get64(b, ((int) l7) - 58608));
          break L2;
         }
         Words.put16(b, ((int) l7) - 58623, (short) l23);
         b[((int) l7) - 58624] = (byte) l24;
-        f294(m, l0, l24, 99520L, 9L);
-        f298(m, l0, l7 + 288L, l2, l3, l15, l14);
+        f295(m, l0, l24, 99496L, 9L);
+        f299(m, l0, l7 + 288L, l2, l3, l15, l14);
        }
        L200: {
         L201: {
@@ -1560,30 +1560,30 @@ static void f289(State m, long l0, long l1, long l2, long l3, long l4, long l5, 
        b[((int) l7) - 58624] = (byte) l24;
        L202: {
         L203: {
-         if (f297(m, l2, l3, l1, l19, l5, l18) == 0) { break L203; }
-         f291(m, l0, l24, 20004);
+         if (f298(m, l2, l3, l1, l19, l5, l18) == 0) { break L203; }
+         f292(m, l0, l24, 20004);
          break L202;
         }
-        f298(m, l0, l7 + 288L, l2, l3, l1, l19);
+        f299(m, l0, l7 + 288L, l2, l3, l1, l19);
        }
        Words.put64(b, ((int) l7) - 58592, 0L);
        Words.put64(b, ((int) l7) - 58600, 0L);
        Words.put64(b, ((int) l7) - 58608, 0L);
        Words.put64(b, ((int) l7) - 58616, 0L);
        Words.put64(b, ((int) l7) - 58624, 0L);
-       Core6.f192(m, l7 + 288L, l5, l18);
+       Core6.f193(m, l7 + 288L, l5, l18);
        if ((b[((int) l7) - 58624] & 0xff) != 1) { break L2; }
-       f294(m, l0, l24, Words.get64(b, ((int) l7) - 58616), Words.get64(b, ((int) l7) - 58608));
+       f295(m, l0, l24, Words.get64(b, ((int) l7) - 58616), Words.get64(b, ((int) l7) - 58608));
        break L2;
       }
       if ((l28 & 255) != 4) { break L44; }
      }
      Words.put16(b, ((int) l7) - 58623, (short) l23);
      b[((int) l7) - 58624] = (byte) l24;
-     f300(m, l0, l7 + 288L, 83372L, 0L, l6, l17);
+     f301(m, l0, l7 + 288L, 83372L, 0L, l6, l17);
      break L43;
     }
-    f294(m, l0, l24, 99496L, 3L);
+    f295(m, l0, l24, 99472L, 3L);
    }
    L204: {
     if ((l28 & 255) != 0) { break L204; }
@@ -1617,11 +1617,11 @@ static void f289(State m, long l0, long l1, long l2, long l3, long l4, long l5, 
      if (l26 == 22359) { break L204; }
      if (l26 == 22602) { break L204; }
     }
-    f294(m, l0, l24, 99458L, 3L);
+    f295(m, l0, l24, 99434L, 3L);
    }
    if (l19 == 0L) { break L2; }
    l15 = ((l24 & 255) != 0) ? 69784L : 69352L;
-   final int x225 = f289_5(m, l0, l1, l6, l7, l15, l17, l19, l22, l23, l25, l26);
+   final int x225 = f290_5(m, l0, l1, l6, l7, l15, l17, l19, l22, l23, l25, l26);
    l1 = m.kept[0];
    l6 = m.kept[1];
    l17 = m.kept[2];
@@ -1656,12 +1656,12 @@ static void f289(State m, long l0, long l1, long l2, long l3, long l4, long l5, 
     Core2.f53(m, l0, l7 + 288L, 3L);
     break L226;
    }
-   f294(m, l0, l24, l13, l12);
+   f295(m, l0, l24, l13, l12);
   }
   L230: {
    if ((l21 & 255) != 1) { break L230; }
    Core2.f53(m, l0, l11, l10);
-   f294(m, l0, l24, l9, l8);
+   f295(m, l0, l24, l9, l8);
   }
   m.g0 = l7 + 544L;
   return;
@@ -1669,7 +1669,7 @@ static void f289(State m, long l0, long l1, long l2, long l3, long l4, long l5, 
  throw State.trap();
 }
 
-static void f290(State m, long l0, long l1, long l2, long l3) {
+static void f291(State m, long l0, long l1, long l2, long l3) {
  final byte[] b = m.bytes;
  long l4 = 0;
  int l5 = 0;
@@ -1682,7 +1682,7 @@ static void f290(State m, long l0, long l1, long l2, long l3) {
   if ((l4 = l4) < 16L) { break L1; }
   l5 = b[((int) l1) - 58911] & 0xff;
   l6 = b[((int) l1) - 58912] & 0xff;
-  Core6.f200(m, l4, l2, l3);
+  Core6.f201(m, l4, l2, l3);
   L2: {
    L3: {
     if ((b[((int) l4) - 58912] & 0xff) != 1) { break L3; }
@@ -1723,7 +1723,7 @@ static void f290(State m, long l0, long l1, long l2, long l3) {
     L8: {
      if (l5 == 44) { break L8; }
      if (l5 == 65292) { break L8; }
-     f292(m, l0, l6, l5);
+     f293(m, l0, l6, l5);
     }
     l2 = l2 + l1;
     if (l3 != 0L) { continue L4; }
@@ -1736,14 +1736,14 @@ static void f290(State m, long l0, long l1, long l2, long l3) {
  throw State.trap();
 }
 
-static void f291(State m, long l0, int l1, int l2) {
+static void f292(State m, long l0, int l1, int l2) {
  final byte[] b = m.bytes;
  long l3 = 0;
  long l4 = 0;
  m.g0 = l3 = m.g0 - 16L;
  L1: {
   if ((l3 = l3) < 16L) { break L1; }
-  l2 = f301(m, l1, l2);
+  l2 = f302(m, l1, l2);
   Words.put32(b, ((int) l3) - 58900, 0);
   L2: {
    L3: {
@@ -1780,7 +1780,7 @@ static void f291(State m, long l0, int l1, int l2) {
  throw State.trap();
 }
 
-static void f292(State m, long l0, int l1, int l2) {
+static void f293(State m, long l0, int l1, int l2) {
  final byte[] b = m.bytes;
  long l3 = 0;
  long l4 = 0;
@@ -1828,7 +1828,7 @@ static void f292(State m, long l0, int l1, int l2) {
  throw State.trap();
 }
 
-static void f293(State m, long l0, long l1, int l2, long l3, long l4) {
+static void f294(State m, long l0, long l1, int l2, long l3, long l4) {
  final byte[] b = m.bytes;
  long l5 = 0;
  long l6 = 0;
@@ -1909,7 +1909,7 @@ static void f293(State m, long l0, long l1, int l2, long l3, long l4) {
        Core2.f53(m, l0, l6 + 28L, 3L);
        break L7;
       }
-      f292(m, l0, l8, l10);
+      f293(m, l0, l8, l10);
       break L7;
      }
      L16: {
@@ -1920,10 +1920,10 @@ static void f293(State m, long l0, long l1, int l2, long l3, long l4) {
        default: break L7;
        }
       }
-      f291(m, l0, l8, 28857);
+      f292(m, l0, l8, 28857);
       break L7;
      }
-     f291(m, l0, l8, 26464);
+     f292(m, l0, l8, 26464);
     }
     l3 = l3 + l5;
     if (l4 != 0L) { continue L3; }
@@ -1936,7 +1936,7 @@ static void f293(State m, long l0, long l1, int l2, long l3, long l4) {
  throw State.trap();
 }
 
-static void f294(State m, long l0, int l1, long l2, long l3) {
+static void f295(State m, long l0, int l1, long l2, long l3) {
  final byte[] b = m.bytes;
  long l4 = 0;
  long l5 = 0;
@@ -1972,7 +1972,7 @@ static void f294(State m, long l0, int l1, long l2, long l3) {
      l8 = ((l10 << 6) | ((l9 << 12) | ((l8 << 18) & 1835008))) | ((b[((int) l2) - 58909] & 0xff) & 63);
      l5 = 4L;
     }
-    l8 = f301(m, l1, l8);
+    l8 = f302(m, l1, l8);
     Words.put32(b, ((int) l4) - 58900, 0);
     l3 = l3 - l5;
     L7: {
@@ -2015,7 +2015,7 @@ static void f294(State m, long l0, int l1, long l2, long l3) {
  throw State.trap();
 }
 
-static void f295(State m, long l0, long l1, long l2, long l3, long l4) {
+static void f296(State m, long l0, long l1, long l2, long l3, long l4) {
  final byte[] b = m.bytes;
  long l5 = 0;
  int l6 = 0;
@@ -2035,7 +2035,7 @@ static void f295(State m, long l0, long l1, long l2, long l3, long l4) {
   L2: {
    L3: {
     if ((l11 = Words.get16(b, ((int) l4) - 58912) & 0xffff) != 2) { break L3; }
-    f294(m, l0, l10, 99496L, 3L);
+    f295(m, l0, l10, 99472L, 3L);
     break L2;
    }
    m.fill((int) (l5 + 5L), 0, (int) 235L);
@@ -2046,18 +2046,18 @@ static void f295(State m, long l0, long l1, long l2, long l3, long l4) {
    Words.put64(b, ((int) l5) - 58664, ((l10 & 255) != 0) ? 69676L : 69244L);
    Core2.f53(m, l0, (l5 + 5L) + (l4 = Core2.f49(m, l5 + 5L, l5 + 240L, l9, 0, l11 & 0xffffffffL, 0L)), 235L - l4);
   }
-  f294(m, l0, l10, l2, l3);
+  f295(m, l0, l10, l2, l3);
   L4: {
    L5: {
     if ((l7 & 65535) == 0) { break L5; }
     b[((int) l5) - 58905] = (byte) l8;
     b[((int) l5) - 58906] = (byte) l9;
     b[((int) l5) - 58907] = (byte) l10;
-    f302(m, l0, l5 + 5L, l7);
-    f294(m, l0, l10, 99499L, 3L);
+    f303(m, l0, l5 + 5L, l7);
+    f295(m, l0, l10, 99475L, 3L);
     if ((l6 & 65535) == 0) { break L4; }
-    f302(m, l0, l5 + 5L, l6);
-    f294(m, l0, l10, 99505L, 3L);
+    f303(m, l0, l5 + 5L, l6);
+    f295(m, l0, l10, 99481L, 3L);
     break L4;
    }
    if ((l6 & 65535) == 0) { break L4; }
@@ -2071,9 +2071,9 @@ static void f295(State m, long l0, long l1, long l2, long l3, long l4) {
    Words.put16(b, ((int) l5) - 58666, (short) 0);
    Words.put64(b, ((int) l5) - 58664, ((l10 & 255) != 0) ? 69676L : 69244L);
    Core2.f53(m, l0, (l5 + 5L) + (l4 = Core2.f49(m, l5 + 5L, l5 + 240L, l9, 0, 0L, 0L)), 235L - l4);
-   f294(m, l0, l10, 99499L, 3L);
-   f302(m, l0, l5 + 2L, l6);
-   f294(m, l0, l10, 99505L, 3L);
+   f295(m, l0, l10, 99475L, 3L);
+   f303(m, l0, l5 + 2L, l6);
+   f295(m, l0, l10, 99481L, 3L);
   }
   m.g0 = l5 + 256L;
   return;
@@ -2081,7 +2081,7 @@ static void f295(State m, long l0, long l1, long l2, long l3, long l4) {
  throw State.trap();
 }
 
-static void f296(State m, long l0, long l1, long l2, long l3, int l4) {
+static void f297(State m, long l0, long l1, long l2, long l3, int l4) {
  final byte[] b = m.bytes;
  long l5 = 0;
  int l6 = 0;
@@ -2122,7 +2122,7 @@ static void f296(State m, long l0, long l1, long l2, long l3, int l4) {
      l2 = (l6 + Integer.MIN_VALUE < 2147483632) ? 3L : 4L;
     }
     if (l3 != (l1 + l2)) { break L3; }
-    f302(m, l0, l5 + 2L, l4);
+    f303(m, l0, l5 + 2L, l4);
     break L2;
    }
    l7 = b[((int) l5) - 58909] & 0xff;
@@ -2141,7 +2141,7 @@ static void f296(State m, long l0, long l1, long l2, long l3, int l4) {
  throw State.trap();
 }
 
-static int f297(State m, long l0, long l1, long l2, long l3, long l4, long l5) {
+static int f298(State m, long l0, long l1, long l2, long l3, long l4, long l5) {
  final byte[] b = m.bytes;
  long l6 = 0;
  long l7 = 0;
@@ -2210,51 +2210,76 @@ static int f297(State m, long l0, long l1, long l2, long l3, long l4, long l5) {
    Words.put64(b, ((int) l6) - 58896, 0L);
    Words.put64(b, ((int) l6) - 58904, 0L);
    Words.put64(b, ((int) l6) - 58912, 0L);
-   Core6.f203(m, l6, 99664L, 3L, l0, l1);
+   Core6.f204(m, l6, 99720L, 3L, l0, l1);
    if ((b[((int) l6) - 58912] & 0xff) == 1) { break L2; }
    Words.put64(b, ((int) l6) - 58896, 0L);
    Words.put64(b, ((int) l6) - 58904, 0L);
    Words.put64(b, ((int) l6) - 58912, 0L);
-   Core6.f203(m, l6, 99667L, 6L, l0, l1);
+   Core6.f204(m, l6, 99723L, 6L, l0, l1);
    if ((b[((int) l6) - 58912] & 0xff) == 1) { break L2; }
    Words.put64(b, ((int) l6) - 58896, 0L);
    Words.put64(b, ((int) l6) - 58904, 0L);
    Words.put64(b, ((int) l6) - 58912, 0L);
-   Core6.f203(m, l6, 99673L, 9L, l0, l1);
+   Core6.f204(m, l6, 99729L, 9L, l0, l1);
    if ((b[((int) l6) - 58912] & 0xff) == 1) { break L2; }
    Words.put64(b, ((int) l6) - 58896, 0L);
    Words.put64(b, ((int) l6) - 58904, 0L);
    Words.put64(b, ((int) l6) - 58912, 0L);
-   Core6.f203(m, l6, 99682L, 7L, l0, l1);
+   Core6.f204(m, l6, 99738L, 7L, l0, l1);
    if ((b[((int) l6) - 58912] & 0xff) == 1) { break L2; }
    Words.put64(b, ((int) l6) - 58896, 0L);
    Words.put64(b, ((int) l6) - 58904, 0L);
    Words.put64(b, ((int) l6) - 58912, 0L);
-   Core6.f203(m, l6, 99689L, 7L, l0, l1);
+   Core6.f204(m, l6, 99745L, 7L, l0, l1);
    if ((b[((int) l6) - 58912] & 0xff) == 1) { break L2; }
    Words.put64(b, ((int) l6) - 58896, 0L);
    Words.put64(b, ((int) l6) - 58904, 0L);
    Words.put64(b, ((int) l6) - 58912, 0L);
-   Core6.f203(m, l6, 99696L, 7L, l0, l1);
+   Core6.f204(m, l6, 99752L, 7L, l0, l1);
    if ((b[((int) l6) - 58912] & 0xff) == 1) { break L2; }
    Words.put64(b, ((int) l6) - 58896, 0L);
    Words.put64(b, ((int) l6) - 58904, 0L);
    Words.put64(b, ((int) l6) - 58912, 0L);
-   Core6.f203(m, l6, 99703L, 7L, l0, l1);
+   Core6.f204(m, l6, 99759L, 7L, l0, l1);
    if ((b[((int) l6) - 58912] & 0xff) == 1) { break L2; }
    Words.put64(b, ((int) l6) - 58896, 0L);
    Words.put64(b, ((int) l6) - 58904, 0L);
    Words.put64(b, ((int) l6) - 58912, 0L);
-   Core6.f203(m, l6, 99710L, 7L, l0, l1);
+   Core6.f204(m, l6, 99766L, 7L, l0, l1);
+   if ((b[((int) l6) - 58912] & 0xff) == 1) { break L2; }
+   Words.put64(b, ((int) l6) - 58896, 0L);
+   Words.put64(b, ((int) l6) - 58904, 0L);
+   Words.put64(b, ((int) l6) - 58912, 0L);
+   Core6.f204(m, l6, 99773L, 6L, l0, l1);
+   if ((b[((int) l6) - 58912] & 0xff) == 1) { break L2; }
+   Words.put64(b, ((int) l6) - 58896, 0L);
+   Words.put64(b, ((int) l6) - 58904, 0L);
+   Words.put64(b, ((int) l6) - 58912, 0L);
+   Core6.f204(m, l6, 99779L, 6L, l0, l1);
+   if ((b[((int) l6) - 58912] & 0xff) == 1) { break L2; }
+   Words.put64(b, ((int) l6) - 58896, 0L);
+   Words.put64(b, ((int) l6) - 58904, 0L);
+   Words.put64(b, ((int) l6) - 58912, 0L);
+   Core6.f204(m, l6, 99785L, 6L, l0, l1);
+   if ((b[((int) l6) - 58912] & 0xff) == 1) { break L2; }
+   Words.put64(b, ((int) l6) - 58896, 0L);
+   Words.put64(b, ((int) l6) - 58904, 0L);
+   Words.put64(b, ((int) l6) - 58912, 0L);
+   Core6.f204(m, l6, 99791L, 6L, l0, l1);
+   if ((b[((int) l6) - 58912] & 0xff) == 1) { break L2; }
+   Words.put64(b, ((int) l6) - 58896, 0L);
+   Words.put64(b, ((int) l6) - 58904, 0L);
+   Words.put64(b, ((int) l6) - 58912, 0L);
+   Core6.f204(m, l6, 99797L, 6L, l0, l1);
    if ((b[((int) l6) - 58912] & 0xff) == 1) { break L2; }
    l8 = 1;
-   if (Core7.f222(m, l4, l5) != 0) { break L2; }
+   if (Core7.f223(m, l4, l5) != 0) { break L2; }
    Words.put64(b, ((int) l6) - 58880, 0L);
    Words.put64(b, ((int) l6) - 58888, 0L);
    Words.put64(b, ((int) l6) - 58896, 0L);
    Words.put64(b, ((int) l6) - 58904, 0L);
    Words.put64(b, ((int) l6) - 58912, 0L);
-   Core6.f192(m, l6, l4, l5);
+   Core6.f193(m, l6, l4, l5);
    l8 = 0;
    if ((b[((int) l6) - 58912] & 0xff) != 1) { break L2; }
    if ((l2 = Words.get64(b, ((int) l6) - 58896)) == 0L) { break L2; }
@@ -2279,12 +2304,12 @@ static int f297(State m, long l0, long l1, long l2, long l3, long l4, long l5) {
    Words.put64(b, ((int) l6) - 58856, 0L);
    Words.put64(b, ((int) l6) - 58864, 0L);
    Words.put64(b, ((int) l6) - 58872, 0L);
-   Core6.f196(m, l6 + 40L, 99720L, 9L, l3, l2);
+   Core6.f197(m, l6 + 40L, 99808L, 9L, l3, l2);
    if ((b[((int) l6) - 58872] & 0xff) == 1) { break L2; }
    Words.put64(b, ((int) l6) - 58856, 0L);
    Words.put64(b, ((int) l6) - 58864, 0L);
    Words.put64(b, ((int) l6) - 58872, 0L);
-   Core6.f196(m, l6 + 40L, 99729L, 9L, l3, l2);
+   Core6.f197(m, l6 + 40L, 99817L, 9L, l3, l2);
    if ((b[((int) l6) - 58872] & 0xff) == 1) { break L2; }
    l8 = (l9 = (int) b[((int) l3) - 58912]) & 255;
    L15: {
@@ -2312,7 +2337,7 @@ static int f297(State m, long l0, long l1, long l2, long l3, long l4, long l5) {
  throw State.trap();
 }
 
-static void f298(State m, long l0, long l1, long l2, long l3, long l4, long l5) {
+static void f299(State m, long l0, long l1, long l2, long l3, long l4, long l5) {
  final byte[] b = m.bytes;
  long l6 = 0;
  long l7 = 0;
@@ -2361,7 +2386,7 @@ static void f298(State m, long l0, long l1, long l2, long l3, long l4, long l5) 
      }
      break L4;
     }
-    f300(m, l0, l7 + 12L, l2, l3, l4, l5);
+    f301(m, l0, l7 + 12L, l2, l3, l4, l5);
     break L2;
    }
    Core2.f53(m, l0, l4, l5);
@@ -2372,7 +2397,7 @@ static void f298(State m, long l0, long l1, long l2, long l3, long l4, long l5) 
  throw State.trap();
 }
 
-static int f299(State m, long l0, long l1) {
+static int f300(State m, long l0, long l1) {
  final byte[] b = m.bytes;
  long l2 = 0;
  int l3 = 0;
@@ -2387,7 +2412,7 @@ static int f299(State m, long l0, long l1) {
   Words.put64(b, ((int) l2) - 58896, 0L);
   Words.put64(b, ((int) l2) - 58904, 0L);
   Words.put64(b, ((int) l2) - 58912, 0L);
-  Core6.f192(m, l2, l0, l1);
+  Core6.f193(m, l2, l0, l1);
   l3 = 1;
   L2: {
    L3: {
@@ -2397,12 +2422,12 @@ static int f299(State m, long l0, long l1) {
     Words.put64(b, ((int) l2) - 58856, 0L);
     Words.put64(b, ((int) l2) - 58864, 0L);
     Words.put64(b, ((int) l2) - 58872, 0L);
-    Core6.f196(m, l2 + 40L, 99720L, 9L, l0, l1);
+    Core6.f197(m, l2 + 40L, 99808L, 9L, l0, l1);
     if ((b[((int) l2) - 58872] & 0xff) == 1) { break L2; }
     Words.put64(b, ((int) l2) - 58856, 0L);
     Words.put64(b, ((int) l2) - 58864, 0L);
     Words.put64(b, ((int) l2) - 58872, 0L);
-    Core6.f196(m, l2 + 40L, 99729L, 9L, l0, l1);
+    Core6.f197(m, l2 + 40L, 99817L, 9L, l0, l1);
     l3 = ((b[((int) l2) - 58872] & 0xff) == 1) ? 1 : 0;
     break L2;
    }
@@ -2430,7 +2455,7 @@ static int f299(State m, long l0, long l1) {
  throw State.trap();
 }
 
-static void f300(State m, long l0, long l1, long l2, long l3, long l4, long l5) {
+static void f301(State m, long l0, long l1, long l2, long l3, long l4, long l5) {
  final byte[] b = m.bytes;
  long l6 = 0;
  long l7 = 0;
@@ -2515,13 +2540,13 @@ static void f300(State m, long l0, long l1, long l2, long l3, long l4, long l5) 
      }
      b[((int) l7) - 58906] = (byte) (b[((int) l1) - 58910] & 0xff);
      Words.put16(b, ((int) l7) - 58908, (short) (Words.get16(b, ((int) l1) - 58912) & 0xffff));
-     Core2.f53(m, l0, 99511L, 9L);
-     f303(m, l0, l7 + 4L, 32, l4, l5);
+     Core2.f53(m, l0, 99487L, 9L);
+     f304(m, l0, l7 + 4L, 32, l4, l5);
      break L2;
     }
     b[((int) l7) - 58902] = (byte) (b[((int) l1) - 58910] & 0xff);
     Words.put16(b, ((int) l7) - 58904, (short) (Words.get16(b, ((int) l1) - 58912) & 0xffff));
-    Core2.f53(m, l0, 99520L, 9L);
+    Core2.f53(m, l0, 99496L, 9L);
     l9 = l4;
     l1 = l5;
     L14: {
@@ -2557,8 +2582,8 @@ static void f300(State m, long l0, long l1, long l2, long l3, long l4, long l5) 
      }
     }
     L19: {
-     if (Core6.f198(m, 100, l4, l9 = l5 - l8) == 0) { break L19; }
-     l11 = Core6.f198(m, 99, l4, l9);
+     if (Core6.f199(m, 100, l4, l9 = l5 - l8) == 0) { break L19; }
+     l11 = Core6.f199(m, 99, l4, l9);
      if (l12 != 0) { break L19; }
      if (l11 != 0) { break L19; }
      l10 = (l11 = (int) b[((int) l6) - 58912]) & 255;
@@ -2616,7 +2641,7 @@ static void f300(State m, long l0, long l1, long l2, long l3, long l4, long l5) 
      Core2.f53(m, l0, l7 + 12L, 3L);
      break L2;
     }
-    f303(m, l0, l7 + 8L, 32, l4, l5);
+    f304(m, l0, l7 + 8L, 32, l4, l5);
     break L2;
    }
    l11 = 32;
@@ -2643,7 +2668,7 @@ static void f300(State m, long l0, long l1, long l2, long l3, long l4, long l5) 
     }
     l11 = (l11 == 31532) ? 31532 : 32;
    }
-   f303(m, l0, l7, l11, l4, l5);
+   f304(m, l0, l7, l11, l4, l5);
   }
   m.g0 = l7 + 16L;
   return;
@@ -2651,7 +2676,7 @@ static void f300(State m, long l0, long l1, long l2, long l3, long l4, long l5) 
  throw State.trap();
 }
 
-static int f301(State m, int l0, int l1) {
+static int f302(State m, int l0, int l1) {
  L1: {
   L2: {
    if (m.g0 < 16L) { break L2; }
@@ -2754,7 +2779,7 @@ static int f301(State m, int l0, int l1) {
  return l1;
 }
 
-static void f302(State m, long l0, long l1, int l2) {
+static void f303(State m, long l0, long l1, int l2) {
  final byte[] b = m.bytes;
  long l3 = 0;
  int l4 = 0;
@@ -2767,7 +2792,7 @@ static void f302(State m, long l0, long l1, int l2) {
   L2: {
    L3: {
     if (((l2 + -1) & 65535) + Integer.MIN_VALUE > -2147483640) { break L3; }
-    f294(m, l0, l5, 99502L, 3L);
+    f295(m, l0, l5, 99478L, 3L);
     m.fill((int) (l3 + 5L), 0, (int) 235L);
     Words.put32(b, ((int) l3) - 58670, 0);
     b[((int) l3) - 58671] = (byte) 1;
@@ -2791,7 +2816,7 @@ static void f302(State m, long l0, long l1, int l2) {
  throw State.trap();
 }
 
-static void f303(State m, long l0, long l1, int l2, long l3, long l4) {
+static void f304(State m, long l0, long l1, int l2, long l3, long l4) {
  final byte[] b = m.bytes;
  long l5 = 0;
  long l6 = 0;
@@ -3057,7 +3082,7 @@ static void f303(State m, long l0, long l1, int l2, long l3, long l4) {
       l18 = 0;
       l5 = l1;
      }
-     Core6.f200(m, l6, l3, l9);
+     Core6.f201(m, l6, l3, l9);
      L48: {
       L49: {
        L50: {
@@ -3182,7 +3207,7 @@ static void f303(State m, long l0, long l1, int l2, long l3, long l4) {
           L70: {
            if (l18 == 44) { break L70; }
            if (l18 == 65292) { break L70; }
-           f292(m, l0, l15, l18);
+           f293(m, l0, l15, l18);
           }
           l5 = l5 + l11;
           if (l9 != 0L) { continue L66; }
@@ -3194,7 +3219,7 @@ static void f303(State m, long l0, long l1, int l2, long l3, long l4) {
        Core2.f53(m, l0, l9, l13);
        break L48;
       }
-      f291(m, l0, l15, 20004);
+      f292(m, l0, l15, 20004);
       L71: {
        L72: {
         if ((l18 = (int) b[((int) l9) - 58912]) <= -1) { break L72; }
@@ -3214,7 +3239,7 @@ static void f303(State m, long l0, long l1, int l2, long l3, long l4) {
      Words.put64(b, ((int) l6) - 58880, 0L);
      Words.put64(b, ((int) l6) - 58888, 0L);
      Words.put64(b, ((int) l6) - 58896, 0L);
-     Core6.f205(m, l6 + 16L, l1, l12);
+     Core6.f206(m, l6 + 16L, l1, l12);
      if ((l5 = Words.get64(b, ((int) l6) - 58888)) == 0L) { break L7; }
      L74: {
       L75: {
@@ -3229,7 +3254,7 @@ static void f303(State m, long l0, long l1, int l2, long l3, long l4) {
       }
       l1 = (l18 + Integer.MIN_VALUE < 2147483632) ? 3L : 4L;
      }
-     f291(m, l0, l15, 28857);
+     f292(m, l0, l15, 28857);
      if ((l11 = l5 - l1) == 0L) { break L7; }
      l1 = l9 + l1;
      L77: while (true) {
@@ -3254,7 +3279,7 @@ static void f303(State m, long l0, long l1, int l2, long l3, long l4) {
        l18 = ((l17 << 6) | ((l16 << 12) | ((l18 << 18) & 1835008))) | ((b[((int) l1) - 58909] & 0xff) & 63);
        l5 = 4L;
       }
-      f292(m, l0, l15, l18);
+      f293(m, l0, l15, l18);
       l1 = l1 + l5;
       if ((l11 = l11 - l5) != 0L) { continue L77; }
       break L77;
@@ -3271,14 +3296,14 @@ static void f303(State m, long l0, long l1, int l2, long l3, long l4) {
  throw State.trap();
 }
 
-static void f305(State m) {
+static void f306(State m) {
  L1: {
   if (m.g0 > 15L) { break L1; }
   throw State.trap();
  }
 }
 
-static int f307(State m, long l0, long l1, int l2, long l3) {
+static int f308(State m, long l0, long l1, int l2, long l3) {
  final byte[] b = m.bytes;
  long l4 = 0;
  long l5 = 0;
@@ -3400,7 +3425,7 @@ static int f307(State m, long l0, long l1, int l2, long l3) {
  throw State.trap();
 }
 
-static int f309(State m, long l0, long l1, int l2, long l3) {
+static int f310(State m, long l0, long l1, int l2, long l3) {
  final byte[] b = m.bytes;
  long l4 = 0;
  long l5 = 0;
@@ -3526,7 +3551,7 @@ static int f309(State m, long l0, long l1, int l2, long l3) {
  throw State.trap();
 }
 
-static int f311(State m, long l0, long l1, long l2, long l3, long l4) {
+static int f312(State m, long l0, long l1, long l2, long l3, long l4) {
  final byte[] b = m.bytes;
  long l5 = 0;
  long l6 = 0;
@@ -3624,7 +3649,7 @@ static int f311(State m, long l0, long l1, long l2, long l3, long l4) {
  return l10;
 }
 
-static int f313_1(State m, long l0, long l1, int l2, int l3, long l6, long l7, long l8, long l9, long l10, long l11, long l12, long l13, long l14, long l15, long l16, long l17, long l18, int l24, int l25, int l26, int l27, int l28, int l29) {
+static int f314_1(State m, long l0, long l1, int l2, int l3, long l6, long l7, long l8, long l9, long l10, long l11, long l12, long l13, long l14, long l15, long l16, long l17, long l18, int l24, int l25, int l26, int l27, int l28, int l29) {
  final byte[] b = m.bytes;
  int exit = 0;
  PART: {
@@ -3931,7 +3956,7 @@ static int f313_1(State m, long l0, long l1, int l2, int l3, long l6, long l7, l
  return exit;
 }
 
-static int f313_2(State m, long l0, int l3, long l7, long l8, long l9, long l10, long l11, long l12, long l13, long l14, long l17, long l18, long l19, long l20, long l21, long l22, long l23, int l24) {
+static int f314_2(State m, long l0, int l3, long l7, long l8, long l9, long l10, long l11, long l12, long l13, long l14, long l17, long l18, long l19, long l20, long l21, long l22, long l23, int l24) {
  final byte[] b = m.bytes;
  int exit = 0;
  PART: {
@@ -4254,7 +4279,7 @@ static int f313_2(State m, long l0, int l3, long l7, long l8, long l9, long l10,
  return exit;
 }
 
-static int f313(State m, long l0, long l1, int l2, int l3, long l4, long l5, long l6) {
+static int f314(State m, long l0, long l1, int l2, int l3, long l4, long l5, long l6) {
  final byte[] b = m.bytes;
  long l7 = 0;
  long l8 = 0;
@@ -4286,7 +4311,7 @@ static int f313(State m, long l0, long l1, int l2, int l3, long l4, long l5, lon
     L4: {
      L5: {
       L6: {
-       final int x46 = f313_1(m, l0, l1, l2, l3, l6, l7, l8, l9, l10, l11, l12, l13, l14, l15, l16, l17, l18, l24, l25, l26, l27, l28, l29);
+       final int x46 = f314_1(m, l0, l1, l2, l3, l6, l7, l8, l9, l10, l11, l12, l13, l14, l15, l16, l17, l18, l24, l25, l26, l27, l28, l29);
        l0 = m.kept[0];
        l2 = (int) m.kept[1];
        l3 = (int) m.kept[2];
@@ -4713,7 +4738,7 @@ static int f313(State m, long l0, long l1, int l2, int l3, long l4, long l5, lon
         l24 = 11;
         break L6;
        }
-       final int x176 = f313_2(m, l0, l3, l7, l8, l9, l10, l11, l12, l13, l14, l17, l18, l19, l20, l21, l22, l23, l24);
+       final int x176 = f314_2(m, l0, l3, l7, l8, l9, l10, l11, l12, l13, l14, l17, l18, l19, l20, l21, l22, l23, l24);
        l0 = m.kept[0];
        l3 = (int) m.kept[1];
        l8 = m.kept[2];
@@ -4890,7 +4915,7 @@ static int f313(State m, long l0, long l1, int l2, int l3, long l4, long l5, lon
  return l24;
 }
 
-static int f315(State m, long l0, long l1, long l2, long l3, long l4, long l5, long l6, int l7, long l8, long l9, long l10, long l11) {
+static int f316(State m, long l0, long l1, long l2, long l3, long l4, long l5, long l6, int l7, long l8, long l9, long l10, long l11) {
  final byte[] b = m.bytes;
  long l12 = 0;
  long l13 = 0;
@@ -5008,7 +5033,7 @@ static int f315(State m, long l0, long l1, long l2, long l3, long l4, long l5, l
  throw State.trap();
 }
 
-static void f317(State m, long l0, long l1, long l2, long l3, long l4, long l5, long l6, long l7, long l8, long l9, long l10) {
+static void f318(State m, long l0, long l1, long l2, long l3, long l4, long l5, long l6, long l7, long l8, long l9, long l10) {
  final byte[] b = m.bytes;
  long l11 = 0;
  long l12 = 0;
@@ -5087,7 +5112,7 @@ static void f317(State m, long l0, long l1, long l2, long l3, long l4, long l5, 
  throw State.trap();
 }
 
-static int f319(State m, int l0, int l1, int l2, int l3, long l4, long l5, long l6) {
+static int f320(State m, int l0, int l1, int l2, int l3, long l4, long l5, long l6) {
  final byte[] b = m.bytes;
  long l7 = 0;
  long l8 = 0;
@@ -5192,7 +5217,7 @@ static int f319(State m, int l0, int l1, int l2, int l3, long l4, long l5, long 
  return l14;
 }
 
-static int f321(State m, long l0, int l1, int l2, long l3, long l4, long l5) {
+static int f322(State m, long l0, int l1, int l2, long l3, long l4, long l5) {
  final byte[] b = m.bytes;
  long l6 = 0;
  long l7 = 0;
@@ -5313,7 +5338,7 @@ static int f321(State m, long l0, int l1, int l2, long l3, long l4, long l5) {
  return l13;
 }
 
-static int f323(State m, int l0, int l1, long l2, long l3, long l4) {
+static int f324(State m, int l0, int l1, long l2, long l3, long l4) {
  final byte[] b = m.bytes;
  long l5 = 0;
  long l6 = 0;
@@ -5468,7 +5493,7 @@ static int f323(State m, int l0, int l1, long l2, long l3, long l4) {
  return l12;
 }
 
-static int f325(State m, long l0, long l1, long l2, long l3) {
+static int f326(State m, long l0, long l1, long l2, long l3) {
  final byte[] b = m.bytes;
  long l4 = 0;
  long l5 = 0;
@@ -5545,19 +5570,19 @@ static int f325(State m, long l0, long l1, long l2, long l3) {
  return l10;
 }
 
-static int f327(State m, long l0, long l1, long l2) {
+static int f328(State m, long l0, long l1, long l2) {
  return Core2.f70(m, l0 + ((l0 == 0L) ? 4096L : 0L), l1, l2);
 }
 
-static int f329(State m, long l0, long l1, long l2) {
+static int f330(State m, long l0, long l1, long l2) {
  return Core2.f72(m, l0 + ((l0 == 0L) ? 4096L : 0L), l1, l2);
 }
 
-static int f331(State m, long l0, long l1, long l2) {
+static int f332(State m, long l0, long l1, long l2) {
  return Core2.f73(m, l0 + ((l0 == 0L) ? 4096L : 0L), l1, l2);
 }
 
-static int f333(State m, long l0, int l1, int l2, long l3, long l4, long l5) {
+static int f334(State m, long l0, int l1, int l2, long l3, long l4, long l5) {
  final byte[] b = m.bytes;
  long l6 = 0;
  L1: {
@@ -5589,7 +5614,7 @@ static int f333(State m, long l0, int l1, int l2, long l3, long l4, long l5) {
  return 8;
 }
 
-static int f335(State m, long l0, long l1, long l2, long l3, long l4, int l5, int l6, long l7, long l8, long l9, long l10, long l11, long l12, long l13) {
+static int f336(State m, long l0, long l1, long l2, long l3, long l4, int l5, int l6, long l7, long l8, long l9, long l10, long l11, long l12, long l13) {
  final byte[] b = m.bytes;
  long l14 = 0;
  long l15 = 0;
@@ -5761,7 +5786,7 @@ static int f335(State m, long l0, long l1, long l2, long l3, long l4, int l5, in
  return l5;
 }
 
-static int f337(State m, long l0, long l1, long l2, long l3, long l4, int l5, long l6, long l7, long l8, long l9, long l10, long l11, long l12) {
+static int f338(State m, long l0, long l1, long l2, long l3, long l4, int l5, long l6, long l7, long l8, long l9, long l10, long l11, long l12) {
  final byte[] b = m.bytes;
  long l13 = 0;
  long l14 = 0;
@@ -5909,19 +5934,19 @@ static int f337(State m, long l0, long l1, long l2, long l3, long l4, int l5, lo
  return l5;
 }
 
-static int f339(State m, long l0, long l1, long l2) {
+static int f340(State m, long l0, long l1, long l2) {
  return Core2.f75(m, l0 + ((l0 == 0L) ? 4096L : 0L), l1, l2);
 }
 
-static int f341(State m, long l0, long l1, long l2) {
+static int f342(State m, long l0, long l1, long l2) {
  return Core2.f76(m, l0 + ((l0 == 0L) ? 4096L : 0L), l1, l2);
 }
 
-static int f343(State m, long l0, long l1, long l2) {
+static int f344(State m, long l0, long l1, long l2) {
  return Core2.f78(m, l0 + ((l0 == 0L) ? 4096L : 0L), l1, l2);
 }
 
-static int f345(State m, long l0, long l1, long l2, long l3, long l4, long l5) {
+static int f346(State m, long l0, long l1, long l2, long l3, long l4, long l5) {
  final byte[] b = m.bytes;
  long l6 = 0;
  long l7 = 0;
@@ -6085,7 +6110,7 @@ static int f345(State m, long l0, long l1, long l2, long l3, long l4, long l5) {
  throw State.trap();
 }
 
-static int f347(State m, long l0, long l1, long l2, int l3, int l4, long l5, long l6, long l7) {
+static int f348(State m, long l0, long l1, long l2, int l3, int l4, long l5, long l6, long l7) {
  final byte[] b = m.bytes;
  long l8 = 0;
  L1: {
@@ -6111,7 +6136,7 @@ static int f347(State m, long l0, long l1, long l2, int l3, int l4, long l5, lon
  return 8;
 }
 
-static int f349(State m, long l0, long l1, long l2, int l3, int l4, long l5, long l6, long l7) {
+static int f350(State m, long l0, long l1, long l2, int l3, int l4, long l5, long l6, long l7) {
  final byte[] b = m.bytes;
  long l8 = 0;
  L1: {
@@ -6143,7 +6168,7 @@ static int f349(State m, long l0, long l1, long l2, int l3, int l4, long l5, lon
  return 8;
 }
 
-static int f351(State m, long l0, long l1, long l2, int l3, int l4, long l5, long l6, long l7) {
+static int f352(State m, long l0, long l1, long l2, int l3, int l4, long l5, long l6, long l7) {
  final byte[] b = m.bytes;
  long l8 = 0;
  long l9 = 0;
@@ -6197,7 +6222,7 @@ static int f351(State m, long l0, long l1, long l2, int l3, int l4, long l5, lon
  return 8;
 }
 
-static int f353(State m, long l0, long l1, long l2, int l3, int l4, long l5, long l6, long l7) {
+static int f354(State m, long l0, long l1, long l2, int l3, int l4, long l5, long l6, long l7) {
  final byte[] b = m.bytes;
  long l8 = 0;
  L1: {
@@ -6217,11 +6242,11 @@ static int f353(State m, long l0, long l1, long l2, int l3, int l4, long l5, lon
  return 8;
 }
 
-static int f355(State m, long l0, long l1, long l2, int l3, int l4, long l5, long l6, long l7) {
- return Core6.f182(m, l0 + ((l0 == 0L) ? 4096L : 0L), l1, l2, l3, l4, l5 + ((l5 == 0L) ? 4096L : 0L), l6, l7);
+static int f356(State m, long l0, long l1, long l2, int l3, int l4, long l5, long l6, long l7) {
+ return Core6.f183(m, l0 + ((l0 == 0L) ? 4096L : 0L), l1, l2, l3, l4, l5 + ((l5 == 0L) ? 4096L : 0L), l6, l7);
 }
 
-static int f357(State m, long l0, long l1, long l2, int l3, int l4, long l5, long l6, long l7) {
+static int f358(State m, long l0, long l1, long l2, int l3, int l4, long l5, long l6, long l7) {
  final byte[] b = m.bytes;
  long l8 = 0;
  long l9 = 0;
@@ -6257,7 +6282,7 @@ static int f357(State m, long l0, long l1, long l2, int l3, int l4, long l5, lon
      }
      if (Core1.f6(m, l9, l1) == 0) { break L3; }
     }
-    l3 = Core6.f182(m, l9, l1, l2, l3, l4, l5 + ((l5 == 0L) ? 4096L : 0L), l6, l7);
+    l3 = Core6.f183(m, l9, l1, l2, l3, l4, l5 + ((l5 == 0L) ? 4096L : 0L), l6, l7);
     m.g0 = l8;
     final int t9 = l3;
     return t9;
@@ -6273,7 +6298,7 @@ static int f357(State m, long l0, long l1, long l2, int l3, int l4, long l5, lon
  return 8;
 }
 
-static int f359_1(State m, long l0, long l1, long l2, int l3, int l4, long l5, long l6, long l7, long l10, long l11, long l12, long l13, long l14, long l15, long l18, long l19, long l20, long l21, long l22, int l23, int l24, int l25, int l26, int l27) {
+static int f360_1(State m, long l0, long l1, long l2, int l3, int l4, long l5, long l6, long l7, long l10, long l11, long l12, long l13, long l14, long l15, long l18, long l19, long l20, long l21, long l22, int l23, int l24, int l25, int l26, int l27) {
  final byte[] b = m.bytes;
  int exit = 0;
  PART: {
@@ -6301,11 +6326,11 @@ static int f359_1(State m, long l0, long l1, long l2, int l3, int l4, long l5, l
            }
            l12 = (l23 + Integer.MIN_VALUE < 2147483632) ? 3L : 4L;
           }
-          Core6.f189(m, l11 + 280L, l15, l14, l0, l10, l3, l4);
+          Core6.f190(m, l11 + 280L, l15, l14, l0, l10, l3, l4);
           Words.put64(b, ((int) l11) - 58864, b[((int) l11) - 58632] & 0xffL);
           Words.put64(b, ((int) l11) - 58856, ((l24 = b[((int) l11) - 58624] & 0xff) & 0xffffffffL) & 255L);
           m.copy((int) l19, (int) l18, (int) 216L);
-          Core7.f226(m, l11 + 8L, l11 + 48L, l0 + l12, l10 - l12);
+          Core7.f227(m, l11 + 8L, l11 + 48L, l0 + l12, l10 - l12);
           l5 = l20;
           l12 = l21;
           L29: {
@@ -6618,7 +6643,7 @@ static int f359_1(State m, long l0, long l1, long l2, int l3, int l4, long l5, l
  return exit;
 }
 
-static int f359(State m, long l0, long l1, long l2, int l3, int l4, long l5, long l6, long l7, long l8, long l9) {
+static int f360(State m, long l0, long l1, long l2, int l3, int l4, long l5, long l6, long l7, long l8, long l9) {
  final byte[] b = m.bytes;
  long l10 = 0;
  long l11 = 0;
@@ -6679,7 +6704,7 @@ static int f359(State m, long l0, long l1, long l2, int l3, int l4, long l5, lon
         }
         if (Core1.f6(m, l13, l1) == 0) { break L6; }
        }
-       Core6.f184(m, l11 + 24L, l13, l1, l5 + ((l5 == 0L) ? 4096L : 0L), l6);
+       Core6.f185(m, l11 + 24L, l13, l1, l5 + ((l5 == 0L) ? 4096L : 0L), l6);
        if ((b[((int) l11) - 58888] & 0xff) != 1) { break L3; }
        l14 = Words.get64(b, ((int) l11) - 58872);
        l15 = Words.get64(b, ((int) l11) - 58880);
@@ -6711,7 +6736,7 @@ static int f359(State m, long l0, long l1, long l2, int l3, int l4, long l5, lon
          L17: while (true) {
           m.fill((int) (l11 + 280L), 0, (int) 232L);
           if (l7 == 0L) { break L15; }
-          final int x83 = f359_1(m, l0, l1, l2, l3, l4, l5, l6, l7, l10, l11, l12, l13, l14, l15, l18, l19, l20, l21, l22, l23, l24, l25, l26, l27);
+          final int x83 = f360_1(m, l0, l1, l2, l3, l4, l5, l6, l7, l10, l11, l12, l13, l14, l15, l18, l19, l20, l21, l22, l23, l24, l25, l26, l27);
           l0 = m.kept[0];
           l2 = m.kept[1];
           l5 = m.kept[2];
@@ -7062,7 +7087,7 @@ static int f359(State m, long l0, long l1, long l2, int l3, int l4, long l5, lon
  return l23;
 }
 
-static int f361(State m, long l0, long l1, int l2, int l3, long l4) {
+static int f362(State m, long l0, long l1, int l2, int l3, long l4) {
  final byte[] b = m.bytes;
  long l5 = 0;
  long l6 = 0;
@@ -7078,8 +7103,8 @@ static int f361(State m, long l0, long l1, int l2, int l3, long l4) {
   L2: {
    L3: {
     if (l3 + Integer.MIN_VALUE > -2147483644) { break L3; }
-    l8 = b[((int) ((l5 = (l3 & 0xffffffffL) << 1L) + 98034L)) - 58912] & 0xff;
-    l9 = b[((int) (l5 + 98033L)) - 58912] & 0xff;
+    l8 = b[((int) ((l5 = (l3 & 0xffffffffL) << 1L) + 98010L)) - 58912] & 0xff;
+    l9 = b[((int) (l5 + 98009L)) - 58912] & 0xff;
     l10 = 1;
     l11 = 1;
     break L2;
@@ -7124,11 +7149,11 @@ static int f361(State m, long l0, long l1, int l2, int l3, long l4) {
    l3 = (l2 + Integer.MIN_VALUE < -2147483638) ? l2 : 0;
    L10: {
     if (l11 != 0) { break L10; }
-    Core7.f227(m, l6 + 8L, l3, l0, l1);
+    Core7.f228(m, l6 + 8L, l3, l0, l1);
     l8 = b[((int) l6) - 58903] & 0xff;
     l9 = b[((int) l6) - 58904] & 0xff;
    }
-   Core7.f228(m, l6, l3, l9, l8, l0, l1);
+   Core7.f229(m, l6, l3, l9, l8, l0, l1);
    l3 = 0;
    if ((b[((int) l6) - 58912] & 0xff) != 1) { break L4; }
    Words.put32(b, ((int) l4) - 58912, ((b[((int) l6) - 58911] & 0xff) & 255) + 1);
@@ -7140,7 +7165,7 @@ static int f361(State m, long l0, long l1, int l2, int l3, long l4) {
  throw State.trap();
 }
 
-static int f363(State m, long l0, long l1, int l2, int l3, int l4, long l5, long l6, long l7) {
+static int f364(State m, long l0, long l1, int l2, int l3, int l4, long l5, long l6, long l7) {
  final byte[] b = m.bytes;
  long l8 = 0;
  long l9 = 0;
@@ -7174,8 +7199,8 @@ static int f363(State m, long l0, long l1, int l2, int l3, int l4, long l5, long
             L12: {
              L13: {
               if (l3 + Integer.MIN_VALUE > -2147483644) { break L13; }
-              l14 = b[((int) ((l9 = (l3 & 0xffffffffL) << 1L) + 98034L)) - 58912] & 0xff;
-              l15 = b[((int) (l9 + 98033L)) - 58912] & 0xff;
+              l14 = b[((int) ((l9 = (l3 & 0xffffffffL) << 1L) + 98010L)) - 58912] & 0xff;
+              l15 = b[((int) (l9 + 98009L)) - 58912] & 0xff;
               l16 = 1;
               l17 = 1;
               break L12;
@@ -7225,7 +7250,7 @@ static int f363(State m, long l0, long l1, int l2, int l3, int l4, long l5, long
             Words.put64(b, ((int) l8) - 58864, l8 + 72L);
             L19: {
              if (l17 != 0) { break L19; }
-             Core7.f227(m, l8 + 40L, l2, l10, l1);
+             Core7.f228(m, l8 + 40L, l2, l10, l1);
              l14 = b[((int) l8) - 58871] & 0xff;
              l15 = b[((int) l8) - 58872] & 0xff;
             }
@@ -7581,7 +7606,7 @@ static int f363(State m, long l0, long l1, int l2, int l3, int l4, long l5, long
    }
    l16 = 1;
   }
-  Core7.f228(m, l8 + 32L, l2, l15, l14, l10, l1);
+  Core7.f229(m, l8 + 32L, l2, l15, l14, l10, l1);
   L79: {
    if (l16 == 0) { break L79; }
    if (((b[((int) l8) - 58880] & 0xff) & 255) != 1) { break L79; }
@@ -7721,7 +7746,7 @@ static int f363(State m, long l0, long l1, int l2, int l3, int l4, long l5, long
  return l3;
 }
 
-static int f365(State m, long l0, long l1, int l2, int l3, long l4) {
+static int f366(State m, long l0, long l1, int l2, int l3, long l4) {
  final byte[] b = m.bytes;
  long l5 = 0;
  long l6 = 0;
@@ -7736,7 +7761,7 @@ static int f365(State m, long l0, long l1, int l2, int l3, long l4) {
       if (l3 + Integer.MIN_VALUE < -2147483643) { break L5; }
       if (l2 + Integer.MIN_VALUE > -2147483639) { break L4; }
       if (l3 != 5) { break L4; }
-      l2 = Core7.f233(m, l0, l1, l2, l4);
+      l2 = Core7.f234(m, l0, l1, l2, l4);
       m.g0 = l5;
       final int t6 = l2;
       return t6;
@@ -7750,22 +7775,22 @@ static int f365(State m, long l0, long l1, int l2, int l3, long l4) {
     m.g0 = l5;
     return 8;
    }
-   l3 = b[((int) ((l6 = (l3 & 0xffffffffL) << 1L) + 98034L)) - 58912] & 0xff;
-   l7 = b[((int) (l6 + 98033L)) - 58912] & 0xff;
+   l3 = b[((int) ((l6 = (l3 & 0xffffffffL) << 1L) + 98010L)) - 58912] & 0xff;
+   l7 = b[((int) (l6 + 98009L)) - 58912] & 0xff;
    if (l2 + Integer.MIN_VALUE < -2147483643) { break L1; }
-   l2 = Core7.f231(m, l0, l1, l2, l7, l3, l4);
+   l2 = Core7.f232(m, l0, l1, l2, l7, l3, l4);
    m.g0 = l5;
    final int t7 = l2;
    return t7;
   }
   throw State.trap();
  }
- l2 = Core7.f232(m, l0, l1, l2, l7, l3, l4);
+ l2 = Core7.f233(m, l0, l1, l2, l7, l3, l4);
  m.g0 = l5;
  return l2;
 }
 
-static int f367(State m, long l0, long l1, long l2, long l3, long l4, long l5, long l6, int l7, int l8, long l9, long l10, long l11, long l12) {
+static int f368(State m, long l0, long l1, long l2, long l3, long l4, long l5, long l6, int l7, int l8, long l9, long l10, long l11, long l12) {
  final byte[] b = m.bytes;
  long l13 = 0;
  long l14 = 0;
@@ -7817,7 +7842,7 @@ static int f367(State m, long l0, long l1, long l2, long l3, long l4, long l5, l
       Words.put64(b, ((int) l14) - 58896, 0L);
       Words.put64(b, ((int) l14) - 58904, 0L);
       Words.put64(b, ((int) l14) - 58912, 0L);
-      l17 = Core8.f287(m, l0 + l4, l9 - l4, l7, l8, l14);
+      l17 = Core8.f288(m, l0 + l4, l9 - l4, l7, l8, l14);
       l11 = Words.get64(b, ((int) l14) - 58912);
      }
      Words.put64(b, ((int) l3) - 58912, l11);
@@ -7839,7 +7864,7 @@ static int f367(State m, long l0, long l1, long l2, long l3, long l4, long l5, l
  throw State.trap();
 }
 
-static int f369(State m, long l0, long l1, long l2, long l3, long l4, long l5, long l6, int l7, int l8, long l9, long l10, long l11, long l12) {
+static int f370(State m, long l0, long l1, long l2, long l3, long l4, long l5, long l6, int l7, int l8, long l9, long l10, long l11, long l12) {
  final byte[] b = m.bytes;
  long l13 = 0;
  long l14 = 0;
@@ -7899,7 +7924,7 @@ static int f369(State m, long l0, long l1, long l2, long l3, long l4, long l5, l
       Words.put64(b, ((int) l14) - 58896, 0L);
       Words.put64(b, ((int) l14) - 58904, 0L);
       Words.put64(b, ((int) l14) - 58912, 0L);
-      l18 = Core8.f287(m, l17 + l2, l4 - l2, l7, l8, l14);
+      l18 = Core8.f288(m, l17 + l2, l4 - l2, l7, l8, l14);
       l9 = Words.get64(b, ((int) l14) - 58904);
       l11 = Words.get64(b, ((int) l14) - 58912);
      }
@@ -7923,7 +7948,7 @@ static int f369(State m, long l0, long l1, long l2, long l3, long l4, long l5, l
  throw State.trap();
 }
 
-static int f371(State m, long l0, long l1, int l2, int l3, int l4, int l5, long l6, long l7, long l8) {
+static int f372(State m, long l0, long l1, int l2, int l3, int l4, int l5, long l6, long l7, long l8) {
  final byte[] b = m.bytes;
  long l9 = 0;
  long l10 = 0;
@@ -7965,7 +7990,7 @@ static int f371(State m, long l0, long l1, int l2, int l3, int l4, int l5, long 
      l28 = l4 = (l4 == 5) ? 1 : 0;
      break L3;
     }
-    final int t5 = b[((int) ((l9 = (l4 & 0xffffffffL) << 1L) + 98034L)) - 58912] & 0xff;
+    final int t5 = b[((int) ((l9 = (l4 & 0xffffffffL) << 1L) + 98010L)) - 58912] & 0xff;
     final int t6 = l4 = (((1L << l9) & 340L) != 0L) ? 1 : 0;
     l28 = t6 != 0 ? t5 : 0;
    }
@@ -8018,7 +8043,7 @@ static int f371(State m, long l0, long l1, int l2, int l3, int l4, int l5, long 
     Words.put64(b, ((int) l10) - 58704, 0L);
     Words.put64(b, ((int) l10) - 58712, 0L);
     Words.put64(b, ((int) l10) - 58720, 0L);
-    Core6.f183(m, l10 + 192L, l2, l29, l12, l1, l16, l17);
+    Core6.f184(m, l10 + 192L, l2, l29, l12, l1, l16, l17);
     L13: {
      L14: {
       L15: {
@@ -8038,7 +8063,7 @@ static int f371(State m, long l0, long l1, int l2, int l3, int l4, int l5, long 
          Words.put64(b, ((int) l10) - 58704, l19);
          Words.put64(b, ((int) l10) - 58712, l20);
          Words.put64(b, ((int) l10) - 58720, l21);
-         if (Core7.f234(m, l15, l10 + 192L) != 0) { break L13; }
+         if (Core7.f235(m, l15, l10 + 192L) != 0) { break L13; }
         }
         l9 = l19;
         l0 = l18;
@@ -8079,7 +8104,7 @@ static int f371(State m, long l0, long l1, int l2, int l3, int l4, int l5, long 
         Words.put64(b, ((int) l10) - 58704, l19);
         Words.put64(b, ((int) l10) - 58712, l20);
         Words.put64(b, ((int) l10) - 58720, l21);
-        if (Core7.f237(m, l13, l10 + 192L) != 0) { break L15; }
+        if (Core7.f238(m, l13, l10 + 192L) != 0) { break L15; }
         break L14;
        }
        Core2.f53(m, l10 + 72L, l16, l17);
@@ -8098,7 +8123,7 @@ static int f371(State m, long l0, long l1, int l2, int l3, int l4, int l5, long 
        Words.put64(b, ((int) l10) - 58704, 0L);
        Words.put64(b, ((int) l10) - 58712, 0L);
        Words.put64(b, ((int) l10) - 58720, 0L);
-       Core6.f183(m, l10 + 192L, l2, l29, l12, l1, l22, l23);
+       Core6.f184(m, l10 + 192L, l2, l29, l12, l1, l22, l23);
        l27 = 0;
        if ((b[((int) l10) - 58720] & 0xff) != 1) { break L13; }
        l22 = Words.get64(b, ((int) l10) - 58680);
@@ -8112,7 +8137,7 @@ static int f371(State m, long l0, long l1, int l2, int l3, int l4, int l5, long 
        Words.put64(b, ((int) l10) - 58752, l24);
        Words.put64(b, ((int) l10) - 58760, l25);
        Words.put64(b, ((int) l10) - 58768, l26);
-       if (Core7.f234(m, l9, l10 + 144L) == 0) { break L13; }
+       if (Core7.f235(m, l9, l10 + 144L) == 0) { break L13; }
        l9 = l24;
        l0 = l6;
        L24: {
@@ -8153,7 +8178,7 @@ static int f371(State m, long l0, long l1, int l2, int l3, int l4, int l5, long 
         Words.put64(b, ((int) l10) - 58704, l24);
         Words.put64(b, ((int) l10) - 58712, l25);
         Words.put64(b, ((int) l10) - 58720, l26);
-        if (Core7.f237(m, l13, l10 + 192L) == 0) { break L14; }
+        if (Core7.f238(m, l13, l10 + 192L) == 0) { break L14; }
        }
        l9 = l6 + l25;
        continue L23;
@@ -8175,12 +8200,12 @@ static int f371(State m, long l0, long l1, int l2, int l3, int l4, int l5, long 
      Words.put64(b, ((int) l10) - 58792, l18);
      Words.put64(b, ((int) l10) - 58800, l19);
      L32: {
-      if (Core7.f237(m, l13, l10 + 96L) == 0) { break L32; }
+      if (Core7.f238(m, l13, l10 + 96L) == 0) { break L32; }
       L33: {
        L34: {
         L35: {
-         if (Core7.f239(m, l19, l18) != 0) { break L35; }
-         l4 = Core7.f240(m, l19, l18);
+         if (Core7.f240(m, l19, l18) != 0) { break L35; }
+         l4 = Core7.f241(m, l19, l18);
          L36: {
           if (l30 != 0) { break L36; }
           if (l4 != 0) { break L32; }
@@ -8219,12 +8244,12 @@ static int f371(State m, long l0, long l1, int l2, int l3, int l4, int l5, long 
           Words.put64(b, ((int) l10) - 58704, 0L);
           Words.put64(b, ((int) l10) - 58712, 0L);
           Words.put64(b, ((int) l10) - 58720, 0L);
-          Core7.f241(m, l10 + 192L, l19, l18);
+          Core7.f242(m, l10 + 192L, l19, l18);
           L42: {
            if ((b[((int) l10) - 58720] & 0xff) != 1) { break L42; }
            l9 = Words.get64(b, ((int) l10) - 58712);
            Core2.f53(m, l10 + 72L, l19, l18 - (l11 = Words.get64(b, ((int) l10) - 58704)));
-           Core8.f251(m, l10 + 24L, l10 + 72L, l28, l9, l11);
+           Core8.f252(m, l10 + 24L, l10 + 72L, l28, l9, l11);
            l4 = b[((int) l10) - 58887] & 0xff;
            break L33;
           }
@@ -8262,7 +8287,7 @@ static int f371(State m, long l0, long l1, int l2, int l3, int l4, int l5, long 
            if (l4 != 36127) { break L34; }
           }
           Core2.f53(m, l10 + 72L, 77252L, 1L);
-          Core8.f251(m, l10 + 40L, l10 + 72L, l28, l19 + l9, l18 - l9);
+          Core8.f252(m, l10 + 40L, l10 + 72L, l28, l19 + l9, l18 - l9);
           l4 = b[((int) l10) - 58871] & 0xff;
           break L33;
          }
@@ -8381,7 +8406,7 @@ static int f371(State m, long l0, long l1, int l2, int l3, int l4, int l5, long 
           }
           l5 = (((l5 + -48) + Integer.MIN_VALUE < -2147483638) | ((l5 + -65296) + Integer.MIN_VALUE < -2147483638)) ? 1 : 0;
          }
-         Core7.f243(m, l10 + 8L, l5, l4);
+         Core7.f244(m, l10 + 8L, l5, l4);
          Core2.f53(m, l10 + 72L, Words.get64(b, ((int) l10) - 58904), Words.get64(b, ((int) l10) - 58896));
          L63: {
           L64: {
@@ -8395,7 +8420,7 @@ static int f371(State m, long l0, long l1, int l2, int l3, int l4, int l5, long 
          break L30;
         }
        }
-       Core8.f251(m, l10 + 32L, l10 + 72L, l28, l19, l18);
+       Core8.f252(m, l10 + 32L, l10 + 72L, l28, l19, l18);
        l4 = b[((int) l10) - 58879] & 0xff;
       }
       if ((l4 & 1) != 0) { break L30; }
@@ -8414,7 +8439,7 @@ static int f371(State m, long l0, long l1, int l2, int l3, int l4, int l5, long 
  throw State.trap();
 }
 
-static int f373(State m, long l0, long l1, int l2, long l3) {
+static int f374(State m, long l0, long l1, int l2, long l3) {
  final byte[] b = m.bytes;
  long l4 = 0;
  long l5 = 0;
@@ -8433,7 +8458,7 @@ static int f373(State m, long l0, long l1, int l2, long l3) {
      L5: {
       if (l2 + Integer.MIN_VALUE > -2147483644) { break L5; }
       if (((1L << (l4 = (l2 & 0xffffffffL) << 1L)) & 340L) == 0L) { break L4; }
-      l7 = b[((int) (l4 + 98034L)) - 58912] & 0xff;
+      l7 = b[((int) (l4 + 98010L)) - 58912] & 0xff;
       break L2;
      }
      l7 = 1;
@@ -8473,7 +8498,7 @@ static int f373(State m, long l0, long l1, int l2, long l3) {
    l2 = 5;
    break L1;
   }
-  Core8.f254(m, l5 + 12L, l6, l1, l7);
+  Core8.f255(m, l5 + 12L, l6, l1, l7);
   l2 = 0;
   if ((b[((int) l5) - 58900] & 0xff) != 1) { break L1; }
   l7 = 16;
@@ -8498,7 +8523,7 @@ static int f373(State m, long l0, long l1, int l2, long l3) {
  return l2;
 }
 
-static int f375(State m, long l0, long l1, int l2, int l3, long l4, long l5, long l6) {
+static int f376(State m, long l0, long l1, int l2, int l3, long l4, long l5, long l6) {
  final byte[] b = m.bytes;
  long l7 = 0;
  long l8 = 0;
@@ -8530,7 +8555,7 @@ static int f375(State m, long l0, long l1, int l2, int l3, long l4, long l5, lon
         l17 = l16 = (l2 == 5) ? 1 : 0;
         break L6;
        }
-       final int t8 = b[((int) ((l8 = (l2 & 0xffffffffL) << 1L) + 98034L)) - 58912] & 0xff;
+       final int t8 = b[((int) ((l8 = (l2 & 0xffffffffL) << 1L) + 98010L)) - 58912] & 0xff;
        final int t9 = l16 = (((1L << l8) & 340L) != 0L) ? 1 : 0;
        l17 = t9 != 0 ? t8 : 0;
       }
@@ -8581,7 +8606,7 @@ static int f375(State m, long l0, long l1, int l2, int l3, long l4, long l5, lon
       Words.put16(b, ((int) l7) - 58260, (short) 0);
       b[((int) l7) - 58258] = (byte) 0;
       Core3.f80(m, l7 + 656L, l9, l1, l17);
-      Core8.f254(m, l7 + 652L, l9, l1, l17);
+      Core8.f255(m, l7 + 652L, l9, l1, l17);
       l0 = 0L;
       if ((b[((int) l7) - 58256] & 0xff) != 1) { break L2; }
       l0 = 0L;
@@ -8620,7 +8645,7 @@ static int f375(State m, long l0, long l1, int l2, int l3, long l4, long l5, lon
          l3 = l16 + 34;
          break L17;
         }
-        l3 = b[State.far((int) ((l16 & 0xffffffffL) & 255L), 102712)] & 0xff;
+        l3 = b[State.far((int) ((l16 & 0xffffffffL) & 255L), 102800)] & 0xff;
        }
        Core2.f50(m, l7 + 792L, l7 + 112L, l3);
        break L3;
@@ -8636,31 +8661,31 @@ static int f375(State m, long l0, long l1, int l2, int l3, long l4, long l5, lon
       L20: {
        L21: {
         L22: {
-         if (Core1.f31(m, l0, l13, 98167L, 3L) == 0) { break L22; }
+         if (Core1.f31(m, l0, l13, 98143L, 3L) == 0) { break L22; }
          l16 = 20998;
-         if (Core1.f31(m, l15, l14, 98170L, 3L) != 0) { break L20; }
+         if (Core1.f31(m, l15, l14, 98146L, 3L) != 0) { break L20; }
          l16 = 19975;
          L23: {
-          if (Core1.f31(m, l15, l14, 98173L, 1L) == 0) { break L23; }
+          if (Core1.f31(m, l15, l14, 98149L, 1L) == 0) { break L23; }
           l12 = l10;
           break L20;
          }
          l12 = l10;
-         if (Core1.f31(m, l15, l14, 98174L, 1L) != 0) { break L20; }
-         if (Core1.f31(m, l15, l14, 98166L, 1L) != 0) { break L21; }
-         if (Core1.f31(m, l15, l14, 98175L, 3L) != 0) { break L21; }
+         if (Core1.f31(m, l15, l14, 98150L, 1L) != 0) { break L20; }
+         if (Core1.f31(m, l15, l14, 98142L, 1L) != 0) { break L21; }
+         if (Core1.f31(m, l15, l14, 98151L, 3L) != 0) { break L21; }
          break L4;
         }
         l16 = 19975;
         L24: {
-         if (Core1.f31(m, l15, l14, 98173L, 1L) == 0) { break L24; }
+         if (Core1.f31(m, l15, l14, 98149L, 1L) == 0) { break L24; }
          l12 = l10;
          break L20;
         }
         l12 = l10;
-        if (Core1.f31(m, l15, l14, 98174L, 1L) != 0) { break L20; }
-        if (Core1.f31(m, l15, l14, 98166L, 1L) != 0) { break L21; }
-        if (Core1.f31(m, l15, l14, 98175L, 3L) == 0) { break L4; }
+        if (Core1.f31(m, l15, l14, 98150L, 1L) != 0) { break L20; }
+        if (Core1.f31(m, l15, l14, 98142L, 1L) != 0) { break L21; }
+        if (Core1.f31(m, l15, l14, 98151L, 3L) == 0) { break L4; }
        }
        L25: while (true) {
         if (l13 == 0L) { break L4; }
@@ -8753,7 +8778,7 @@ static int f375(State m, long l0, long l1, int l2, int l3, long l4, long l5, lon
     L37: {
      L38: {
       L39: {
-       if (Core1.f31(m, l0 = Words.get64(b, ((int) l7) - 58880), l10 = Words.get64(b, ((int) l7) - 58872), 98170L, 3L) == 0) { break L39; }
+       if (Core1.f31(m, l0 = Words.get64(b, ((int) l7) - 58880), l10 = Words.get64(b, ((int) l7) - 58872), 98146L, 3L) == 0) { break L39; }
        if (l13 != l8) { break L38; }
        l2 = 41;
        break L37;
@@ -8761,16 +8786,16 @@ static int f375(State m, long l0, long l1, int l2, int l3, long l4, long l5, lon
       L40: {
        L41: {
         if (Core1.f31(m, l0, l10, 77254L, 1L) != 0) { break L41; }
-        if (Core1.f31(m, l0, l10, 98178L, 3L) != 0) { break L41; }
-        if (Core1.f31(m, l0, l10, 98181L, 3L) != 0) { break L41; }
+        if (Core1.f31(m, l0, l10, 98154L, 3L) != 0) { break L41; }
+        if (Core1.f31(m, l0, l10, 98157L, 3L) != 0) { break L41; }
         L42: {
-         if (Core1.f31(m, l0, l10, 98184L, 3L) != 0) { break L42; }
-         if (Core1.f31(m, l0, l10, 98187L, 3L) != 0) { break L42; }
-         if (Core1.f31(m, l0, l10, 98166L, 1L) != 0) { break L40; }
-         if (Core1.f31(m, l0, l10, 98175L, 3L) == 0) { break L38; }
+         if (Core1.f31(m, l0, l10, 98160L, 3L) != 0) { break L42; }
+         if (Core1.f31(m, l0, l10, 98163L, 3L) != 0) { break L42; }
+         if (Core1.f31(m, l0, l10, 98142L, 1L) != 0) { break L40; }
+         if (Core1.f31(m, l0, l10, 98151L, 3L) == 0) { break L38; }
          break L40;
         }
-        if (Core8.f258(m, l9, l1, l11) == 0) { break L40; }
+        if (Core8.f259(m, l9, l1, l11) == 0) { break L40; }
         l2 = 43;
         break L37;
        }
@@ -8783,7 +8808,7 @@ static int f375(State m, long l0, long l1, int l2, int l3, long l4, long l5, lon
        if (Core1.f31(m, l8, l0, Words.get64(b, ((int) l7) - 58912), Words.get64(b, ((int) l7) - 58904)) != 0) { break L37; }
        break L38;
       }
-      if (Core8.f258(m, l9, l1, l11) != 0) { break L38; }
+      if (Core8.f259(m, l9, l1, l11) != 0) { break L38; }
       l2 = 42;
       break L37;
      }
@@ -8842,7 +8867,7 @@ static int f375(State m, long l0, long l1, int l2, int l3, long l4, long l5, lon
  return l2;
 }
 
-static int f377(State m, long l0, long l1, int l2, long l3) {
+static int f378(State m, long l0, long l1, int l2, long l3) {
  final byte[] b = m.bytes;
  long l4 = 0;
  long l5 = 0;
@@ -8873,7 +8898,7 @@ static int f377(State m, long l0, long l1, int l2, long l3) {
      L5: {
       if (l2 + Integer.MIN_VALUE > -2147483644) { break L5; }
       if (((1L << (l5 = (l2 & 0xffffffffL) << 1L)) & 340L) == 0L) { break L4; }
-      l8 = b[((int) (l5 + 98034L)) - 58912] & 0xff;
+      l8 = b[((int) (l5 + 98010L)) - 58912] & 0xff;
       break L2;
      }
      l8 = 1;
