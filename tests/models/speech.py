@@ -969,6 +969,8 @@ def speak(text: phrases.Text, item: Any) -> Optional[Spoken]:
     said = said_money(text, item) if item.kind == "money" else said_phrase(text, item)
     if said is None:
         return None
+    if currency := CURRENCIES.get(at(line, item.start - 1), ""):
+        return Spoken(item.start - 1, item.end, said + currency)
     measure = measure_at(line, item.end) if item.kind == "range" else None
     last, unit = measure or (item.end, "")
     return Spoken(item.start, last, said + unit)
